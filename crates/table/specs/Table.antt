@@ -167,3 +167,6 @@ rowsFrom first (suc count) = first ∷ rowsFrom (suc first) count
 -- "A block's instructions are `count` rows from `first`"
 abbrev pub instructionRows : Block → List ℕ
 instructionRows block = rowsFrom (block .first) (block .count)
+
+abbrev pub instructionRowsAt : Table → ℕ → List ℕ
+instructionRowsAt t b = instructionRows (blockAt t b)
