@@ -8,11 +8,12 @@ use mathlib.Core.Option.{Option, none, some}
 use mathlib.Core.Bool.{Bool, true, false}
 use lib.ListN.{length}
 use lib.Dec.{leb}
-use Rattle.table.specs.Table.{Table, Block, Terminal, Instruction, Operation, other, load-local, store-local, absent, unreachable, throw, return, goto, if, branch, switch, do-while, while, for, for-of, for-in, logical, ternary, optional, label, sequence, maybe-throw, try, scope, blockAt, terminalAt, instructionAt, instructionRowsAt, instructionRows, rowsFrom}
-use Rattle.definition.specs.Tree.{Value, PLAIN, LOAD, UNDEF, SEQ, LOGICAL, COND, OPTIONAL, Instructions, no-instructions, instruction, Row, row, valueRows, instructionsRows, countInstructions}
-use Rattle.definition.specs.Context.{Result, ok, refused, _>>=_, refuseIf}
-use Rattle.definition.specs.Walk.{isAbsent, branchWays, Ways, isThis, beginVisit, ValueBlockResult, ValueTerminalResult, TestBlockResult, VisitValueBlock, instructionsOf, wrapWithSequence, finalValue, storedToNamed, allButLast, last, extractValueBlockResult, extractOrRefuse, testBlockEnded, visitTestBlock, singleInstruction, visitValueBlockTerminal, thenFallthrough, branchValue, isEmptyGoto, maybeThrowValue, visitValueBlockAt, value, OptionalValue, visitUpdate, appended, sequencedInstructions, innermostValue, loadedPlace, sameIdentifier, unlessSame, valueBlockResultToSequence}
+use Rattle.table.specs.Table.{Table, Block, Terminal, Instruction, Operation, other, load-local, store-local, absent, unreachable, throw, return, goto, if, branch, switch, do-while, while, for, for-of, for-in, logical, ternary, optional, sequence, maybe-throw, try, scope, blockAt, terminalAt, instructionAt, instructionRowsAt, instructionRows, rowsFrom, isAbsent, label}
 use Rattle.definition.specs.Machine.{valueOut, updateOut}
+use Rattle.definition.specs.Result.{refused, Result, ok, _>>=_, refuseIf}
+use Rattle.definition.specs.Statement.{OptionalValue, visitUpdate}
+use Rattle.definition.specs.Tree.{Value, PLAIN, LOAD, UNDEF, SEQ, LOGICAL, COND, OPTIONAL, Instructions, no-instructions, instruction, Row, row, valueRows, instructionsRows, countInstructions}
+use Rattle.definition.specs.Value.{visitValueBlock, branchWays, Ways, isThis, beginVisit, ValueBlockResult, ValueTerminalResult, TestBlockResult, VisitValueBlock, instructionsOf, wrapWithSequence, finalValue, storedToNamed, allButLast, last, extractValueBlockResult, extractOrRefuse, testBlockEnded, visitTestBlock, singleInstruction, visitValueBlockTerminal, thenFallthrough, branchValue, isEmptyGoto, maybeThrowValue, visitValueBlockAt, appended, sequencedInstructions, innermostValue, loadedPlace, sameIdentifier, unlessSame, valueBlockResultToSequence}
 use Rattle.definition.proofs.Grow.{Good, good-bind, good-unless}
 
 abbrev mutual
@@ -167,7 +168,7 @@ module _ (t : Table) (few : (b : ℕ) → length (instructionRowsAt t b) ≤ 409
   andFinal-cheap : (b : ℕ) (k : Block) (span v : ℕ) (m : Result ValueTerminalResult) → length (instructionRows k) ≤ 4096 → Good (Less v) m → Good (Dear v) (thenFallthrough t values b k span m)
   unfolding thenFallthrough
   andFinal-cheap b k span v m c h = good-bind (Less v) (Dear v) m _ h (λ i q. good-bind (Cheap (i .visits)) (Dear v) _ _ (vals _ _ _ _)
-    (λ r q₁. omega (arith, instrsOf-size t (instructionRows k) (singleInstruction (i .id) (i .place) span (i .value)))))
+      (λ r q₁. omega (arith, instrsOf-size t (instructionRows k) (singleInstruction (i .id) (i .place) span (i .value)))))
 
   extractOr-cheap : (b : ℕ) (rs : List ℕ) (v code at : ℕ) → length rs ≤ 4096 → Good (Dear v) (extractOrRefuse t b rs v code at)
   unfolding extractOrRefuse
@@ -221,9 +222,9 @@ paid : (v w : ℕ) (m : Result ValueBlockResult) → w ≡ suc v → Good (Dear 
 paid v w (ok r) e h = omega arith
 paid v w (refused c p u) e h = tt
 
-pub value-cheap : (t : Table) → ((b : ℕ) → length (instructionRowsAt t b) ≤ 4096) → (d : ℕ) → Cheaps (value t d)
-unfolding Cheaps value
+pub value-cheap : (t : Table) → ((b : ℕ) → length (instructionRowsAt t b) ≤ 4096) → (d : ℕ) → Cheaps (visitValueBlock t d)
+unfolding Cheaps visitValueBlock
 value-cheap t few zero b ft span v = tt
 value-cheap t few (suc d) b ft span v =
     good-bind (λ w. w ≡ suc v) (Cheap v) _ _ (begin-next t b v) (λ w q. good-unless (Cheap v) _ 23 b w _
-      (λ h. paid v w (visitValueBlockAt t (value t d) (terminalAt t b) b (blockAt t b) ft span w) q (valueAt-cheap t few (value t d) (value-cheap t few d) (terminalAt t b) b ft span w)))
+    (λ h. paid v w (visitValueBlockAt t (visitValueBlock t d) (terminalAt t b) b (blockAt t b) ft span w) q (valueAt-cheap t few (visitValueBlock t d) (value-cheap t few d) (terminalAt t b) b ft span w)))

@@ -8,9 +8,9 @@ use mathlib.Core.Option.{Option, none, some}
 use mathlib.Core.Bool.{Bool, true, false}
 use lib.ListN.{length}
 use Rattle.table.specs.Table.{Table, Operation, instructionAt}
-use Rattle.definition.specs.Tree.{Value, PLAIN, LOAD, UNDEF, SEQ, LOGICAL, COND, OPTIONAL, Instructions, no-instructions, instruction, Row, row, valueRows, instructionsRows, countInstructions}
-use Rattle.definition.specs.Walk.{ValueBlockResult, appended, sequencedInstructions, innermostValue, loadedPlace, loadedBy, sameIdentifier, unlessSame, singleInstruction, valueBlockResultToSequence}
 use Rattle.definition.specs.Machine.{valueOut}
+use Rattle.definition.specs.Tree.{Value, PLAIN, LOAD, UNDEF, SEQ, LOGICAL, COND, OPTIONAL, Instructions, no-instructions, instruction, Row, row, valueRows, instructionsRows, countInstructions}
+use Rattle.definition.specs.Value.{ValueBlockResult, appended, sequencedInstructions, innermostValue, loadedPlace, loadedBy, sameIdentifier, unlessSame, singleInstruction, valueBlockResultToSequence}
 
 -- the closing SEQ rows at the end
 abbrev pub seqs : Value → List Row
@@ -93,7 +93,7 @@ flatten-rows t r span = at (sameIdentifier t (r .place) (loadedPlace t (innermos
         (leading-rows (r .value) no-instructions _ ∙ ap (λ (n : ℕ). before (r .value) (row 3 span 0 0 0 0 ∷ row 5 n (r .id) 0 0 0 ∷ [])) (leading-count (r .value) no-instructions ∙ add-zero (within (r .value))))
     at false = unfold unlessSame flattened in
         (leading-rows (r .value) last _
-          ∙ ap (λ (n : ℕ). before (r .value) (valueRows (innermostValue (r .value)) (row 4 (r .id) (r .place) span 0 0 ∷ row 3 span 0 0 0 0 ∷ row 5 n (r .id) 0 0 0 ∷ []))) (more (leading-count (r .value) last)))
+        ∙ ap (λ (n : ℕ). before (r .value) (valueRows (innermostValue (r .value)) (row 4 (r .id) (r .place) span 0 0 ∷ row 3 span 0 0 0 0 ∷ row 5 n (r .id) 0 0 0 ∷ []))) (more (leading-count (r .value) last)))
       where
         more : countInstructions (sequencedInstructions (r .value) last) ≡ within (r .value) + 1 → countInstructions (sequencedInstructions (r .value) last) ≡ suc (within (r .value))
         more e = omega arith

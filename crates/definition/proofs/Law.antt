@@ -7,11 +7,12 @@ use mathlib.Core.Bool.{Bool, true, false}
 use native.Mathlib.Omega.{arith}
 use lib.Dec.{T}
 use Rattle.table.specs.Table.{Table, terminalAt, instructionRowsAt}
-use Rattle.definition.specs.Tree.{Statements}
-use Rattle.definition.specs.Context.{Result, ok, start}
-use Rattle.definition.specs.Walk.{BlockResult, traverseBlock, buildTree}
-use Rattle.definition.specs.Run.{Answers, Reason, Run, more, stopped, Move, go, halt, move, after, blockRun, treeRun, Jump, breakNearest, continueNearest, breakTo, continueTo, Ending, normal, jumps, stops, Completed, runStmts, reason}
+use Rattle.definition.specs.Context.{start}
 use Rattle.definition.specs.Plain.{Plain, Ranged}
+use Rattle.definition.specs.Result.{Result, ok}
+use Rattle.definition.specs.Run.{Answers, Reason, Run, more, stopped, Move, go, halt, move, after, blockRun, treeRun, Jump, breakNearest, continueNearest, breakTo, continueTo, Ending, normal, jumps, stops, Completed, runStmts, reason}
+use Rattle.definition.specs.Statement.{BlockResult, traverseBlock, buildTree}
+use Rattle.definition.specs.Tree.{Statements}
 use Rattle.definition.proofs.Semantics.{LeadsOn, Stops, proper, runs}
 use Rattle.definition.proofs.State.{inv-start}
 use Rattle.definition.proofs.Structure.{WalkOk, walk-ok, Made}
@@ -36,20 +37,20 @@ agree-on t s ans (jumps breakNearest) h (b, k, p) = absurd (none-some b k)
 agree-on t s ans (jumps continueNearest) h (b, k, p) = absurd (none-some b k)
 agree-on t s ans (jumps (breakTo x)) h (b, k, p) = absurd (none-some b k)
 agree-on t s ans (jumps (continueTo x)) h (b, k, p) = absurd (none-some b k)
-agree-on t s ans (stops r) h p = record
-  { steps = p .steps
-  ; rows = runStmts s ans .trace
-  ; why = r
-  ; blocks = p .runs
-  ; tree = ap (λ (e : Ending). stopped (runStmts s ans .trace) (reason e)) h
-  ; good = p .good
-  }
+agree-on t s ans (stops r) h p = record {
+  steps = p .steps;
+  rows = runStmts s ans .trace;
+  why = r;
+  blocks = p .runs;
+  tree = ap (λ (e : Ending). stopped (runStmts s ans .trace) (reason e)) h;
+  good = p .good;
+}
 
 pub run-law : (t : Table) → Plain t → Ranged t → (r : BlockResult) → buildTree t ≡ ok r → (ans : Answers) → Agree t (r .statements) ans
 unfolding buildTree WalkOk
 run-law t pl rg r e ans =
     agree-on t (r .statements) ans (runStmts (r .statements) ans .ending) refl
-      (runs t (walk-ok t pl rg 128 [] (t .entry) start r (inv-start t) (pl .entry) e .tree) ans)
+    (runs t (walk-ok t pl rg 128 [] (t .entry) start r (inv-start t) (pl .entry) e .tree) ans)
 
 -- ---- more steps change nothing: there is one block run
 

@@ -6,8 +6,8 @@ use mathlib.Core.List.{List, [], _∷_, _++_, append-nil}
 use mathlib.Core.Option.{Option, none, some}
 use mathlib.Core.Bool.{Bool, true, false}
 use lib.ListN.{length}
-use Rattle.definition.specs.Tree.{Value, Statement, INSTR, IF, SWITCH, DOWHILE, WHILE, FOR, FOROF, FORIN, LABEL, TRY, SCOPE, RETURN, THROW, BREAK, CONTINUE, Statements, done, _▸_}
 use Rattle.definition.specs.Run.{Answers, wanted, Ending, normal, jumps, stops, Completed, completed, performed, prefix, nextOn, next, scheduleCatchHandler, labelled, Round, again, leaves, round, afterOn, afterRound, choose, rounds, runStmt, runStmts}
+use Rattle.definition.specs.Tree.{Value, Statement, INSTR, IF, SWITCH, DOWHILE, WHILE, FOR, FOROF, FORIN, LABEL, TRY, SCOPE, RETURN, THROW, BREAK, CONTINUE, Statements, done, _▸_}
 
 abbrev Short : (Answers → Completed) → Type 0
 Short k = (a : Answers) → length (k a .left) ≤ length a
@@ -44,6 +44,7 @@ rounds-short l test body p (suc n) (false ∷ a) = le-step (le-refl (length a))
 -- no part gives answers back
 mutual
   unfolding runStmt completed labelled
+
   short-stmt : (s : Statement) (a : Answers) → length (runStmt s a .left) ≤ length a
   short-stmt (INSTR i l s v) a = le-refl (length a)
   short-stmt (IF t i l c p x) a = choose-short (λ a′. runStmts c a′) (λ a′. runStmts x a′) (λ a′. short-stmts c a′) (λ a′. short-stmts x a′) a
@@ -82,8 +83,8 @@ module _ (l : Option ℕ) (test : List ℕ) (body : Answers → Completed) (p : 
   rounds-same (suc n) (suc m) [] h k = refl
   rounds-same (suc n) (suc m) (true ∷ a) h k =
       ap (λ (z : Completed). prefix test z)
-        (after-same (round l (body a .ending)) (body a) (λ a′. rounds l test body n a′) (λ a′. rounds l test body m a′)
-          (rounds-same n m (body a .left) (le-trans (p a) (le-of-suc-le-suc h)) (le-trans (p a) (le-of-suc-le-suc k))))
+      (after-same (round l (body a .ending)) (body a) (λ a′. rounds l test body n a′) (λ a′. rounds l test body m a′)
+      (rounds-same n m (body a .left) (le-trans (p a) (le-of-suc-le-suc h)) (le-trans (p a) (le-of-suc-le-suc k))))
   rounds-same (suc n) (suc m) (false ∷ a) h k = refl
 
   rounds-again : (a : Answers) → rounds l test body (length a) a
@@ -92,8 +93,8 @@ module _ (l : Option ℕ) (test : List ℕ) (body : Answers → Completed) (p : 
   rounds-again [] = ap (λ (z : List ℕ). completed z (stops wanted) []) (sym (append-nil test))
   rounds-again (true ∷ a) =
       ap (λ (z : Completed). prefix test z)
-        (after-same (round l (body a .ending)) (body a) (λ a′. rounds l test body (length a) a′) (λ a″. rounds l test body (length a″) a″)
-          (rounds-same (length a) (length (body a .left)) (body a .left) (p a) (le-refl (length (body a .left)))))
+      (after-same (round l (body a .ending)) (body a) (λ a′. rounds l test body (length a) a′) (λ a″. rounds l test body (length a″) a″)
+      (rounds-same (length a) (length (body a .left)) (body a .left) (p a) (le-refl (length (body a .left)))))
   rounds-again (false ∷ a) = refl
 
 -- the paper's WHILE

@@ -9,10 +9,10 @@ use mathlib.Core.Bool.{Bool, true, false}
 use lib.ListN.{length}
 use lib.Dec.{T, eqb, eqb-refl}
 use borrow.Author.Tests.{eqb-true, eqb-false}
-use Rattle.table.specs.Table.{Table, Terminal, throw, return, goto, if, branch, while, label, scope, Variant, terminalAt, instructionRowsAt}
-use Rattle.definition.specs.Tree.{Value, PLAIN, Statement, INSTR, IF, WHILE, LABEL, SCOPE, RETURN, THROW, Statements, done, _▸_}
-use Rattle.definition.specs.Walk.{instructionStatements}
+use Rattle.table.specs.Table.{Table, Terminal, throw, return, goto, if, branch, while, scope, Variant, terminalAt, instructionRowsAt, label}
 use Rattle.definition.specs.Run.{Answers, Reason, returned, threw, wanted, missing, astray, ended, Move, go, halt, byAnswer, move, Run, more, stopped, after, blockRun, Jump, breakNearest, continueNearest, breakTo, continueTo, Ending, normal, jumps, stops, Completed, completed, performed, prefix, nextOn, next, isLabel, scheduleCatchHandler, labelled, Round, again, leaves, round, afterOn, afterRound, choose, rounds, runStmt, runStmts}
+use Rattle.definition.specs.Statement.{instructionStatements}
+use Rattle.definition.specs.Tree.{Value, PLAIN, Statement, INSTR, IF, WHILE, LABEL, SCOPE, RETURN, THROW, Statements, done, _▸_}
 
 -- ---- where an ending leads: the statements around, from the innermost
 
@@ -123,20 +123,20 @@ module _ (t : Table) where
 
   pub onward-go : (b : ℕ) (ans : Answers) (b′ : ℕ) (ans′ : Answers) → move (terminalAt t b) ans ≡ go b′ ans′ → length ans′ ≤ length ans
       → Onward b ans (instructionRowsAt t b) b′ ans′
-  onward-go b ans b′ ans′ e h = record
-    { fewer = h
-    ; then = λ tr r s. record { steps = suc (s .steps); runs = run-go (s .steps) b ans b′ ans′ e ∙ after-ran (instructionRowsAt t b) tr r (blockRun t (s .steps) b′ ans′) (s .runs); good = s .good }
-    }
+  onward-go b ans b′ ans′ e h = record {
+    fewer = h;
+    then = λ tr r s. record { steps = suc (s .steps); runs = run-go (s .steps) b ans b′ ans′ e ∙ after-ran (instructionRowsAt t b) tr r (blockRun t (s .steps) b′ ans′) (s .runs); good = s .good };
+  }
 
   pub stops-halt : (b : ℕ) (ans : Answers) (r : Reason) → move (terminalAt t b) ans ≡ halt r → T (proper r) → Stops b ans (instructionRowsAt t b ++ []) r
   stops-halt b ans r e g = record { steps = 1; runs = run-halt b ans r e; good = g }
 
   onward-onward : {b : ℕ} {ans : Answers} {tr : List ℕ} {b₁ : ℕ} {a₁ : Answers} {tr₁ : List ℕ} {b₂ : ℕ} {a₂ : Answers}
       → Onward b ans tr b₁ a₁ → Onward b₁ a₁ tr₁ b₂ a₂ → Onward b ans (tr ++ tr₁) b₂ a₂
-  onward-onward {tr} {tr₁} p q = record
-    { fewer = le-trans (q .fewer) (p .fewer)
-    ; then = λ tr′ r s. rw append-assoc (p .then (tr₁ ++ tr′) r (q .then tr′ r s))
-    }
+  onward-onward {tr} {tr₁} p q = record {
+    fewer = le-trans (q .fewer) (p .fewer);
+    then = λ tr′ r s. rw append-assoc (p .then (tr₁ ++ tr′) r (q .then tr′ r s));
+  }
 
   leads-after : {b : ℕ} {ans : Answers} {tr : List ℕ} {b₁ : ℕ} {a₁ : Answers} (F : List Frame) (tr₁ : List ℕ) (e : Ending) (left : Answers)
       → Onward b ans tr b₁ a₁ → LeadsOn F b₁ a₁ tr₁ e left → LeadsOn F b ans (tr ++ tr₁) e left
@@ -270,13 +270,13 @@ module _ (t : Table) where
       stops-halt x [] wanted (ap (λ (m : Terminal). move m []) e) tt
   ends-rounds F c f x l body e ih (suc n) (true ∷ a) h =
       ends-prefix F f (afterRound (some f) (body a) (λ a′. rounds (some f) (instructionRowsAt t x) body n a′))
-        (onward-go x (true ∷ a) l a (ap (λ (m : Terminal). move m (true ∷ a)) e) (le-step (le-refl (length a))))
-        (ends-round F f x l a (body a) (λ a′. rounds (some f) (instructionRowsAt t x) body n a′) (ih a)
-          (λ a′ h′. ends-rounds F c f x l body e ih n a′ (le-trans h′ (le-of-suc-le-suc h))))
+      (onward-go x (true ∷ a) l a (ap (λ (m : Terminal). move m (true ∷ a)) e) (le-step (le-refl (length a))))
+      (ends-round F f x l a (body a) (λ a′. rounds (some f) (instructionRowsAt t x) body n a′) (ih a)
+      (λ a′ h′. ends-rounds F c f x l body e ih n a′ (le-trans h′ (le-of-suc-le-suc h))))
   ends-rounds F c f x l body e ih (suc n) (false ∷ a) h =
       ends-prefix F f (completed [] normal a)
-        (onward-go x (false ∷ a) f a (ap (λ (m : Terminal). move m (false ∷ a)) e) (le-step (le-refl (length a))))
-        (onward-here f a)
+      (onward-go x (false ∷ a) f a (ap (λ (m : Terminal). move m (false ∷ a)) e) (le-step (le-refl (length a))))
+      (onward-here f a)
 
   -- ---- what the build makes of a plain table
 
@@ -333,10 +333,10 @@ module _ (t : Table) where
   if-leads F b x c a f i p s₁ s₂ r e h₁ h₂ h₃ [] = wants F b f (some f) (λ a′. runStmts r a′) (ap (λ (m : Terminal). move m []) e)
   if-leads F b x c a f i p s₁ s₂ r e h₁ h₂ h₃ (true ∷ y) =
       leads-part F b c f (true ∷ y) y (labelled (some f) (runStmts s₁ y)) (λ a′. runStmts r a′) (ap (λ (m : Terminal). move m (true ∷ y)) e) (le-step (le-refl (length y)))
-        (ends-label F f c y (runStmts s₁ y) (h₁ y)) h₃
+      (ends-label F f c y (runStmts s₁ y) (h₁ y)) h₃
   if-leads F b x c a f i p s₁ s₂ r e h₁ h₂ h₃ (false ∷ y) =
       leads-part F b a f (false ∷ y) y (labelled (some f) (runStmts s₂ y)) (λ a′. runStmts r a′) (ap (λ (m : Terminal). move m (false ∷ y)) e) (le-step (le-refl (length y)))
-        (h₂ y) h₃
+      (h₂ y) h₃
 
   return-leads : (F : List Frame) (b v i : ℕ) (ans : Answers) → move (terminalAt t b) ans ≡ halt returned
       → Leads F b ans (prefix (instructionRowsAt t b) (runStmts (RETURN v i ▸ done) ans))
@@ -366,25 +366,25 @@ module _ (t : Table) where
       leads-performing F b (THROW v i ▸ done) ans (throw-leads F b v i ans (ap (λ (m : Terminal). move m ans) e))
   runs {F} {b} (bJump g v e s h k q) ans =
       leads-performing F b s ans (subst (λ (o : Completed). Leads F b ans (prefix (instructionRowsAt t b) o)) (sym (q ans))
-        (leads-prefix F (completed [] e ans) (onward-go b ans g ans (ap (λ (m : Terminal). move m ans) h) (le-refl (length ans))) (jump-out F g ans e k)))
+      (leads-prefix F (completed [] e ans) (onward-go b ans g ans (ap (λ (m : Terminal). move m ans) h) (le-refl (length ans))) (jump-out F g ans e k)))
   runs {F} {b} (bIf x c a f i p {s₁} {s₂} {r} e h₁ h₂ h₃) ans =
       leads-performing F b (IF x i (some f) s₁ p s₂ ▸ r) ans
-        (if-leads F b x c a f i p s₁ s₂ r e (λ y. runs h₁ y) (λ y. ends-label F f a y (runStmts s₂ y) (runs h₂ y)) (λ y. runs h₃ y) ans)
+      (if-leads F b x c a f i p s₁ s₂ r e (λ y. runs h₁ y) (λ y. ends-label F f a y (runStmts s₂ y) (runs h₂ y)) (λ y. runs h₃ y) ans)
   runs {F} {b} (bIfOnly x c f i p {s₁} {r} e h₁ h₃) ans =
       leads-performing F b (IF x i (some f) s₁ p done ▸ r) ans
-        (if-leads F b x c f f i p s₁ done r e (λ y. runs h₁ y) (λ y. ends-nothing F f y) (λ y. runs h₃ y) ans)
+      (if-leads F b x c f f i p s₁ done r e (λ y. runs h₁ y) (λ y. ends-nothing F f y) (λ y. runs h₃ y) ans)
   runs {F} {b} (bLabel c f i {s} {r} e h₁ h₃) ans =
       leads-performing F b (LABEL i (some f) s ▸ r) ans
-        (leads-part F b c f ans ans (labelled (some f) (runStmts s ans)) (λ a′. runStmts r a′) (ap (λ (m : Terminal). move m ans) e) (le-refl (length ans))
-          (ends-label F f c ans (runStmts s ans) (runs h₁ ans)) (λ y. runs h₃ y))
+      (leads-part F b c f ans ans (labelled (some f) (runStmts s ans)) (λ a′. runStmts r a′) (ap (λ (m : Terminal). move m ans) e) (le-refl (length ans))
+      (ends-label F f c ans (runStmts s ans) (runs h₁ ans)) (λ y. runs h₃ y))
   runs {F} {b} (bScope p c f n {s} {r} e h₁ h₃) ans =
       leads-performing F b (SCOPE p n s ▸ r) ans
-        (leads-part F b c f ans ans (runStmts s ans) (λ a′. runStmts r a′) (ap (λ (m : Terminal). move m ans) e) (le-refl (length ans))
-          (ends-scope F f c ans (runStmts s ans) (runs h₁ ans)) (λ y. runs h₃ y))
+      (leads-part F b c f ans ans (runStmts s ans) (λ a′. runStmts r a′) (ap (λ (m : Terminal). move m ans) e) (le-refl (length ans))
+      (ends-scope F f c ans (runStmts s ans) (runs h₁ ans)) (λ y. runs h₃ y))
   runs {F} {b} (bWhile x l f y i v {s} {r} e e₁ q h₁ h₃) ans =
       leads-performing F b (WHILE i (some f) v s ▸ r) ans
-        (leads-part F b x f ans ans (rounds (some f) (performed v) (λ a′. runStmts s a′) (length ans) ans) (λ a′. runStmts r a′)
-          (ap (λ (m : Terminal). move m ans) e) (le-refl (length ans))
-          (subst (λ (w : List ℕ). Ends F f x ans (rounds (some f) w (λ a′. runStmts s a′) (length ans) ans)) (sym q)
-            (ends-rounds F y f x l (λ a′. runStmts s a′) e₁ (λ a′. runs h₁ a′) (length ans) ans (le-refl (length ans))))
-          (λ y′. runs h₃ y′))
+      (leads-part F b x f ans ans (rounds (some f) (performed v) (λ a′. runStmts s a′) (length ans) ans) (λ a′. runStmts r a′)
+      (ap (λ (m : Terminal). move m ans) e) (le-refl (length ans))
+      (subst (λ (w : List ℕ). Ends F f x ans (rounds (some f) w (λ a′. runStmts s a′) (length ans) ans)) (sym q)
+      (ends-rounds F y f x l (λ a′. runStmts s a′) e₁ (λ a′. runs h₁ a′) (length ans) ans (le-refl (length ans))))
+      (λ y′. runs h₃ y′))

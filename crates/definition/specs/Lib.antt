@@ -1,6 +1,9 @@
 pub mod Tree
+pub mod Result
 pub mod Context
-pub mod Walk
+pub mod Value
+pub mod Statement
+pub mod Build
 pub mod Run
 pub mod Plain
 pub mod Machine

@@ -6,8 +6,8 @@ use mathlib.Core.Option.{Option, none, some}
 use mathlib.Core.Bool.{Bool, true, false}
 use lib.ListN.{length}
 use lib.Dec.{T}
-use Rattle.table.specs.Table.{Table, Block, Instruction, Operation, other, load-local, store-local, Terminal, absent, unreachable, throw, return, goto, if, branch, switch, do-while, while, for, for-of, for-in, logical, ternary, optional, label, sequence, maybe-throw, try, scope, Variant, Break, Continue, Try, blockAt, terminalAt, instructionAt, instructionRowsAt}
-use Rattle.definition.specs.Walk.{branchWays, last}
+use Rattle.table.specs.Table.{Table, Block, Instruction, Operation, other, load-local, store-local, Terminal, absent, unreachable, throw, return, goto, if, branch, switch, do-while, while, for, for-of, for-in, logical, ternary, optional, sequence, maybe-throw, try, scope, Variant, Break, Continue, Try, blockAt, terminalAt, instructionAt, instructionRowsAt, label}
+use Rattle.definition.specs.Value.{branchWays, last}
 
 abbrev pub isJump : Variant → Bool
 isJump Break = true
