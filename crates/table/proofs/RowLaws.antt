@@ -2,27 +2,50 @@
 use Prim.Native.Nat.{ℕ, zero, suc, _+_, _*_, _-_, _<_, _≤_}
 use mathlib.Core.Path.{_≡_, refl, sym, ap, _∙_}
 use mathlib.Core.List.{List, [], _∷_, _++_}
-use mathlib.Core.Bool.{Bool, true, false}
+use mathlib.Core.Bool.{Bool, true, false, not}
 use native.Mathlib.Omega.{arith}
+use borrow.Author.Tests.{not-true, not-false}
 use native.Mathlib.Nat.{zero-mul, suc-mul, one-mul, add-mul}
 use native.Mathlib.Numerals.{add-one}
-use lib.ListN.{length, getD}
+use lib.ListN.{length, getD, replicate}
 use Rattle.table.specs.Words.{word}
+use Rattle.table.specs.Words as Words
 use Rattle.table.specs.Check.{Verdict, accepted, refused, Rule, unused, fits, rowVerdict, rowsVerdict, andThen}
 use Rattle.table.specs.Answer.{firstBad}
 
 -- ---- a row
 
--- a word that fits, and one that does not
-pub fits-on : (words : ℕ → ℕ) (column : ℕ) (rule : Rule) (rules : List Rule) → fits rule (words column) ≡ true
-    → firstBad words column (rule ∷ rules) ≡ firstBad words (suc column) rules
+pub all-fit : (words : ℕ → ℕ) (column : ℕ) → column ≡ firstBad words column []
 unfolding firstBad
-fits-on words column rule rules e = rw (e, firstBad)
+all-fit words column = refl
 
-pub fits-off : (words : ℕ → ℕ) (column : ℕ) (rule : Rule) (rules : List Rule) → fits rule (words column) ≡ false
-    → firstBad words column (rule ∷ rules) ≡ column
+-- what the code finds at a column: the word, whether it fits, and so the first bad column from there on
+module _ (words : ℕ → ℕ) (column : ℕ) (rule : Rule) (rules : List Rule) {word : ℕ} {ok : Bool} (read : word ≡ words column) (test : ok ≡ fits rule word) where
+  told : {b : Bool} → ok ≡ b → fits rule (words column) ≡ b
+  told e = rw (← read) (sym test ∙ e)
+
+  pub passed : {bad : ℕ} → not ok ≡ false → bad ≡ firstBad words (suc column) rules → bad ≡ firstBad words column (rule ∷ rules)
+  unfolding firstBad
+  passed e h = rw (told (not-false _ e), firstBad) h
+
+  pub failed : not ok ≡ true → column ≡ firstBad words column (rule ∷ rules)
+  unfolding firstBad
+  failed e = rw (told (not-true _ e), firstBad)
+
+-- columns that are all unused, one more of them
+module _ (words : ℕ → ℕ) (column width : ℕ) (inside : column < width) {word : ℕ} {ok : Bool} (read : word ≡ words column) (test : ok ≡ fits unused word) where
+  more : replicate (width - column) unused ≡ unused ∷ replicate (width - (column + 1)) unused
+  more = let e : width - column ≡ suc (width - (column + 1)) = omega arith in rw e
+
+  pub unused-on : not ok ≡ false → firstBad words column (replicate (width - column) unused) ≡ firstBad words (column + 1) (replicate (width - (column + 1)) unused)
+  unused-on e = rw (more, add-one column) (sym (passed words column unused _ read test e refl))
+
+  pub unused-off : not ok ≡ true → column ≡ firstBad words column (replicate (width - column) unused)
+  unused-off e = rw more (failed words column unused _ read test e)
+
+pub unused-last : (words : ℕ → ℕ) (column width : ℕ) → width ≤ column → column ≡ firstBad words column (replicate (width - column) unused)
 unfolding firstBad
-fits-off words column rule rules e = rw (e, firstBad)
+unused-last words column width h = let e : width - column ≡ 0 = omega arith in rw e
 
 -- the first bad column is none before the one that the search begins at
 pub bad-least : (words : ℕ → ℕ) (column : ℕ) (rules : List Rule) → column ≤ firstBad words column rules
@@ -58,6 +81,14 @@ bad-beyond words column (rule ∷ rules) rest h = go (fits rule (words column)) 
         → elim b [ true ↦ firstBad words (suc column) (rules ++ rest) | false ↦ column ] ≡ firstBad words (column + suc (length rules)) rest
     go true ih h = let e : column + suc (length rules) ≡ suc column + length rules = omega arith in rw e (ih (omega arith))
     go false ih h = absurd (omega arith)
+
+-- the same of what the code finds for the former rules
+module _ (words : ℕ → ℕ) (column : ℕ) (rules rest : List Rule) {bad : ℕ} (found : bad ≡ firstBad words column rules) where
+  pub within : bad < column + length rules → bad ≡ firstBad words column (rules ++ rest)
+  within h = found ∙ sym (bad-within words column rules rest (rw (← found) h))
+
+  pub beyond : {next : ℕ} → column + length rules ≤ bad → next ≡ firstBad words (column + length rules) rest → next ≡ firstBad words column (rules ++ rest)
+  beyond h e = e ∙ sym (bad-beyond words column rules rest (rw (← found) h))
 
 module _ (ws : List ℕ) (at : ℕ) where
   abbrev columns : ℕ → ℕ
@@ -182,16 +213,48 @@ module _ (ws : List ℕ) (rules : ℕ → List Rule) (width : ℕ) (wide : (i : 
     unfolding rowsVerdict
     rows-last row h = let f : rows - row ≡ 0 = omega arith in rw f
 
-    pub rows-on : (row : ℕ) → row < rows → width ≤ firstBad (column row) 0 (rules row) → left row ≡ left (row + 1)
-    rows-on row l h =
-        let e : begin + (row + 1) * width ≡ begin + row * width + width = omega (arith, add-mul row 1 width, one-mul width) in
-        let f : rows - row - 1 ≡ rows - (row + 1) = omega arith in
-        let z : begin + row * width + 0 ≡ begin + row * width = omega arith in
-        let g : rowVerdict ws (begin + row * width) (rules row) ≡ accepted = rw z at (row-good ws (begin + row * width) 0 (rules row) (omega (arith, wide row))) in
-        one _ row (omega arith) ∙ (on _ _ g ∙ rw (e, f, add-one row))
+    -- of a row, the code finds the first bad column
+    module _ (row : ℕ) (inside : row < rows) {bad : ℕ} (found : bad ≡ firstBad (column row) 0 (rules row)) where
+      at-row : begin + row * width + 0 ≡ begin + row * width
+      at-row = omega arith
 
-    pub rows-off : (row : ℕ) → row < rows → firstBad (column row) 0 (rules row) < width
-        → left row ≡ refused 4 (begin + row * width + firstBad (column row) 0 (rules row))
-    rows-off row l h =
-        let z : begin + row * width + 0 ≡ begin + row * width = omega arith in
-        one _ row (omega arith) ∙ off _ _ (rw z at (row-bad ws (begin + row * width) 0 (rules row) (omega (arith, wide row))))
+      pub rows-on : width ≤ bad → left row ≡ left (row + 1)
+      rows-on h =
+          let e : begin + (row + 1) * width ≡ begin + row * width + width = omega (arith, add-mul row 1 width, one-mul width) in
+          let f : rows - row - 1 ≡ rows - (row + 1) = omega arith in
+          let g : rowVerdict ws (begin + row * width) (rules row) ≡ accepted =
+            rw at-row at (row-good ws (begin + row * width) 0 (rules row) (omega (arith, wide row, found))) in
+          one _ row (omega arith) ∙ (on _ _ g ∙ rw (e, f, add-one row))
+
+      pub rows-off : bad < width → {from : ℕ} → from ≡ begin → refused 4 (from + row * width + bad) ≡ left row
+      rows-off h e =
+          let g : rowVerdict ws (begin + row * width) (rules row) ≡ refused 4 (begin + row * width + firstBad (column row) 0 (rules row)) =
+            rw at-row at (row-bad ws (begin + row * width) 0 (rules row) (omega (arith, wide row, found))) in
+          rw (e, found) (sym (one _ row (omega arith) ∙ off _ _ g))
+
+-- rows of one word, and so of one rule
+module _ (ws : List ℕ) (rule : Rule) (begin rows : ℕ) where
+  abbrev pub rest : ℕ → Verdict
+  rest row = rowsVerdict ws (λ _. rule ∷ []) (begin + row) row (rows - row)
+
+  pub rest-first : rowsVerdict ws (λ _. rule ∷ []) begin 0 rows ≡ rest 0
+  rest-first = let e : begin + 0 ≡ begin = omega arith in let f : rows - 0 ≡ rows = omega arith in rw (e, f)
+
+  pub rest-last : (row : ℕ) → rows ≤ row → rest row ≡ accepted
+  unfolding rowsVerdict
+  rest-last row h = let f : rows - row ≡ 0 = omega arith in rw f
+
+  module _ (row : ℕ) (inside : row < rows) {word : ℕ} {ok : Bool} (read : word ≡ Words.word ws (begin + row)) (test : ok ≡ fits rule word) where
+    split : rest row ≡ andThen (rowVerdict ws (begin + row) (rule ∷ [])) (rest (row + 1))
+    split =
+        let e : begin + row + 1 ≡ begin + (row + 1) = omega arith in
+        let f : rows - row - 1 ≡ rows - (row + 1) = omega arith in
+        one ws (λ _. rule ∷ []) 1 (λ _. refl) (begin + row) row (omega arith) ∙ rw (e, f, add-one row)
+
+    pub rest-on : not ok ≡ false → rest row ≡ rest (row + 1)
+    unfolding rowVerdict
+    rest-on e = let h : fits rule (Words.word ws (begin + row)) ≡ true = rw (← read) (sym test ∙ not-false _ e) in split ∙ on _ _ (rw (h, rowVerdict))
+
+    pub rest-off : not ok ≡ true → {from : ℕ} → from ≡ begin → refused 4 (from + row) ≡ rest row
+    unfolding rowVerdict
+    rest-off e b = let h : fits rule (Words.word ws (begin + row)) ≡ false = rw (← read) (sym test ∙ not-true _ e) in rw b (sym (split ∙ off _ _ (rw (h, rowVerdict))))

@@ -9,8 +9,6 @@ use Rattle.table.specs.declared.Checked.{Checked}
 use Rattle.table.specs.declared.Checked.the-variants.{Accepted, WrongLength, CountOverLimit, EntryOutOfRange, BadWord}
 use Rattle.table.specs.declared.rules.Rule.{Rule}
 use Rattle.table.specs.declared.rules.Rule.the-variants.{Unused, Number, Row, RowOrNone, RowsFrom}
-use Rattle.table.specs.declared.rules.Columns.{Columns}
-use Rattle.table.specs.declared.rules.Operands.{Operands}
 use Rattle.table.specs.Check.{Verdict, accepted, refused, unused, number, row, row-or-none, rows-from, fits}
 use Rattle.table.specs.Check as definition
 
@@ -42,13 +40,6 @@ ruleOf (Number most) = number most
 ruleOf (Row rows) = row rows
 ruleOf (RowOrNone rows) = row-or-none rows
 ruleOf (RowsFrom first rows) = rows-from first rows
-
--- the rules of a block's columns a to e, and of an instruction's p and q
-abbrev pub columnRules : Columns → List definition.Rule
-columnRules columns = ruleOf (columns .a) ∷ ruleOf (columns .b) ∷ ruleOf (columns .c) ∷ ruleOf (columns .d) ∷ ruleOf (columns .e) ∷ []
-
-abbrev pub operandsOf : Operands → List definition.Rule
-operandsOf operands = ruleOf (operands .p) ∷ ruleOf (operands .q) ∷ []
 
 -- rules for five columns, and for two: those not listed are unused
 abbrev pub five : List definition.Rule → List definition.Rule

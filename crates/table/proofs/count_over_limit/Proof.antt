@@ -1,3 +1,5 @@
+use Rattle.table.proofs.CheckLaws.{counted-on, counted-off, counted-all}
+use Rattle.table.specs.Words.{blockCount, instructionCount, caseCount, placeCount, identifierCount}
 use borrow.Author.Needs.{needs}
 use Rattle.table.proofs.count_over_limit.Statement.{statement}
 use Rattle.table.proofs.count_over_limit.Tie as tie
@@ -15,7 +17,8 @@ block-count-requires c κs = search needs
 
 -- src/lib.rt:67:9
 returns : tie.Need-returns
-returns c = ?
+unfolding blockCount instructionCount caseCount placeCount identifierCount
+returns c = counted-off _ _ _ _ (c .before .block-count .ensures) (c .if1 .taken)
 
 -- src/lib.rt:69:8
 instruction-count-requires : tie.Need-instruction-count-requires
@@ -23,7 +26,9 @@ instruction-count-requires c κs = search needs
 
 -- src/lib.rt:70:9
 returns-2 : tie.Need-returns-2
-returns-2 c = ?
+unfolding blockCount instructionCount caseCount placeCount identifierCount
+returns-2 c = counted-on _ _ _ _ (c .before .before .before .block-count .ensures) (c .before .before .if1 .left)
+    (counted-off _ _ _ _ (c .before .instruction-count .ensures) (c .if2 .taken))
 
 -- src/lib.rt:72:8
 case-count-requires : tie.Need-case-count-requires
@@ -31,7 +36,10 @@ case-count-requires c κs = search needs
 
 -- src/lib.rt:73:9
 returns-3 : tie.Need-returns-3
-returns-3 c = ?
+unfolding blockCount instructionCount caseCount placeCount identifierCount
+returns-3 c = counted-on _ _ _ _ (c .before .before .before .before .before .block-count .ensures) (c .before .before .before .before .if1 .left)
+    (counted-on _ _ _ _ (c .before .before .before .instruction-count .ensures) (c .before .before .if2 .left)
+    (counted-off _ _ _ _ (c .before .case-count .ensures) (c .if3 .taken)))
 
 -- src/lib.rt:75:8
 place-count-requires : tie.Need-place-count-requires
@@ -39,7 +47,11 @@ place-count-requires c κs = search needs
 
 -- src/lib.rt:76:9
 returns-4 : tie.Need-returns-4
-returns-4 c = ?
+unfolding blockCount instructionCount caseCount placeCount identifierCount
+returns-4 c = counted-on _ _ _ _ (c .before .before .before .before .before .before .before .block-count .ensures) (c .before .before .before .before .before .before .if1 .left)
+    (counted-on _ _ _ _ (c .before .before .before .before .before .instruction-count .ensures) (c .before .before .before .before .if2 .left)
+    (counted-on _ _ _ _ (c .before .before .before .case-count .ensures) (c .before .before .if3 .left)
+    (counted-off _ _ _ _ (c .before .place-count .ensures) (c .if4 .taken))))
 
 -- src/lib.rt:78:8
 identifier-count-requires : tie.Need-identifier-count-requires
@@ -47,11 +59,22 @@ identifier-count-requires c κs = search needs
 
 -- src/lib.rt:79:9
 returns-5 : tie.Need-returns-5
-returns-5 c = ?
+unfolding blockCount instructionCount caseCount placeCount identifierCount
+returns-5 c = counted-on _ _ _ _ (c .before .before .before .before .before .before .before .before .before .block-count .ensures) (c .before .before .before .before .before .before .before .before .if1 .left)
+    (counted-on _ _ _ _ (c .before .before .before .before .before .before .before .instruction-count .ensures) (c .before .before .before .before .before .before .if2 .left)
+    (counted-on _ _ _ _ (c .before .before .before .before .before .case-count .ensures) (c .before .before .before .before .if3 .left)
+    (counted-on _ _ _ _ (c .before .before .before .place-count .ensures) (c .before .before .if4 .left)
+    (counted-off _ _ _ _ (c .before .identifier-count .ensures) (c .if5 .taken)))))
 
 -- src/lib.rt:62:1
 returns-6 : tie.Need-returns-6
-returns-6 c = ?
+unfolding blockCount instructionCount caseCount placeCount identifierCount
+returns-6 c = counted-on _ _ _ _ (c .before .before .before .before .before .before .before .before .before .block-count .ensures) (c .before .before .before .before .before .before .before .before .if1 .left)
+    (counted-on _ _ _ _ (c .before .before .before .before .before .before .before .instruction-count .ensures) (c .before .before .before .before .before .before .if2 .left)
+    (counted-on _ _ _ _ (c .before .before .before .before .before .case-count .ensures) (c .before .before .before .before .if3 .left)
+    (counted-on _ _ _ _ (c .before .before .before .place-count .ensures) (c .before .before .if4 .left)
+    (counted-on _ _ _ _ (c .before .identifier-count .ensures) (c .if5 .left)
+    (counted-all _ _)))))
 
 pub count-over-limit-spec : {M : Type 1} → statement M
 count-over-limit-spec =
