@@ -167,7 +167,7 @@ module _ (t : Table) (few : (b : ℕ) → length (instructionRowsAt t b) ≤ 409
   andFinal-cheap : (b : ℕ) (k : Block) (span v : ℕ) (m : Result ValueTerminalResult) → length (instructionRows k) ≤ 4096 → Good (Less v) m → Good (Dear v) (thenFallthrough t values b k span m)
   unfolding thenFallthrough
   andFinal-cheap b k span v m c h = good-bind (Less v) (Dear v) m _ h (λ i q. good-bind (Cheap (i .visits)) (Dear v) _ _ (vals _ _ _ _)
-    (λ r q₁. omega (arith, instrsOf-size t (instructionRows k) (singleInstruction (i .id) (i .place) span (i .value)))))
+      (λ r q₁. omega (arith, instrsOf-size t (instructionRows k) (singleInstruction (i .id) (i .place) span (i .value)))))
 
   extractOr-cheap : (b : ℕ) (rs : List ℕ) (v code at : ℕ) → length rs ≤ 4096 → Good (Dear v) (extractOrRefuse t b rs v code at)
   unfolding extractOrRefuse
@@ -226,4 +226,4 @@ unfolding Cheaps value
 value-cheap t few zero b ft span v = tt
 value-cheap t few (suc d) b ft span v =
     good-bind (λ w. w ≡ suc v) (Cheap v) _ _ (begin-next t b v) (λ w q. good-unless (Cheap v) _ 23 b w _
-      (λ h. paid v w (visitValueBlockAt t (value t d) (terminalAt t b) b (blockAt t b) ft span w) q (valueAt-cheap t few (value t d) (value-cheap t few d) (terminalAt t b) b ft span w)))
+    (λ h. paid v w (visitValueBlockAt t (value t d) (terminalAt t b) b (blockAt t b) ft span w) q (valueAt-cheap t few (value t d) (value-cheap t few d) (terminalAt t b) b ft span w)))

@@ -93,7 +93,7 @@ flatten-rows t r span = at (sameIdentifier t (r .place) (loadedPlace t (innermos
         (leading-rows (r .value) no-instructions _ ∙ ap (λ (n : ℕ). before (r .value) (row 3 span 0 0 0 0 ∷ row 5 n (r .id) 0 0 0 ∷ [])) (leading-count (r .value) no-instructions ∙ add-zero (within (r .value))))
     at false = unfold unlessSame flattened in
         (leading-rows (r .value) last _
-          ∙ ap (λ (n : ℕ). before (r .value) (valueRows (innermostValue (r .value)) (row 4 (r .id) (r .place) span 0 0 ∷ row 3 span 0 0 0 0 ∷ row 5 n (r .id) 0 0 0 ∷ []))) (more (leading-count (r .value) last)))
+        ∙ ap (λ (n : ℕ). before (r .value) (valueRows (innermostValue (r .value)) (row 4 (r .id) (r .place) span 0 0 ∷ row 3 span 0 0 0 0 ∷ row 5 n (r .id) 0 0 0 ∷ []))) (more (leading-count (r .value) last)))
       where
         more : countInstructions (sequencedInstructions (r .value) last) ≡ within (r .value) + 1 → countInstructions (sequencedInstructions (r .value) last) ≡ suc (within (r .value))
         more e = omega arith

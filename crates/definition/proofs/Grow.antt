@@ -153,7 +153,7 @@ unfolding Grows value
 value-grows t zero b ft span v = tt
 value-grows t (suc d) b ft span v =
     good-bind (λ w. (v < 8192) × (w ≡ suc v)) (From v) _ _ (begin-grows t b v) (λ w q. good-unless (From v) _ 23 b w _
-      (λ h. weaker-suc v w (visitValueBlockAt t (value t d) (terminalAt t b) b (blockAt t b) ft span w) (q .1) (valueAt-grows t (value t d) (value-grows t d) (terminalAt t b) b (blockAt t b) ft span w)))
+    (λ h. weaker-suc v w (visitValueBlockAt t (value t d) (terminalAt t b) b (blockAt t b) ft span w) (q .1) (valueAt-grows t (value t d) (value-grows t d) (terminalAt t b) b (blockAt t b) ft span w)))
 
 -- ---- the state
 
@@ -164,7 +164,7 @@ pub enter-grows : (t : Table) (b : ℕ) (c : Context) → Good (λ d. (c .visits
 unfolding enterBlock emit withVisits
 enter-grows t b c =
     good-bind (λ w. (c .visits < 8192) × (w ≡ suc (c .visits))) (λ d. (c .visits < 8192) × (d .visits ≡ suc (c .visits))) _ _ (begin-grows t b (c .visits))
-      (λ w q. good-unless (λ d. (c .visits < 8192) × (d .visits ≡ suc (c .visits))) _ 11 b w _ (λ h. q))
+    (λ w q. good-unless (λ d. (c .visits < 8192) × (d .visits ≡ suc (c .visits))) _ 11 b w _ (λ h. q))
 
 pub schedule-kept : (g : ControlFlowTarget) (c : Context) → Good (Kept c) (schedule g c)
 unfolding schedule pushed

@@ -30,12 +30,12 @@ pub going-start : (t : Table) → Going t 16385 (visiting (t .entry) [] [] 0 sta
 going-start t = record { rest = run-built t 16385 (omega arith); sound = start-sound t; tallied = omega arith; paid = start-paid t }
 
 pub going-step : (t : Table) → Checked t → (n : ℕ) (s s′ : State) → Going t (suc n) s → step t s ≡ going s′ → Going t n s′
-going-step t k n s s′ g e = record
-  { rest = sym (run-step t n s s′ e) ∙ g .rest
-  ; sound = step-sound t (k .blocks) s s′ (g .sound) e .1
-  ; tallied = step-tally t s s′ (g .tallied) e
-  ; paid = step-paid t (k .counts) s s′ (g .paid) e
-  }
+going-step t k n s s′ g e = record {
+  rest = sym (run-step t n s s′ e) ∙ g .rest;
+  sound = step-sound t (k .blocks) s s′ (g .sound) e .1;
+  tallied = step-tally t s s′ (g .tallied) e;
+  paid = step-paid t (k .counts) s s′ (g .paid) e;
+}
 
 -- the same for a loop that counts no steps: the potential falls
 pub going-lower : (t : Table) → Checked t → (n : ℕ) (s s′ : State) → Going t n s → step t s ≡ going s′ → potential s′ < potential s

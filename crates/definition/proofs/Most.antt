@@ -118,4 +118,4 @@ unfolding Fews value
 value-few t zero b ft span v h = tt
 value-few t (suc d) b ft span v h =
     good-bind (λ w. w ≤ 8192) Few _ _ (begin-few t b v) (λ w q. good-unless Few _ 23 b w _
-      (λ _. valueAt-few t (value t d) (value-few t d) (terminalAt t b) b (blockAt t b) ft span w q))
+    (λ _. valueAt-few t (value t d) (value-few t d) (terminalAt t b) b (blockAt t b) ft span w q))

@@ -254,10 +254,10 @@ plainTarget g = (s : Flags) → unscheduledBy g s ≡ remove s (targetBlock g)
 
 off : (g : ControlFlowTarget) (i : ℕ) (c d : Context) → plainTarget g → On g i c d → After c (popped (c .stack) (unscheduledBy g (d .scheduled)) d)
 unfolding popped
-off g i c d u p = record
-  { same = refl
-  ; sub = λ x h. away x (ap (λ (s : Flags). has s x) (sym (u (d .scheduled))) ∙ h)
-  }
+off g i c d u p = record {
+  same = refl;
+  sub = λ x h. away x (ap (λ (s : Flags). has s x) (sym (u (d .scheduled))) ∙ h);
+}
   where
     away : (x : ℕ) → has (remove (d .scheduled) (targetBlock g)) x ≡ true → has (c .scheduled) x ≡ true
     away x h = elim (p .sub x (has-remove (d .scheduled) (targetBlock g) x h)) [ inl e ↦ absurd (not-removed (d .scheduled) (targetBlock g) x h e) | inr k ↦ k ]
@@ -322,25 +322,28 @@ unfolding unscheduledBy
 loop-away s d f k l true sub lent x h =
     let h₁ : has (remove (remove d f) k) x ≡ true = has-remove (remove (remove d f) k) l x h in
     let h₂ : has (remove d f) x ≡ true = has-remove (remove d f) k x h₁ in
-    elim (has-add (add (add s f) k) l x (sub x (has-remove d f x h₂)))
-      [ inl e ↦ absurd (not-removed (remove (remove d f) k) l x h e)
-      | inr q ↦ elim (has-add (add s f) k x q)
-          [ inl e ↦ absurd (not-removed (remove d f) k x h₁ e)
-          | inr q ↦ elim (has-add s f x q) [ inl e ↦ absurd (not-removed d f x h₂ e) | inr q ↦ q ] ] ]
+    elim (has-add (add (add s f) k) l x (sub x (has-remove d f x h₂))) [
+      | inl e ↦ absurd (not-removed (remove (remove d f) k) l x h e)
+      | inr q ↦ elim (has-add (add s f) k x q) [
+        | inl e ↦ absurd (not-removed (remove d f) k x h₁ e)
+        | inr q ↦ elim (has-add s f x q) [ inl e ↦ absurd (not-removed d f x h₂ e) | inr q ↦ q ]
+      ]
+    ]
 loop-away s d f k l false sub lent x h =
     let h₂ : has (remove d f) x ≡ true = has-remove (remove d f) k x h in
-    let inner : has (add (add s f) k) x ≡ true → has s x ≡ true = λ q. elim (has-add (add s f) k x q)
-          [ inl e ↦ absurd (not-removed (remove d f) k x h e)
-          | inr q ↦ elim (has-add s f x q) [ inl e ↦ absurd (not-removed d f x h₂ e) | inr q ↦ q ] ] in
+    let inner : has (add (add s f) k) x ≡ true → has s x ≡ true = λ q. elim (has-add (add s f) k x q) [
+      | inl e ↦ absurd (not-removed (remove d f) k x h e)
+      | inr q ↦ elim (has-add s f x q) [ inl e ↦ absurd (not-removed d f x h₂ e) | inr q ↦ q ]
+    ] in
     elim (has-add (add (add s f) k) l x (sub x (has-remove d f x h₂)))
-      [ inl e ↦ inner (ap (has (add (add s f) k)) e ∙ lent refl) | inr q ↦ inner q ]
+    [ inl e ↦ inner (ap (has (add (add s f) k)) e ∙ lent refl) | inr q ↦ inner q ]
 
 loop-off : (f k l : ℕ) (c d : Context) → InLoop f k l c d → Fine (λ e. After c e) (unschedule (c .next) d)
 unfolding popped
 loop-off f k l c d p =
     subst (λ (r : Result Context). Fine (λ e. After c e) r)
-      (sym (unschedule-exact (c .next) (record { id = c .next; target = target-loop f k (some l) (p .owns) }) (c .stack) d (p .stack) refl))
-      (record { same = refl; sub = loop-away (c .scheduled) (d .scheduled) f k l (p .owns) (p .sub) (p .lent) })
+    (sym (unschedule-exact (c .next) (record { id = c .next; target = target-loop f k (some l) (p .owns) }) (c .stack) d (p .stack) refl))
+    (record { same = refl; sub = loop-away (c .scheduled) (d .scheduled) f k l (p .owns) (p .sub) (p .lent) })
 
 -- ---- cases
 
@@ -363,7 +366,7 @@ unfolding scheduleSwitch Free
 openedSwitch-fine none c h = after-refl c
 openedSwitch-fine (some f) c h =
     subst (λ (r : Result Context). Fine (λ d. Tower c (c .next ∷ []) d) r) (sym (schedule-free (target-switch f) c (h f refl)))
-      (c, target-switch f, switch-plain f, on-pushed (target-switch f) c, after-refl c)
+    (c, target-switch f, switch-plain f, on-pushed (target-switch f) c, after-refl c)
 
 case-fine : (k : ℕ) (c : Context) → has (c .scheduled) k ≡ false → Fine (λ d. On (target-case k) (c .next) c d) (schedule (target-case k) c)
 case-fine k c h = subst (λ (r : Result Context). Fine (λ d. On (target-case k) (c .next) c d) r) (sym (schedule-free (target-case k) c h)) (on-pushed (target-case k) c)
@@ -407,41 +410,41 @@ module _ (t : Table) (values : VisitValueBlock) (vf : ValueFine values) (inner :
   unfolding traverseAlternate
   alternate-fine a f c =
       fine-pick (λ r. After c (r .context)) (eqb a f) _ _ (λ _. after-refl c)
-        (λ _. fine-bind (λ r. After c (r .context)) (λ r. After c (r .context)) _ _ (fresh-fine a 13 a c tt) (λ r q. q))
+      (λ _. fine-bind (λ r. After c (r .context)) (λ r. After c (r .context)) _ _ (fresh-fine a 13 a c tt) (λ r q. q))
 
   enclosed-fine : (b code at : ℕ) (g : Option ℕ) (c c₁ d : Context) (make : Statements → Statement) → T (ltb code 90) → Maybe g c d → ((e : Context) → After c₁ e → After d e)
       → Fine (StepAfter c) (traverseEnclosed inner b code at g c c₁ make)
   unfolding traverseEnclosed
   enclosed-fine b code at g c c₁ d make h p br =
       fine-bind (λ r. After c₁ (r .context)) (StepAfter c) _ _ (fresh-fine b code at c₁ h)
-        (λ r q. fine-bind (λ e. After c e) (StepAfter c) _ _ (closed-fine g c (r .context) (maybe-after g c p (br (r .context) q))) (λ e q₁. q₁))
+      (λ r q. fine-bind (λ e. After c e) (StepAfter c) _ _ (closed-fine g c (r .context) (maybe-after g c p (br (r .context) q))) (λ e q₁. q₁))
 
   loopBody-fine : (b l f k : ℕ) (bad : Bool) (v : ℕ) (c d : Context) (g : Option ℕ) (make : Statements → Statement) → InLoop f k l c d
       → Fine (StepAfter c) (traverseLoop inner b l bad v (c .next) d g make)
   unfolding traverseLoop WalkFine
   loopBody-fine b l f k bad v c d g make p =
       fine-unless (StepAfter c) bad 16 b v _ tt (λ _. fine-bind (λ r. After (withVisits v d) (r .context)) (StepAfter c) _ _ (wf l (withVisits v d))
-        (λ r q. fine-bind (λ e. After c e) (StepAfter c) _ _ (loop-off f k l c (r .context) (loop-after p (from-visited v q))) (λ e q₁. q₁)))
+      (λ r q. fine-bind (λ e. After c e) (StepAfter c) _ _ (loop-off f k l c (r .context) (loop-after p (from-visited v q))) (λ e q₁. q₁)))
 
   cases-fine : (b f : ℕ) (c₀ : Context) (cs : List Case) (ids : List ℕ) (c : Context) → Tower c₀ ids c → Fine (λ r. Tower c₀ (r .ids) (r .context)) (traverseCases inner b f cs ids c)
   unfolding traverseCases WalkFine isScheduled
   cases-fine b f c₀ [] ids c p = p
   cases-fine b f c₀ (k ∷ ks) ids c p =
       fine-pick (λ r. Tower c₀ (r .ids) (r .context)) (isScheduled c (k .block)) _ _
-        (λ _. fine-unless (λ r. Tower c₀ (r .ids) (r .context)) _ 14 b (c .visits) _ tt (λ _. cases-fine b f c₀ ks ids c p))
-        (λ h. fine-bind (λ r. After c (r .context)) (λ r. Tower c₀ (r .ids) (r .context)) _ _ (wf (k .block) c) (λ r q.
-          fine-bind (λ d. On (target-case (k .block)) (r .context .next) (r .context) d) (λ r. Tower c₀ (r .ids) (r .context)) _ _
-            (case-fine (k .block) (r .context) (false-of (has (r .context .scheduled) (k .block))
-              (λ z. true-false (sym (q .sub (k .block) z) ∙ or-false (has (c .scheduled) (k .block)) (has (c .catchHandlers) (k .block)) h))))
-            (λ d o. fine-bind (λ r. Tower c₀ (r .ids) (r .context)) (λ r. Tower c₀ (r .ids) (r .context)) _ _
-              (cases-fine b f c₀ ks (r .context .next ∷ ids) d (r .context, target-case (k .block), case-plain (k .block), o, tower-after c₀ ids c (r .context) p q))
-              (λ z u. u))))
+      (λ _. fine-unless (λ r. Tower c₀ (r .ids) (r .context)) _ 14 b (c .visits) _ tt (λ _. cases-fine b f c₀ ks ids c p))
+      (λ h. fine-bind (λ r. After c (r .context)) (λ r. Tower c₀ (r .ids) (r .context)) _ _ (wf (k .block) c) (λ r q.
+      fine-bind (λ d. On (target-case (k .block)) (r .context .next) (r .context) d) (λ r. Tower c₀ (r .ids) (r .context)) _ _
+      (case-fine (k .block) (r .context) (false-of (has (r .context .scheduled) (k .block))
+      (λ z. true-false (sym (q .sub (k .block) z) ∙ or-false (has (c .scheduled) (k .block)) (has (c .catchHandlers) (k .block)) h))))
+      (λ d o. fine-bind (λ r. Tower c₀ (r .ids) (r .context)) (λ r. Tower c₀ (r .ids) (r .context)) _ _
+      (cases-fine b f c₀ ks (r .context .next ∷ ids) d (r .context, target-case (k .block), case-plain (k .block), o, tower-after c₀ ids c (r .context) p q))
+      (λ z u. u))))
 
   consequent-fine : (b y i : ℕ) (c : Context) → Fine (λ r. After c (r .context)) (traverseConsequent inner b y i c)
   unfolding traverseConsequent WalkFine
   consequent-fine b y i c =
       fine-pick (λ r. After c (r .context)) (isScheduled c y) _ _
-        (λ _. fine-bind Any (λ r. After c (r .context)) _ _ (breakStmt-fine b y i c _) (λ s _. after-refl c)) (λ _. wf y c)
+      (λ _. fine-bind Any (λ r. After c (r .context)) _ _ (breakStmt-fine b y i c _) (λ s _. after-refl c)) (λ _. wf y c)
 
   update-fine : (u : Option ℕ) (span v : ℕ) → Fine Any (visitUpdate values u span v)
   unfolding visitUpdate ValueFine
@@ -452,8 +455,8 @@ module _ (t : Table) (values : VisitValueBlock) (vf : ValueFine values) (inner :
   unfolding visitValueStatement
   valueStmt-fine m b k f c h =
       fine-bind (λ d. Maybe (unlessScheduled c f) c d) (StepAfter c) _ _ (opened-fine (unlessScheduled c f) c (untaken-free c f)) (λ d p.
-        fine-bind Any (StepAfter c) _ _ (terminal-value-fine t values vf m (k .id) (k .span) (d .visits) b h) (λ r _.
-          fine-bind (λ e. After c e) (StepAfter c) _ _ (closed-fine (unlessScheduled c f) c (withVisits (r .visits) d) (maybe-after (unlessScheduled c f) c p (to-visited (r .visits) (after-refl d)))) (λ e q. q)))
+      fine-bind Any (StepAfter c) _ _ (terminal-value-fine t values vf m (k .id) (k .span) (d .visits) b h) (λ r _.
+      fine-bind (λ e. After c e) (StepAfter c) _ _ (closed-fine (unlessScheduled c f) c (withVisits (r .visits) d) (maybe-after (unlessScheduled c f) c p (to-visited (r .visits) (after-refl d)))) (λ e q. q)))
 
   loop-values : (x : ℕ) (ft : Option ℕ) (span v : ℕ) → Fine Any (values x ft span v)
   unfolding ValueFine
@@ -468,56 +471,56 @@ module _ (t : Table) (values : VisitValueBlock) (vf : ValueFine values) (inner :
   terminal-fine (goto g v) b k c h = jump-fine v b g (k .id) c
   terminal-fine (if x y a f) b k c h =
       fine-bind (λ g. Free g c) (StepAfter c) _ _ (reached-fine t c f) (λ g fr.
-        fine-bind (λ d. Maybe g c d) (StepAfter c) _ _ (opened-fine g c fr) (λ d p.
-          fine-bind (λ r. After d (r .context)) (StepAfter c) _ _ (fresh-fine y 12 y d tt) (λ r q.
-            fine-bind (λ s. After (r .context) (s .context)) (StepAfter c) _ _ (alternate-fine a f (r .context)) (λ s q₁.
-              fine-bind (λ e. After c e) (StepAfter c) _ _ (closed-fine g c (s .context) (maybe-after g c (maybe-after g c p q) q₁)) (λ e q₂. q₂)))))
+      fine-bind (λ d. Maybe g c d) (StepAfter c) _ _ (opened-fine g c fr) (λ d p.
+      fine-bind (λ r. After d (r .context)) (StepAfter c) _ _ (fresh-fine y 12 y d tt) (λ r q.
+      fine-bind (λ s. After (r .context) (s .context)) (StepAfter c) _ _ (alternate-fine a f (r .context)) (λ s q₁.
+      fine-bind (λ e. After c e) (StepAfter c) _ _ (closed-fine g c (s .context) (maybe-after g c (maybe-after g c p q) q₁)) (λ e q₂. q₂)))))
   terminal-fine (branch x y a) b k c h =
       fine-bind (λ r. After c (r .context)) (StepAfter c) _ _ (consequent-fine b y (k .id) c) (λ r q.
-        fine-bind (λ s. After (r .context) (s .context)) (StepAfter c) _ _ (fresh-fine a 19 b (r .context) tt) (λ s q₁. after-trans q q₁))
+      fine-bind (λ s. After (r .context) (s .context)) (StepAfter c) _ _ (fresh-fine a 19 b (r .context) tt) (λ s q₁. after-trans q q₁))
   terminal-fine (switch x i n f) b k c h =
       fine-bind (λ g. Free g c) (StepAfter c) _ _ (reached-fine t c f) (λ g fr.
-        fine-bind (λ d. Tower c (scheduleIds g (c .next)) d) (StepAfter c) _ _ (openedSwitch-fine g c fr) (λ d p.
-          fine-bind (λ r. Tower c (r .ids) (r .context)) (StepAfter c) _ _ (cases-fine b f c (casesLastFirst t i n) (scheduleIds g (c .next)) d p) (λ r q.
-            fine-bind (λ e. After c e) (StepAfter c) _ _ (unscheduleAll-fine c (r .ids) (r .context) q) (λ e q₁. q₁))))
+      fine-bind (λ d. Tower c (scheduleIds g (c .next)) d) (StepAfter c) _ _ (openedSwitch-fine g c fr) (λ d p.
+      fine-bind (λ r. Tower c (r .ids) (r .context)) (StepAfter c) _ _ (cases-fine b f c (casesLastFirst t i n) (scheduleIds g (c .next)) d p) (λ r q.
+      fine-bind (λ e. After c e) (StepAfter c) _ _ (unscheduleAll-fine c (r .ids) (r .context) q) (λ e q₁. q₁))))
   terminal-fine (do-while l x f) b k c h =
       fine-bind (λ d. InLoop f x l c d) (StepAfter c) _ _ (scheduleLoop-fine f x l c) (λ d p.
-        fine-unless (StepAfter c) _ 16 b (d .visits) _ tt (λ _. fine-bind (λ r. After d (r .context)) (StepAfter c) _ _ (wf l d) (λ r q.
-          fine-bind Any (StepAfter c) _ _ (loop-values x none (k .span) (r .context .visits)) (λ v _.
-            fine-bind (λ e. After c e) (StepAfter c) _ _ (loop-off f x l c (withVisits (v .visits) (r .context)) (loop-after p (to-visited (v .visits) q))) (λ e q₁. q₁)))))
+      fine-unless (StepAfter c) _ 16 b (d .visits) _ tt (λ _. fine-bind (λ r. After d (r .context)) (StepAfter c) _ _ (wf l d) (λ r q.
+      fine-bind Any (StepAfter c) _ _ (loop-values x none (k .span) (r .context .visits)) (λ v _.
+      fine-bind (λ e. After c e) (StepAfter c) _ _ (loop-off f x l c (withVisits (v .visits) (r .context)) (loop-after p (to-visited (v .visits) q))) (λ e q₁. q₁)))))
   terminal-fine (while x l f) b k c h =
       fine-bind (λ g. Free g c) (StepAfter c) _ _ (reached-fine t c f) (λ g fr.
-        fine-bind (λ d. InLoop f x l c d) (StepAfter c) _ _ (scheduleLoop-fine f x l c) (λ d p.
-          fine-bind Any (StepAfter c) _ _ (loop-values x none (k .span) (d .visits)) (λ v _. loopBody-fine b l f x _ (v .visits) c d g _ p)))
+      fine-bind (λ d. InLoop f x l c d) (StepAfter c) _ _ (scheduleLoop-fine f x l c) (λ d p.
+      fine-bind Any (StepAfter c) _ _ (loop-values x none (k .span) (d .visits)) (λ v _. loopBody-fine b l f x _ (v .visits) c d g _ p)))
   terminal-fine (for i x u l f) b k c h =
       fine-bind (λ d. InLoop f _ l c d) (StepAfter c) _ _ (scheduleLoop-fine f _ l c) (λ d p.
-        fine-bind Any (StepAfter c) _ _ (loop-values i none (k .span) (d .visits)) (λ n _.
-          fine-bind Any (StepAfter c) _ _ (loop-values x none (k .span) (n .visits)) (λ v _.
-            fine-bind Any (StepAfter c) _ _ (update-fine u (k .span) (v .visits)) (λ w _. loopBody-fine b l f _ _ (w .visits) c d _ _ p))))
+      fine-bind Any (StepAfter c) _ _ (loop-values i none (k .span) (d .visits)) (λ n _.
+      fine-bind Any (StepAfter c) _ _ (loop-values x none (k .span) (n .visits)) (λ v _.
+      fine-bind Any (StepAfter c) _ _ (update-fine u (k .span) (v .visits)) (λ w _. loopBody-fine b l f _ _ (w .visits) c d _ _ p))))
   terminal-fine (for-of i x l f) b k c h =
       fine-bind (λ d. InLoop f i l c d) (StepAfter c) _ _ (scheduleLoop-fine f i l c) (λ d p.
-        fine-bind Any (StepAfter c) _ _ (loop-values i none (k .span) (d .visits)) (λ n _.
-          fine-bind Any (StepAfter c) _ _ (loop-values x none (k .span) (n .visits)) (λ v _. loopBody-fine b l f i _ (v .visits) c d _ _ p)))
+      fine-bind Any (StepAfter c) _ _ (loop-values i none (k .span) (d .visits)) (λ n _.
+      fine-bind Any (StepAfter c) _ _ (loop-values x none (k .span) (n .visits)) (λ v _. loopBody-fine b l f i _ (v .visits) c d _ _ p)))
   terminal-fine (for-in i l f) b k c h =
       fine-bind (λ d. InLoop f i l c d) (StepAfter c) _ _ (scheduleLoop-fine f i l c) (λ d p.
-        fine-bind Any (StepAfter c) _ _ (loop-values i none (k .span) (d .visits)) (λ n _. loopBody-fine b l f i _ (n .visits) c d _ _ p))
+      fine-bind Any (StepAfter c) _ _ (loop-values i none (k .span) (d .visits)) (λ n _. loopBody-fine b l f i _ (n .visits) c d _ _ p))
   terminal-fine (logical o x f) b k c h = valueStmt-fine (logical o x f) b k f c tt
   terminal-fine (ternary x f) b k c h = valueStmt-fine (ternary x f) b k f c tt
   terminal-fine (optional g x f) b k c h = valueStmt-fine (optional g x f) b k f c tt
   terminal-fine (label x f) b k c h =
       fine-bind (λ g. Free g c) (StepAfter c) _ _ (reached-fine t c f) (λ g fr.
-        fine-bind (λ d. Maybe g c d) (StepAfter c) _ _ (opened-fine g c fr) (λ d p. enclosed-fine x 17 b g c d d _ tt p (λ e q. q)))
+      fine-bind (λ d. Maybe g c d) (StepAfter c) _ _ (opened-fine g c fr) (λ d p. enclosed-fine x 17 b g c d d _ tt p (λ e q. q)))
   terminal-fine (sequence x f) b k c h = valueStmt-fine (sequence x f) b k f c tt
   terminal-fine (maybe-throw n) b k c h = after-refl c
   terminal-fine (try x y f n) b k c h =
       fine-bind (λ g. Free g c) (StepAfter c) _ _ (reached-fine t c f) (λ g fr.
-        fine-bind (λ d. Maybe g c d) (StepAfter c) _ _ (opened-fine g c fr) (λ d p.
-          fine-bind (λ r. After (scheduleCatchHandler y d) (r .context)) (StepAfter c) _ _ (wf x (scheduleCatchHandler y d)) (λ r q.
-            fine-bind (λ s. After (r .context) (s .context)) (StepAfter c) _ _ (wf y (r .context)) (λ s q₁.
-              fine-bind (λ e. After c e) (StepAfter c) _ _ (closed-fine g c (s .context) (maybe-after g c (maybe-after g c p (from-caught y q)) q₁)) (λ e q₂. q₂)))))
+      fine-bind (λ d. Maybe g c d) (StepAfter c) _ _ (opened-fine g c fr) (λ d p.
+      fine-bind (λ r. After (scheduleCatchHandler y d) (r .context)) (StepAfter c) _ _ (wf x (scheduleCatchHandler y d)) (λ r q.
+      fine-bind (λ s. After (r .context) (s .context)) (StepAfter c) _ _ (wf y (r .context)) (λ s q₁.
+      fine-bind (λ e. After c e) (StepAfter c) _ _ (closed-fine g c (s .context) (maybe-after g c (maybe-after g c p (from-caught y q)) q₁)) (λ e q₂. q₂)))))
   terminal-fine (scope pr x f s) b k c h =
       fine-bind (λ d. Maybe (unlessScheduled c f) c d) (StepAfter c) _ _ (opened-fine (unlessScheduled c f) c (untaken-free c f))
-        (λ d p. enclosed-fine x 18 b (unlessScheduled c f) c (markScopeFallthroughIf (unlessScheduled c f) d) d _ tt p (λ e q. from-scoped (unlessScheduled c f) q))
+      (λ d p. enclosed-fine x 18 b (unlessScheduled c f) c (markScopeFallthroughIf (unlessScheduled c f) d) d _ tt p (λ e q. from-scoped (unlessScheduled c f) q))
 
   goOn-fine : (b : ℕ) (again : TraverseBlock) (c : Context) (s : Option Statement) (n : Option ℕ) (d : Context) → WalkFine again → After c d → Fine (λ r. After c (r .context)) (thenNext t b again s n d)
   unfolding thenNext WalkFine
@@ -532,15 +535,15 @@ module _ (t : Table) (values : VisitValueBlock) (vf : ValueFine values) (inner :
   unfolding enterBlock
   enter-fine b c =
       fine-bind (λ _. isAbsent (terminalAt t b) ≡ false) (λ d. (isAbsent (terminalAt t b) ≡ false) × After c d) _ _ (begin-present b (c .visits))
-        (λ v h. fine-unless (λ d. (isAbsent (terminalAt t b) ≡ false) × After c d) _ 11 b v _ tt (λ _. (h, to-entered c b v)))
+      (λ v h. fine-unless (λ d. (isAbsent (terminalAt t b) ≡ false) × After c d) _ 11 b v _ tt (λ _. (h, to-entered c b v)))
 
   chain-fine : (n : ℕ) → WalkFine (visitBlock t values inner n)
   unfolding visitBlock WalkFine
   chain-fine zero b c = tt
   chain-fine (suc n) b c =
       fine-bind (λ d. (isAbsent (terminalAt t b) ≡ false) × After c d) (λ r. After c (r .context)) _ _ (enter-fine b c) (λ d p.
-        fine-bind (StepAfter d) (λ r. After c (r .context)) _ _ (terminal-fine (terminalAt t b) b (blockAt t b) d (p .0)) (λ s q.
-          goOn-fine b (visitBlock t values inner n) c (s .statement) (s .next) (s .context) (chain-fine n) (after-trans (p .1) q)))
+      fine-bind (StepAfter d) (λ r. After c (r .context)) _ _ (terminal-fine (terminalAt t b) b (blockAt t b) d (p .0)) (λ s q.
+      goOn-fine b (visitBlock t values inner n) c (s .statement) (s .next) (s .context) (chain-fine n) (after-trans (p .1) q)))
 
 pub walk-fine : (t : Table) (d : ℕ) → WalkFine (traverseBlock t d)
 unfolding traverseBlock WalkFine

@@ -78,8 +78,10 @@ nextCase-paid x id g i b f m F [] report R c h = good-bind (Kept c) Paid _ _ (po
 nextCase-paid x id g i b f m F (k ∷ ks) report R c h = at (isScheduled c (k .block)) (nextCase-paid x id g i b f m F ks report R c h)
   where
     at : (y : Bool) → Good Paid (nextCase x id g i b f m F ks report R c)
-        → Good Paid (elim y [ true ↦ refuseIf (not (eqb (k .block) f)) 14 b (c .visits) >>= λ _. nextCase x id g i b f m F ks report R c
-                            | false ↦ ok (visiting (k .block) (fCase x id g i b f k ks report m ∷ F) R 0 c) ])
+        → Good Paid (elim y [
+          | true ↦ refuseIf (not (eqb (k .block) f)) 14 b (c .visits) >>= λ _. nextCase x id g i b f m F ks report R c
+          | false ↦ ok (visiting (k .block) (fCase x id g i b f k ks report m ∷ F) R 0 c)
+        ])
     at true q = go (refuseIf (not (eqb (k .block) f)) 14 b (c .visits)) _ (λ _. q)
     at false q = omega arith
 
@@ -91,7 +93,7 @@ resume-paid values vc (fCase x id g i b f k ks report m) F R c h =
     good-bind (Kept c) Paid _ _ (schedule-kept (target-case (k .block)) c) (λ c1 q. nextCase-paid x id g i b f m F ks (suc report) _ c1 (omega (arith, length-append R (row 11 (k .test) 0 0 0 0 ∷ []))))
 resume-paid values vc (fDo id g i x span m) F R c h =
     good-bind (Cheap (c .visits)) Paid _ _ (vc x none span (c .visits)) (λ v q. unfold withVisits in
-      closeLoop-paid _ g i m F _ (withVisits (v .visits) c) (omega (arith, length-append R (valueOut (v .value)), size-out (v .value))))
+    closeLoop-paid _ g i m F _ (withVisits (v .visits) c) (omega (arith, length-append R (valueOut (v .value)), size-out (v .value))))
 resume-paid values vc (fTry id g i y n m) F R c h = omega arith
 resume-paid values vc (fBody r g i m) F R c h = close-paid r g i m F R c (omega arith)
 resume-paid values vc (fLoop r g i m) F R c h = closeLoop-paid r g i m F R c (omega arith)
@@ -146,17 +148,19 @@ module _ (t : Table) (few : (b : ℕ) → length (instructionRowsAt t b) ≤ 409
   way-paid x y a id b = at (isScheduled c y)
     where
       at : (z : Bool) → Good Paid
-          (elim z [ true ↦ visitBreak b y id c (breakTargetFrom (c .stack) y true false) >>= λ o. otherWay x id a b m F ((R ++ jumpOut o) ++ (blockRow (added o 0) ∷ [])) c
-                  | false ↦ ok (visiting y (fWays x id a b m ∷ F) R 0 c) ])
+          (elim z [
+            | true ↦ visitBreak b y id c (breakTargetFrom (c .stack) y true false) >>= λ o. otherWay x id a b m F ((R ++ jumpOut o) ++ (blockRow (added o 0) ∷ [])) c
+            | false ↦ ok (visiting y (fWays x id a b m ∷ F) R 0 c)
+          ])
       at true = good-bind Short Paid _ _ (breakStmt-short b y id c (breakTargetFrom (c .stack) y true false))
-        (λ o q. otherWay-paid x id a b m F _ c (omega (arith, length-append R (jumpOut o), length-append (R ++ jumpOut o) (blockRow (added o 0) ∷ []))))
+          (λ o q. otherWay-paid x id a b m F _ c (omega (arith, length-append R (jumpOut o), length-append (R ++ jumpOut o) (blockRow (added o 0) ∷ []))))
       at false = omega arith
 
   value-paid : (e : Terminal) (b : ℕ) (k : Block) (f : ℕ) → Good Paid (valueStep t values e b k f F R m c)
   unfolding valueStep withVisits
   value-paid e b k f =
       good-bind (Kept c) Paid _ _ (opened-kept (unlessScheduled c f) c) (λ c1 q. good-bind (Less (c1 .visits)) Paid _ _ (terminal-cheap t few values vc e (k .id) (k .span) (c1 .visits) b) (λ r q₁.
-        close-paid (row 4 (r .id) (r .place) (k .span) 0 0) (unlessScheduled c f) (c .next) m F (R ++ valueOut (r .value)) (withVisits (r .visits) c1) (omega (arith, length-append R (valueOut (r .value)), size-out (r .value)))))
+      close-paid (row 4 (r .id) (r .place) (k .span) 0 0) (unlessScheduled c f) (c .next) m F (R ++ valueOut (r .value)) (withVisits (r .visits) c1) (omega (arith, length-append R (valueOut (r .value)), size-out (r .value)))))
 
   vals : (x : ℕ) (ft : Option ℕ) (span v : ℕ) → Good (Cheap v) (values x ft span v)
   unfolding Cheaps
@@ -177,24 +181,37 @@ module _ (t : Table) (few : (b : ℕ) → length (instructionRowsAt t b) ≤ 409
   dispatch-paid (do-while l x f) b k = good-bind (Kept c) Paid _ _ (loop-kept f x l c) (λ c1 q. go (refuseIf (loopIsTaken c l f) 16 b (c1 .visits)) _ (λ _. omega arith))
   dispatch-paid (while x l f) b k =
       go (unlessUnreachable t c f) _ (λ g. good-bind (Kept c) Paid _ _ (loop-kept f x l c) (λ c1 q. good-bind (Cheap (c1 .visits)) Paid _ _ (vals x none (k .span) (c1 .visits)) (λ v q₁.
-        intoLoop-paid b l _ (v .visits) _ F _ c1 (omega (arith, length-append R (valueOut (v .value)), size-out (v .value))))))
+      intoLoop-paid b l _ (v .visits) _ F _ c1 (omega (arith, length-append R (valueOut (v .value)), size-out (v .value))))))
   dispatch-paid (for i x u l f) b k =
       good-bind (Kept c) Paid _ _ (loop-kept f (continueBlockOf u x) l c) (λ c1 q. good-bind (Cheap (c1 .visits)) Paid _ _ (vals i none (k .span) (c1 .visits)) (λ n q₁.
-        good-bind (Cheap (n .visits)) Paid _ _ (vals x none (k .span) (n .visits)) (λ v q₂.
-          good-bind (λ w. length (updateOut (w .value)) + 8200 * v .visits ≤ 8200 * w .visits) Paid _ _ (update-cheap t few values vc u (k .span) (v .visits)) (λ w q₃.
-            intoLoop-paid b l _ (w .visits) _ F _ c1
-              (omega (arith, sequence-size t n (k .span), size-out (valueBlockResultToSequence t n (k .span)), size-out (v .value), length-append R (valueOut (valueBlockResultToSequence t n (k .span))),
-                length-append (R ++ valueOut (valueBlockResultToSequence t n (k .span))) (valueOut (v .value)),
-                length-append ((R ++ valueOut (valueBlockResultToSequence t n (k .span))) ++ valueOut (v .value)) (updateOut (w .value))))))))
+      good-bind (Cheap (n .visits)) Paid _ _ (vals x none (k .span) (n .visits)) (λ v q₂.
+      good-bind (λ w. length (updateOut (w .value)) + 8200 * v .visits ≤ 8200 * w .visits) Paid _ _ (update-cheap t few values vc u (k .span) (v .visits)) (λ w q₃.
+      intoLoop-paid b l _ (w .visits) _ F _ c1
+      (omega (
+        arith,
+        sequence-size t n (k .span),
+        size-out (valueBlockResultToSequence t n (k .span)),
+        size-out (v .value),
+        length-append R (valueOut (valueBlockResultToSequence t n (k .span))),
+        length-append (R ++ valueOut (valueBlockResultToSequence t n (k .span))) (valueOut (v .value)),
+        length-append ((R ++ valueOut (valueBlockResultToSequence t n (k .span))) ++ valueOut (v .value)) (updateOut (w .value)),
+      ))))))
   dispatch-paid (for-of i x l f) b k =
       good-bind (Kept c) Paid _ _ (loop-kept f i l c) (λ c1 q. good-bind (Cheap (c1 .visits)) Paid _ _ (vals i none (k .span) (c1 .visits)) (λ n q₁.
-        good-bind (Cheap (n .visits)) Paid _ _ (vals x none (k .span) (n .visits)) (λ v q₂.
-          intoLoop-paid b l _ (v .visits) _ F _ c1
-            (omega (arith, sequence-size t n (k .span), size-out (valueBlockResultToSequence t n (k .span)), sequence-size t v (k .span), size-out (valueBlockResultToSequence t v (k .span)),
-              length-append R (valueOut (valueBlockResultToSequence t n (k .span))), length-append (R ++ valueOut (valueBlockResultToSequence t n (k .span))) (valueOut (valueBlockResultToSequence t v (k .span))))))))
+      good-bind (Cheap (n .visits)) Paid _ _ (vals x none (k .span) (n .visits)) (λ v q₂.
+      intoLoop-paid b l _ (v .visits) _ F _ c1
+      (omega (
+        arith,
+        sequence-size t n (k .span),
+        size-out (valueBlockResultToSequence t n (k .span)),
+        sequence-size t v (k .span),
+        size-out (valueBlockResultToSequence t v (k .span)),
+        length-append R (valueOut (valueBlockResultToSequence t n (k .span))),
+        length-append (R ++ valueOut (valueBlockResultToSequence t n (k .span))) (valueOut (valueBlockResultToSequence t v (k .span))),
+      )))))
   dispatch-paid (for-in i l f) b k =
       good-bind (Kept c) Paid _ _ (loop-kept f i l c) (λ c1 q. good-bind (Cheap (c1 .visits)) Paid _ _ (vals i none (k .span) (c1 .visits)) (λ n q₁.
-        intoLoop-paid b l _ (n .visits) _ F _ c1 (omega (arith, sequence-size t n (k .span), size-out (valueBlockResultToSequence t n (k .span)), length-append R (valueOut (valueBlockResultToSequence t n (k .span)))))))
+      intoLoop-paid b l _ (n .visits) _ F _ c1 (omega (arith, sequence-size t n (k .span), size-out (valueBlockResultToSequence t n (k .span)), length-append R (valueOut (valueBlockResultToSequence t n (k .span)))))))
   dispatch-paid (logical o x f) b k = value-paid (logical o x f) b k f
   dispatch-paid (ternary x f) b k = value-paid (ternary x f) b k f
   dispatch-paid (optional g x f) b k = value-paid (optional g x f) b k f
@@ -215,8 +232,8 @@ module _ (t : Table) (few : (b : ℕ) → length (instructionRowsAt t b) ≤ 409
   unfolding visit
   visit-paid b F R m c h =
       go (refuseIf (leb 128 (length F)) 30 b (c .visits)) _ (λ _. good-bind (λ e. (c .visits < 8192) × (e .visits ≡ suc (c .visits))) Paid _ _ (enter-grows t b c) (λ c1 q.
-        dispatch-paid t few (value t (left F)) (value-cheap t few (left F)) F (R ++ instrOut t (instructionRowsAt t b)) (m + length (instructionRowsAt t b)) c1
-          (omega (arith, length-append R (instrOut t (instructionRowsAt t b)), instr-two t (instructionRowsAt t b), few b)) (terminalAt t b) b (blockAt t b)))
+      dispatch-paid t few (value t (left F)) (value-cheap t few (left F)) F (R ++ instrOut t (instructionRowsAt t b)) (m + length (instructionRowsAt t b)) c1
+      (omega (arith, length-append R (instrOut t (instructionRowsAt t b)), instr-two t (instructionRowsAt t b), few b)) (terminalAt t b) b (blockAt t b)))
 
   abbrev Then : Turn → Type 0
   Then (going s) = Paid s

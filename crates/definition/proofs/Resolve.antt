@@ -11,8 +11,9 @@ use borrow.Author.Tests.{eqb-true, eqb-false, eq-eqb}
 use Rattle.table.specs.Table.{Table, Terminal, while, terminalAt}
 use Rattle.definition.specs.Tree.{Kind, implicit, labeled, unlabeled}
 use Rattle.definition.specs.Context.{Flags, has, or, ControlFlowTarget, target-if, target-loop, Entry, targetBlock, isLoop, continueBlock, breakKind, breakTargetFrom, Resolution, continueKind, isContinueBlock, continueTargetFrom}
-use Rattle.definition.specs.Run.{Ending, normal, jumps, breakTo, breakNearest, continueTo, continueNearest, breaks, continues}
-use Rattle.definition.specs.Plain.{Plain, ftOf}
+use Rattle.definition.specs.Completion.{break, continue}
+use Rattle.definition.specs.TreeRun.{jumpCompletion}
+use Rattle.definition.specs.Plain.{Plain, fallthroughOf}
 use Rattle.definition.proofs.Semantics.{Frame, fLabel, fScope, fLoop, exit, breakOut, breakAt, continueOut, continueAt, target, provided}
 use Rattle.definition.proofs.Tools.{true-false}
 
@@ -52,7 +53,7 @@ module _ (t : Table) where
       found f g (eqb f g) (breakKind false top above) k (breakTargetFrom S g false (or above false)) (breakAt F g) refl e (λ h. break-at p g false (or above false) k n h)
   break-at {sc} (fscope {F} {S} i f s p) g top above k n e =
       passed f g (eqb f g) (breakKind false top above) k (breakTargetFrom S g false (or above false)) (breakAt F g) refl e
-        (λ h. true-false (sym s ∙ ap (has sc) h ∙ n)) (λ h. break-at p g false (or above false) k n h)
+      (λ h. true-false (sym s ∙ ap (has sc) h ∙ n)) (λ h. break-at p g false (or above false) k n h)
   break-at {sc} (floop {F} {S} i f x w l ll o s p) g top above k n e =
       found f g (eqb f g) (breakKind true top above) k (breakTargetFrom S g false (or above true)) (breakAt F g) refl e (λ h. break-at p g false (or above true) k n h)
 
@@ -105,7 +106,7 @@ module _ (t : Table) where
   below-never [] g above e = some-none e
   below-never (x ∷ S) g above e =
       neither (eqb (targetBlock (x .target)) g) (breakKind (isLoop (x .target)) false above) implicit (breakTargetFrom S g false (or above (isLoop (x .target)))) e
-        (kind-below (isLoop (x .target)) above) (λ h. below-never S g (or above (isLoop (x .target))) h)
+      (kind-below (isLoop (x .target)) above) (λ h. below-never S g (or above (isLoop (x .target))) h)
 
   -- the entry is no target of this kind, or it is one
   skip : {A : Type 0} (y : Bool) (a k : A) (q : Option A) (R : Type 0) → elim y [ true ↦ some a | false ↦ q ] ≡ some k → (a ≡ k → ⊥) → (q ≡ some k → R) → R
@@ -138,8 +139,8 @@ module _ (t : Table) where
 
   -- the break's row goes to its block
   pub break-target : {sc : Flags} {F : List Frame} {S : List Entry} → Framed sc F S → (g : ℕ) (k : Kind) → breakTargetFrom S g true false ≡ some k
-      → (k ≡ implicit) ⊎ (has sc g ≡ false) → target F (breaks k g) ≡ some g
-  unfolding breaks
+      → (k ≡ implicit) ⊎ (has sc g ≡ false) → target F (jumpCompletion k g break) ≡ some g
+  unfolding jumpCompletion
   break-target p g implicit e h = break-exit p g true false e
   break-target p g labeled e (inl h) = absurd (labeled-implicit h)
   break-target p g labeled e (inr h) = break-at p g true false labeled h e
@@ -169,15 +170,15 @@ module _ (t : Table) where
   continue-above-never [] g top c e = absurd (some-none e)
   continue-above-never (x ∷ S) g top c e =
       either (isContinueBlock (continueBlock (x .target)) g) (record { fallthrough = targetBlock (x .target); kind = continueKind top true }) c (continueTargetFrom S g false true) (c .kind ≡ labeled) e
-        (λ h. sym (ap (λ (c : Resolution). c .kind) h) ∙ continue-above top) (λ h. continue-above-never S g false c h)
+      (λ h. sym (ap (λ (c : Resolution). c .kind) h) ∙ continue-above top) (λ h. continue-above-never S g false c h)
 
   continue-below-never : (S : List Entry) (g : ℕ) (above : Bool) (c : Resolution) → continueTargetFrom S g false above ≡ some c → c .kind ≡ implicit → ⊥
   unfolding continueTargetFrom
   continue-below-never [] g above c e k = some-none e
   continue-below-never (x ∷ S) g above c e k =
       either (isContinueBlock (continueBlock (x .target)) g) (record { fallthrough = targetBlock (x .target); kind = continueKind false above }) c
-        (continueTargetFrom S g false (or above (isLoop (x .target)))) ⊥ e
-        (λ h. continue-below above (ap (λ (c : Resolution). c .kind) h ∙ k)) (λ h. continue-below-never S g (or above (isLoop (x .target))) c h k)
+      (continueTargetFrom S g false (or above (isLoop (x .target)))) ⊥ e
+      (λ h. continue-below above (ap (λ (c : Resolution). c .kind) h ∙ k)) (λ h. continue-below-never S g (or above (isLoop (x .target))) c h k)
 
   continue-out : {sc : Flags} {F : List Frame} {S : List Entry} → Framed sc F S → (g : ℕ) (top : Bool) (c : Resolution) → continueTargetFrom S g top false ≡ some c
       → c .kind ≡ unlabeled → continueOut F ≡ some g
@@ -187,7 +188,7 @@ module _ (t : Table) where
   continue-out (fscope {F} {S} i f s p) g top c e k = continue-out p g false c e k
   continue-out (floop {F} {S} i f x w l ll o s p) g top c e k =
       take x g (eqb x g) (record { fallthrough = f; kind = continueKind top false }) c (continueTargetFrom S g false true) refl e
-        (λ h. labeled-unlabeled (sym (continue-above-never S g false c h) ∙ k))
+      (λ h. labeled-unlabeled (sym (continue-above-never S g false c h) ∙ k))
 
   continue-exit : {sc : Flags} {F : List Frame} {S : List Entry} → Framed sc F S → (g : ℕ) (top above : Bool) (c : Resolution) → continueTargetFrom S g top above ≡ some c
       → c .kind ≡ implicit → exit F ≡ some g
@@ -197,7 +198,7 @@ module _ (t : Table) where
   continue-exit (fscope {F} {S} i f s p) g top above c e k = absurd (continue-below-never S g (or above false) c e k)
   continue-exit (floop {F} {S} i f x w l ll o s p) g top above c e k =
       take x g (eqb x g) (record { fallthrough = f; kind = continueKind top above }) c (continueTargetFrom S g false (or above true)) refl e
-        (λ h. continue-below-never S g (or above true) c h k)
+      (λ h. continue-below-never S g (or above true) c h k)
 
   -- the loop that was found is of a While with this test
   abbrev Of : ℕ → ℕ → Type 0
@@ -220,14 +221,14 @@ module _ (t : Table) where
   while-test : {x l f x′ l′ f′ : ℕ} → while x l f ≡ while x′ l′ f′ → x ≡ x′
   while-test e = cc
 
-  while-ft : (w x l f : ℕ) → terminalAt t w ≡ while x l f → ftOf (terminalAt t w) ≡ some f
-  while-ft w x l f e = ap ftOf e
+  while-ft : (w x l f : ℕ) → terminalAt t w ≡ while x l f → fallthroughOf (terminalAt t w) ≡ some f
+  while-ft w x l f e = ap fallthroughOf e
 
   module _ (pl : Plain t) where
     -- two Whiles with one fallthrough have one test
     same-test : (w x l f w′ x′ l′ : ℕ) → terminalAt t w ≡ while x l f → terminalAt t w′ ≡ while x′ l′ f → x ≡ x′
     same-test w x l f w′ x′ l′ e e′ =
-        while-test (sym e ∙ ap (terminalAt t) (pl .one-ft w w′ f (while-ft w x l f e) (while-ft w′ x′ l′ f e′)) ∙ e′)
+        while-test (sym e ∙ ap (terminalAt t) (pl .one-fallthrough w w′ f (while-ft w x l f e) (while-ft w′ x′ l′ f e′)) ∙ e′)
 
     at-loop : (x g f f′ w l : ℕ) (y : Bool) (r : Option ℕ) → eqb f f′ ≡ y → terminalAt t w ≡ while x l f → Of g f′ → (((f ≡ f′) → ⊥) → r ≡ some g) → provided y (some x) r ≡ some g
     at-loop x g f f′ w l true r h s (w′, l′, s′) k =
@@ -242,12 +243,12 @@ module _ (t : Table) where
     continue-at (fscope {F} {S} i f s p) g top above c e n = continue-at p g false (or above false) c e n
     continue-at (floop {F} {S} i f x w l ll o s p) g top above c e n =
         at-loop x g f (c .fallthrough) w l (eqb f (c .fallthrough)) (continueAt F (c .fallthrough)) refl s n
-          (λ z. either (eqb x g) (record { fallthrough = f; kind = continueKind top above }) c (continueTargetFrom S g false (or above true)) (continueAt F (c .fallthrough) ≡ some g) e
-            (λ h. absurd (z (ap (λ (y : Resolution). y .fallthrough) h))) (λ h. continue-at p g false (or above true) c h n))
+        (λ z. either (eqb x g) (record { fallthrough = f; kind = continueKind top above }) c (continueTargetFrom S g false (or above true)) (continueAt F (c .fallthrough) ≡ some g) e
+        (λ h. absurd (z (ap (λ (y : Resolution). y .fallthrough) h))) (λ h. continue-at p g false (or above true) c h n))
 
     pub continue-target : {sc : Flags} {F : List Frame} {S : List Entry} → Framed sc F S → (g : ℕ) (f : ℕ) (k : Kind)
-        → continueTargetFrom S g true false ≡ some (record { fallthrough = f; kind = k }) → target F (continues k f) ≡ some g
-    unfolding continues
+        → continueTargetFrom S g true false ≡ some (record { fallthrough = f; kind = k }) → target F (jumpCompletion k f continue) ≡ some g
+    unfolding jumpCompletion
     continue-target p g f implicit e = continue-exit p g true false (record { fallthrough = f; kind = implicit }) e refl
     continue-target p g f labeled e =
         continue-at p g true false (record { fallthrough = f; kind = labeled }) e (continue-of p g true false (record { fallthrough = f; kind = labeled }) e)

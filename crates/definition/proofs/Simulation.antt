@@ -132,8 +132,8 @@ pop-all (i ∷ is) rest c h = at (c .stack) h (λ e q. pop-all is rest e q)
     at [] q again = absurd q
     at (e ∷ S) (q, u) again =
         unfold unscheduleTop popTop popped in
-          (ap (λ (y : Bool). elim y [ true ↦ ok (popped S (unscheduledBy (e .target) (c .scheduled)) c) | false ↦ refused 91 0 (c .visits) ] >>= λ c1. unscheduleAll (is ++ rest) c1) (eq-eqb (e .id) i q)
-            ∙ again (popped S (unscheduledBy (e .target) (c .scheduled)) c) u)
+        (ap (λ (y : Bool). elim y [ true ↦ ok (popped S (unscheduledBy (e .target) (c .scheduled)) c) | false ↦ refused 91 0 (c .visits) ] >>= λ c1. unscheduleAll (is ++ rest) c1) (eq-eqb (e .id) i q)
+        ∙ again (popped S (unscheduledBy (e .target) (c .scheduled)) c) u)
 
 pop-label : (g : Option ℕ) (i : ℕ) (c : Context) → unscheduleAll (scheduleIds g i) c ≡ unscheduleIf g i c
 unfolding unscheduleAll unscheduleIf _>>=_
@@ -160,8 +160,8 @@ module _ (t : Table) (d : ℕ) (inner : TraverseBlock) (ws : Walks t d inner) (w
   resumes fr F R n c a size h =
       let e : left F ≡ d = omega arith in
       runs-turn t (ended (fr ∷ F) R (0 + n) c) (resume (value t d) fr F (R ++ (blockRow n ∷ [])) c) a
-        (ap (λ (z : ℕ). turn (resume (value t z) fr F (R ++ (blockRow (0 + n) ∷ [])) c)) e
-          ∙ ap (λ (z : ℕ). turn (resume (value t d) fr F (R ++ (blockRow z ∷ [])) c)) (zero-add n)) h
+      (ap (λ (z : ℕ). turn (resume (value t z) fr F (R ++ (blockRow (0 + n) ∷ [])) c)) e
+      ∙ ap (λ (z : ℕ). turn (resume (value t d) fr F (R ++ (blockRow z ∷ [])) c)) (zero-add n)) h
 
   -- open, visit inside, close
   sim-inner : {p v : ℕ} {F : List Frame} {R : List Row} {n : ℕ} (fr : Frame) (b : ℕ) (R₁ : List Row) (c : Context) (rest : BlockResult → Result TerminalResult)
@@ -202,7 +202,7 @@ module _ (t : Table) (d : ℕ) (inner : TraverseBlock) (ws : Walks t d inner) (w
   if-else : {p v : ℕ} {F : List Frame} {R : List Row} {n : ℕ} (x id : ℕ) (g : Option ℕ) (i a f : ℕ) (c : Context) (th : Statements)
       → length F + suc d ≡ 128 → 2 * (8192 - c .visits) + suc (length F) < p → v ≤ c .visits
       → Sim t p v F R n (orElse x id g i a f n F (bodyOut R th) c)
-          (traverseAlternate inner a f c >>= λ s. unscheduleIf g i (s .context) >>= λ c2. ok (record { statement = some (IF x id g th (s .present) (s .statements)); next = g; context = c2 }))
+      (traverseAlternate inner a f c >>= λ s. unscheduleIf g i (s .context) >>= λ c2. ok (record { statement = some (IF x id g th (s .present) (s .statements)); next = g; context = c2 }))
   unfolding orElse traverseAlternate resume
   if-else {p} {v} {F} {R} {n} x id g i a f c th size lt h = at (eqb a f)
     where
@@ -215,7 +215,7 @@ module _ (t : Table) (d : ℕ) (inner : TraverseBlock) (ws : Walks t d inner) (w
       at true = sim-ok _ K (sim-close _ _ g i _ c (rows-if R x id g th done) (omega arith) h)
       at false =
           sim-assoc (traverseUnscheduled inner a 13 a c) _ K (sim-into _ a 13 a _ c _ size lt (λ r q.
-            sim-ok _ K (sim-close _ _ g i _ (r .context) (rows-else R x id g th (r .statements)) (omega arith) (omega arith))))
+          sim-ok _ K (sim-close _ _ g i _ (r .context) (rows-else R x id g th (r .statements)) (omega arith) (omega arith))))
 
   other-way : {p v : ℕ} {F : List Frame} {R : List Row} {n : ℕ} (x id a b : ℕ) (R₂ : List Row) (c : Context) (th : Statements)
       → length F + suc d ≡ 128 → 2 * (8192 - c .visits) + suc (length F) < p → v ≤ c .visits → R₂ ≡ bodyOut R th
@@ -227,7 +227,7 @@ module _ (t : Table) (d : ℕ) (inner : TraverseBlock) (ws : Walks t d inner) (w
   branch-sim : {p v : ℕ} {F : List Frame} {R : List Row} {n : ℕ} (x y a id b : ℕ) (c : Context)
       → length F + suc d ≡ 128 → 2 * (8192 - c .visits) + suc (length F) < p → v ≤ c .visits
       → Sim t p v F R n (firstWay x y a id b n F R c)
-          (traverseConsequent inner b y id c >>= λ r. traverseUnscheduled inner a 19 b (r .context) >>= λ s. ok (record { statement = some (IF x id none (r .statements) true (s .statements)); next = none; context = s .context }))
+      (traverseConsequent inner b y id c >>= λ r. traverseUnscheduled inner a 19 b (r .context) >>= λ s. ok (record { statement = some (IF x id none (r .statements) true (s .statements)); next = none; context = s .context }))
   unfolding firstWay traverseConsequent resume
   branch-sim {p} {v} {F} {R} {n} x y a id b c size lt h = at (isScheduled c y)
     where
@@ -235,8 +235,10 @@ module _ (t : Table) (d : ℕ) (inner : TraverseBlock) (ws : Walks t d inner) (w
       K r = traverseUnscheduled inner a 19 b (r .context) >>= λ s. ok (record { statement = some (IF x id none (r .statements) true (s .statements)); next = none; context = s .context })
 
       at : (z : Bool) → Sim t p v F R n
-          (elim z [ true ↦ visitBreak b y id c (breakTargetFrom (c .stack) y true false) >>= λ s. otherWay x id a b n F ((R ++ jumpOut s) ++ (blockRow (added s 0) ∷ [])) c
-                  | false ↦ ok (visiting y (fWays x id a b n ∷ F) R 0 c) ])
+          (elim z [
+            | true ↦ visitBreak b y id c (breakTargetFrom (c .stack) y true false) >>= λ s. otherWay x id a b n F ((R ++ jumpOut s) ++ (blockRow (added s 0) ∷ [])) c
+            | false ↦ ok (visiting y (fWays x id a b n ∷ F) R 0 c)
+          ])
           (_>>=_ {A = BlockResult} (elim z [ true ↦ visitBreak b y id c (breakTargetFrom (c .stack) y true false) >>= λ s. ok (record { statements = singleStatement s; context = c }) | false ↦ inner y c ]) K)
       at true =
           sim-assoc (visitBreak b y id c (breakTargetFrom (c .stack) y true false)) _ K (sim-go _ _ _ (λ s. sim-ok _ K (other-way x id a b _ c (singleStatement s) size lt h (rows-single R s))))
@@ -264,12 +266,12 @@ module _ (t : Table) (d : ℕ) (inner : TraverseBlock) (ws : Walks t d inner) (w
       → 2 * (8192 - c .visits) + suc (length F) < p → v ≤ c .visits → Tops cs (c .stack)
       → ((z : Cases) → (R₁ ++ casesOut z) ++ (row 12 x (length cs + countCases z) id (orNone g) 0 ∷ []) ≡ R ++ stmtOut (make z))
       → Sim t p v F R n (popCases (length cs) c >>= λ c1. close (row 12 x (length cs) id (orNone g) 0) g i n F R₁ c1)
-          (unscheduleAll (cs ++ scheduleIds g i) c >>= λ c2. ok (record { statement = some (make no-cases); next = g; context = c2 }))
+      (unscheduleAll (cs ++ scheduleIds g i) c >>= λ c2. ok (record { statement = some (make no-cases); next = g; context = c2 }))
   cases-end {p} {v} {F} {R} {n} x id g i cs R₁ c make lt h u e =
       subst (λ (m : Result Context). Sim t p v F R n (popCases (length cs) c >>= λ c1. close (row 12 x (length cs) id (orNone g) 0) g i n F R₁ c1) (m >>= J)) (sym (pop-all cs (scheduleIds g i) c u))
-        (sim-assoc (popCases (length cs) c) (λ c1. unscheduleAll (scheduleIds g i) c1) J (sim-bind (Kept c) _ _ _ (popCases-kept (length cs) c) (λ c1 q₁.
-          subst (λ (m : Result Context). Sim t p v F R n (close (row 12 x (length cs) id (orNone g) 0) g i n F R₁ c1) (m >>= J)) (sym (pop-label g i c1))
-            (sim-close R₁ (row 12 x (length cs) id (orNone g) 0) g i (make no-cases) c1 e₀ (omega arith) (omega arith)))))
+      (sim-assoc (popCases (length cs) c) (λ c1. unscheduleAll (scheduleIds g i) c1) J (sim-bind (Kept c) _ _ _ (popCases-kept (length cs) c) (λ c1 q₁.
+      subst (λ (m : Result Context). Sim t p v F R n (close (row 12 x (length cs) id (orNone g) 0) g i n F R₁ c1) (m >>= J)) (sym (pop-label g i c1))
+      (sim-close R₁ (row 12 x (length cs) id (orNone g) 0) g i (make no-cases) c1 e₀ (omega arith) (omega arith)))))
     where
       J : Context → Result TerminalResult
       J c2 = ok (record { statement = some (make no-cases); next = g; context = c2 })
@@ -281,12 +283,12 @@ module _ (t : Table) (d : ℕ) (inner : TraverseBlock) (ws : Walks t d inner) (w
       → length F + suc d ≡ 128 → 2 * (8192 - c .visits) + suc (length F) < p → v ≤ c .visits → Tops cs (c .stack)
       → ((z : Cases) → (R₁ ++ casesOut z) ++ (row 12 x (length cs + countCases z) id (orNone g) 0 ∷ []) ≡ R ++ stmtOut (make z))
       → Sim t p v F R n (nextCase x id g i b f n F ks (length cs) R₁ c)
-          (traverseCases inner b f ks (cs ++ scheduleIds g i) c >>= λ r. unscheduleAll (r .ids) (r .context) >>= λ c2. ok (record { statement = some (make (r .cases)); next = g; context = c2 }))
+      (traverseCases inner b f ks (cs ++ scheduleIds g i) c >>= λ r. unscheduleAll (r .ids) (r .context) >>= λ c2. ok (record { statement = some (make (r .cases)); next = g; context = c2 }))
   unfolding nextCase traverseCases resume
   cases-sim x id g i b f [] cs R₁ c make size lt h u e = sim-ok _ _ (cases-end x id g i cs R₁ c make lt h u e)
   cases-sim {p} {v} {F} {R} {n} x id g i b f (k ∷ ks) cs R₁ c make size lt h u e =
       at (isScheduled c (k .block)) (cases-sim x id g i b f ks cs R₁ c make size lt h u e)
-        (λ cs′ R′ c′ make′ p′ lt′ h′ u′ e′. cases-sim x id g i b f ks cs′ R′ c′ make′ size lt′ h′ u′ e′)
+      (λ cs′ R′ c′ make′ p′ lt′ h′ u′ e′. cases-sim x id g i b f ks cs′ R′ c′ make′ size lt′ h′ u′ e′)
     where
       tops : (r : BlockResult) (c1 : Context) → r .context .stack ≡ c .stack → c1 .stack ≡ record { id = r .context .next; target = target-case (k .block) } ∷ r .context .stack → Tops (r .context .next ∷ cs) (c1 .stack)
       tops r c1 q w = subst (λ (S : List Entry). Tops (r .context .next ∷ cs) S) (sym w) (refl, subst (λ (S : List Entry). Tops cs S) (sym q) u)
@@ -304,21 +306,25 @@ module _ (t : Table) (d : ℕ) (inner : TraverseBlock) (ws : Walks t d inner) (w
 
       at : (y : Bool) → Sim t p v F R n (nextCase x id g i b f n F ks (length cs) R₁ c) (traverseCases inner b f ks (cs ++ scheduleIds g i) c >>= K make)
           → ((cs′ : List ℕ) (R′ : List Row) (c′ : Context) (make′ : Cases → Statement) (p′ : ℕ) → 2 * (8192 - c′ .visits) + suc (length F) < p′ → v ≤ c′ .visits → Tops cs′ (c′ .stack)
-              → ((z : Cases) → (R′ ++ casesOut z) ++ (row 12 x (length cs′ + countCases z) id (orNone g) 0 ∷ []) ≡ R ++ stmtOut (make′ z))
-              → Sim t p′ v F R n (nextCase x id g i b f n F ks (length cs′) R′ c′) (traverseCases inner b f ks (cs′ ++ scheduleIds g i) c′ >>= K make′))
+          → ((z : Cases) → (R′ ++ casesOut z) ++ (row 12 x (length cs′ + countCases z) id (orNone g) 0 ∷ []) ≡ R ++ stmtOut (make′ z))
+          → Sim t p′ v F R n (nextCase x id g i b f n F ks (length cs′) R′ c′) (traverseCases inner b f ks (cs′ ++ scheduleIds g i) c′ >>= K make′))
           → Sim t p v F R n
-          (elim y [ true ↦ refuseIf (not (eqb (k .block) f)) 14 b (c .visits) >>= λ _. nextCase x id g i b f n F ks (length cs) R₁ c
-                  | false ↦ ok (visiting (k .block) (fCase x id g i b f k ks (length cs) n ∷ F) R₁ 0 c) ])
-          (_>>=_ {A = CasesResult} (elim y [ true ↦ refuseIf (not (eqb (k .block) f)) 14 b (c .visits) >>= λ _. traverseCases inner b f ks (cs ++ scheduleIds g i) c
-                  | false ↦ inner (k .block) c >>= λ r. schedule (target-case (k .block)) (r .context) >>= λ c1.
-                      traverseCases inner b f ks (r .context .next ∷ (cs ++ scheduleIds g i)) c1 >>= λ z. ok (record { cases = CASE (k .test) (r .statements) (z .cases); ids = z .ids; context = z .context }) ]) (K make))
+          (elim y [
+            | true ↦ refuseIf (not (eqb (k .block) f)) 14 b (c .visits) >>= λ _. nextCase x id g i b f n F ks (length cs) R₁ c
+            | false ↦ ok (visiting (k .block) (fCase x id g i b f k ks (length cs) n ∷ F) R₁ 0 c)
+          ])
+          (_>>=_ {A = CasesResult} (elim y [
+            | true ↦ refuseIf (not (eqb (k .block) f)) 14 b (c .visits) >>= λ _. traverseCases inner b f ks (cs ++ scheduleIds g i) c
+            | false ↦ inner (k .block) c >>= λ r. schedule (target-case (k .block)) (r .context) >>= λ c1.
+                traverseCases inner b f ks (r .context .next ∷ (cs ++ scheduleIds g i)) c1 >>= λ z. ok (record { cases = CASE (k .test) (r .statements) (z .cases); ids = z .ids; context = z .context })
+          ]) (K make))
       at true same more = sim-assoc (refuseIf (not (eqb (k .block) f)) 14 b (c .visits)) _ (K make) (sim-go _ _ _ (λ _. same))
       at false same more =
           sim-assoc (inner (k .block) c) _ (K make) (sim-inner (fCase x id g i b f k ks (length cs) n) (k .block) R₁ c _ size lt (λ r q.
-            sim-assoc (schedule (target-case (k .block)) (r .context)) _ (K make) (sim-bind (λ e. Kept (r .context) e × (e .stack ≡ record { id = r .context .next; target = target-case (k .block) } ∷ r .context .stack)) _ _ _
-              (case-kept (target-case (k .block)) (r .context)) (λ c1 w.
-                sim-map (traverseCases inner b f ks (r .context .next ∷ (cs ++ scheduleIds g i)) c1) _ (K make)
-                  (more (r .context .next ∷ cs) _ c1 (λ z. make (CASE (k .test) (r .statements) z)) _ (omega arith) (omega arith) (tops r c1 (q .1) (w .1)) (rows-on r))))))
+          sim-assoc (schedule (target-case (k .block)) (r .context)) _ (K make) (sim-bind (λ e. Kept (r .context) e × (e .stack ≡ record { id = r .context .next; target = target-case (k .block) } ∷ r .context .stack)) _ _ _
+          (case-kept (target-case (k .block)) (r .context)) (λ c1 w.
+          sim-map (traverseCases inner b f ks (r .context .next ∷ (cs ++ scheduleIds g i)) c1) _ (K make)
+          (more (r .context .next ∷ cs) _ c1 (λ z. make (CASE (k .test) (r .statements) z)) _ (omega arith) (omega arith) (tops r c1 (q .1) (w .1)) (rows-on r))))))
 
   -- ---- ends with no nested list
 
@@ -345,8 +351,8 @@ module _ (t : Table) (d : ℕ) (inner : TraverseBlock) (ws : Walks t d inner) (w
   unfolding valueStep visitValueStatement withVisits
   value-sim {R = R} e b k f c lt h =
       sim-bind (Kept c) _ _ _ (opened-kept (unlessScheduled c f) c) (λ c1 q.
-        sim-bind (λ r. c1 .visits ≤ r .visits) _ _ _ (terminal-grows t (value t d) (value-grows t d) e (k .id) (k .span) (c1 .visits) b) (λ r q₁.
-          sim-close _ _ (unlessScheduled c f) (c .next) _ (withVisits (r .visits) c1) (rows-value R (r .id) (r .place) (k .span) (r .value)) (omega arith) (omega arith)))
+      sim-bind (λ r. c1 .visits ≤ r .visits) _ _ _ (terminal-grows t (value t d) (value-grows t d) e (k .id) (k .span) (c1 .visits) b) (λ r q₁.
+      sim-close _ _ (unlessScheduled c f) (c .next) _ (withVisits (r .visits) c1) (rows-value R (r .id) (r .place) (k .span) (r .value)) (omega arith) (omega arith)))
 
   values : (x : ℕ) (ft : Option ℕ) (span v : ℕ) → Good (λ r. v ≤ r .visits) (value t d x ft span v)
   unfolding Grows
@@ -367,39 +373,39 @@ module _ (t : Table) (d : ℕ) (inner : TraverseBlock) (ws : Walks t d inner) (w
   terminal-sim (goto g w) b k c size lt h = jumped c (visitGoto w b g (k .id) c) lt h (jump-kept w b g (k .id) c)
   terminal-sim (if x y a f) b k c size lt h =
       sim-go _ _ _ (λ g. sim-bind (Kept c) _ _ _ (opened-kept g c) (λ c1 q.
-        sim-into _ y 12 y _ c1 _ size (omega arith) (λ r q₁. unfold resume in if-else x (k .id) g (c .next) a f (r .context) (r .statements) size (omega arith) (omega arith))))
+      sim-into _ y 12 y _ c1 _ size (omega arith) (λ r q₁. unfold resume in if-else x (k .id) g (c .next) a f (r .context) (r .statements) size (omega arith) (omega arith))))
   terminal-sim (branch x y a) b k c size lt h = branch-sim x y a (k .id) b c size (omega arith) h
   terminal-sim {R = R} (switch x i n f) b k c size lt h =
       sim-go _ _ _ (λ g. sim-bind (Kept c) _ _ _ (openedSwitch-kept g c) (λ c1 q.
-        cases-sim x (k .id) g (c .next) b f (casesLastFirst t i n) [] R c1 (SWITCH x (k .id) g) size (omega arith) (omega arith) tt
-          (λ z. ap (λ (m : ℕ). (R ++ casesOut z) ++ (row 12 x m (k .id) (orNone g) 0 ∷ [])) (zero-add (countCases z)) ∙ rows-switch R x (k .id) g z)))
+      cases-sim x (k .id) g (c .next) b f (casesLastFirst t i n) [] R c1 (SWITCH x (k .id) g) size (omega arith) (omega arith) tt
+      (λ z. ap (λ (m : ℕ). (R ++ casesOut z) ++ (row 12 x m (k .id) (orNone g) 0 ∷ [])) (zero-add (countCases z)) ∙ rows-switch R x (k .id) g z)))
   terminal-sim {R = R} (do-while l x f) b k c size lt h =
       sim-bind (Kept c) _ _ _ (loop-kept f x l c) (λ c1 q. sim-go _ _ _ (λ _.
-        sim-inner _ l _ c1 _ size (omega arith) (λ r q₁. unfold resume withVisits in
-          sim-bind (λ w. r .context .visits ≤ w .visits) _ _ _ (values x none (k .span) (r .context .visits)) (λ w q₂.
-            sim-close-loop _ _ (unlessScheduled c f) (c .next) _ (withVisits (w .visits) (r .context)) (rows-do R (k .id) (unlessScheduled c f) (r .statements) (w .value)) (omega arith) (omega arith)))))
+      sim-inner _ l _ c1 _ size (omega arith) (λ r q₁. unfold resume withVisits in
+      sim-bind (λ w. r .context .visits ≤ w .visits) _ _ _ (values x none (k .span) (r .context .visits)) (λ w q₂.
+      sim-close-loop _ _ (unlessScheduled c f) (c .next) _ (withVisits (w .visits) (r .context)) (rows-do R (k .id) (unlessScheduled c f) (r .statements) (w .value)) (omega arith) (omega arith)))))
   terminal-sim {R = R} (while x l f) b k c size lt h =
       sim-go _ _ _ (λ g. sim-bind (Kept c) _ _ _ (loop-kept f x l c) (λ c1 q.
-        sim-bind (λ w. c1 .visits ≤ w .visits) _ _ _ (values x none (k .span) (c1 .visits)) (λ w q₁.
-          loop-sim _ b l (loopIsTaken c l f) (w .visits) (c .next) c1 g _ _ size (omega arith) (omega arith) (rows-while R (k .id) g (w .value)))))
+      sim-bind (λ w. c1 .visits ≤ w .visits) _ _ _ (values x none (k .span) (c1 .visits)) (λ w q₁.
+      loop-sim _ b l (loopIsTaken c l f) (w .visits) (c .next) c1 g _ _ size (omega arith) (omega arith) (rows-while R (k .id) g (w .value)))))
   terminal-sim {R = R} (for i x u l f) b k c size lt h =
       sim-bind (Kept c) _ _ _ (loop-kept f (continueBlockOf u x) l c) (λ c1 q.
-        sim-bind (λ w. c1 .visits ≤ w .visits) _ _ _ (values i none (k .span) (c1 .visits)) (λ n q₁.
-          sim-bind (λ w. n .visits ≤ w .visits) _ _ _ (values x none (k .span) (n .visits)) (λ w q₂.
-            sim-bind (λ z. w .visits ≤ z .visits) _ _ _ (updates u (k .span) (w .visits)) (λ z q₃.
-              loop-sim _ b l (loopIsTaken c l f) (z .visits) (c .next) c1 (unlessScheduled c f) _ _ size (omega arith) (omega arith)
-                (rows-for R (k .id) (unlessScheduled c f) (valueBlockResultToSequence t n (k .span)) (w .value) (z .value))))))
+      sim-bind (λ w. c1 .visits ≤ w .visits) _ _ _ (values i none (k .span) (c1 .visits)) (λ n q₁.
+      sim-bind (λ w. n .visits ≤ w .visits) _ _ _ (values x none (k .span) (n .visits)) (λ w q₂.
+      sim-bind (λ z. w .visits ≤ z .visits) _ _ _ (updates u (k .span) (w .visits)) (λ z q₃.
+      loop-sim _ b l (loopIsTaken c l f) (z .visits) (c .next) c1 (unlessScheduled c f) _ _ size (omega arith) (omega arith)
+      (rows-for R (k .id) (unlessScheduled c f) (valueBlockResultToSequence t n (k .span)) (w .value) (z .value))))))
   terminal-sim {R = R} (for-of i x l f) b k c size lt h =
       sim-bind (Kept c) _ _ _ (loop-kept f i l c) (λ c1 q.
-        sim-bind (λ w. c1 .visits ≤ w .visits) _ _ _ (values i none (k .span) (c1 .visits)) (λ n q₁.
-          sim-bind (λ w. n .visits ≤ w .visits) _ _ _ (values x none (k .span) (n .visits)) (λ w q₂.
-            loop-sim _ b l (loopIsTaken c l f) (w .visits) (c .next) c1 (unlessScheduled c f) _ _ size (omega arith) (omega arith)
-              (rows-forof R (k .id) (unlessScheduled c f) (k .span) (valueBlockResultToSequence t n (k .span)) (valueBlockResultToSequence t w (k .span))))))
+      sim-bind (λ w. c1 .visits ≤ w .visits) _ _ _ (values i none (k .span) (c1 .visits)) (λ n q₁.
+      sim-bind (λ w. n .visits ≤ w .visits) _ _ _ (values x none (k .span) (n .visits)) (λ w q₂.
+      loop-sim _ b l (loopIsTaken c l f) (w .visits) (c .next) c1 (unlessScheduled c f) _ _ size (omega arith) (omega arith)
+      (rows-forof R (k .id) (unlessScheduled c f) (k .span) (valueBlockResultToSequence t n (k .span)) (valueBlockResultToSequence t w (k .span))))))
   terminal-sim {R = R} (for-in i l f) b k c size lt h =
       sim-bind (Kept c) _ _ _ (loop-kept f i l c) (λ c1 q.
-        sim-bind (λ w. c1 .visits ≤ w .visits) _ _ _ (values i none (k .span) (c1 .visits)) (λ n q₁.
-          loop-sim _ b l (loopIsTaken c l f) (n .visits) (c .next) c1 (unlessScheduled c f) _ _ size (omega arith) (omega arith)
-            (rows-forin R (k .id) (unlessScheduled c f) (k .span) (valueBlockResultToSequence t n (k .span)))))
+      sim-bind (λ w. c1 .visits ≤ w .visits) _ _ _ (values i none (k .span) (c1 .visits)) (λ n q₁.
+      loop-sim _ b l (loopIsTaken c l f) (n .visits) (c .next) c1 (unlessScheduled c f) _ _ size (omega arith) (omega arith)
+      (rows-forin R (k .id) (unlessScheduled c f) (k .span) (valueBlockResultToSequence t n (k .span)))))
   terminal-sim (logical o x f) b k c size lt h = value-sim (logical o x f) b k f c lt h
   terminal-sim (ternary x f) b k c size lt h = value-sim (ternary x f) b k f c lt h
   terminal-sim (optional g x f) b k c size lt h = value-sim (optional g x f) b k f c lt h
@@ -409,13 +415,13 @@ module _ (t : Table) (d : ℕ) (inner : TraverseBlock) (ws : Walks t d inner) (w
   terminal-sim (maybe-throw n) b k c size lt h = silent (unlessScheduled c n) c lt h
   terminal-sim {R = R} (try x y f n) b k c size lt h =
       sim-go _ _ _ (λ g. sim-bind (Kept c) _ _ _ (opened-kept g c) (λ c1 q.
-        unfold scheduleCatchHandler resume in sim-inner _ x _ (scheduleCatchHandler y c1) _ size (omega arith) (λ r q₁.
-          sim-inner _ y _ (r .context) _ size (omega arith) (λ s q₂.
-            sim-close _ _ g (c .next) _ (s .context) (rows-try R (k .id) g n (r .statements) (s .statements)) (omega arith) (omega arith)))))
+      unfold scheduleCatchHandler resume in sim-inner _ x _ (scheduleCatchHandler y c1) _ size (omega arith) (λ r q₁.
+      sim-inner _ y _ (r .context) _ size (omega arith) (λ s q₂.
+      sim-close _ _ g (c .next) _ (s .context) (rows-try R (k .id) g n (r .statements) (s .statements)) (omega arith) (omega arith)))))
   terminal-sim {R = R} (scope p x f s) b k c size lt h =
       sim-bind (Kept c) _ _ _ (opened-kept (unlessScheduled c f) c) (λ c1 q.
-        let e : markScopeFallthroughIf (unlessScheduled c f) c1 .visits ≡ c1 .visits = scopedIf-kept (unlessScheduled c f) c1 in
-        enclosed-sim _ x 18 b (unlessScheduled c f) c (markScopeFallthroughIf (unlessScheduled c f) c1) _ size (omega arith) (omega arith) (rows-scope R p s))
+      let e : markScopeFallthroughIf (unlessScheduled c f) c1 .visits ≡ c1 .visits = scopedIf-kept (unlessScheduled c f) c1 in
+      enclosed-sim _ x 18 b (unlessScheduled c f) c (markScopeFallthroughIf (unlessScheduled c f) c1) _ size (omega arith) (omega arith) (rows-scope R p s))
 
   -- ---- the chain
 
@@ -442,8 +448,11 @@ module _ (t : Table) (d : ℕ) (inner : TraverseBlock) (ws : Walks t d inner) (w
       at : (y : Result BlockResult) → Along t (visiting k F (OnRows R b o) (OnCount m b o) c) (c .visits) F (OnRows R b o) (OnCount m b o) y
           → Along t S v F R m (y >>= λ r. ok (record { statements = instructionStatements t (instructionRowsAt t b) (followedBy o (r .statements)); context = r .context }))
       at (refused e p w) h = unfold _>>=_ in u (rejected e p w) h
-      at (ok r) (lt₂, h) = unfold _>>=_ in (omega arith, λ a q. u a (h a
-        (subst₂ (λ (z : List Row) (y : ℕ). Runs t (ended F z y (r .context)) a) (rows-chain R t (instructionRowsAt t b) o (r .statements)) (count-chain m t (instructionRowsAt t b) o (r .statements)) q)))
+      at (ok r) (lt₂, h) = unfold _>>=_ in (
+        omega arith,
+        λ a q. u a (h a
+            (subst₂ (λ (z : List Row) (y : ℕ). Runs t (ended F z y (r .context)) a) (rows-chain R t (instructionRowsAt t b) o (r .statements)) (count-chain m t (instructionRowsAt t b) o (r .statements)) q)),
+      )
 
   visit-deep : (b : ℕ) (F : List Frame) (R : List Row) (m : ℕ) (c : Context) → length F + suc d ≡ 128
       → visit t b F R m c ≡ enterBlock t b c >>= λ c1. dispatch t (value t d) (terminalAt t b) b (blockAt t b) F (R ++ instrOut t (instructionRowsAt t b)) (m + length (instructionRowsAt t b)) c1
@@ -451,22 +460,22 @@ module _ (t : Table) (d : ℕ) (inner : TraverseBlock) (ws : Walks t d inner) (w
   visit-deep b F R m c size =
       let e : left F ≡ d = omega arith in
       ap (λ (y : Bool). refuseIf y 30 b (c .visits) >>= λ _. enterBlock t b c >>= λ c1.
-        dispatch t (value t (left F)) (terminalAt t b) b (blockAt t b) F (R ++ instrOut t (instructionRowsAt t b)) (m + length (instructionRowsAt t b)) c1) (lt-leb 128 (length F) (omega arith))
+      dispatch t (value t (left F)) (terminalAt t b) b (blockAt t b) F (R ++ instrOut t (instructionRowsAt t b)) (m + length (instructionRowsAt t b)) c1) (lt-leb 128 (length F) (omega arith))
       ∙ ap (λ (z : ℕ). enterBlock t b c >>= λ c1. dispatch t (value t z) (terminalAt t b) b (blockAt t b) F (R ++ instrOut t (instructionRowsAt t b)) (m + length (instructionRowsAt t b)) c1) e
 
   enter-late : (b : ℕ) (c : Context) → 8192 ≤ c .visits → enterBlock t b c ≡ refused 31 b (c .visits)
   unfolding enterBlock beginVisit refuseIf _>>=_
   enter-late b c h =
       ap (λ (y : Bool). (refuseIf y 31 b (c .visits) >>= λ _. refuseIf (isAbsent (terminalAt t b)) 10 b (suc (c .visits)) >>= λ _. ok (suc (c .visits))) >>= λ v. refuseIf (has (c .emitted) b) 11 b v >>= λ _. ok (emit b (withVisits v c)))
-        (le-leb 8192 (c .visits) h)
+      (le-leb 8192 (c .visits) h)
 
   chain-sim : (n b : ℕ) (F : List Frame) (R : List Row) (m : ℕ) (c : Context) → length F + suc d ≡ 128 → 8193 ≤ n + c .visits
       → Along t (visiting b F R m c) (c .visits) F R m (visitBlock t (value t d) inner n b c)
   unfolding visitBlock step
   chain-sim zero b F R m c size lt =
       runs-turn t (visiting b F R m c) (refused 31 b (c .visits)) (rejected 31 b (c .visits))
-        (ap turn (visit-deep b F R m c size ∙ ap (λ (z : Result Context). z >>= λ c1. dispatch t (value t d) (terminalAt t b) b (blockAt t b) F (R ++ instrOut t (instructionRowsAt t b)) (m + length (instructionRowsAt t b)) c1) (enter-late b c (omega arith)) ∙ gone))
-        refl
+      (ap turn (visit-deep b F R m c size ∙ ap (λ (z : Result Context). z >>= λ c1. dispatch t (value t d) (terminalAt t b) b (blockAt t b) F (R ++ instrOut t (instructionRowsAt t b)) (m + length (instructionRowsAt t b)) c1) (enter-late b c (omega arith)) ∙ gone))
+      refl
     where
       gone : (refused 31 b (c .visits) >>= λ c1. dispatch t (value t d) (terminalAt t b) b (blockAt t b) F (R ++ instrOut t (instructionRowsAt t b)) (m + length (instructionRowsAt t b)) c1) ≡ refused 31 b (c .visits)
       gone = unfold _>>=_ in refl
@@ -491,13 +500,13 @@ module _ (t : Table) (d : ℕ) (inner : TraverseBlock) (ws : Walks t d inner) (w
       after c1 (refused e p w) q st again u = unfold _>>=_ in runs-turn t S (f c1) (rejected e p w) st u
       after c1 (ok s) q st again (le, u) = unfold _>>=_ in
           chain-on S (c .visits) F R m b (s .statement) (s .next) (s .context) (visitBlock t (value t d) inner n) (omega arith)
-            (λ a h. runs-turn t S (f c1) a st (u a h)) (λ k. again k _ _ (s .context) (omega arith))
+          (λ a h. runs-turn t S (f c1) a st (u a h)) (λ k. again k _ _ (s .context) (omega arith))
 
       at : (y : Result Context) → Good (λ e. (c .visits < 8192) × (e .visits ≡ suc (c .visits))) y → step t S ≡ turn (y >>= f) → Again → Along t S (c .visits) F R m (y >>= g)
       at (refused e p w) h st again = unfold _>>=_ in runs-turn t S (refused e p w) (rejected e p w) st refl
       at (ok c1) h st again = unfold _>>=_ in
           after c1 (visitTerminal t (value t d) inner (terminalAt t b) b (blockAt t b) c1) (h .1) st again
-            (terminal-sim (terminalAt t b) b (blockAt t b) c1 size (omega arith) (le-refl (c1 .visits)) .raw)
+          (terminal-sim (terminalAt t b) b (blockAt t b) c1 size (omega arith) (le-refl (c1 .visits)) .raw)
 
 walk-sim : (t : Table) (d : ℕ) → Walks t d (traverseBlock t d)
 unfolding Walks traverseBlock step
@@ -506,7 +515,7 @@ walk-sim t zero b F R m c size = runs-turn t (visiting b F R m c) (refused 30 b 
     full : visit t b F R m c ≡ refused 30 b (c .visits)
     full = unfold visit refuseIf _>>=_ in
         ap (λ (y : Bool). refuseIf y 30 b (c .visits) >>= λ _. enterBlock t b c >>= λ c1.
-          dispatch t (value t (left F)) (terminalAt t b) b (blockAt t b) F (R ++ instrOut t (instructionRowsAt t b)) (m + length (instructionRowsAt t b)) c1) (le-leb 128 (length F) (omega arith))
+        dispatch t (value t (left F)) (terminalAt t b) b (blockAt t b) F (R ++ instrOut t (instructionRowsAt t b)) (m + length (instructionRowsAt t b)) c1) (le-leb 128 (length F) (omega arith))
 walk-sim t (suc d) b F R m c size = chain-sim t d (traverseBlock t d) (walk-sim t d) (walk-fine t d) 8193 b F R m c size (omega arith)
 
 -- the root list has ended

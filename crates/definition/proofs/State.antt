@@ -12,7 +12,7 @@ use lib.Dec.{eqb}
 use Rattle.table.specs.Table.{Table, Terminal, while, terminalAt}
 use Rattle.definition.specs.Context.{Result, ok, refused, _>>=_, refuseIf, Flags, has, add, remove, or, no-flags, ControlFlowTarget, target-if, target-switch, target-case, target-loop, Entry, Context, start, isScheduled, emit, withVisits, markScopeFallthrough, pushed, schedule, scheduleLoop, unscheduledBy, popped, unscheduleTop, unschedule}
 use Rattle.definition.specs.Walk.{isAbsent, beginVisit, enterBlock, unlessScheduled}
-use Rattle.definition.specs.Plain.{Plain, Ranged, ftOf}
+use Rattle.definition.specs.Plain.{Plain, Ranged, fallthroughOf}
 use Rattle.definition.proofs.Semantics.{Frame, fLabel, fScope, fLoop}
 use Rattle.definition.proofs.Tools.{true-false, refused-ok, ok-eq, bind-ok, unless-ok, has-add, has-remove, has-still, has-new, length-add, has-none, length-none, below-blocks}
 use Rattle.definition.proofs.Resolve.{Framed, fnone, flabel, fscope, floop}
@@ -20,7 +20,7 @@ use Rattle.definition.proofs.Resolve.{Framed, fnone, flabel, fscope, fl
 module _ (t : Table) where
   -- x is the fallthrough of an emitted block, or a loop block or test
   pub data Known (em : Flags) (x : ℕ) : Type 0 where
-    ft-of : (b : ℕ) → has em b ≡ true → ftOf (terminalAt t b) ≡ some x → Known em x
+    ft-of : (b : ℕ) → has em b ≡ true → fallthroughOf (terminalAt t b) ≡ some x → Known em x
     loop-of : (w y g : ℕ) → terminalAt t w ≡ while y x g → Known em x
     test-of : (w l g : ℕ) → terminalAt t w ≡ while x l g → Known em x
 
@@ -33,13 +33,13 @@ module _ (t : Table) where
 
   pub inv-start : Inv [] start
   unfolding start
-  inv-start = record
-    { wide = length-none
-    ; wide-scopes = length-none
-    ; no-catch = has-none
-    ; known = λ x e. absurd (true-false (sym e ∙ has-none x))
-    ; framed = fnone
-    }
+  inv-start = record {
+    wide = length-none;
+    wide-scopes = length-none;
+    no-catch = has-none;
+    known = λ x e. absurd (true-false (sym e ∙ has-none x));
+    framed = fnone;
+  }
 
   known-still : (em : Flags) (b x : ℕ) → Known em x → Known (add em b) x
   known-still em b x (ft-of d h e) = ft-of d (has-still em b d h) e
@@ -52,13 +52,13 @@ module _ (t : Table) where
 
   pub inv-emit : {F : List Frame} {c : Context} (b : ℕ) → Inv F c → Inv F (emit b c)
   unfolding emit
-  inv-emit {c} b p = record
-    { wide = length-add (c .emitted) b 1024 (p .wide)
-    ; wide-scopes = p .wide-scopes
-    ; no-catch = p .no-catch
-    ; known = λ x e. known-still (c .emitted) b x (p .known x e)
-    ; framed = p .framed
-    }
+  inv-emit {c} b p = record {
+    wide = length-add (c .emitted) b 1024 (p .wide);
+    wide-scopes = p .wide-scopes;
+    no-catch = p .no-catch;
+    known = λ x e. known-still (c .emitted) b x (p .known x e);
+    framed = p .framed;
+  }
 
   -- ---- entering a block
 
@@ -80,14 +80,14 @@ module _ (t : Table) where
 
   entered : (rg : Ranged t) {F : List Frame} {c : Context} (b v : ℕ) → Inv F c → isAbsent (terminalAt t b) ≡ false → has (c .emitted) b ≡ false → Entered b F c (emit b (withVisits v c))
   unfolding emit withVisits
-  entered rg {F} {c} b v p a o = record
-    { inv = inv-emit b (inv-visited v p)
-    ; present = a
-    ; old = o
-    ; new = has-new (c .emitted) b (omega (arith, below-blocks t b a, rg .few, p .wide))
-    ; before = p .known
-    ; same = refl
-    }
+  entered rg {F} {c} b v p a o = record {
+    inv = inv-emit b (inv-visited v p);
+    present = a;
+    old = o;
+    new = has-new (c .emitted) b (omega (arith, below-blocks t b a, rg .few, p .wide));
+    before = p .known;
+    same = refl;
+  }
 
   pub enter-ok : (rg : Ranged t) {F : List Frame} {c : Context} (b : ℕ) (c₁ : Context) → Inv F c → enterBlock t b c ≡ ok c₁ → Entered b F c c₁
   unfolding enterBlock
@@ -98,8 +98,8 @@ module _ (t : Table) where
 
   -- ---- the fallthrough of an entered block is not scheduled
 
-  not-known : (pl : Plain t) (em : Flags) (b f : ℕ) → has em b ≡ false → ftOf (terminalAt t b) ≡ some f → Known em f → ⊥
-  not-known pl em b f o e (ft-of d h e′) = true-false (sym h ∙ ap (has em) (pl .one-ft d b f e′ e) ∙ o)
+  not-known : (pl : Plain t) (em : Flags) (b f : ℕ) → has em b ≡ false → fallthroughOf (terminalAt t b) ≡ some f → Known em f → ⊥
+  not-known pl em b f o e (ft-of d h e′) = true-false (sym h ∙ ap (has em) (pl .one-fallthrough d b f e′ e) ∙ o)
   not-known pl em b f o e (loop-of w y g e′) = pl .no-loop b f w y f g e e′ refl
   not-known pl em b f o e (test-of w l g e′) = pl .no-test b f w f l g e e′ refl
 
@@ -107,7 +107,7 @@ module _ (t : Table) where
   both-false true y n h = absurd (n refl)
   both-false false y n h = h
 
-  pub ft-free : (pl : Plain t) {F : List Frame} {c c₁ : Context} (b f : ℕ) → Entered b F c c₁ → ftOf (terminalAt t b) ≡ some f → isScheduled c₁ f ≡ false
+  pub ft-free : (pl : Plain t) {F : List Frame} {c c₁ : Context} (b f : ℕ) → Entered b F c c₁ → fallthroughOf (terminalAt t b) ≡ some f → isScheduled c₁ f ≡ false
   unfolding isScheduled
   ft-free pl {F} {c} {c₁} b f p e =
       both-false (has (c₁ .scheduled) f) (has (c₁ .catchHandlers) f) (λ h. not-known pl (c .emitted) b f (p .old) e (p .before f h)) (p .inv .no-catch f)
@@ -129,36 +129,36 @@ module _ (t : Table) where
 
   pub inv-label : {F : List Frame} {c : Context} (f : ℕ) → Inv F c → Known (c .emitted) f → Inv (fLabel f ∷ F) (pushed (target-if f) (add (c .scheduled) f) c)
   unfolding pushed
-  inv-label {F} {c} f p k = record
-    { wide = p .wide
-    ; wide-scopes = p .wide-scopes
-    ; no-catch = p .no-catch
-    ; known = known-add (c .emitted) (c .scheduled) f k (p .known)
-    ; framed = flabel (c .next) f (p .framed)
-    }
+  inv-label {F} {c} f p k = record {
+    wide = p .wide;
+    wide-scopes = p .wide-scopes;
+    no-catch = p .no-catch;
+    known = known-add (c .emitted) (c .scheduled) f k (p .known);
+    framed = flabel (c .next) f (p .framed);
+  }
 
   pub inv-scope : {F : List Frame} {c : Context} (f : ℕ) → f < 1024 → Inv F c → Known (c .emitted) f
       → Inv (fScope f ∷ F) (markScopeFallthrough f (pushed (target-if f) (add (c .scheduled) f) c))
   unfolding pushed markScopeFallthrough
-  inv-scope {F} {c} f h p k = record
-    { wide = p .wide
-    ; wide-scopes = length-add (c .scopeFallthroughs) f 1024 (p .wide-scopes)
-    ; no-catch = p .no-catch
-    ; known = known-add (c .emitted) (c .scheduled) f k (p .known)
-    ; framed = fscope (c .next) f (has-new (c .scopeFallthroughs) f (omega (arith, p .wide-scopes))) (framed-still f (p .framed))
-    }
+  inv-scope {F} {c} f h p k = record {
+    wide = p .wide;
+    wide-scopes = length-add (c .scopeFallthroughs) f 1024 (p .wide-scopes);
+    no-catch = p .no-catch;
+    known = known-add (c .emitted) (c .scheduled) f k (p .known);
+    framed = fscope (c .next) f (has-new (c .scopeFallthroughs) f (omega (arith, p .wide-scopes))) (framed-still f (p .framed));
+  }
 
   pub inv-loop : {F : List Frame} {c : Context} (w x l f : ℕ) (o : Bool) → Inv F c → terminalAt t w ≡ while x l f → Known (c .emitted) f
       → Inv (fLoop f x ∷ F) (pushed (target-loop f x (some l) o) (add (add (add (c .scheduled) f) x) l) c)
   unfolding pushed
-  inv-loop {F} {c} w x l f o p e k = record
-    { wide = p .wide
-    ; wide-scopes = p .wide-scopes
-    ; no-catch = p .no-catch
-    ; known = known-add (c .emitted) (add (add (c .scheduled) f) x) l (loop-of w x f e)
-        (known-add (c .emitted) (add (c .scheduled) f) x (test-of w l f e) (known-add (c .emitted) (c .scheduled) f k (p .known)))
-    ; framed = floop (c .next) f x w l (some l) o e (p .framed)
-    }
+  inv-loop {F} {c} w x l f o p e k = record {
+    wide = p .wide;
+    wide-scopes = p .wide-scopes;
+    no-catch = p .no-catch;
+    known = known-add (c .emitted) (add (add (c .scheduled) f) x) l (loop-of w x f e)
+        (known-add (c .emitted) (add (c .scheduled) f) x (test-of w l f e) (known-add (c .emitted) (c .scheduled) f k (p .known)));
+    framed = floop (c .next) f x w l (some l) o e (p .framed);
+  }
 
   pub schedule-ok : (f : ℕ) (c c₁ : Context) → schedule (target-if f) c ≡ ok c₁ → pushed (target-if f) (add (c .scheduled) f) c ≡ c₁
   unfolding schedule
@@ -194,16 +194,16 @@ module _ (t : Table) where
   inv-pop : {G : Frame} {F : List Frame} {e : Entry} {S : List Entry} {c : Context} → Inv (G ∷ F) c → c .stack ≡ e ∷ S
       → Closed F S (popped S (unscheduledBy (e .target) (c .scheduled)) c)
   unfolding popped
-  inv-pop {G} {F} {e} {S} {c} p h = record
-    { inv = record
-      { wide = p .wide
-      ; wide-scopes = p .wide-scopes
-      ; no-catch = p .no-catch
-      ; known = λ x k. p .known x (has-unscheduled (e .target) (c .scheduled) x k)
-      ; framed = framed-tail (subst (λ (z : List Entry). Framed t (c .scopeFallthroughs) (G ∷ F) z) h (p .framed))
-      }
-    ; same = refl
-    }
+  inv-pop {G} {F} {e} {S} {c} p h = record {
+    inv = record {
+      wide = p .wide;
+      wide-scopes = p .wide-scopes;
+      no-catch = p .no-catch;
+      known = λ x k. p .known x (has-unscheduled (e .target) (c .scheduled) x k);
+      framed = framed-tail (subst (λ (z : List Entry). Framed t (c .scopeFallthroughs) (G ∷ F) z) h (p .framed));
+    };
+    same = refl;
+  }
 
   popped-at : {G : Frame} {F : List Frame} {e : Entry} {S : List Entry} {c : Context} (i : ℕ) (c₂ : Context) (y : Bool) → Inv (G ∷ F) c → c .stack ≡ e ∷ S
       → elim y [ true ↦ ok (popped S (unscheduledBy (e .target) (c .scheduled)) c) | false ↦ refused 91 0 (c .visits) ] ≡ ok c₂ → Closed F S c₂

@@ -200,10 +200,10 @@ enter-sound : (t : Table) (b : ℕ) (c : Context) → length (t .blocks) ≤ 102
 unfolding enterBlock beginVisit has add emit withVisits
 enter-sound t b c few size =
     good-bind (λ w. (c .visits < 8192) × (w ≡ suc (c .visits)) × (b < length (t .blocks))) (Entered c) _ _
-      (good-unless (λ w. (c .visits < 8192) × (w ≡ suc (c .visits)) × (b < length (t .blocks))) _ 31 b (c .visits) _
-        (λ h. good-unless (λ w. (c .visits < 8192) × (w ≡ suc (c .visits)) × (b < length (t .blocks))) _ 10 b _ _ (λ h₁. (leb-false 8192 (c .visits) h, refl, below-blocks t b h₁))))
-      (λ w q. good-unless (Entered c) _ 11 b w _ (λ h. record
-        { ids = refl; fewer = q .0; seen = q .1; marked = marks-set (c .emitted) b (omega arith) h; flags = length-set (c .emitted) b true ∙ size; stack = refl }))
+    (good-unless (λ w. (c .visits < 8192) × (w ≡ suc (c .visits)) × (b < length (t .blocks))) _ 31 b (c .visits) _
+    (λ h. good-unless (λ w. (c .visits < 8192) × (w ≡ suc (c .visits)) × (b < length (t .blocks))) _ 10 b _ _ (λ h₁. (leb-false 8192 (c .visits) h, refl, below-blocks t b h₁))))
+    (λ w q. good-unless (Entered c) _ 11 b w _ (λ h. record
+    { ids = refl; fewer = q .0; seen = q .1; marked = marks-set (c .emitted) b (omega arith) h; flags = length-set (c .emitted) b true ∙ size; stack = refl }))
 
 good-both : {A : Type 0} (P Q : A → Type 0) (m : Result A) → Good P m → Good Q m → Good (λ a. P a × Q a) m
 good-both P Q (ok a) h k = (h, k)
@@ -284,8 +284,10 @@ nextCase-fit {p} x id g i b f m {F} [] report R c s =
 nextCase-fit {p} x id g i b f m {F} (k ∷ ks) report R c s = at (isScheduled c (k .block)) (nextCase-fit x id g i b f m ks report R c s)
   where
     at : (y : Bool) → Good (Fit p) (nextCase x id g i b f m F ks report R c)
-        → Good (Fit p) (elim y [ true ↦ refuseIf (not (eqb (k .block) f)) 14 b (c .visits) >>= λ _. nextCase x id g i b f m F ks report R c
-                               | false ↦ ok (visiting (k .block) (fCase x id g i b f k ks report m ∷ F) R 0 c) ])
+        → Good (Fit p) (elim y [
+          | true ↦ refuseIf (not (eqb (k .block) f)) 14 b (c .visits) >>= λ _. nextCase x id g i b f m F ks report R c
+          | false ↦ ok (visiting (k .block) (fCase x id g i b f k ks report m ∷ F) R 0 c)
+        ])
     at true q = good-bind Any (Fit p) _ _ (any (refuseIf (not (eqb (k .block) f)) 14 b (c .visits))) (λ _ _. q)
     at false q = push-fit (fCase x id g i b f k ks report m) (k .block) c s
 
@@ -301,7 +303,7 @@ resume-fit {p} values vg vm (fCase x id g i b f k ks report m) F R c s =
     good-bind (Held c 1 (suc (length (c .stack)))) (Fit p) _ _ (schedule-held (target-case (k .block)) c) (λ d h. nextCase-fit x id g i b f m ks (suc report) _ d (inside-held c s h (omega arith)))
 resume-fit {p} values vg vm (fDo id g i x span m) F R c s =
     good-bind (λ w. (c .visits ≤ w .visits) × (w .visits ≤ 8192)) (Fit p) _ _ (good-both (λ w. c .visits ≤ w .visits) Few (values x none span (c .visits)) (vg x none span (c .visits)) (vm x none span (c .visits) (s .few)))
-      (λ w q. closeLoop-fit _ g i m _ (withVisits (w .visits) c) (inside-visited c (w .visits) (looser s) (q .0) (q .1)))
+    (λ w q. closeLoop-fit _ g i m _ (withVisits (w .visits) c) (inside-visited c (w .visits) (looser s) (q .0) (q .1)))
 resume-fit values vg vm (fTry id g i h n m) F R c s = push-fit _ h c (inside-fewer c 0 (looser s) (omega arith))
 resume-fit values vg vm (fBody r g i m) F R c s = close-fit r g i m R c (looser s)
 resume-fit values vg vm (fLoop r g i m) F R c s = closeLoop-fit r g i m R c (looser s)
@@ -323,8 +325,10 @@ module _ (t : Table) (values : VisitValueBlock) (vg : Grows values) (vm : Fews v
   way-fit x y a id b = at (isScheduled c y)
     where
       at : (z : Bool) → Good (Fit p)
-          (elim z [ true ↦ visitBreak b y id c (breakTargetFrom (c .stack) y true false) >>= λ o. otherWay x id a b m F ((R ++ Machine.jumpOut o) ++ (Machine.blockRow (Machine.added o 0) ∷ [])) c
-                  | false ↦ ok (visiting y (fWays x id a b m ∷ F) R 0 c) ])
+          (elim z [
+            | true ↦ visitBreak b y id c (breakTargetFrom (c .stack) y true false) >>= λ o. otherWay x id a b m F ((R ++ Machine.jumpOut o) ++ (Machine.blockRow (Machine.added o 0) ∷ [])) c
+            | false ↦ ok (visiting y (fWays x id a b m ∷ F) R 0 c)
+          ])
       at true = good-bind Any (Fit p) _ _ (any (visitBreak b y id c (breakTargetFrom (c .stack) y true false))) (λ o _. otherWay-fit x id a b m _ c (looser s))
       at false = push-fit (fWays x id a b m) y c (looser s)
 
@@ -332,9 +336,9 @@ module _ (t : Table) (values : VisitValueBlock) (vg : Grows values) (vm : Fews v
   unfolding valueStep
   value-fit e b k f =
       good-bind (Held c 1 (opens (unlessScheduled c f) + length (c .stack))) (Fit p) _ _ (opened-held (unlessScheduled c f) c) (λ c1 h.
-        good-bind (λ r. (c1 .visits ≤ r .visits) × (r .visits ≤ 8192)) (Fit p) _ _
-          (good-both (λ r. c1 .visits ≤ r .visits) FewT (visitValueBlockTerminal t values e (k .id) (k .span) (c1 .visits) b) (terminal-grows t values vg e (k .id) (k .span) (c1 .visits) b) (terminal-few t values vm e (k .id) (k .span) (c1 .visits) b (omega arith))) (λ r q.
-          close-fit _ (unlessScheduled c f) (c .next) m _ (withVisits (r .visits) c1) (inside-visited c1 (r .visits) (inside-held c s h (omega arith)) (q .0) (q .1))))
+      good-bind (λ r. (c1 .visits ≤ r .visits) × (r .visits ≤ 8192)) (Fit p) _ _
+      (good-both (λ r. c1 .visits ≤ r .visits) FewT (visitValueBlockTerminal t values e (k .id) (k .span) (c1 .visits) b) (terminal-grows t values vg e (k .id) (k .span) (c1 .visits) b) (terminal-few t values vm e (k .id) (k .span) (c1 .visits) b (omega arith))) (λ r q.
+      close-fit _ (unlessScheduled c f) (c .next) m _ (withVisits (r .visits) c1) (inside-visited c1 (r .visits) (inside-held c s h (omega arith)) (q .0) (q .1))))
 
   loop-fit : (cl : Row) (b l : ℕ) (bad : Bool) (w : ℕ) (g : Option ℕ) (i : ℕ) (R₁ : List Row) (c1 : Context) → Held c 1 (suc (length (c .stack))) c1 → (c1 .visits ≤ w) × (w ≤ 8192)
       → Good (Fit p) (intoLoop b l bad w (fLoop cl g i m) F R₁ c1)
@@ -360,47 +364,47 @@ module _ (t : Table) (values : VisitValueBlock) (vg : Grows values) (vm : Fews v
       good-bind (λ o. Held c 0 (length (c .stack)) (o .context)) (Fit p) _ _ (held-jump w b g (k .id) c) (λ o h. leave-fit p (o .next) F _ _ (o .context) (omega arith) (inside-holds c (looser s) h (omega arith)))
   dispatch-fit (if x y a f) b k =
       good-bind Any (Fit p) _ _ (any (unlessUnreachable t c f)) (λ g _. good-bind (Held c 1 (opens g + length (c .stack))) (Fit p) _ _ (opened-held g c) (λ c1 h.
-        into-fit _ y 12 y R c1 (inside-held c s h (omega arith))))
+      into-fit _ y 12 y R c1 (inside-held c s h (omega arith))))
   dispatch-fit (branch x y a) b k = way-fit x y a (k .id) b
   dispatch-fit (switch x i n f) b k =
       good-bind Any (Fit p) _ _ (any (unlessUnreachable t c f)) (λ g _. good-bind (Held c 1 (opens g + length (c .stack))) (Fit p) _ _ (openedSwitch-held g c) (λ c1 h.
-        nextCase-fit x (k .id) g (c .next) b f m (casesLastFirst t i n) 0 R c1 (inside-held c s h (omega arith))))
+      nextCase-fit x (k .id) g (c .next) b f m (casesLastFirst t i n) 0 R c1 (inside-held c s h (omega arith))))
   dispatch-fit (do-while l x f) b k =
       good-bind (Held c 1 (suc (length (c .stack)))) (Fit p) _ _ (loop-held f x l c) (λ c1 h. good-bind Any (Fit p) _ _ (any (refuseIf (loopIsTaken c l f) 16 b (c1 .visits))) (λ _ _.
-        push-fit _ l c1 (inside-held c s h (omega arith))))
+      push-fit _ l c1 (inside-held c s h (omega arith))))
   dispatch-fit (while x l f) b k =
       good-bind Any (Fit p) _ _ (any (unlessUnreachable t c f)) (λ g _. good-bind (Held c 1 (suc (length (c .stack)))) (Fit p) _ _ (loop-held f x l c) (λ c1 h.
-        good-bind (λ w. (c1 .visits ≤ w .visits) × (w .visits ≤ 8192)) (Fit p) _ _ (vals x none (k .span) (c1 .visits) (c1 .visits) (le-refl _) (omega arith)) (λ w q.
-          loop-fit _ b l _ (w .visits) g (c .next) _ c1 h q)))
+      good-bind (λ w. (c1 .visits ≤ w .visits) × (w .visits ≤ 8192)) (Fit p) _ _ (vals x none (k .span) (c1 .visits) (c1 .visits) (le-refl _) (omega arith)) (λ w q.
+      loop-fit _ b l _ (w .visits) g (c .next) _ c1 h q)))
   dispatch-fit (for i x u l f) b k =
       good-bind (Held c 1 (suc (length (c .stack)))) (Fit p) _ _ (loop-held f (continueBlockOf u x) l c) (λ c1 h.
-        good-bind (λ w. (c1 .visits ≤ w .visits) × (w .visits ≤ 8192)) (Fit p) _ _ (vals i none (k .span) (c1 .visits) (c1 .visits) (le-refl _) (omega arith)) (λ n q.
-          good-bind (λ w. (c1 .visits ≤ w .visits) × (w .visits ≤ 8192)) (Fit p) _ _ (vals x none (k .span) (n .visits) (c1 .visits) (q .0) (q .1)) (λ w q₁.
-            good-bind (λ z. (w .visits ≤ z .visits) × (z .visits ≤ 8192)) (Fit p) _ _ (good-both (λ z. w .visits ≤ z .visits) (λ z. z .visits ≤ 8192) (visitUpdate values u (k .span) (w .visits)) (update-grows t values vg u (k .span) (w .visits)) (update-few t values vm u (k .span) (w .visits) (q₁ .1))) (λ z q₂.
-              loop-fit _ b l _ (z .visits) (unlessScheduled c f) (c .next) _ c1 h (omega arith)))))
+      good-bind (λ w. (c1 .visits ≤ w .visits) × (w .visits ≤ 8192)) (Fit p) _ _ (vals i none (k .span) (c1 .visits) (c1 .visits) (le-refl _) (omega arith)) (λ n q.
+      good-bind (λ w. (c1 .visits ≤ w .visits) × (w .visits ≤ 8192)) (Fit p) _ _ (vals x none (k .span) (n .visits) (c1 .visits) (q .0) (q .1)) (λ w q₁.
+      good-bind (λ z. (w .visits ≤ z .visits) × (z .visits ≤ 8192)) (Fit p) _ _ (good-both (λ z. w .visits ≤ z .visits) (λ z. z .visits ≤ 8192) (visitUpdate values u (k .span) (w .visits)) (update-grows t values vg u (k .span) (w .visits)) (update-few t values vm u (k .span) (w .visits) (q₁ .1))) (λ z q₂.
+      loop-fit _ b l _ (z .visits) (unlessScheduled c f) (c .next) _ c1 h (omega arith)))))
   dispatch-fit (for-of i x l f) b k =
       good-bind (Held c 1 (suc (length (c .stack)))) (Fit p) _ _ (loop-held f i l c) (λ c1 h.
-        good-bind (λ w. (c1 .visits ≤ w .visits) × (w .visits ≤ 8192)) (Fit p) _ _ (vals i none (k .span) (c1 .visits) (c1 .visits) (le-refl _) (omega arith)) (λ n q.
-          good-bind (λ w. (c1 .visits ≤ w .visits) × (w .visits ≤ 8192)) (Fit p) _ _ (vals x none (k .span) (n .visits) (c1 .visits) (q .0) (q .1)) (λ w q₁.
-            loop-fit _ b l _ (w .visits) (unlessScheduled c f) (c .next) _ c1 h q₁)))
+      good-bind (λ w. (c1 .visits ≤ w .visits) × (w .visits ≤ 8192)) (Fit p) _ _ (vals i none (k .span) (c1 .visits) (c1 .visits) (le-refl _) (omega arith)) (λ n q.
+      good-bind (λ w. (c1 .visits ≤ w .visits) × (w .visits ≤ 8192)) (Fit p) _ _ (vals x none (k .span) (n .visits) (c1 .visits) (q .0) (q .1)) (λ w q₁.
+      loop-fit _ b l _ (w .visits) (unlessScheduled c f) (c .next) _ c1 h q₁)))
   dispatch-fit (for-in i l f) b k =
       good-bind (Held c 1 (suc (length (c .stack)))) (Fit p) _ _ (loop-held f i l c) (λ c1 h.
-        good-bind (λ w. (c1 .visits ≤ w .visits) × (w .visits ≤ 8192)) (Fit p) _ _ (vals i none (k .span) (c1 .visits) (c1 .visits) (le-refl _) (omega arith)) (λ n q.
-          loop-fit _ b l _ (n .visits) (unlessScheduled c f) (c .next) _ c1 h q))
+      good-bind (λ w. (c1 .visits ≤ w .visits) × (w .visits ≤ 8192)) (Fit p) _ _ (vals i none (k .span) (c1 .visits) (c1 .visits) (le-refl _) (omega arith)) (λ n q.
+      loop-fit _ b l _ (n .visits) (unlessScheduled c f) (c .next) _ c1 h q))
   dispatch-fit (logical o x f) b k = value-fit (logical o x f) b k f
   dispatch-fit (ternary x f) b k = value-fit (ternary x f) b k f
   dispatch-fit (optional g x f) b k = value-fit (optional g x f) b k f
   dispatch-fit (label x f) b k =
       good-bind Any (Fit p) _ _ (any (unlessUnreachable t c f)) (λ g _. good-bind (Held c 1 (opens g + length (c .stack))) (Fit p) _ _ (opened-held g c) (λ c1 h.
-        into-fit _ x 17 b R c1 (inside-held c s h (omega arith))))
+      into-fit _ x 17 b R c1 (inside-held c s h (omega arith))))
   dispatch-fit (sequence x f) b k = value-fit (sequence x f) b k f
   dispatch-fit (maybe-throw n) b k = leaves (unlessScheduled c n) R m
   dispatch-fit (try x y f n) b k =
       good-bind Any (Fit p) _ _ (any (unlessUnreachable t c f)) (λ g _. good-bind (Held c 1 (opens g + length (c .stack))) (Fit p) _ _ (opened-held g c) (λ c1 h.
-        push-fit (fTry (k .id) g (c .next) y n m) x (scheduleCatchHandler y c1) (inside-held c s (caught-held y h) (omega arith))))
+      push-fit (fTry (k .id) g (c .next) y n m) x (scheduleCatchHandler y c1) (inside-held c s (caught-held y h) (omega arith))))
   dispatch-fit (scope q x f z) b k =
       good-bind (Held c 1 (opens (unlessScheduled c f) + length (c .stack))) (Fit p) _ _ (opened-held (unlessScheduled c f) c) (λ c1 h.
-        into-fit _ x 18 b R (markScopeFallthroughIf (unlessScheduled c f) c1) (inside-held c1 (inside-held c {w₁ = opens (unlessScheduled c f)} s h (omega arith)) (scoped-held (unlessScheduled c f) c1) (omega arith)))
+      into-fit _ x 18 b R (markScopeFallthroughIf (unlessScheduled c f) c1) (inside-held c1 (inside-held c {w₁ = opens (unlessScheduled c f)} s h (omega arith)) (scoped-held (unlessScheduled c f) c1) (omega arith)))
 
 -- ---- the loop
 
@@ -418,10 +422,10 @@ visit-fit : (t : Table) → length (t .blocks) ≤ 1024 → (b : ℕ) (F : List 
 unfolding visit
 visit-fit t few b F R m c h =
     good-unless (Fit (2 * (8192 - c .visits) + length F)) _ 30 b (c .visits) _ (λ q.
-      let d : length F < 128 = leb-false 128 (length F) q in
-      good-bind (Entered c) (Fit (2 * (8192 - c .visits) + length F)) _ _ (enter-sound t b c few (h .flags)) (λ c1 e.
-        dispatch-fit t (value t (left F)) (value-grows t (left F)) (value-few t (left F)) F _ _ c1
-          (record { few = omega arith; ids = omega arith; lower = omega arith; stack = omega arith; marked = omega arith; deep = d; flags = e .flags }) (terminalAt t b) b (blockAt t b)))
+    let d : length F < 128 = leb-false 128 (length F) q in
+    good-bind (Entered c) (Fit (2 * (8192 - c .visits) + length F)) _ _ (enter-sound t b c few (h .flags)) (λ c1 e.
+    dispatch-fit t (value t (left F)) (value-grows t (left F)) (value-few t (left F)) F _ _ c1
+    (record { few = omega arith; ids = omega arith; lower = omega arith; stack = omega arith; marked = omega arith; deep = d; flags = e .flags }) (terminalAt t b) b (blockAt t b)))
 
 step-next : (t : Table) → length (t .blocks) ≤ 1024 → (s : State) → Sound s → Next (potential s) (step t s)
 unfolding step

@@ -74,8 +74,10 @@ nextCase-tally x id g i b f m F [] report R c h = go (popCases report c) _ (λ c
 nextCase-tally x id g i b f m F (k ∷ ks) report R c h = at (isScheduled c (k .block)) (nextCase-tally x id g i b f m F ks report R c h)
   where
     at : (y : Bool) → Good Tallied (nextCase x id g i b f m F ks report R c)
-        → Good Tallied (elim y [ true ↦ refuseIf (not (eqb (k .block) f)) 14 b (c .visits) >>= λ _. nextCase x id g i b f m F ks report R c
-                               | false ↦ ok (visiting (k .block) (fCase x id g i b f k ks report m ∷ F) R 0 c) ])
+        → Good Tallied (elim y [
+          | true ↦ refuseIf (not (eqb (k .block) f)) 14 b (c .visits) >>= λ _. nextCase x id g i b f m F ks report R c
+          | false ↦ ok (visiting (k .block) (fCase x id g i b f k ks report m ∷ F) R 0 c)
+        ])
     at true q = go (refuseIf (not (eqb (k .block) f)) 14 b (c .visits)) _ (λ _. q)
     at false q = omega arith
 
@@ -145,17 +147,19 @@ module _ (t : Table) (values : VisitValueBlock) (F : List Frame) (R : List Row) 
   way-tally x y a id b = at (isScheduled c y)
     where
       at : (z : Bool) → Good Tallied
-          (elim z [ true ↦ visitBreak b y id c (breakTargetFrom (c .stack) y true false) >>= λ o. otherWay x id a b m F ((R ++ jumpOut o) ++ (blockRow (added o 0) ∷ [])) c
-                  | false ↦ ok (visiting y (fWays x id a b m ∷ F) R 0 c) ])
+          (elim z [
+            | true ↦ visitBreak b y id c (breakTargetFrom (c .stack) y true false) >>= λ o. otherWay x id a b m F ((R ++ jumpOut o) ++ (blockRow (added o 0) ∷ [])) c
+            | false ↦ ok (visiting y (fWays x id a b m ∷ F) R 0 c)
+          ])
       at true = go (visitBreak b y id c (breakTargetFrom (c .stack) y true false)) _
-        (λ o. otherWay-tally x id a b m F _ c (omega (arith, longer R (jumpOut o), longer (R ++ jumpOut o) (blockRow (added o 0) ∷ []))))
+          (λ o. otherWay-tally x id a b m F _ c (omega (arith, longer R (jumpOut o), longer (R ++ jumpOut o) (blockRow (added o 0) ∷ []))))
       at false = omega arith
 
   value-tally : (e : Terminal) (b : ℕ) (k : Block) (f : ℕ) → Good Tallied (valueStep t values e b k f F R m c)
   unfolding valueStep
   value-tally e b k f =
       go (scheduleIf (unlessScheduled c f) c) _ (λ c1. go (visitValueBlockTerminal t values e (k .id) (k .span) (c1 .visits) b) _ (λ r.
-        close-tally _ (unlessScheduled c f) (c .next) m F _ _ (omega (arith, longer R (valueOut (r .value))))))
+      close-tally _ (unlessScheduled c f) (c .next) m F _ _ (omega (arith, longer R (valueOut (r .value))))))
 
   dispatch-tally : (e : Terminal) (b : ℕ) (k : Block) → Good Tallied (dispatch t values e b k F R m c)
   unfolding dispatch
@@ -165,26 +169,30 @@ module _ (t : Table) (values : VisitValueBlock) (F : List Frame) (R : List Row) 
   dispatch-tally (return x) b k = leaves none _
   dispatch-tally (goto g w) b k =
       good-bind (λ s. Rowed (s .statement)) Tallied _ _ (jump-rowed w b g (k .id) c) (λ s q.
-        leave-tally (s .next) F _ _ (s .context) (omega (arith, added-plus (s .statement) m (tally F), q (m + tally F), length-append R (jumpOut (s .statement)))))
+      leave-tally (s .next) F _ _ (s .context) (omega (arith, added-plus (s .statement) m (tally F), q (m + tally F), length-append R (jumpOut (s .statement)))))
   dispatch-tally (if x y a f) b k = go (unlessUnreachable t c f) _ (λ g. go (scheduleIf g c) _ (λ c1. into-tally y 12 y _ F R c1 h))
   dispatch-tally (branch x y a) b k = way-tally x y a (k .id) b
   dispatch-tally (switch x i n f) b k = go (unlessUnreachable t c f) _ (λ g. go (scheduleSwitch g c) _ (λ c1. nextCase-tally x (k .id) g (c .next) b f m F (casesLastFirst t i n) 0 R c1 h))
   dispatch-tally (do-while l x f) b k = go (scheduleLoop f x (some l) c) _ (λ c1. go (refuseIf (loopIsTaken c l f) 16 b (c1 .visits)) _ (λ _. omega arith))
   dispatch-tally (while x l f) b k =
       go (unlessUnreachable t c f) _ (λ g. go (scheduleLoop f x (some l) c) _ (λ c1. go (values x none (k .span) (c1 .visits)) _ (λ v.
-        intoLoop-tally b l _ (v .visits) _ F _ c1 (omega (arith, longer R (valueOut (v .value)))))))
+      intoLoop-tally b l _ (v .visits) _ F _ c1 (omega (arith, longer R (valueOut (v .value)))))))
   dispatch-tally (for i x u l f) b k =
       go (scheduleLoop f (continueBlockOf u x) (some l) c) _ (λ c1. go (values i none (k .span) (c1 .visits)) _ (λ n. go (values x none (k .span) (n .visits)) _ (λ v.
-        go (visitUpdate values u (k .span) (v .visits)) _ (λ w. intoLoop-tally b l _ (w .visits) _ F _ c1
-          (omega (arith, longer R (valueOut (valueBlockResultToSequence t n (k .span))), longer (R ++ valueOut (valueBlockResultToSequence t n (k .span))) (valueOut (v .value)),
-            longer ((R ++ valueOut (valueBlockResultToSequence t n (k .span))) ++ valueOut (v .value)) (Machine.updateOut (w .value))))))))
+      go (visitUpdate values u (k .span) (v .visits)) _ (λ w. intoLoop-tally b l _ (w .visits) _ F _ c1
+      (omega (
+        arith,
+        longer R (valueOut (valueBlockResultToSequence t n (k .span))),
+        longer (R ++ valueOut (valueBlockResultToSequence t n (k .span))) (valueOut (v .value)),
+        longer ((R ++ valueOut (valueBlockResultToSequence t n (k .span))) ++ valueOut (v .value)) (Machine.updateOut (w .value)),
+      ))))))
   dispatch-tally (for-of i x l f) b k =
       go (scheduleLoop f i (some l) c) _ (λ c1. go (values i none (k .span) (c1 .visits)) _ (λ n. go (values x none (k .span) (n .visits)) _ (λ v.
-        intoLoop-tally b l _ (v .visits) _ F _ c1
-          (omega (arith, longer R (valueOut (valueBlockResultToSequence t n (k .span))), longer (R ++ valueOut (valueBlockResultToSequence t n (k .span))) (valueOut (valueBlockResultToSequence t v (k .span))))))))
+      intoLoop-tally b l _ (v .visits) _ F _ c1
+      (omega (arith, longer R (valueOut (valueBlockResultToSequence t n (k .span))), longer (R ++ valueOut (valueBlockResultToSequence t n (k .span))) (valueOut (valueBlockResultToSequence t v (k .span))))))))
   dispatch-tally (for-in i l f) b k =
       go (scheduleLoop f i (some l) c) _ (λ c1. go (values i none (k .span) (c1 .visits)) _ (λ n.
-        intoLoop-tally b l _ (n .visits) _ F _ c1 (omega (arith, longer R (valueOut (valueBlockResultToSequence t n (k .span)))))))
+      intoLoop-tally b l _ (n .visits) _ F _ c1 (omega (arith, longer R (valueOut (valueBlockResultToSequence t n (k .span)))))))
   dispatch-tally (logical o x f) b k = value-tally (logical o x f) b k f
   dispatch-tally (ternary x f) b k = value-tally (ternary x f) b k f
   dispatch-tally (optional g x f) b k = value-tally (optional g x f) b k f
@@ -203,8 +211,8 @@ visit-tally : (t : Table) (b : ℕ) (F : List Frame) (R : List Row) (m : ℕ) (c
 unfolding visit
 visit-tally t b F R m c h =
     go (refuseIf (leb 128 (length F)) 30 b (c .visits)) _ (λ _. go (enterBlock t b c) _ (λ c1.
-      dispatch-tally t (value t (left F)) F (R ++ instrOut t (instructionRowsAt t b)) (m + length (instructionRowsAt t b)) c1
-        (omega (arith, length-append R (instrOut t (instructionRowsAt t b)), instr-long t (instructionRowsAt t b))) (terminalAt t b) b (blockAt t b)))
+    dispatch-tally t (value t (left F)) F (R ++ instrOut t (instructionRowsAt t b)) (m + length (instructionRowsAt t b)) c1
+    (omega (arith, length-append R (instrOut t (instructionRowsAt t b)), instr-long t (instructionRowsAt t b))) (terminalAt t b) b (blockAt t b)))
 
 abbrev After : Turn → Type 0
 After (going s) = Tallied s

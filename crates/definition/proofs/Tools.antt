@@ -51,7 +51,7 @@ pub has-remove : (s : Flags) (y x : ℕ) → has (remove s y) x ≡ true → has
 unfolding has remove
 has-remove s y x e =
     cases x y (λ h. absurd (true-false (sym e ∙ subst (λ (z : ℕ). getD (set s y false) z false ≡ false) (sym h) (set-false s y))))
-      (λ h. sym (getD-set-other s y x false false h) ∙ e)
+    (λ h. sym (getD-set-other s y x false false h) ∙ e)
 
 set-true : (s : Flags) (y : ℕ) → getD s y false ≡ true → getD (set s y true) y false ≡ true
 set-true [] y e = e
@@ -62,7 +62,7 @@ pub has-still : (s : Flags) (y x : ℕ) → has s x ≡ true → has (add s y) x
 unfolding has add
 has-still s y x e =
     cases x y (λ h. subst (λ (z : ℕ). getD s z false ≡ true → getD (set s y true) z false ≡ true) (sym h) (set-true s y) e)
-      (λ h. getD-set-other s y x true false h ∙ e)
+    (λ h. getD-set-other s y x true false h ∙ e)
 
 pub has-new : (s : Flags) (y : ℕ) → y < length s → has (add s y) y ≡ true
 unfolding has add

@@ -13,7 +13,6 @@ pub data Result (A : Type 0) : Type 0 where
   refused : (code at visits : ℕ) → Result A
 
 infixl 20 _>>=_
-
 unfoldable pub _>>=_ : {A B : Type 0} → Result A → (A → Result B) → Result B
 _>>=_ (ok a) f = f a
 _>>=_ (refused c p v) f = refused c p v
@@ -117,7 +116,7 @@ scheduleLoop ft k none c =
 scheduleLoop ft k (some l) c =
     let s1 : Flags = add (c .scheduled) ft in
     refuseIf (has s1 k) 15 k (c .visits) >>= λ _.
-        ok (pushed (target-loop ft k (some l) (elim (has (add s1 k) l) [ true ↦ false | false ↦ true ])) (add (add s1 k) l) c)
+    ok (pushed (target-loop ft k (some l) (elim (has (add s1 k) l) [ true ↦ false | false ↦ true ])) (add (add s1 k) l) c)
 
 -- what a popped target takes out of the scheduled set
 unfoldable pub unscheduledBy : ControlFlowTarget → Flags → Flags

@@ -1,7 +1,11 @@
 pub mod Tree
+pub mod Reading
 pub mod Context
 pub mod Walk
 pub mod Run
+pub mod BlockRun
+pub mod Completion
+pub mod TreeRun
 pub mod Plain
 pub mod Machine
 pub mod Slot

@@ -109,9 +109,10 @@ popCases (suc n) c = popTop (c .stack) c >>= λ c1. popCases n c1
 unfoldable pub nextCase : (x id : ℕ) → Option ℕ → (i b f m : ℕ) → List Frame → List Case → ℕ → List Row → Context → Result State
 nextCase x id g i b f m F [] report R c = popCases report c >>= λ c1. close (row 12 x report id (orNone g) 0) g i m F R c1
 nextCase x id g i b f m F (k ∷ ks) report R c =
-    elim (isScheduled c (k .block))
-      [ true ↦ refuseIf (not (eqb (k .block) f)) 14 b (c .visits) >>= λ _. nextCase x id g i b f m F ks report R c
-      | false ↦ ok (visiting (k .block) (fCase x id g i b f k ks report m ∷ F) R 0 c) ]
+    elim (isScheduled c (k .block)) [
+      | true ↦ refuseIf (not (eqb (k .block) f)) 14 b (c .visits) >>= λ _. nextCase x id g i b f m F ks report R c
+      | false ↦ ok (visiting (k .block) (fCase x id g i b f k ks report m ∷ F) R 0 c)
+    ]
 
 -- a nested list has ended, and its BLOCK row is out
 unfoldable pub resume : VisitValueBlock → Frame → List Frame → List Row → Context → Result State
@@ -130,9 +131,10 @@ resume values (fLoop r g i m) F R c = closeLoop r g i m F R c
 -- a Branch's consequent: a break where it is scheduled
 unfoldable pub firstWay : (x y a id b m : ℕ) → List Frame → List Row → Context → Result State
 firstWay x y a id b m F R c =
-    elim (isScheduled c y)
-      [ true ↦ visitBreak b y id c (breakTargetFrom (c .stack) y true false) >>= λ s. otherWay x id a b m F ((R ++ jumpOut s) ++ (blockRow (added s 0) ∷ [])) c
-      | false ↦ ok (visiting y (fWays x id a b m ∷ F) R 0 c) ]
+    elim (isScheduled c y) [
+      | true ↦ visitBreak b y id c (breakTargetFrom (c .stack) y true false) >>= λ s. otherWay x id a b m F ((R ++ jumpOut s) ++ (blockRow (added s 0) ∷ [])) c
+      | false ↦ ok (visiting y (fWays x id a b m ∷ F) R 0 c)
+    ]
 
 unfoldable pub valueStep : Table → VisitValueBlock → Terminal → ℕ → Block → ℕ → List Frame → List Row → ℕ → Context → Result State
 valueStep t values e b k f F R m c =
@@ -162,12 +164,12 @@ dispatch t values (for i x u l f) b k F R m c =
     scheduleLoop f (continueBlockOf u x) (some l) c >>= λ c1.
     values i none (k .span) (c1 .visits) >>= λ n. values x none (k .span) (n .visits) >>= λ v. visitUpdate values u (k .span) (v .visits) >>= λ w.
     intoLoop b l (loopIsTaken c l f) (w .visits) (fLoop (row 15 (k .id) (orNone g) (present (w .value)) 0 0) g (c .next) m) F
-      (((R ++ valueOut (valueBlockResultToSequence t n (k .span))) ++ valueOut (v .value)) ++ updateOut (w .value)) c1
+    (((R ++ valueOut (valueBlockResultToSequence t n (k .span))) ++ valueOut (v .value)) ++ updateOut (w .value)) c1
 dispatch t values (for-of i x l f) b k F R m c =
     let g : Option ℕ = unlessScheduled c f in
     scheduleLoop f i (some l) c >>= λ c1. values i none (k .span) (c1 .visits) >>= λ n. values x none (k .span) (n .visits) >>= λ v.
     intoLoop b l (loopIsTaken c l f) (v .visits) (fLoop (row 16 (k .id) (orNone g) (k .span) 0 0) g (c .next) m) F
-      ((R ++ valueOut (valueBlockResultToSequence t n (k .span))) ++ valueOut (valueBlockResultToSequence t v (k .span))) c1
+    ((R ++ valueOut (valueBlockResultToSequence t n (k .span))) ++ valueOut (valueBlockResultToSequence t v (k .span))) c1
 dispatch t values (for-in i l f) b k F R m c =
     let g : Option ℕ = unlessScheduled c f in
     scheduleLoop f i (some l) c >>= λ c1. values i none (k .span) (c1 .visits) >>= λ n.

@@ -54,7 +54,6 @@ mutual
     CASE : (test : ℕ) → (body : Statements) → (rest : Cases) → Cases
 
 infixr 40 _▸_
-
 -- ---- rows
 
 pub data Row : Type 0 where

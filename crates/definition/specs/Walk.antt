@@ -437,10 +437,11 @@ pub record CasesResult : Type 0 where
 unfoldable pub traverseCases : TraverseBlock → ℕ → ℕ → List Case → List ℕ → Context → Result CasesResult
 traverseCases inner b f [] ids c = ok (record { cases = no-cases; ids = ids; context = c })
 traverseCases inner b f (k ∷ ks) ids c =
-    elim (isScheduled c (k .block))
-      [ true ↦ refuseIf (not (eqb (k .block) f)) 14 b (c .visits) >>= λ _. traverseCases inner b f ks ids c
+    elim (isScheduled c (k .block)) [
+      | true ↦ refuseIf (not (eqb (k .block) f)) 14 b (c .visits) >>= λ _. traverseCases inner b f ks ids c
       | false ↦ inner (k .block) c >>= λ r. schedule (target-case (k .block)) (r .context) >>= λ c1.
-          traverseCases inner b f ks (r .context .next ∷ ids) c1 >>= λ z. ok (record { cases = CASE (k .test) (r .statements) (z .cases); ids = z .ids; context = z .context }) ]
+          traverseCases inner b f ks (r .context .next ∷ ids) c1 >>= λ z. ok (record { cases = CASE (k .test) (r .statements) (z .cases); ids = z .ids; context = z .context })
+    ]
 
 unfoldable pub unscheduleAll : List ℕ → Context → Result Context
 unscheduleAll [] c = ok c
@@ -477,9 +478,10 @@ singleStatement (some s) = s ▸ done
 -- a Branch's consequent: a break where it is scheduled
 unfoldable pub traverseConsequent : TraverseBlock → ℕ → ℕ → ℕ → Context → Result BlockResult
 traverseConsequent inner b y i c =
-    elim (isScheduled c y)
-      [ true ↦ visitBreak b y i c (breakTargetFrom (c .stack) y true false) >>= λ s. ok (record { statements = singleStatement s; context = c })
-      | false ↦ inner y c ]
+    elim (isScheduled c y) [
+      | true ↦ visitBreak b y i c (breakTargetFrom (c .stack) y true false) >>= λ s. ok (record { statements = singleStatement s; context = c })
+      | false ↦ inner y c
+    ]
 
 -- a value terminal as a statement
 unfoldable pub visitValueStatement : Table → VisitValueBlock → Terminal → ℕ → Block → ℕ → Context → Result TerminalResult
