@@ -8,9 +8,9 @@ use mathlib.Core.Option.{Option, none, some}
 use mathlib.Core.Bool.{Bool, true, false}
 use lib.ListN.{length}
 use Rattle.table.specs.Table.{Table, Operation, instructionAt}
-use Rattle.definition.specs.Tree.{Value, PLAIN, LOAD, UNDEF, SEQ, LOGICAL, COND, OPTIONAL, Instructions, no-instructions, instruction, Row, row, valueRows, instructionsRows, countInstructions}
-use Rattle.definition.specs.Walk.{ValueBlockResult, appended, sequencedInstructions, innermostValue, loadedPlace, loadedBy, sameIdentifier, unlessSame, singleInstruction, valueBlockResultToSequence}
 use Rattle.definition.specs.Machine.{valueOut}
+use Rattle.definition.specs.Tree.{Value, PLAIN, LOAD, UNDEF, SEQ, LOGICAL, COND, OPTIONAL, Instructions, no-instructions, instruction, Row, row, valueRows, instructionsRows, countInstructions}
+use Rattle.definition.specs.Value.{ValueBlockResult, appended, sequencedInstructions, innermostValue, loadedPlace, loadedBy, sameIdentifier, unlessSame, singleInstruction, valueBlockResultToSequence}
 
 -- the closing SEQ rows at the end
 abbrev pub seqs : Value → List Row

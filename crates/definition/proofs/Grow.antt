@@ -8,11 +8,13 @@ use mathlib.Core.Option.{Option, none, some}
 use mathlib.Core.Bool.{Bool, true, false, not}
 use lib.Dec.{eqb, leb}
 use borrow.Author.Tests.{leb-false}
-use Rattle.table.specs.Table.{Table, Block, Case, Terminal, absent, unreachable, throw, return, goto, if, branch, switch, do-while, while, for, for-of, for-in, logical, ternary, optional, label, sequence, maybe-throw, try, scope, Variant, Break, Continue, Try, blockAt, terminalAt, instructionRowsAt, instructionRows}
-use Rattle.definition.specs.Tree.{Kind, implicit, labeled, unlabeled, Statement, Statements}
-use Rattle.definition.specs.Context.{Result, ok, refused, _>>=_, refuseIf, or, Flags, has, add, remove, ControlFlowTarget, target-if, target-switch, target-case, target-loop, targetBlock, Entry, Context, start, isScheduled, emit, withVisits, markScopeFallthrough, scheduleCatchHandler, pushed, schedule, scheduleLoop, unscheduledBy, popped, unscheduleTop, unschedule}
-use Rattle.definition.specs.Walk.{isAbsent, branchWays, Ways, isThis, beginVisit, ValueBlockResult, ValueTerminalResult, TestBlockResult, VisitValueBlock, extractValueBlockResult, extractOrRefuse, testBlockEnded, visitTestBlock, visitValueBlockTerminal, thenFallthrough, branchValue, isEmptyGoto, maybeThrowValue, visitValueBlockAt, value, TerminalResult, enterBlock, unlessScheduled, unlessUnreachable, scheduleIf, unscheduleIf, markScopeFallthroughIf, scheduleSwitch, OptionalValue, visitUpdate}
+use Rattle.table.specs.Table.{Table, Block, Case, Terminal, absent, unreachable, throw, return, goto, if, branch, switch, do-while, while, for, for-of, for-in, logical, ternary, optional, sequence, maybe-throw, try, scope, Variant, Break, Continue, Try, blockAt, terminalAt, instructionRowsAt, instructionRows, isAbsent, label}
+use Rattle.definition.specs.Context.{or, Flags, has, add, remove, ControlFlowTarget, target-if, target-switch, target-case, target-loop, targetBlock, Entry, Context, start, isScheduled, emit, withVisits, markScopeFallthrough, scheduleCatchHandler, pushed, schedule, scheduleLoop, unscheduledBy, popped, unscheduleTop, unschedule}
 use Rattle.definition.specs.Machine.{popTop, popCases}
+use Rattle.definition.specs.Result.{refused, Result, ok, _>>=_, refuseIf}
+use Rattle.definition.specs.Statement.{TerminalResult, enterBlock, unlessScheduled, unlessUnreachable, scheduleIf, unscheduleIf, markScopeFallthroughIf, scheduleSwitch, OptionalValue, visitUpdate}
+use Rattle.definition.specs.Tree.{Kind, implicit, labeled, unlabeled, Statement, Statements}
+use Rattle.definition.specs.Value.{visitValueBlock, branchWays, Ways, isThis, beginVisit, ValueBlockResult, ValueTerminalResult, TestBlockResult, VisitValueBlock, extractValueBlockResult, extractOrRefuse, testBlockEnded, visitTestBlock, visitValueBlockTerminal, thenFallthrough, branchValue, isEmptyGoto, maybeThrowValue, visitValueBlockAt}
 
 -- an answer has the property
 abbrev pub Good : {A : Type 0} → (A → Type 0) → Result A → Type 0
@@ -148,12 +150,12 @@ weaker-suc : (v w : ℕ) (m : Result ValueBlockResult) → w ≡ suc v → Good 
 weaker-suc v w (ok r) e h = omega arith
 weaker-suc v w (refused c p u) e h = tt
 
-pub value-grows : (t : Table) (d : ℕ) → Grows (value t d)
-unfolding Grows value
+pub value-grows : (t : Table) (d : ℕ) → Grows (visitValueBlock t d)
+unfolding Grows visitValueBlock
 value-grows t zero b ft span v = tt
 value-grows t (suc d) b ft span v =
     good-bind (λ w. (v < 8192) × (w ≡ suc v)) (From v) _ _ (begin-grows t b v) (λ w q. good-unless (From v) _ 23 b w _
-    (λ h. weaker-suc v w (visitValueBlockAt t (value t d) (terminalAt t b) b (blockAt t b) ft span w) (q .1) (valueAt-grows t (value t d) (value-grows t d) (terminalAt t b) b (blockAt t b) ft span w)))
+    (λ h. weaker-suc v w (visitValueBlockAt t (visitValueBlock t d) (terminalAt t b) b (blockAt t b) ft span w) (q .1) (valueAt-grows t (visitValueBlock t d) (value-grows t d) (terminalAt t b) b (blockAt t b) ft span w)))
 
 -- ---- the state
 

@@ -9,8 +9,9 @@ use native.Mathlib.Omega.{arith}
 use lib.Dec.{T}
 use Rattle.table.specs.Table.{Table, blockAt, terminalAt, instructionRowsAt}
 use Rattle.definition.specs.Tree.{Statements}
-use Rattle.definition.specs.Context.{Result, ok, start}
-use Rattle.definition.specs.Walk.{BlockResult, traverseBlock, buildTree}
+use Rattle.definition.specs.Result.{Result, ok}
+use Rattle.definition.specs.Context.{start}
+use Rattle.definition.specs.Statement.{BlockResult, traverseBlock, buildTree}
 use Rattle.definition.specs.Run.{Answers, Reason, Run, unfinished, stopped}
 use Rattle.definition.specs.BlockRun.{Move, go, halt, move, performing, blockRun}
 use Rattle.definition.specs.Completion.{Completion, normal, break, continue, stop}

@@ -5,10 +5,10 @@ use native.Mathlib.Omega.{arith}
 use mathlib.Core.List.{List, [], _∷_, _++_}
 use lib.ListN.{length, length-append}
 use Rattle.table.specs.Table.{Table, instructionRowsAt}
-use Rattle.definition.specs.Tree.{Row}
+use Rattle.definition.specs.Build.{accepted, Report, report}
 use Rattle.definition.specs.Context.{Context, start}
-use Rattle.definition.specs.Walk.{Report, accepted, report}
 use Rattle.definition.specs.Machine.{Frame, State, visiting, ended, going, halt, blockRow, step, run, machine}
+use Rattle.definition.specs.Tree.{Row}
 use Rattle.definition.proofs.Simulation.{potential, run-built, run-step, run-halt}
 use Rattle.definition.proofs.Steps.{Holds, Sound, step-sound, start-sound, stack-most}
 use Rattle.definition.proofs.Tally.{tally, Tallied, step-tally}
@@ -49,7 +49,7 @@ pub record Small (F : List Frame) (R : List Row) (m : ℕ) (c : Context) : Type 
   pub visits : c .visits ≤ 8192
   pub frames : length F ≤ 128
   pub stack : length (c .stack) ≤ 1024
-  pub ids : c .next ≤ 16384
+  pub ids : c .nextId ≤ 16384
   pub rows : length R ≤ 67174400
   pub count : m + tally F ≤ length R
 

@@ -6,9 +6,10 @@ use mathlib.Core.List.{List, [], _∷_}
 use mathlib.Core.Option.{Option, none, some}
 use mathlib.Core.Bool.{Bool, true, false}
 use borrow.Author.Tests.{leb-false}
-use Rattle.table.specs.Table.{Table, Block, Terminal, absent, unreachable, throw, return, goto, if, branch, switch, do-while, while, for, for-of, for-in, logical, ternary, optional, label, sequence, maybe-throw, try, scope, blockAt, terminalAt, instructionRows}
-use Rattle.definition.specs.Context.{Result, ok, refused, _>>=_, refuseIf}
-use Rattle.definition.specs.Walk.{branchWays, Ways, beginVisit, ValueBlockResult, ValueTerminalResult, TestBlockResult, VisitValueBlock, extractValueBlockResult, extractOrRefuse, testBlockEnded, visitTestBlock, visitValueBlockTerminal, thenFallthrough, branchValue, maybeThrowValue, visitValueBlockAt, value, OptionalValue, visitUpdate}
+use Rattle.table.specs.Table.{Table, Block, Terminal, absent, unreachable, throw, return, goto, if, branch, switch, do-while, while, for, for-of, for-in, logical, ternary, optional, sequence, maybe-throw, try, scope, blockAt, terminalAt, instructionRows, label}
+use Rattle.definition.specs.Result.{refused, Result, ok, _>>=_, refuseIf}
+use Rattle.definition.specs.Statement.{OptionalValue, visitUpdate}
+use Rattle.definition.specs.Value.{visitValueBlock, branchWays, Ways, beginVisit, ValueBlockResult, ValueTerminalResult, TestBlockResult, VisitValueBlock, extractValueBlockResult, extractOrRefuse, testBlockEnded, visitTestBlock, visitValueBlockTerminal, thenFallthrough, branchValue, maybeThrowValue, visitValueBlockAt}
 use Rattle.definition.proofs.Grow.{Good, good-bind, good-unless}
 
 abbrev pub Few : ValueBlockResult → Type 0
@@ -113,9 +114,9 @@ begin-few : (t : Table) (b v : ℕ) → Good (λ w. w ≤ 8192) (beginVisit t b 
 unfolding beginVisit
 begin-few t b v = good-unless (λ w. w ≤ 8192) _ 31 b v _ (λ h. good-unless (λ w. w ≤ 8192) _ 10 b (suc v) _ (λ _. leb-false 8192 v h))
 
-pub value-few : (t : Table) (d : ℕ) → Fews (value t d)
-unfolding Fews value
+pub value-few : (t : Table) (d : ℕ) → Fews (visitValueBlock t d)
+unfolding Fews visitValueBlock
 value-few t zero b ft span v h = tt
 value-few t (suc d) b ft span v h =
     good-bind (λ w. w ≤ 8192) Few _ _ (begin-few t b v) (λ w q. good-unless Few _ 23 b w _
-    (λ _. valueAt-few t (value t d) (value-few t d) (terminalAt t b) b (blockAt t b) ft span w q))
+    (λ _. valueAt-few t (visitValueBlock t d) (value-few t d) (terminalAt t b) b (blockAt t b) ft span w q))

@@ -9,10 +9,12 @@ use mathlib.Core.Bool.{Bool, true, false, not}
 use lib.ListN.{getD, set}
 use lib.Dec.{T, eqb, ltb, eqb-refl}
 use borrow.Author.Tests.{eqb-true, eq-eqb}
-use Rattle.table.specs.Table.{Table, Block, Case, Terminal, absent, unreachable, throw, return, goto, if, branch, switch, do-while, while, for, for-of, for-in, logical, ternary, optional, label, sequence, maybe-throw, try, scope, Variant, Break, Continue, Try, blockAt, terminalAt, instructionRowsAt, instructionRows}
+use Rattle.table.specs.Table.{Table, Block, Case, Terminal, absent, unreachable, throw, return, goto, if, branch, switch, do-while, while, for, for-of, for-in, logical, ternary, optional, sequence, maybe-throw, try, scope, Variant, Break, Continue, Try, blockAt, terminalAt, instructionRowsAt, instructionRows, isAbsent, isUnreachable, label}
+use Rattle.definition.specs.Context.{or, Flags, has, add, remove, ControlFlowTarget, target-if, target-switch, target-case, target-loop, targetBlock, Entry, Context, start, isScheduled, emit, withVisits, markScopeFallthrough, scheduleCatchHandler, pushed, schedule, scheduleLoop, unscheduledBy, popped, unscheduleTop, unschedule, breakTargetFrom, Resolution, continueTargetFrom}
+use Rattle.definition.specs.Result.{refused, Result, ok, _>>=_, refuseIf}
+use Rattle.definition.specs.Statement.{breakToScope, visitBreak, visitContinue, breakResolved, continueResolved, TerminalResult, BlockResult, TraverseBlock, enterBlock, unlessScheduled, unlessUnreachable, scheduleIf, unscheduleIf, markScopeFallthroughIf, traverseUnscheduled, AlternateResult, traverseAlternate, visitGoto, traverseEnclosed, loopIsTaken, traverseLoop, CasesResult, traverseCases, unscheduleAll, scheduleSwitch, scheduleIds, casesLastFirst, OptionalValue, visitUpdate, traverseConsequent, visitValueStatement, visitTerminal, thenNext, visitBlock, traverseBlock, buildTree}
 use Rattle.definition.specs.Tree.{Kind, implicit, labeled, unlabeled, Statement, Statements}
-use Rattle.definition.specs.Context.{Result, ok, refused, _>>=_, refuseIf, or, Flags, has, add, remove, ControlFlowTarget, target-if, target-switch, target-case, target-loop, targetBlock, Entry, Context, start, isScheduled, emit, withVisits, markScopeFallthrough, scheduleCatchHandler, pushed, schedule, scheduleLoop, unscheduledBy, popped, unscheduleTop, unschedule, breakTargetFrom, Resolution, continueTargetFrom}
-use Rattle.definition.specs.Walk.{isAbsent, isUnreachable, branchWays, Ways, isThis, beginVisit, ValueBlockResult, ValueTerminalResult, TestBlockResult, VisitValueBlock, extractOrRefuse, testBlockEnded, visitTestBlock, visitValueBlockTerminal, thenFallthrough, branchValue, isEmptyGoto, maybeThrowValue, visitValueBlockAt, value, TerminalResult, BlockResult, TraverseBlock, enterBlock, unlessScheduled, unlessUnreachable, scheduleIf, unscheduleIf, markScopeFallthroughIf, traverseUnscheduled, AlternateResult, traverseAlternate, visitBreak, visitContinue, visitGoto, traverseEnclosed, loopIsTaken, traverseLoop, CasesResult, traverseCases, unscheduleAll, scheduleSwitch, scheduleIds, casesLastFirst, OptionalValue, visitUpdate, traverseConsequent, visitValueStatement, visitTerminal, thenNext, visitBlock, traverseBlock, buildTree}
+use Rattle.definition.specs.Value.{visitValueBlock, branchWays, Ways, isThis, beginVisit, ValueBlockResult, ValueTerminalResult, TestBlockResult, VisitValueBlock, extractOrRefuse, testBlockEnded, visitTestBlock, visitValueBlockTerminal, thenFallthrough, branchValue, isEmptyGoto, maybeThrowValue, visitValueBlockAt}
 use Rattle.definition.proofs.Tools.{true-false, has-add, has-remove}
 
 -- an answer has the property, or the refusal is one of the paper's
@@ -148,11 +150,11 @@ module _ (t : Table) (values : VisitValueBlock) (vf : ValueFine values) where
   valueAt-fine (try z h f n) b k ft span v = andFinal-fine b k span _ (terminal-value-fine (try z h f n) (k .id) (k .span) v b tt)
   valueAt-fine (scope p z f s) b k ft span v = andFinal-fine b k span _ (terminal-value-fine (scope p z f s) (k .id) (k .span) v b tt)
 
-value-fine : (t : Table) (d : ℕ) → ValueFine (value t d)
-unfolding ValueFine value
+value-fine : (t : Table) (d : ℕ) → ValueFine (visitValueBlock t d)
+unfolding ValueFine visitValueBlock
 value-fine t zero b ft span v = tt
 value-fine t (suc d) b ft span v =
-    fine-bind Any Any _ _ (begin-fine t b v) (λ v1 _. fine-unless Any _ 23 b v1 _ tt (λ h. valueAt-fine t (value t d) (value-fine t d) (terminalAt t b) b (blockAt t b) ft span v1))
+    fine-bind Any Any _ _ (begin-fine t b v) (λ v1 _. fine-unless Any _ 23 b v1 _ tt (λ h. valueAt-fine t (visitValueBlock t d) (value-fine t d) (terminalAt t b) b (blockAt t b) ft span v1))
 
 -- ---- the state: the stack as before, and nothing new scheduled
 
@@ -242,7 +244,7 @@ record On (g : ControlFlowTarget) (i : ℕ) (c d : Context) : Type 0 where
   stack : d .stack ≡ record { id = i; target = g } ∷ c .stack
   sub : (x : ℕ) → has (d .scheduled) x ≡ true → (x ≡ targetBlock g) ⊎ (has (c .scheduled) x ≡ true)
 
-on-pushed : (g : ControlFlowTarget) (c : Context) → On g (c .next) c (pushed g (add (c .scheduled) (targetBlock g)) c)
+on-pushed : (g : ControlFlowTarget) (c : Context) → On g (c .nextId) c (pushed g (add (c .scheduled) (targetBlock g)) c)
 unfolding pushed
 on-pushed g c = record { stack = refl; sub = λ x h. has-add (c .scheduled) (targetBlock g) x h }
 
@@ -281,7 +283,7 @@ case-plain f s = refl
 -- an optional target pushed
 abbrev Maybe : Option ℕ → Context → Context → Type 0
 Maybe none c d = After c d
-Maybe (some f) c d = On (target-if f) (c .next) c d
+Maybe (some f) c d = On (target-if f) (c .nextId) c d
 
 maybe-after : (g : Option ℕ) (c : Context) {d e : Context} → Maybe g c d → After d e → Maybe g c e
 maybe-after none c p q = after-trans p q
@@ -290,18 +292,18 @@ maybe-after (some f) c p q = on-after p q
 opened-fine : (g : Option ℕ) (c : Context) → Free g c → Fine (λ d. Maybe g c d) (scheduleIf g c)
 unfolding scheduleIf Free
 opened-fine none c h = after-refl c
-opened-fine (some f) c h = subst (λ (r : Result Context). Fine (λ d. On (target-if f) (c .next) c d) r) (sym (schedule-free (target-if f) c (h f refl))) (on-pushed (target-if f) c)
+opened-fine (some f) c h = subst (λ (r : Result Context). Fine (λ d. On (target-if f) (c .nextId) c d) r) (sym (schedule-free (target-if f) c (h f refl))) (on-pushed (target-if f) c)
 
-closed-fine : (g : Option ℕ) (c d : Context) → Maybe g c d → Fine (λ e. After c e) (unscheduleIf g (c .next) d)
+closed-fine : (g : Option ℕ) (c d : Context) → Maybe g c d → Fine (λ e. After c e) (unscheduleIf g (c .nextId) d)
 unfolding unscheduleIf
 closed-fine none c d p = p
-closed-fine (some f) c d p = unschedule-fine (target-if f) (c .next) c d (if-plain f) p
+closed-fine (some f) c d p = unschedule-fine (target-if f) (c .nextId) c d (if-plain f) p
 
 -- ---- loops
 
 record InLoop (f k l : ℕ) (c d : Context) : Type 0 where
   owns : Bool
-  stack : d .stack ≡ record { id = c .next; target = target-loop f k (some l) owns } ∷ c .stack
+  stack : d .stack ≡ record { id = c .nextId; target = target-loop f k (some l) owns } ∷ c .stack
   sub : (x : ℕ) → has (d .scheduled) x ≡ true → has (add (add (add (c .scheduled) f) k) l) x ≡ true
   lent : owns ≡ false → has (add (add (c .scheduled) f) k) l ≡ true
 
@@ -338,11 +340,11 @@ loop-away s d f k l false sub lent x h =
     elim (has-add (add (add s f) k) l x (sub x (has-remove d f x h₂)))
     [ inl e ↦ inner (ap (has (add (add s f) k)) e ∙ lent refl) | inr q ↦ inner q ]
 
-loop-off : (f k l : ℕ) (c d : Context) → InLoop f k l c d → Fine (λ e. After c e) (unschedule (c .next) d)
+loop-off : (f k l : ℕ) (c d : Context) → InLoop f k l c d → Fine (λ e. After c e) (unschedule (c .nextId) d)
 unfolding popped
 loop-off f k l c d p =
     subst (λ (r : Result Context). Fine (λ e. After c e) r)
-    (sym (unschedule-exact (c .next) (record { id = c .next; target = target-loop f k (some l) (p .owns) }) (c .stack) d (p .stack) refl))
+    (sym (unschedule-exact (c .nextId) (record { id = c .nextId; target = target-loop f k (some l) (p .owns) }) (c .stack) d (p .stack) refl))
     (record { same = refl; sub = loop-away (c .scheduled) (d .scheduled) f k l (p .owns) (p .sub) (p .lent) })
 
 -- ---- cases
@@ -361,15 +363,15 @@ unscheduleAll-fine c [] d p = p
 unscheduleAll-fine c (i ∷ ids) d (m, g, u, o, r) =
     fine-bind (λ e. After m e) (λ e. After c e) _ _ (unschedule-fine g i m d u o) (λ e q. unscheduleAll-fine c ids e (tower-after c ids m e r q))
 
-openedSwitch-fine : (g : Option ℕ) (c : Context) → Free g c → Fine (λ d. Tower c (scheduleIds g (c .next)) d) (scheduleSwitch g c)
+openedSwitch-fine : (g : Option ℕ) (c : Context) → Free g c → Fine (λ d. Tower c (scheduleIds g (c .nextId)) d) (scheduleSwitch g c)
 unfolding scheduleSwitch Free
 openedSwitch-fine none c h = after-refl c
 openedSwitch-fine (some f) c h =
-    subst (λ (r : Result Context). Fine (λ d. Tower c (c .next ∷ []) d) r) (sym (schedule-free (target-switch f) c (h f refl)))
+    subst (λ (r : Result Context). Fine (λ d. Tower c (c .nextId ∷ []) d) r) (sym (schedule-free (target-switch f) c (h f refl)))
     (c, target-switch f, switch-plain f, on-pushed (target-switch f) c, after-refl c)
 
-case-fine : (k : ℕ) (c : Context) → has (c .scheduled) k ≡ false → Fine (λ d. On (target-case k) (c .next) c d) (schedule (target-case k) c)
-case-fine k c h = subst (λ (r : Result Context). Fine (λ d. On (target-case k) (c .next) c d) r) (sym (schedule-free (target-case k) c h)) (on-pushed (target-case k) c)
+case-fine : (k : ℕ) (c : Context) → has (c .scheduled) k ≡ false → Fine (λ d. On (target-case k) (c .nextId) c d) (schedule (target-case k) c)
+case-fine k c h = subst (λ (r : Result Context). Fine (λ d. On (target-case k) (c .nextId) c d) r) (sym (schedule-free (target-case k) c h)) (on-pushed (target-case k) c)
 
 false-of : (y : Bool) → (y ≡ true → ⊥) → y ≡ false
 false-of true h = absurd (h refl)
@@ -380,15 +382,19 @@ false-of false h = refl
 unfoldable pub WalkFine : TraverseBlock → Type 0
 WalkFine inner = (b : ℕ) (c : Context) → Fine (λ r. After c (r .context)) (inner b c)
 
-breakStmt-fine : (b g i : ℕ) (c : Context) (k : Option Kind) → Fine Any (visitBreak b g i c k)
-unfolding visitBreak
-breakStmt-fine b g i c none = tt
-breakStmt-fine b g i c (some implicit) = fine-pick Any (has (c .scopeFallthroughs) g) _ _ (λ _. tt) (λ _. tt)
-breakStmt-fine b g i c (some labeled) = fine-pick Any (has (c .scopeFallthroughs) g) _ _ (λ _. tt) (λ _. tt)
-breakStmt-fine b g i c (some unlabeled) = fine-pick Any (has (c .scopeFallthroughs) g) _ _ (λ _. tt) (λ _. tt)
+scope-break-fine : (k : Kind) (at v : ℕ) → Fine Any (breakToScope k at v)
+unfolding breakToScope
+scope-break-fine implicit at v = tt
+scope-break-fine labeled at v = tt
+scope-break-fine unlabeled at v = tt
 
-continueStmt-fine : (g i : ℕ) (c : Context) (k : Option Resolution) → Fine Any (visitContinue g i c k)
-unfolding visitContinue
+breakStmt-fine : (b g i : ℕ) (c : Context) (r : Option Resolution) → Fine Any (breakResolved b g i c r)
+unfolding breakResolved
+breakStmt-fine b g i c none = tt
+breakStmt-fine b g i c (some r) = fine-pick Any (has (c .scopeFallthroughs) (r .target)) _ _ (λ _. scope-break-fine (r .kind) b (c .visits)) (λ _. tt)
+
+continueStmt-fine : (g i : ℕ) (c : Context) (k : Option Resolution) → Fine Any (continueResolved g i c k)
+unfolding continueResolved
 continueStmt-fine g i c none = tt
 continueStmt-fine g i c (some k) = tt
 
@@ -396,7 +402,7 @@ abbrev StepAfter : Context → TerminalResult → Type 0
 StepAfter c s = After c (s .context)
 
 jump-fine : (v : Variant) (b g i : ℕ) (c : Context) → Fine (StepAfter c) (visitGoto v b g i c)
-unfolding visitGoto
+unfolding visitGoto visitBreak visitContinue
 jump-fine Break b g i c = fine-bind Any (StepAfter c) _ _ (breakStmt-fine b g i c _) (λ s _. after-refl c)
 jump-fine Continue b g i c = fine-bind Any (StepAfter c) _ _ (continueStmt-fine g i c _) (λ s _. after-refl c)
 jump-fine Try b g i c = after-refl c
@@ -420,7 +426,7 @@ module _ (t : Table) (values : VisitValueBlock) (vf : ValueFine values) (inner :
       (λ r q. fine-bind (λ e. After c e) (StepAfter c) _ _ (closed-fine g c (r .context) (maybe-after g c p (br (r .context) q))) (λ e q₁. q₁))
 
   loopBody-fine : (b l f k : ℕ) (bad : Bool) (v : ℕ) (c d : Context) (g : Option ℕ) (make : Statements → Statement) → InLoop f k l c d
-      → Fine (StepAfter c) (traverseLoop inner b l bad v (c .next) d g make)
+      → Fine (StepAfter c) (traverseLoop inner b l bad v (c .nextId) d g make)
   unfolding traverseLoop WalkFine
   loopBody-fine b l f k bad v c d g make p =
       fine-unless (StepAfter c) bad 16 b v _ tt (λ _. fine-bind (λ r. After (withVisits v d) (r .context)) (StepAfter c) _ _ (wf l (withVisits v d))
@@ -433,15 +439,15 @@ module _ (t : Table) (values : VisitValueBlock) (vf : ValueFine values) (inner :
       fine-pick (λ r. Tower c₀ (r .ids) (r .context)) (isScheduled c (k .block)) _ _
       (λ _. fine-unless (λ r. Tower c₀ (r .ids) (r .context)) _ 14 b (c .visits) _ tt (λ _. cases-fine b f c₀ ks ids c p))
       (λ h. fine-bind (λ r. After c (r .context)) (λ r. Tower c₀ (r .ids) (r .context)) _ _ (wf (k .block) c) (λ r q.
-      fine-bind (λ d. On (target-case (k .block)) (r .context .next) (r .context) d) (λ r. Tower c₀ (r .ids) (r .context)) _ _
+      fine-bind (λ d. On (target-case (k .block)) (r .context .nextId) (r .context) d) (λ r. Tower c₀ (r .ids) (r .context)) _ _
       (case-fine (k .block) (r .context) (false-of (has (r .context .scheduled) (k .block))
       (λ z. true-false (sym (q .sub (k .block) z) ∙ or-false (has (c .scheduled) (k .block)) (has (c .catchHandlers) (k .block)) h))))
       (λ d o. fine-bind (λ r. Tower c₀ (r .ids) (r .context)) (λ r. Tower c₀ (r .ids) (r .context)) _ _
-      (cases-fine b f c₀ ks (r .context .next ∷ ids) d (r .context, target-case (k .block), case-plain (k .block), o, tower-after c₀ ids c (r .context) p q))
+      (cases-fine b f c₀ ks (r .context .nextId ∷ ids) d (r .context, target-case (k .block), case-plain (k .block), o, tower-after c₀ ids c (r .context) p q))
       (λ z u. u))))
 
   consequent-fine : (b y i : ℕ) (c : Context) → Fine (λ r. After c (r .context)) (traverseConsequent inner b y i c)
-  unfolding traverseConsequent WalkFine
+  unfolding traverseConsequent WalkFine visitBreak
   consequent-fine b y i c =
       fine-pick (λ r. After c (r .context)) (isScheduled c y) _ _
       (λ _. fine-bind Any (λ r. After c (r .context)) _ _ (breakStmt-fine b y i c _) (λ s _. after-refl c)) (λ _. wf y c)
@@ -480,8 +486,8 @@ module _ (t : Table) (values : VisitValueBlock) (vf : ValueFine values) (inner :
       fine-bind (λ s. After (r .context) (s .context)) (StepAfter c) _ _ (fresh-fine a 19 b (r .context) tt) (λ s q₁. after-trans q q₁))
   terminal-fine (switch x i n f) b k c h =
       fine-bind (λ g. Free g c) (StepAfter c) _ _ (reached-fine t c f) (λ g fr.
-      fine-bind (λ d. Tower c (scheduleIds g (c .next)) d) (StepAfter c) _ _ (openedSwitch-fine g c fr) (λ d p.
-      fine-bind (λ r. Tower c (r .ids) (r .context)) (StepAfter c) _ _ (cases-fine b f c (casesLastFirst t i n) (scheduleIds g (c .next)) d p) (λ r q.
+      fine-bind (λ d. Tower c (scheduleIds g (c .nextId)) d) (StepAfter c) _ _ (openedSwitch-fine g c fr) (λ d p.
+      fine-bind (λ r. Tower c (r .ids) (r .context)) (StepAfter c) _ _ (cases-fine b f c (casesLastFirst t i n) (scheduleIds g (c .nextId)) d p) (λ r q.
       fine-bind (λ e. After c e) (StepAfter c) _ _ (unscheduleAll-fine c (r .ids) (r .context) q) (λ e q₁. q₁))))
   terminal-fine (do-while l x f) b k c h =
       fine-bind (λ d. InLoop f x l c d) (StepAfter c) _ _ (scheduleLoop-fine f x l c) (λ d p.
@@ -548,7 +554,7 @@ module _ (t : Table) (values : VisitValueBlock) (vf : ValueFine values) (inner :
 pub walk-fine : (t : Table) (d : ℕ) → WalkFine (traverseBlock t d)
 unfolding traverseBlock WalkFine
 walk-fine t zero b c = tt
-walk-fine t (suc d) b c = chain-fine t (value t d) (value-fine t d) (traverseBlock t d) (walk-fine t d) 8193 b c
+walk-fine t (suc d) b c = chain-fine t (visitValueBlock t d) (value-fine t d) (traverseBlock t d) (walk-fine t d) 8193 b c
 
 -- no refusal of any table is one of the messages that never occur
 pub never : (t : Table) (c p v : ℕ) → buildTree t ≡ refused c p v → T (ltb c 90)

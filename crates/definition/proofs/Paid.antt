@@ -8,12 +8,13 @@ use mathlib.Core.Option.{Option, none, some}
 use mathlib.Core.Bool.{Bool, true, false, not}
 use lib.ListN.{length, length-append}
 use lib.Dec.{eqb, leb}
-use Rattle.table.specs.Table.{Table, Block, Case, Terminal, absent, unreachable, throw, return, goto, if, branch, switch, do-while, while, for, for-of, for-in, logical, ternary, optional, label, sequence, maybe-throw, try, scope, Variant, Break, Continue, Try, blockAt, terminalAt, instructionRowsAt, instructionAt}
-use Rattle.definition.specs.Tree.{Kind, implicit, labeled, unlabeled, Statement, Row, row, BREAK, CONTINUE}
-use Rattle.definition.specs.Context.{Result, ok, refused, _>>=_, refuseIf, has, target-case, Context, start, isScheduled, withVisits, scheduleCatchHandler, schedule, scheduleLoop, unschedule, breakTargetFrom, Resolution, continueTargetFrom}
-use Rattle.definition.specs.Walk.{VisitValueBlock, ValueBlockResult, visitValueBlockTerminal, value, visitUpdate, valueBlockResultToSequence, continueBlockOf, TerminalResult, enterBlock, unlessScheduled, unlessUnreachable, scheduleIf, unscheduleIf, markScopeFallthroughIf, visitBreak, visitContinue, visitGoto, loopIsTaken, scheduleSwitch, casesLastFirst}
-use Rattle.definition.specs.Machine
+use Rattle.table.specs.Table.{Table, Block, Case, Terminal, absent, unreachable, throw, return, goto, if, branch, switch, do-while, while, for, for-of, for-in, logical, ternary, optional, sequence, maybe-throw, try, scope, Variant, Break, Continue, Try, blockAt, terminalAt, instructionRowsAt, instructionAt, label}
+use Rattle.definition.specs.Context.{getBreakTarget, getContinueTarget, Resolution, has, target-case, Context, start, isScheduled, withVisits, scheduleCatchHandler, schedule, scheduleLoop, unschedule, breakTargetFrom, continueTargetFrom}
 use Rattle.definition.specs.Machine.{Frame, fThen, fWays, fCase, fDo, fTry, fBody, fLoop, State, visiting, ended, Turn, going, halt, turn, leave, ifRow, blockRow, valueOut, updateOut, stmtOut, jumpOut, added, instrOut, into, intoLoop, close, closeLoop, orElse, otherWay, popCases, nextCase, resume, firstWay, valueStep, dispatch, left, visit, step}
+use Rattle.definition.specs.Result.{refused, Result, ok, _>>=_, refuseIf}
+use Rattle.definition.specs.Statement.{breakToScope, visitBreak, visitContinue, breakResolved, continueResolved, visitUpdate, continueBlockOf, TerminalResult, enterBlock, unlessScheduled, unlessUnreachable, scheduleIf, unscheduleIf, markScopeFallthroughIf, visitGoto, loopIsTaken, scheduleSwitch, casesLastFirst}
+use Rattle.definition.specs.Tree.{Kind, implicit, labeled, unlabeled, Statement, Row, row, BREAK, CONTINUE}
+use Rattle.definition.specs.Value.{visitValueBlock, VisitValueBlock, ValueBlockResult, visitValueBlockTerminal, valueBlockResultToSequence}
 use Rattle.definition.proofs.Grow.{Good, good-bind, Any, any, Kept, enter-grows, schedule-kept, loop-kept, unschedule-kept, opened-kept, openedSwitch-kept, closed-kept, scopedIf-kept, popCases-kept}
 use Rattle.definition.proofs.Bound.{sizeV, size-out, sequence-size, Cheap, Less, Cheaps, terminal-cheap, update-cheap, value-cheap}
 
@@ -118,23 +119,27 @@ pick : {A : Type 0} (P : A → Type 0) (y : Bool) (a b : Result A) → Good P a 
 pick P true a b p q = p
 pick P false a b p q = q
 
-breakStmt-short : (b g i : ℕ) (c : Context) (k : Option Kind) → Good Short (visitBreak b g i c k)
-unfolding visitBreak
-breakStmt-short b g i c none = tt
-breakStmt-short b g i c (some implicit) = pick Short (has (c .scopeFallthroughs) g) _ _ none-short (break-short g i implicit)
-breakStmt-short b g i c (some labeled) = pick Short (has (c .scopeFallthroughs) g) _ _ tt (break-short g i labeled)
-breakStmt-short b g i c (some unlabeled) = pick Short (has (c .scopeFallthroughs) g) _ _ tt (break-short g i unlabeled)
+scope-break-short : (k : Kind) (at v : ℕ) → Good Short (breakToScope k at v)
+unfolding breakToScope
+scope-break-short implicit at v = none-short
+scope-break-short labeled at v = tt
+scope-break-short unlabeled at v = tt
 
-continueStmt-short : (g i : ℕ) (c : Context) (k : Option Resolution) → Good (λ s. Short (some s)) (visitContinue g i c k)
-unfolding visitContinue
+breakStmt-short : (b g i : ℕ) (c : Context) (r : Option Resolution) → Good Short (breakResolved b g i c r)
+unfolding breakResolved
+breakStmt-short b g i c none = tt
+breakStmt-short b g i c (some r) = pick Short (has (c .scopeFallthroughs) (r .target)) _ _ (scope-break-short (r .kind) b (c .visits)) (break-short (r .target) i (r .kind))
+
+continueStmt-short : (g i : ℕ) (c : Context) (k : Option Resolution) → Good (λ s. Short (some s)) (continueResolved g i c k)
+unfolding continueResolved
 continueStmt-short g i c none = tt
-continueStmt-short g i c (some k) = continue-short (k .fallthrough) i (k .kind)
+continueStmt-short g i c (some k) = continue-short (k .target) i (k .kind)
 
 abbrev Jumped : Context → TerminalResult → Type 0
 Jumped c s = Short (s .statement) × Kept c (s .context)
 
 jump-short : (v : Variant) (b g i : ℕ) (c : Context) → Good (Jumped c) (visitGoto v b g i c)
-unfolding visitGoto
+unfolding visitGoto visitBreak visitContinue getBreakTarget getContinueTarget
 jump-short Break b g i c = good-bind Short (Jumped c) _ _ (breakStmt-short b g i c (breakTargetFrom (c .stack) g true false)) (λ s h. (h, refl))
 jump-short Continue b g i c = good-bind (λ s. Short (some s)) (Jumped c) _ _ (continueStmt-short g i c (continueTargetFrom (c .stack) g true false)) (λ s h. (h, refl))
 jump-short Try b g i c = (none-short, refl)
@@ -149,7 +154,7 @@ module _ (t : Table) (few : (b : ℕ) → length (instructionRowsAt t b) ≤ 409
     where
       at : (z : Bool) → Good Paid
           (elim z [
-            | true ↦ visitBreak b y id c (breakTargetFrom (c .stack) y true false) >>= λ o. otherWay x id a b m F ((R ++ jumpOut o) ++ (blockRow (added o 0) ∷ [])) c
+            | true ↦ breakResolved b y id c (breakTargetFrom (c .stack) y true false) >>= λ o. otherWay x id a b m F ((R ++ jumpOut o) ++ (blockRow (added o 0) ∷ [])) c
             | false ↦ ok (visiting y (fWays x id a b m ∷ F) R 0 c)
           ])
       at true = good-bind Short Paid _ _ (breakStmt-short b y id c (breakTargetFrom (c .stack) y true false))
@@ -160,7 +165,7 @@ module _ (t : Table) (few : (b : ℕ) → length (instructionRowsAt t b) ≤ 409
   unfolding valueStep withVisits
   value-paid e b k f =
       good-bind (Kept c) Paid _ _ (opened-kept (unlessScheduled c f) c) (λ c1 q. good-bind (Less (c1 .visits)) Paid _ _ (terminal-cheap t few values vc e (k .id) (k .span) (c1 .visits) b) (λ r q₁.
-      close-paid (row 4 (r .id) (r .place) (k .span) 0 0) (unlessScheduled c f) (c .next) m F (R ++ valueOut (r .value)) (withVisits (r .visits) c1) (omega (arith, length-append R (valueOut (r .value)), size-out (r .value)))))
+      close-paid (row 4 (r .id) (r .place) (k .span) 0 0) (unlessScheduled c f) (c .nextId) m F (R ++ valueOut (r .value)) (withVisits (r .visits) c1) (omega (arith, length-append R (valueOut (r .value)), size-out (r .value)))))
 
   vals : (x : ℕ) (ft : Option ℕ) (span v : ℕ) → Good (Cheap v) (values x ft span v)
   unfolding Cheaps
@@ -177,7 +182,7 @@ module _ (t : Table) (few : (b : ℕ) → length (instructionRowsAt t b) ≤ 409
   dispatch-paid (if x y a f) b k = go (unlessUnreachable t c f) _ (λ g. good-bind (Kept c) Paid _ _ (opened-kept g c) (λ c1 q. into-paid y 12 y _ F R c1 (omega arith)))
   dispatch-paid (branch x y a) b k = way-paid x y a (k .id) b
   dispatch-paid (switch x i n f) b k =
-      go (unlessUnreachable t c f) _ (λ g. good-bind (Kept c) Paid _ _ (openedSwitch-kept g c) (λ c1 q. nextCase-paid x (k .id) g (c .next) b f m F (casesLastFirst t i n) 0 R c1 (omega arith)))
+      go (unlessUnreachable t c f) _ (λ g. good-bind (Kept c) Paid _ _ (openedSwitch-kept g c) (λ c1 q. nextCase-paid x (k .id) g (c .nextId) b f m F (casesLastFirst t i n) 0 R c1 (omega arith)))
   dispatch-paid (do-while l x f) b k = good-bind (Kept c) Paid _ _ (loop-kept f x l c) (λ c1 q. go (refuseIf (loopIsTaken c l f) 16 b (c1 .visits)) _ (λ _. omega arith))
   dispatch-paid (while x l f) b k =
       go (unlessUnreachable t c f) _ (λ g. good-bind (Kept c) Paid _ _ (loop-kept f x l c) (λ c1 q. good-bind (Cheap (c1 .visits)) Paid _ _ (vals x none (k .span) (c1 .visits)) (λ v q₁.
@@ -232,7 +237,7 @@ module _ (t : Table) (few : (b : ℕ) → length (instructionRowsAt t b) ≤ 409
   unfolding visit
   visit-paid b F R m c h =
       go (refuseIf (leb 128 (length F)) 30 b (c .visits)) _ (λ _. good-bind (λ e. (c .visits < 8192) × (e .visits ≡ suc (c .visits))) Paid _ _ (enter-grows t b c) (λ c1 q.
-      dispatch-paid t few (value t (left F)) (value-cheap t few (left F)) F (R ++ instrOut t (instructionRowsAt t b)) (m + length (instructionRowsAt t b)) c1
+      dispatch-paid t few (visitValueBlock t (left F)) (value-cheap t few (left F)) F (R ++ instrOut t (instructionRowsAt t b)) (m + length (instructionRowsAt t b)) c1
       (omega (arith, length-append R (instrOut t (instructionRowsAt t b)), instr-two t (instructionRowsAt t b), few b)) (terminalAt t b) b (blockAt t b)))
 
   abbrev Then : Turn → Type 0
@@ -249,7 +254,7 @@ module _ (t : Table) (few : (b : ℕ) → length (instructionRowsAt t b) ≤ 409
   step-then (visiting b F R m c) h = then-of (visit t b F R m c) (visit-paid b F R m c h)
   step-then (ended [] R m c) h = tt
   step-then (ended (f ∷ F) R m c) h =
-      then-of (resume (value t (left F)) f F (R ++ (blockRow m ∷ [])) c) (resume-paid (value t (left F)) (value-cheap t few (left F)) f F _ c (omega (arith, length-append R (blockRow m ∷ []))))
+      then-of (resume (visitValueBlock t (left F)) f F (R ++ (blockRow m ∷ [])) c) (resume-paid (visitValueBlock t (left F)) (value-cheap t few (left F)) f F _ c (omega (arith, length-append R (blockRow m ∷ []))))
 
   pub step-paid : (s s′ : State) → Paid s → step t s ≡ going s′ → Paid s′
   step-paid s s′ h e = subst Then e (step-then s h)

@@ -8,10 +8,9 @@ use mathlib.Core.Option.{Option, none, some}
 use mathlib.Core.Bool.{Bool, true, false}
 use lib.ListN.{length}
 use Rattle.table.specs.Table.{Table, instructionAt}
-use Rattle.definition.specs.Tree
-use Rattle.definition.specs.Tree.{Value, PLAIN, LOAD, UNDEF, SEQ, LOGICAL, COND, OPTIONAL, Instructions, no-instructions, instruction, Statement, INSTR, IF, SWITCH, DOWHILE, WHILE, FOR, FOROF, FORIN, LABEL, TRY, SCOPE, RETURN, THROW, BREAK, CONTINUE, Statements, done, _▸_, Cases, no-cases, CASE, Row, row, valueRows, instructionsRows, updateRows, statementRows, statementsRows, blockRows, casesRows, countStatements, countInstructions, countCases, orNone, present}
 use Rattle.definition.specs.Machine.{valueOut, updateOut, stmtOut, instrOut, blockRow, jumpOut, added, scopeRow}
-use Rattle.definition.specs.Walk.{instructionStatements, followedBy, singleStatement}
+use Rattle.definition.specs.Statement.{instructionStatements, followedBy, singleStatement}
+use Rattle.definition.specs.Tree.{Value, PLAIN, LOAD, UNDEF, SEQ, LOGICAL, COND, OPTIONAL, Instructions, no-instructions, instruction, Statement, INSTR, IF, SWITCH, DOWHILE, WHILE, FOR, FOROF, FORIN, LABEL, TRY, SCOPE, RETURN, THROW, BREAK, CONTINUE, Statements, done, _▸_, Cases, no-cases, CASE, Row, row, valueRows, instructionsRows, updateRows, statementRows, statementsRows, blockRows, casesRows, countStatements, countInstructions, countCases, orNone, present}
 
 mutual
   value-app : (v : Value) (k l : List Row) → valueRows v (k ++ l) ≡ valueRows v k ++ l

@@ -10,7 +10,7 @@ use lib.ListN.{length}
 use lib.Dec.{T, eqb}
 use Rattle.table.specs.Table.{Table, Block, Terminal, throw, return, goto, if, branch, while, label, scope, Variant, blockAt, terminalAt, instructionRowsAt}
 use Rattle.definition.specs.Tree.{Value, PLAIN, Statement, INSTR, IF, WHILE, LABEL, SCOPE, RETURN, THROW, Statements, done, _▸_}
-use Rattle.definition.specs.Walk.{instructionStatements}
+use Rattle.definition.specs.Statement.{instructionStatements}
 use Rattle.definition.specs.Reading.{WellFormed}
 use Rattle.definition.specs.Run.{Answers, Reason, returned, threw, no-answer-left, not-plain, no-target, end-of-tree, Run, unfinished, stopped}
 use Rattle.definition.specs.BlockRun.{Move, go, halt, byAnswer, move, performing, blockRun}

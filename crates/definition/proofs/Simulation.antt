@@ -9,12 +9,14 @@ use mathlib.Core.Bool.{Bool, true, false, not}
 use lib.ListN.{length}
 use lib.Dec.{eqb, leb}
 use borrow.Author.Tests.{lt-leb, le-leb, eq-eqb}
-use Rattle.table.specs.Table.{Table, Block, Case, Terminal, absent, unreachable, throw, return, goto, if, branch, switch, do-while, while, for, for-of, for-in, logical, ternary, optional, label, sequence, maybe-throw, try, scope, Variant, Break, Continue, Try, blockAt, terminalAt, instructionRowsAt, instructionRows}
-use Rattle.definition.specs.Tree.{Value, Statement, Statements, done, Cases, no-cases, CASE, Row, row, orNone, present, countStatements, countCases, IF, INSTR, SWITCH, WHILE, FOR, FOROF, FORIN, DOWHILE, LABEL, TRY, SCOPE, rows, blockRows}
-use Rattle.definition.specs.Context.{Result, ok, refused, _>>=_, refuseIf, Flags, has, ControlFlowTarget, targetBlock, target-case, Entry, Context, start, isScheduled, emit, withVisits, scheduleCatchHandler, markScopeFallthrough, pushed, schedule, scheduleLoop, unscheduledBy, popped, unscheduleTop, unschedule, breakTargetFrom, continueTargetFrom}
-use Rattle.definition.specs.Walk.{mostDepth, mostVisits, isAbsent, beginVisit, ValueBlockResult, ValueTerminalResult, VisitValueBlock, visitValueBlockTerminal, value, OptionalValue, visitUpdate, valueBlockResultToSequence, continueBlockOf, TerminalResult, BlockResult, TraverseBlock, enterBlock, unlessScheduled, unlessUnreachable, scheduleIf, unscheduleIf, markScopeFallthroughIf, traverseUnscheduled, AlternateResult, traverseAlternate, visitBreak, visitContinue, visitGoto, traverseEnclosed, loopIsTaken, traverseLoop, CasesResult, traverseCases, unscheduleAll, scheduleSwitch, scheduleIds, casesLastFirst, singleStatement, traverseConsequent, visitValueStatement, visitTerminal, instructionStatements, followedBy, thenNext, visitBlock, traverseBlock, buildTree, Report, accepted, rejected, reported, report}
-use Rattle.definition.specs.Machine
+use Rattle.table.specs.Table.{Table, Block, Case, Terminal, absent, unreachable, throw, return, goto, if, branch, switch, do-while, while, for, for-of, for-in, logical, ternary, optional, sequence, maybe-throw, try, scope, Variant, Break, Continue, Try, blockAt, terminalAt, instructionRowsAt, instructionRows, isAbsent, label}
+use Rattle.definition.specs.Build.{accepted, Report, rejected, reported, report}
+use Rattle.definition.specs.Context.{getBreakTarget, getContinueTarget, Flags, has, ControlFlowTarget, targetBlock, target-case, Entry, Context, start, isScheduled, emit, withVisits, scheduleCatchHandler, markScopeFallthrough, pushed, schedule, scheduleLoop, unscheduledBy, popped, unscheduleTop, unschedule, breakTargetFrom, continueTargetFrom}
 use Rattle.definition.specs.Machine.{Frame, fThen, fWays, fCase, fDo, fTry, fBody, fLoop, State, visiting, ended, Turn, going, halt, turn, leave, blockRow, valueOut, updateOut, stmtOut, jumpOut, added, instrOut, ifRow, scopeRow, into, intoLoop, close, closeLoop, orElse, otherWay, popTop, popCases, nextCase, resume, firstWay, valueStep, dispatch, left, visit, step, run, machine}
+use Rattle.definition.specs.Result.{refused, Result, ok, _>>=_, refuseIf}
+use Rattle.definition.specs.Statement.{visitBreak, visitContinue, breakResolved, continueResolved, OptionalValue, visitUpdate, continueBlockOf, TerminalResult, BlockResult, TraverseBlock, enterBlock, unlessScheduled, unlessUnreachable, scheduleIf, unscheduleIf, markScopeFallthroughIf, traverseUnscheduled, AlternateResult, traverseAlternate, visitGoto, traverseEnclosed, loopIsTaken, traverseLoop, CasesResult, traverseCases, unscheduleAll, scheduleSwitch, scheduleIds, casesLastFirst, singleStatement, traverseConsequent, visitValueStatement, visitTerminal, instructionStatements, followedBy, thenNext, visitBlock, traverseBlock, buildTree}
+use Rattle.definition.specs.Tree.{Value, Statement, Statements, done, Cases, no-cases, CASE, Row, row, orNone, present, countStatements, countCases, IF, INSTR, SWITCH, WHILE, FOR, FOROF, FORIN, DOWHILE, LABEL, TRY, SCOPE, rows, blockRows}
+use Rattle.definition.specs.Value.{visitValueBlock, mostDepth, mostVisits, beginVisit, ValueBlockResult, ValueTerminalResult, VisitValueBlock, visitValueBlockTerminal, valueBlockResultToSequence}
 use Rattle.definition.proofs.Rows.{stmtsOut, casesOut, bodyOut, body-out, performing-out, count-performing, followed-out, count-followed, rows-if, rows-else, rows-do, rows-while, rows-for, rows-forof, rows-forin, rows-label, rows-try, rows-scope, rows-value, rows-single, rows-case, rows-switch, rows-chain, count-chain}
 use Rattle.definition.proofs.Grow.{Good, good-bind, Any, any, Grows, value-grows, terminal-grows, update-grows, Kept, enter-grows, schedule-kept, loop-kept, unschedule-kept, opened-kept, openedSwitch-kept, closed-kept, scopedIf-kept, popCases-kept}
 use Rattle.definition.proofs.Never.{Fine, After, WalkFine, walk-fine}
@@ -144,9 +146,9 @@ pop-label (some f) i c = same (unschedule i c)
     same (ok c1) = refl
     same (refused e p v) = refl
 
-case-kept : (g : ControlFlowTarget) (c : Context) → Good (λ e. Kept c e × (e .stack ≡ record { id = c .next; target = g } ∷ c .stack)) (schedule g c)
+case-kept : (g : ControlFlowTarget) (c : Context) → Good (λ e. Kept c e × (e .stack ≡ record { id = c .nextId; target = g } ∷ c .stack)) (schedule g c)
 unfolding schedule pushed
-case-kept g c = good-bind Any (λ e. Kept c e × (e .stack ≡ record { id = c .next; target = g } ∷ c .stack)) _ _ (any (refuseIf (has (c .scheduled) (targetBlock g)) 90 (targetBlock g) (c .visits))) (λ _ _. (refl, refl))
+case-kept g c = good-bind Any (λ e. Kept c e × (e .stack ≡ record { id = c .nextId; target = g } ∷ c .stack)) _ _ (any (refuseIf (has (c .scheduled) (targetBlock g)) 90 (targetBlock g) (c .visits))) (λ _ _. (refl, refl))
 
 -- what a nested walk leaves of the state
 abbrev Past : Context → Context → Type 0
@@ -155,25 +157,25 @@ Past c d = (c .visits < d .visits) × (d .stack ≡ c .stack)
 module _ (t : Table) (d : ℕ) (inner : TraverseBlock) (ws : Walks t d inner) (wf : WalkFine inner) where
   -- a nested list ended, the machine resumes its frame
   resumes : (fr : Frame) (F : List Frame) (R : List Row) (n : ℕ) (c : Context) (a : Report) → length F + suc d ≡ 128
-      → Under t (Fallen (c .visits) F) (resume (value t d) fr F (R ++ (blockRow n ∷ [])) c) a → Runs t (ended (fr ∷ F) R (0 + n) c) a
+      → Under t (Fallen (c .visits) F) (resume (visitValueBlock t d) fr F (R ++ (blockRow n ∷ [])) c) a → Runs t (ended (fr ∷ F) R (0 + n) c) a
   unfolding step
   resumes fr F R n c a size h =
       let e : left F ≡ d = omega arith in
-      runs-turn t (ended (fr ∷ F) R (0 + n) c) (resume (value t d) fr F (R ++ (blockRow n ∷ [])) c) a
-      (ap (λ (z : ℕ). turn (resume (value t z) fr F (R ++ (blockRow (0 + n) ∷ [])) c)) e
-      ∙ ap (λ (z : ℕ). turn (resume (value t d) fr F (R ++ (blockRow z ∷ [])) c)) (zero-add n)) h
+      runs-turn t (ended (fr ∷ F) R (0 + n) c) (resume (visitValueBlock t d) fr F (R ++ (blockRow n ∷ [])) c) a
+      (ap (λ (z : ℕ). turn (resume (visitValueBlock t z) fr F (R ++ (blockRow (0 + n) ∷ [])) c)) e
+      ∙ ap (λ (z : ℕ). turn (resume (visitValueBlock t d) fr F (R ++ (blockRow z ∷ [])) c)) (zero-add n)) h
 
   -- open, visit inside, close
   sim-inner : {p v : ℕ} {F : List Frame} {R : List Row} {n : ℕ} (fr : Frame) (b : ℕ) (R₁ : List Row) (c : Context) (rest : BlockResult → Result TerminalResult)
       → length F + suc d ≡ 128 → 2 * (8192 - c .visits) + suc (length F) < p
-      → ((r : BlockResult) → Past c (r .context) → Sim t (Fallen (r .context .visits) F) v F R n (resume (value t d) fr F (bodyOut R₁ (r .statements)) (r .context)) (rest r))
+      → ((r : BlockResult) → Past c (r .context) → Sim t (Fallen (r .context .visits) F) v F R n (resume (visitValueBlock t d) fr F (bodyOut R₁ (r .statements)) (r .context)) (rest r))
       → Sim t p v F R n (ok (visiting b (fr ∷ F) R₁ 0 c)) (inner b c >>= rest)
   unfolding _>>=_ Walks WalkFine
   sim-inner {p} {v} {F} {R} {n} fr b R₁ c rest size lt k = at (inner b c) (ws b (fr ∷ F) R₁ 0 c (omega arith)) (wf b c)
     where
       after : (r : BlockResult) (z : Result TerminalResult)
           → ((a : Report) → Runs t (ended (fr ∷ F) (R₁ ++ stmtsOut (r .statements)) (0 + countStatements (r .statements)) (r .context)) a → Runs t (visiting b (fr ∷ F) R₁ 0 c) a)
-          → Beside t (Fallen (r .context .visits) F) v F R n (resume (value t d) fr F (bodyOut R₁ (r .statements)) (r .context)) z
+          → Beside t (Fallen (r .context .visits) F) v F R n (resume (visitValueBlock t d) fr F (bodyOut R₁ (r .statements)) (r .context)) z
           → Beside t p v F R n (ok (visiting b (fr ∷ F) R₁ 0 c)) z
       after r (refused e q w) go u = (lt, go (rejected e q w) (resumes fr F _ _ (r .context) (rejected e q w) size u))
       after r (ok s) go (g, u) = (g, λ a h. (lt, go a (resumes fr F _ _ (r .context) a size (u a h))))
@@ -184,7 +186,7 @@ module _ (t : Table) (d : ℕ) (inner : TraverseBlock) (ws : Walks t d inner) (w
 
   sim-into : {p v : ℕ} {F : List Frame} {R : List Row} {n : ℕ} (fr : Frame) (b code at : ℕ) (R₁ : List Row) (c : Context) (rest : BlockResult → Result TerminalResult)
       → length F + suc d ≡ 128 → 2 * (8192 - c .visits) + suc (length F) < p
-      → ((r : BlockResult) → Past c (r .context) → Sim t (Fallen (r .context .visits) F) v F R n (resume (value t d) fr F (bodyOut R₁ (r .statements)) (r .context)) (rest r))
+      → ((r : BlockResult) → Past c (r .context) → Sim t (Fallen (r .context .visits) F) v F R n (resume (visitValueBlock t d) fr F (bodyOut R₁ (r .statements)) (r .context)) (rest r))
       → Sim t p v F R n (into b code at fr F R₁ c) (traverseUnscheduled inner b code at c >>= rest)
   unfolding into traverseUnscheduled
   sim-into fr b code at R₁ c rest size lt k =
@@ -192,7 +194,7 @@ module _ (t : Table) (d : ℕ) (inner : TraverseBlock) (ws : Walks t d inner) (w
 
   sim-into-loop : {p v : ℕ} {F : List Frame} {R : List Row} {n : ℕ} (fr : Frame) (b l : ℕ) (bad : Bool) (w : ℕ) (R₁ : List Row) (c : Context) (rest : BlockResult → Result TerminalResult)
       → length F + suc d ≡ 128 → 2 * (8192 - w) + suc (length F) < p
-      → ((r : BlockResult) → w < r .context .visits → Sim t (Fallen (r .context .visits) F) v F R n (resume (value t d) fr F (bodyOut R₁ (r .statements)) (r .context)) (rest r))
+      → ((r : BlockResult) → w < r .context .visits → Sim t (Fallen (r .context .visits) F) v F R n (resume (visitValueBlock t d) fr F (bodyOut R₁ (r .statements)) (r .context)) (rest r))
       → Sim t p v F R n (intoLoop b l bad w fr F R₁ c) (refuseIf bad 16 b w >>= λ _. inner l (withVisits w c) >>= rest)
   unfolding intoLoop withVisits
   sim-into-loop fr b l bad w R₁ c rest size lt k = sim-go _ _ _ (λ _. sim-inner fr l R₁ (withVisits w c) rest size lt (λ r q. k r (q .0)))
@@ -228,7 +230,7 @@ module _ (t : Table) (d : ℕ) (inner : TraverseBlock) (ws : Walks t d inner) (w
       → length F + suc d ≡ 128 → 2 * (8192 - c .visits) + suc (length F) < p → v ≤ c .visits
       → Sim t p v F R n (firstWay x y a id b n F R c)
       (traverseConsequent inner b y id c >>= λ r. traverseUnscheduled inner a 19 b (r .context) >>= λ s. ok (record { statement = some (IF x id none (r .statements) true (s .statements)); next = none; context = s .context }))
-  unfolding firstWay traverseConsequent resume
+  unfolding firstWay traverseConsequent resume visitBreak getBreakTarget
   branch-sim {p} {v} {F} {R} {n} x y a id b c size lt h = at (isScheduled c y)
     where
       K : BlockResult → Result TerminalResult
@@ -236,22 +238,22 @@ module _ (t : Table) (d : ℕ) (inner : TraverseBlock) (ws : Walks t d inner) (w
 
       at : (z : Bool) → Sim t p v F R n
           (elim z [
-            | true ↦ visitBreak b y id c (breakTargetFrom (c .stack) y true false) >>= λ s. otherWay x id a b n F ((R ++ jumpOut s) ++ (blockRow (added s 0) ∷ [])) c
+            | true ↦ breakResolved b y id c (breakTargetFrom (c .stack) y true false) >>= λ s. otherWay x id a b n F ((R ++ jumpOut s) ++ (blockRow (added s 0) ∷ [])) c
             | false ↦ ok (visiting y (fWays x id a b n ∷ F) R 0 c)
           ])
-          (_>>=_ {A = BlockResult} (elim z [ true ↦ visitBreak b y id c (breakTargetFrom (c .stack) y true false) >>= λ s. ok (record { statements = singleStatement s; context = c }) | false ↦ inner y c ]) K)
+          (_>>=_ {A = BlockResult} (elim z [ true ↦ breakResolved b y id c (breakTargetFrom (c .stack) y true false) >>= λ s. ok (record { statements = singleStatement s; context = c }) | false ↦ inner y c ]) K)
       at true =
-          sim-assoc (visitBreak b y id c (breakTargetFrom (c .stack) y true false)) _ K (sim-go _ _ _ (λ s. sim-ok _ K (other-way x id a b _ c (singleStatement s) size lt h (rows-single R s))))
+          sim-assoc (breakResolved b y id c (breakTargetFrom (c .stack) y true false)) _ K (sim-go _ _ _ (λ s. sim-ok _ K (other-way x id a b _ c (singleStatement s) size lt h (rows-single R s))))
       at false = sim-inner (fWays x id a b n) y R c K size lt (λ r q. other-way x id a b _ (r .context) (r .statements) size (omega arith) (omega arith) refl)
 
   -- ---- Label and scopes, loops
 
   enclosed-sim : {p v : ℕ} {F : List Frame} {R : List Row} {n : ℕ} (cl : Row) (x code at : ℕ) (g : Option ℕ) (c₀ c : Context) (make : Statements → Statement)
       → length F + suc d ≡ 128 → 2 * (8192 - c .visits) + suc (length F) < p → v ≤ c .visits → ((s : Statements) → bodyOut R s ++ (cl ∷ []) ≡ R ++ stmtOut (make s))
-      → Sim t p v F R n (into x code at (fBody cl g (c₀ .next) n) F R c) (traverseEnclosed inner x code at g c₀ c make)
+      → Sim t p v F R n (into x code at (fBody cl g (c₀ .nextId) n) F R c) (traverseEnclosed inner x code at g c₀ c make)
   unfolding traverseEnclosed resume
   enclosed-sim cl x code at g c₀ c make size lt h e =
-      sim-into _ x code at _ c _ size lt (λ r q. sim-close _ cl g (c₀ .next) (make (r .statements)) (r .context) (e (r .statements)) (omega arith) (omega arith))
+      sim-into _ x code at _ c _ size lt (λ r q. sim-close _ cl g (c₀ .nextId) (make (r .statements)) (r .context) (e (r .statements)) (omega arith) (omega arith))
 
   loop-sim : {p v : ℕ} {F : List Frame} {R : List Row} {n : ℕ} (cl : Row) (b l : ℕ) (bad : Bool) (w i : ℕ) (c : Context) (g : Option ℕ) (R₁ : List Row) (make : Statements → Statement)
       → length F + suc d ≡ 128 → 2 * (8192 - w) + suc (length F) < p → v ≤ w → ((s : Statements) → bodyOut R₁ s ++ (cl ∷ []) ≡ R ++ stmtOut (make s))
@@ -290,8 +292,8 @@ module _ (t : Table) (d : ℕ) (inner : TraverseBlock) (ws : Walks t d inner) (w
       at (isScheduled c (k .block)) (cases-sim x id g i b f ks cs R₁ c make size lt h u e)
       (λ cs′ R′ c′ make′ p′ lt′ h′ u′ e′. cases-sim x id g i b f ks cs′ R′ c′ make′ size lt′ h′ u′ e′)
     where
-      tops : (r : BlockResult) (c1 : Context) → r .context .stack ≡ c .stack → c1 .stack ≡ record { id = r .context .next; target = target-case (k .block) } ∷ r .context .stack → Tops (r .context .next ∷ cs) (c1 .stack)
-      tops r c1 q w = subst (λ (S : List Entry). Tops (r .context .next ∷ cs) S) (sym w) (refl, subst (λ (S : List Entry). Tops cs S) (sym q) u)
+      tops : (r : BlockResult) (c1 : Context) → r .context .stack ≡ c .stack → c1 .stack ≡ record { id = r .context .nextId; target = target-case (k .block) } ∷ r .context .stack → Tops (r .context .nextId ∷ cs) (c1 .stack)
+      tops r c1 q w = subst (λ (S : List Entry). Tops (r .context .nextId ∷ cs) S) (sym w) (refl, subst (λ (S : List Entry). Tops cs S) (sym q) u)
 
       rows-on : (r : BlockResult) (z : Cases)
           → ((bodyOut R₁ (r .statements) ++ (row 11 (k .test) 0 0 0 0 ∷ [])) ++ casesOut z) ++ (row 12 x (suc (length cs) + countCases z) id (orNone g) 0 ∷ []) ≡ R ++ stmtOut (make (CASE (k .test) (r .statements) z))
@@ -316,15 +318,15 @@ module _ (t : Table) (d : ℕ) (inner : TraverseBlock) (ws : Walks t d inner) (w
           (_>>=_ {A = CasesResult} (elim y [
             | true ↦ refuseIf (not (eqb (k .block) f)) 14 b (c .visits) >>= λ _. traverseCases inner b f ks (cs ++ scheduleIds g i) c
             | false ↦ inner (k .block) c >>= λ r. schedule (target-case (k .block)) (r .context) >>= λ c1.
-                traverseCases inner b f ks (r .context .next ∷ (cs ++ scheduleIds g i)) c1 >>= λ z. ok (record { cases = CASE (k .test) (r .statements) (z .cases); ids = z .ids; context = z .context })
+                traverseCases inner b f ks (r .context .nextId ∷ (cs ++ scheduleIds g i)) c1 >>= λ z. ok (record { cases = CASE (k .test) (r .statements) (z .cases); ids = z .ids; context = z .context })
           ]) (K make))
       at true same more = sim-assoc (refuseIf (not (eqb (k .block) f)) 14 b (c .visits)) _ (K make) (sim-go _ _ _ (λ _. same))
       at false same more =
           sim-assoc (inner (k .block) c) _ (K make) (sim-inner (fCase x id g i b f k ks (length cs) n) (k .block) R₁ c _ size lt (λ r q.
-          sim-assoc (schedule (target-case (k .block)) (r .context)) _ (K make) (sim-bind (λ e. Kept (r .context) e × (e .stack ≡ record { id = r .context .next; target = target-case (k .block) } ∷ r .context .stack)) _ _ _
+          sim-assoc (schedule (target-case (k .block)) (r .context)) _ (K make) (sim-bind (λ e. Kept (r .context) e × (e .stack ≡ record { id = r .context .nextId; target = target-case (k .block) } ∷ r .context .stack)) _ _ _
           (case-kept (target-case (k .block)) (r .context)) (λ c1 w.
-          sim-map (traverseCases inner b f ks (r .context .next ∷ (cs ++ scheduleIds g i)) c1) _ (K make)
-          (more (r .context .next ∷ cs) _ c1 (λ z. make (CASE (k .test) (r .statements) z)) _ (omega arith) (omega arith) (tops r c1 (q .1) (w .1)) (rows-on r))))))
+          sim-map (traverseCases inner b f ks (r .context .nextId ∷ (cs ++ scheduleIds g i)) c1) _ (K make)
+          (more (r .context .nextId ∷ cs) _ c1 (λ z. make (CASE (k .test) (r .statements) z)) _ (omega arith) (omega arith) (tops r c1 (q .1) (w .1)) (rows-on r))))))
 
   -- ---- ends with no nested list
 
@@ -341,30 +343,30 @@ module _ (t : Table) (d : ℕ) (inner : TraverseBlock) (ws : Walks t d inner) (w
       record { raw = (omega arith, λ a q. (omega (arith, leave-low (s .next) F (R ++ jumpOut (s .statement)) (added (s .statement) n) (s .context)), q)) }
 
   jump-kept : (w : Variant) (b g i : ℕ) (c : Context) → Good (λ s. Kept c (s .context)) (visitGoto w b g i c)
-  unfolding visitGoto
-  jump-kept Break b g i c = good-bind Any (λ s. Kept c (s .context)) _ _ (any (visitBreak b g i c (breakTargetFrom (c .stack) g true false))) (λ s _. refl)
-  jump-kept Continue b g i c = good-bind Any (λ s. Kept c (s .context)) _ _ (any (visitContinue g i c (continueTargetFrom (c .stack) g true false))) (λ s _. refl)
+  unfolding visitGoto visitBreak visitContinue getBreakTarget getContinueTarget
+  jump-kept Break b g i c = good-bind Any (λ s. Kept c (s .context)) _ _ (any (breakResolved b g i c (breakTargetFrom (c .stack) g true false))) (λ s _. refl)
+  jump-kept Continue b g i c = good-bind Any (λ s. Kept c (s .context)) _ _ (any (continueResolved g i c (continueTargetFrom (c .stack) g true false))) (λ s _. refl)
   jump-kept Try b g i c = refl
 
   value-sim : {p v : ℕ} {F : List Frame} {R : List Row} {n : ℕ} (e : Terminal) (b : ℕ) (k : Block) (f : ℕ) (c : Context) → suc (2 * (8192 - c .visits) + length F) < p → v ≤ c .visits
-      → Sim t p v F R n (valueStep t (value t d) e b k f F R n c) (visitValueStatement t (value t d) e b k f c)
+      → Sim t p v F R n (valueStep t (visitValueBlock t d) e b k f F R n c) (visitValueStatement t (visitValueBlock t d) e b k f c)
   unfolding valueStep visitValueStatement withVisits
   value-sim {R = R} e b k f c lt h =
       sim-bind (Kept c) _ _ _ (opened-kept (unlessScheduled c f) c) (λ c1 q.
-      sim-bind (λ r. c1 .visits ≤ r .visits) _ _ _ (terminal-grows t (value t d) (value-grows t d) e (k .id) (k .span) (c1 .visits) b) (λ r q₁.
-      sim-close _ _ (unlessScheduled c f) (c .next) _ (withVisits (r .visits) c1) (rows-value R (r .id) (r .place) (k .span) (r .value)) (omega arith) (omega arith)))
+      sim-bind (λ r. c1 .visits ≤ r .visits) _ _ _ (terminal-grows t (visitValueBlock t d) (value-grows t d) e (k .id) (k .span) (c1 .visits) b) (λ r q₁.
+      sim-close _ _ (unlessScheduled c f) (c .nextId) _ (withVisits (r .visits) c1) (rows-value R (r .id) (r .place) (k .span) (r .value)) (omega arith) (omega arith)))
 
-  values : (x : ℕ) (ft : Option ℕ) (span v : ℕ) → Good (λ r. v ≤ r .visits) (value t d x ft span v)
+  values : (x : ℕ) (ft : Option ℕ) (span v : ℕ) → Good (λ r. v ≤ r .visits) (visitValueBlock t d x ft span v)
   unfolding Grows
   values x ft span v = value-grows t d x ft span v
 
-  updates : (u : Option ℕ) (span v : ℕ) → Good (λ r. v ≤ r .visits) (visitUpdate (value t d) u span v)
-  updates u span v = update-grows t (value t d) (value-grows t d) u span v
+  updates : (u : Option ℕ) (span v : ℕ) → Good (λ r. v ≤ r .visits) (visitUpdate (visitValueBlock t d) u span v)
+  updates u span v = update-grows t (visitValueBlock t d) (value-grows t d) u span v
 
   -- ---- every end
 
   terminal-sim : {p v : ℕ} {F : List Frame} {R : List Row} {n : ℕ} (e : Terminal) (b : ℕ) (k : Block) (c : Context) → length F + suc d ≡ 128 → suc (2 * (8192 - c .visits) + length F) < p → v ≤ c .visits
-      → Sim t p v F R n (dispatch t (value t d) e b k F R n c) (visitTerminal t (value t d) inner e b k c)
+      → Sim t p v F R n (dispatch t (visitValueBlock t d) e b k F R n c) (visitTerminal t (visitValueBlock t d) inner e b k c)
   unfolding dispatch visitTerminal
   terminal-sim absent b k c size lt h = record { raw = refl }
   terminal-sim unreachable b k c size lt h = silent none c lt h
@@ -373,38 +375,38 @@ module _ (t : Table) (d : ℕ) (inner : TraverseBlock) (ws : Walks t d inner) (w
   terminal-sim (goto g w) b k c size lt h = jumped c (visitGoto w b g (k .id) c) lt h (jump-kept w b g (k .id) c)
   terminal-sim (if x y a f) b k c size lt h =
       sim-go _ _ _ (λ g. sim-bind (Kept c) _ _ _ (opened-kept g c) (λ c1 q.
-      sim-into _ y 12 y _ c1 _ size (omega arith) (λ r q₁. unfold resume in if-else x (k .id) g (c .next) a f (r .context) (r .statements) size (omega arith) (omega arith))))
+      sim-into _ y 12 y _ c1 _ size (omega arith) (λ r q₁. unfold resume in if-else x (k .id) g (c .nextId) a f (r .context) (r .statements) size (omega arith) (omega arith))))
   terminal-sim (branch x y a) b k c size lt h = branch-sim x y a (k .id) b c size (omega arith) h
   terminal-sim {R = R} (switch x i n f) b k c size lt h =
       sim-go _ _ _ (λ g. sim-bind (Kept c) _ _ _ (openedSwitch-kept g c) (λ c1 q.
-      cases-sim x (k .id) g (c .next) b f (casesLastFirst t i n) [] R c1 (SWITCH x (k .id) g) size (omega arith) (omega arith) tt
+      cases-sim x (k .id) g (c .nextId) b f (casesLastFirst t i n) [] R c1 (SWITCH x (k .id) g) size (omega arith) (omega arith) tt
       (λ z. ap (λ (m : ℕ). (R ++ casesOut z) ++ (row 12 x m (k .id) (orNone g) 0 ∷ [])) (zero-add (countCases z)) ∙ rows-switch R x (k .id) g z)))
   terminal-sim {R = R} (do-while l x f) b k c size lt h =
       sim-bind (Kept c) _ _ _ (loop-kept f x l c) (λ c1 q. sim-go _ _ _ (λ _.
       sim-inner _ l _ c1 _ size (omega arith) (λ r q₁. unfold resume withVisits in
       sim-bind (λ w. r .context .visits ≤ w .visits) _ _ _ (values x none (k .span) (r .context .visits)) (λ w q₂.
-      sim-close-loop _ _ (unlessScheduled c f) (c .next) _ (withVisits (w .visits) (r .context)) (rows-do R (k .id) (unlessScheduled c f) (r .statements) (w .value)) (omega arith) (omega arith)))))
+      sim-close-loop _ _ (unlessScheduled c f) (c .nextId) _ (withVisits (w .visits) (r .context)) (rows-do R (k .id) (unlessScheduled c f) (r .statements) (w .value)) (omega arith) (omega arith)))))
   terminal-sim {R = R} (while x l f) b k c size lt h =
       sim-go _ _ _ (λ g. sim-bind (Kept c) _ _ _ (loop-kept f x l c) (λ c1 q.
       sim-bind (λ w. c1 .visits ≤ w .visits) _ _ _ (values x none (k .span) (c1 .visits)) (λ w q₁.
-      loop-sim _ b l (loopIsTaken c l f) (w .visits) (c .next) c1 g _ _ size (omega arith) (omega arith) (rows-while R (k .id) g (w .value)))))
+      loop-sim _ b l (loopIsTaken c l f) (w .visits) (c .nextId) c1 g _ _ size (omega arith) (omega arith) (rows-while R (k .id) g (w .value)))))
   terminal-sim {R = R} (for i x u l f) b k c size lt h =
       sim-bind (Kept c) _ _ _ (loop-kept f (continueBlockOf u x) l c) (λ c1 q.
       sim-bind (λ w. c1 .visits ≤ w .visits) _ _ _ (values i none (k .span) (c1 .visits)) (λ n q₁.
       sim-bind (λ w. n .visits ≤ w .visits) _ _ _ (values x none (k .span) (n .visits)) (λ w q₂.
       sim-bind (λ z. w .visits ≤ z .visits) _ _ _ (updates u (k .span) (w .visits)) (λ z q₃.
-      loop-sim _ b l (loopIsTaken c l f) (z .visits) (c .next) c1 (unlessScheduled c f) _ _ size (omega arith) (omega arith)
+      loop-sim _ b l (loopIsTaken c l f) (z .visits) (c .nextId) c1 (unlessScheduled c f) _ _ size (omega arith) (omega arith)
       (rows-for R (k .id) (unlessScheduled c f) (valueBlockResultToSequence t n (k .span)) (w .value) (z .value))))))
   terminal-sim {R = R} (for-of i x l f) b k c size lt h =
       sim-bind (Kept c) _ _ _ (loop-kept f i l c) (λ c1 q.
       sim-bind (λ w. c1 .visits ≤ w .visits) _ _ _ (values i none (k .span) (c1 .visits)) (λ n q₁.
       sim-bind (λ w. n .visits ≤ w .visits) _ _ _ (values x none (k .span) (n .visits)) (λ w q₂.
-      loop-sim _ b l (loopIsTaken c l f) (w .visits) (c .next) c1 (unlessScheduled c f) _ _ size (omega arith) (omega arith)
+      loop-sim _ b l (loopIsTaken c l f) (w .visits) (c .nextId) c1 (unlessScheduled c f) _ _ size (omega arith) (omega arith)
       (rows-forof R (k .id) (unlessScheduled c f) (k .span) (valueBlockResultToSequence t n (k .span)) (valueBlockResultToSequence t w (k .span))))))
   terminal-sim {R = R} (for-in i l f) b k c size lt h =
       sim-bind (Kept c) _ _ _ (loop-kept f i l c) (λ c1 q.
       sim-bind (λ w. c1 .visits ≤ w .visits) _ _ _ (values i none (k .span) (c1 .visits)) (λ n q₁.
-      loop-sim _ b l (loopIsTaken c l f) (n .visits) (c .next) c1 (unlessScheduled c f) _ _ size (omega arith) (omega arith)
+      loop-sim _ b l (loopIsTaken c l f) (n .visits) (c .nextId) c1 (unlessScheduled c f) _ _ size (omega arith) (omega arith)
       (rows-forin R (k .id) (unlessScheduled c f) (k .span) (valueBlockResultToSequence t n (k .span)))))
   terminal-sim (logical o x f) b k c size lt h = value-sim (logical o x f) b k f c lt h
   terminal-sim (ternary x f) b k c size lt h = value-sim (ternary x f) b k f c lt h
@@ -417,7 +419,7 @@ module _ (t : Table) (d : ℕ) (inner : TraverseBlock) (ws : Walks t d inner) (w
       sim-go _ _ _ (λ g. sim-bind (Kept c) _ _ _ (opened-kept g c) (λ c1 q.
       unfold scheduleCatchHandler resume in sim-inner _ x _ (scheduleCatchHandler y c1) _ size (omega arith) (λ r q₁.
       sim-inner _ y _ (r .context) _ size (omega arith) (λ s q₂.
-      sim-close _ _ g (c .next) _ (s .context) (rows-try R (k .id) g n (r .statements) (s .statements)) (omega arith) (omega arith)))))
+      sim-close _ _ g (c .nextId) _ (s .context) (rows-try R (k .id) g n (r .statements) (s .statements)) (omega arith) (omega arith)))))
   terminal-sim {R = R} (scope p x f s) b k c size lt h =
       sim-bind (Kept c) _ _ _ (opened-kept (unlessScheduled c f) c) (λ c1 q.
       let e : markScopeFallthroughIf (unlessScheduled c f) c1 .visits ≡ c1 .visits = scopedIf-kept (unlessScheduled c f) c1 in
@@ -455,13 +457,13 @@ module _ (t : Table) (d : ℕ) (inner : TraverseBlock) (ws : Walks t d inner) (w
       )
 
   visit-deep : (b : ℕ) (F : List Frame) (R : List Row) (m : ℕ) (c : Context) → length F + suc d ≡ 128
-      → visit t b F R m c ≡ enterBlock t b c >>= λ c1. dispatch t (value t d) (terminalAt t b) b (blockAt t b) F (R ++ instrOut t (instructionRowsAt t b)) (m + length (instructionRowsAt t b)) c1
+      → visit t b F R m c ≡ enterBlock t b c >>= λ c1. dispatch t (visitValueBlock t d) (terminalAt t b) b (blockAt t b) F (R ++ instrOut t (instructionRowsAt t b)) (m + length (instructionRowsAt t b)) c1
   unfolding visit refuseIf _>>=_
   visit-deep b F R m c size =
       let e : left F ≡ d = omega arith in
       ap (λ (y : Bool). refuseIf y 30 b (c .visits) >>= λ _. enterBlock t b c >>= λ c1.
-      dispatch t (value t (left F)) (terminalAt t b) b (blockAt t b) F (R ++ instrOut t (instructionRowsAt t b)) (m + length (instructionRowsAt t b)) c1) (lt-leb 128 (length F) (omega arith))
-      ∙ ap (λ (z : ℕ). enterBlock t b c >>= λ c1. dispatch t (value t z) (terminalAt t b) b (blockAt t b) F (R ++ instrOut t (instructionRowsAt t b)) (m + length (instructionRowsAt t b)) c1) e
+      dispatch t (visitValueBlock t (left F)) (terminalAt t b) b (blockAt t b) F (R ++ instrOut t (instructionRowsAt t b)) (m + length (instructionRowsAt t b)) c1) (lt-leb 128 (length F) (omega arith))
+      ∙ ap (λ (z : ℕ). enterBlock t b c >>= λ c1. dispatch t (visitValueBlock t z) (terminalAt t b) b (blockAt t b) F (R ++ instrOut t (instructionRowsAt t b)) (m + length (instructionRowsAt t b)) c1) e
 
   enter-late : (b : ℕ) (c : Context) → 8192 ≤ c .visits → enterBlock t b c ≡ refused 31 b (c .visits)
   unfolding enterBlock beginVisit refuseIf _>>=_
@@ -470,14 +472,14 @@ module _ (t : Table) (d : ℕ) (inner : TraverseBlock) (ws : Walks t d inner) (w
       (le-leb 8192 (c .visits) h)
 
   chain-sim : (n b : ℕ) (F : List Frame) (R : List Row) (m : ℕ) (c : Context) → length F + suc d ≡ 128 → 8193 ≤ n + c .visits
-      → Along t (visiting b F R m c) (c .visits) F R m (visitBlock t (value t d) inner n b c)
+      → Along t (visiting b F R m c) (c .visits) F R m (visitBlock t (visitValueBlock t d) inner n b c)
   unfolding visitBlock step
   chain-sim zero b F R m c size lt =
       runs-turn t (visiting b F R m c) (refused 31 b (c .visits)) (rejected 31 b (c .visits))
-      (ap turn (visit-deep b F R m c size ∙ ap (λ (z : Result Context). z >>= λ c1. dispatch t (value t d) (terminalAt t b) b (blockAt t b) F (R ++ instrOut t (instructionRowsAt t b)) (m + length (instructionRowsAt t b)) c1) (enter-late b c (omega arith)) ∙ gone))
+      (ap turn (visit-deep b F R m c size ∙ ap (λ (z : Result Context). z >>= λ c1. dispatch t (visitValueBlock t d) (terminalAt t b) b (blockAt t b) F (R ++ instrOut t (instructionRowsAt t b)) (m + length (instructionRowsAt t b)) c1) (enter-late b c (omega arith)) ∙ gone))
       refl
     where
-      gone : (refused 31 b (c .visits) >>= λ c1. dispatch t (value t d) (terminalAt t b) b (blockAt t b) F (R ++ instrOut t (instructionRowsAt t b)) (m + length (instructionRowsAt t b)) c1) ≡ refused 31 b (c .visits)
+      gone : (refused 31 b (c .visits) >>= λ c1. dispatch t (visitValueBlock t d) (terminalAt t b) b (blockAt t b) F (R ++ instrOut t (instructionRowsAt t b)) (m + length (instructionRowsAt t b)) c1) ≡ refused 31 b (c .visits)
       gone = unfold _>>=_ in refl
   chain-sim (suc n) b F R m c size lt =
       at (enterBlock t b c) (enter-grows t b c) (ap turn (visit-deep b F R m c size)) (λ k R′ m′ c′ le. chain-sim n k F R′ m′ c′ size le)
@@ -486,26 +488,26 @@ module _ (t : Table) (d : ℕ) (inner : TraverseBlock) (ws : Walks t d inner) (w
       S = visiting b F R m c
 
       f : Context → Result State
-      f c1 = dispatch t (value t d) (terminalAt t b) b (blockAt t b) F (R ++ instrOut t (instructionRowsAt t b)) (m + length (instructionRowsAt t b)) c1
+      f c1 = dispatch t (visitValueBlock t d) (terminalAt t b) b (blockAt t b) F (R ++ instrOut t (instructionRowsAt t b)) (m + length (instructionRowsAt t b)) c1
 
       g : Context → Result BlockResult
-      g c1 = visitTerminal t (value t d) inner (terminalAt t b) b (blockAt t b) c1 >>= λ s. thenNext t b (visitBlock t (value t d) inner n) (s .statement) (s .next) (s .context)
+      g c1 = visitTerminal t (visitValueBlock t d) inner (terminalAt t b) b (blockAt t b) c1 >>= λ s. thenNext t b (visitBlock t (visitValueBlock t d) inner n) (s .statement) (s .next) (s .context)
 
       Again : Type 0
-      Again = (k : ℕ) (R′ : List Row) (m′ : ℕ) (c′ : Context) → 8193 ≤ n + c′ .visits → Along t (visiting k F R′ m′ c′) (c′ .visits) F R′ m′ (visitBlock t (value t d) inner n k c′)
+      Again = (k : ℕ) (R′ : List Row) (m′ : ℕ) (c′ : Context) → 8193 ≤ n + c′ .visits → Along t (visiting k F R′ m′ c′) (c′ .visits) F R′ m′ (visitBlock t (visitValueBlock t d) inner n k c′)
 
       after : (c1 : Context) (y : Result TerminalResult) → c1 .visits ≡ suc (c .visits) → step t S ≡ turn (f c1) → Again
           → Beside t (potential S) (c1 .visits) F (R ++ instrOut t (instructionRowsAt t b)) (m + length (instructionRowsAt t b)) (f c1) y
-          → Along t S (c .visits) F R m (y >>= λ s. thenNext t b (visitBlock t (value t d) inner n) (s .statement) (s .next) (s .context))
+          → Along t S (c .visits) F R m (y >>= λ s. thenNext t b (visitBlock t (visitValueBlock t d) inner n) (s .statement) (s .next) (s .context))
       after c1 (refused e p w) q st again u = unfold _>>=_ in runs-turn t S (f c1) (rejected e p w) st u
       after c1 (ok s) q st again (le, u) = unfold _>>=_ in
-          chain-on S (c .visits) F R m b (s .statement) (s .next) (s .context) (visitBlock t (value t d) inner n) (omega arith)
+          chain-on S (c .visits) F R m b (s .statement) (s .next) (s .context) (visitBlock t (visitValueBlock t d) inner n) (omega arith)
           (λ a h. runs-turn t S (f c1) a st (u a h)) (λ k. again k _ _ (s .context) (omega arith))
 
       at : (y : Result Context) → Good (λ e. (c .visits < 8192) × (e .visits ≡ suc (c .visits))) y → step t S ≡ turn (y >>= f) → Again → Along t S (c .visits) F R m (y >>= g)
       at (refused e p w) h st again = unfold _>>=_ in runs-turn t S (refused e p w) (rejected e p w) st refl
       at (ok c1) h st again = unfold _>>=_ in
-          after c1 (visitTerminal t (value t d) inner (terminalAt t b) b (blockAt t b) c1) (h .1) st again
+          after c1 (visitTerminal t (visitValueBlock t d) inner (terminalAt t b) b (blockAt t b) c1) (h .1) st again
           (terminal-sim (terminalAt t b) b (blockAt t b) c1 size (omega arith) (le-refl (c1 .visits)) .raw)
 
 walk-sim : (t : Table) (d : ℕ) → Walks t d (traverseBlock t d)
@@ -515,7 +517,7 @@ walk-sim t zero b F R m c size = runs-turn t (visiting b F R m c) (refused 30 b 
     full : visit t b F R m c ≡ refused 30 b (c .visits)
     full = unfold visit refuseIf _>>=_ in
         ap (λ (y : Bool). refuseIf y 30 b (c .visits) >>= λ _. enterBlock t b c >>= λ c1.
-        dispatch t (value t (left F)) (terminalAt t b) b (blockAt t b) F (R ++ instrOut t (instructionRowsAt t b)) (m + length (instructionRowsAt t b)) c1) (le-leb 128 (length F) (omega arith))
+        dispatch t (visitValueBlock t (left F)) (terminalAt t b) b (blockAt t b) F (R ++ instrOut t (instructionRowsAt t b)) (m + length (instructionRowsAt t b)) c1) (le-leb 128 (length F) (omega arith))
 walk-sim t (suc d) b F R m c size = chain-sim t d (traverseBlock t d) (walk-sim t d) (walk-fine t d) 8193 b F R m c size (omega arith)
 
 -- the root list has ended

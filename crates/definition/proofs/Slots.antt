@@ -8,13 +8,13 @@ use mathlib.Core.Option.{Option, none, some}
 use mathlib.Core.Bool.{Bool, true, false}
 use lib.ListN.{length, getD, take, drop, length-drop}
 use lib.Seq.{take-suc, getD-drop}
-use Rattle.table.specs.Table.{Table, Block, Case, Terminal, if, branch, switch, do-while, while, for, for-of, for-in, label, try, scope, blockAt, terminalAt}
-use Rattle.definition.specs.Tree.{Row, row, orNone, present}
-use Rattle.definition.specs.Context.{Result, ok, refused, _>>=_}
-use Rattle.definition.specs.Walk.{casesLastFirst, VisitValueBlock, ValueBlockResult, visitUpdate, OptionalValue}
+use Rattle.table.specs.Table.{Table, Block, Case, Terminal, if, branch, switch, do-while, while, for, for-of, for-in, try, scope, blockAt, terminalAt, label}
 use Rattle.definition.specs.Machine.{Frame, fThen, fWays, fCase, fDo, fTry, fBody, fLoop, ifRow, scopeRow}
-use Rattle.definition.specs.Slot
+use Rattle.definition.specs.Result.{refused, Result, ok, _>>=_}
 use Rattle.definition.specs.Slot.{Slot, frameAt, frameOf, caseAt, no-case, hasUpdate}
+use Rattle.definition.specs.Statement.{casesLastFirst, visitUpdate, OptionalValue}
+use Rattle.definition.specs.Tree.{Row, row, orNone, present}
+use Rattle.definition.specs.Value.{VisitValueBlock, ValueBlockResult}
 use Rattle.definition.proofs.Grow.{Good, good-bind}
 
 -- the cases from the last on

@@ -9,10 +9,12 @@ use mathlib.Core.Option.{Option, none, some}
 use mathlib.Core.Bool.{Bool, true, false}
 use lib.ListN.{length}
 use lib.Dec.{eqb}
-use Rattle.table.specs.Table.{Table, Terminal, while, terminalAt}
-use Rattle.definition.specs.Context.{Result, ok, refused, _>>=_, refuseIf, Flags, has, add, remove, or, no-flags, ControlFlowTarget, target-if, target-switch, target-case, target-loop, Entry, Context, start, isScheduled, emit, withVisits, markScopeFallthrough, pushed, schedule, scheduleLoop, unscheduledBy, popped, unscheduleTop, unschedule}
-use Rattle.definition.specs.Walk.{isAbsent, beginVisit, enterBlock, unlessScheduled}
+use Rattle.table.specs.Table.{Table, Terminal, while, terminalAt, isAbsent}
+use Rattle.definition.specs.Context.{Flags, has, add, remove, or, no-flags, ControlFlowTarget, target-if, target-switch, target-case, target-loop, Entry, Context, start, isScheduled, emit, withVisits, markScopeFallthrough, pushed, schedule, scheduleLoop, unscheduledBy, popped, unscheduleTop, unschedule}
 use Rattle.definition.specs.Plain.{Plain, Ranged, fallthroughOf}
+use Rattle.definition.specs.Result.{refused, Result, ok, _>>=_, refuseIf}
+use Rattle.definition.specs.Statement.{enterBlock, unlessScheduled}
+use Rattle.definition.specs.Value.{beginVisit}
 use Rattle.definition.proofs.Semantics.{Frame, fLabel, fScope, fLoop}
 use Rattle.definition.proofs.Tools.{true-false, refused-ok, ok-eq, bind-ok, unless-ok, has-add, has-remove, has-still, has-new, length-add, has-none, length-none, below-blocks}
 use Rattle.definition.proofs.Resolve.{Framed, fnone, flabel, fscope, floop}
@@ -134,7 +136,7 @@ module _ (t : Table) where
     wide-scopes = p .wide-scopes;
     no-catch = p .no-catch;
     known = known-add (c .emitted) (c .scheduled) f k (p .known);
-    framed = flabel (c .next) f (p .framed);
+    framed = flabel (c .nextId) f (p .framed);
   }
 
   pub inv-scope : {F : List Frame} {c : Context} (f : ℕ) → f < 1024 → Inv F c → Known (c .emitted) f
@@ -145,7 +147,7 @@ module _ (t : Table) where
     wide-scopes = length-add (c .scopeFallthroughs) f 1024 (p .wide-scopes);
     no-catch = p .no-catch;
     known = known-add (c .emitted) (c .scheduled) f k (p .known);
-    framed = fscope (c .next) f (has-new (c .scopeFallthroughs) f (omega (arith, p .wide-scopes))) (framed-still f (p .framed));
+    framed = fscope (c .nextId) f (has-new (c .scopeFallthroughs) f (omega (arith, p .wide-scopes))) (framed-still f (p .framed));
   }
 
   pub inv-loop : {F : List Frame} {c : Context} (w x l f : ℕ) (o : Bool) → Inv F c → terminalAt t w ≡ while x l f → Known (c .emitted) f
@@ -157,7 +159,7 @@ module _ (t : Table) where
     no-catch = p .no-catch;
     known = known-add (c .emitted) (add (add (c .scheduled) f) x) l (loop-of w x f e)
         (known-add (c .emitted) (add (c .scheduled) f) x (test-of w l f e) (known-add (c .emitted) (c .scheduled) f k (p .known)));
-    framed = floop (c .next) f x w l (some l) o e (p .framed);
+    framed = floop (c .nextId) f x w l (some l) o e (p .framed);
   }
 
   pub schedule-ok : (f : ℕ) (c c₁ : Context) → schedule (target-if f) c ≡ ok c₁ → pushed (target-if f) (add (c .scheduled) f) c ≡ c₁

@@ -9,12 +9,13 @@ use mathlib.Core.Bool.{Bool, true, false, not}
 use lib.ListN.{length, getD, set, length-set}
 use lib.Dec.{eqb, leb}
 use borrow.Author.Tests.{leb-false}
-use Rattle.table.specs.Table.{Table, Block, Case, Terminal, absent, unreachable, throw, return, goto, if, branch, switch, do-while, while, for, for-of, for-in, logical, ternary, optional, label, sequence, maybe-throw, try, scope, Variant, Break, Continue, Try, blockAt, terminalAt, instructionRowsAt}
+use Rattle.table.specs.Table.{Table, Block, Case, Terminal, absent, unreachable, throw, return, goto, if, branch, switch, do-while, while, for, for-of, for-in, logical, ternary, optional, sequence, maybe-throw, try, scope, Variant, Break, Continue, Try, blockAt, terminalAt, instructionRowsAt, isAbsent, label}
+use Rattle.definition.specs.Context.{getBreakTarget, getContinueTarget, Flags, has, add, ControlFlowTarget, target-if, target-switch, target-case, targetBlock, Entry, Context, start, no-flags, isScheduled, emit, withVisits, scheduleCatchHandler, markScopeFallthrough, pushed, schedule, scheduleLoop, unscheduledBy, popped, unscheduleTop, unschedule, breakTargetFrom, continueTargetFrom}
+use Rattle.definition.specs.Machine.{added, ifRow, jumpOut, blockRow, Frame, fThen, fWays, fCase, fDo, fTry, fBody, fLoop, State, visiting, ended, Turn, going, halt, turn, leave, into, intoLoop, close, closeLoop, orElse, otherWay, popTop, popCases, nextCase, resume, firstWay, valueStep, dispatch, left, visit, step}
+use Rattle.definition.specs.Result.{refused, Result, ok, _>>=_, refuseIf}
+use Rattle.definition.specs.Statement.{visitBreak, visitContinue, breakResolved, continueResolved, visitUpdate, continueBlockOf, TerminalResult, enterBlock, unlessScheduled, unlessUnreachable, scheduleIf, unscheduleIf, markScopeFallthroughIf, visitGoto, loopIsTaken, scheduleSwitch, casesLastFirst}
 use Rattle.definition.specs.Tree.{Statement, Row, row}
-use Rattle.definition.specs.Context.{Result, ok, refused, _>>=_, refuseIf, Flags, has, add, ControlFlowTarget, target-if, target-switch, target-case, targetBlock, Entry, Context, start, no-flags, isScheduled, emit, withVisits, scheduleCatchHandler, markScopeFallthrough, pushed, schedule, scheduleLoop, unscheduledBy, popped, unscheduleTop, unschedule, breakTargetFrom, continueTargetFrom}
-use Rattle.definition.specs.Walk.{isAbsent, beginVisit, ValueBlockResult, VisitValueBlock, visitValueBlockTerminal, value, visitUpdate, valueBlockResultToSequence, continueBlockOf, TerminalResult, enterBlock, unlessScheduled, unlessUnreachable, scheduleIf, unscheduleIf, markScopeFallthroughIf, visitBreak, visitContinue, visitGoto, loopIsTaken, scheduleSwitch, casesLastFirst}
-use Rattle.definition.specs.Machine
-use Rattle.definition.specs.Machine.{Frame, fThen, fWays, fCase, fDo, fTry, fBody, fLoop, State, visiting, ended, Turn, going, halt, turn, leave, into, intoLoop, close, closeLoop, orElse, otherWay, popTop, popCases, nextCase, resume, firstWay, valueStep, dispatch, left, visit, step}
+use Rattle.definition.specs.Value.{visitValueBlock, beginVisit, ValueBlockResult, VisitValueBlock, visitValueBlockTerminal, valueBlockResultToSequence}
 use Rattle.definition.proofs.Tools.{length-none, below-blocks}
 use Rattle.definition.proofs.Grow.{Good, good-bind, good-unless, Any, any, Grows, value-grows, terminal-grows, update-grows}
 use Rattle.definition.proofs.Most.{Few, FewT, Fews, value-few, terminal-few, update-few}
@@ -60,7 +61,7 @@ marks (false ∷ s) = marks s
 -- each frame and each case built has a block of its own that is emitted; where a list has ended (k is 1), the list has one more
 pub record Holds (k : ℕ) (F : List Frame) (c : Context) : Type 0 where
   pub few : c .visits ≤ 8192
-  pub ids : c .next + (k + (2 * (8192 - c .visits) + length F)) ≤ 16384
+  pub ids : c .nextId + (k + (2 * (8192 - c .visits) + length F)) ≤ 16384
   pub stack : length (c .stack) ≡ weigh F
   pub marked : k + (LOAD F + length F) ≤ marks (c .emitted)
   pub deep : length F ≤ 128
@@ -100,7 +101,7 @@ stack-most k F c h = omega (arith, weigh-low F, marks-below (c .emitted))
 
 -- from c to d the next id rises by at most `up`, and n entries are then on the stack
 record Held (c : Context) (up n : ℕ) (d : Context) : Type 0 where
-  ids : d .next ≤ up + c .next
+  ids : d .nextId ≤ up + c .nextId
   seen : d .visits ≡ c .visits
   marked : marks (d .emitted) ≡ marks (c .emitted)
   flags : length (d .emitted) ≡ length (c .emitted)
@@ -189,7 +190,7 @@ marks-set (true ∷ s) (suc y) h e = ap suc (marks-set s y (omega arith) e)
 marks-set (false ∷ s) (suc y) h e = marks-set s y (omega arith) e
 
 record Entered (c d : Context) : Type 0 where
-  ids : d .next ≡ c .next
+  ids : d .nextId ≡ c .nextId
   fewer : c .visits < 8192
   seen : d .visits ≡ suc (c .visits)
   marked : marks (d .emitted) ≡ suc (marks (c .emitted))
@@ -223,7 +224,7 @@ leave-fit p (some n) F R m c lt h = record { lower = omega arith; sound = record
 -- what is known of the state inside a statement, whose frame has w on the stack and has built u cases; k ids were given out in this step
 record Inside (p : ℕ) (k w u : ℕ) (F : List Frame) (c : Context) : Type 0 where
   few : c .visits ≤ 8192
-  ids : c .next + p ≤ k + 16384
+  ids : c .nextId + p ≤ k + 16384
   lower : 2 * (8192 - c .visits) + suc (length F) < p
   stack : length (c .stack) ≡ w + weigh F
   marked : suc (u + LOAD F + length F) ≤ marks (c .emitted)
@@ -268,13 +269,13 @@ orElse-fit : {p u : ℕ} (x id : ℕ) (g : Option ℕ) (i a f m : ℕ) {F : List
 unfolding orElse
 orElse-fit {p} x id g i a f m {F} R c s = at (eqb a f)
   where
-    at : (y : Bool) → Good (Fit p) (elim y [ true ↦ close (Machine.ifRow x 0 id g) g i m F R c | false ↦ into a 13 a (fBody (Machine.ifRow x 1 id g) g i m) F R c ])
-    at true = close-fit (Machine.ifRow x 0 id g) g i m R c s
-    at false = into-fit (fBody (Machine.ifRow x 1 id g) g i m) a 13 a R c (inside-fewer c 0 s (omega arith))
+    at : (y : Bool) → Good (Fit p) (elim y [ true ↦ close (ifRow x 0 id g) g i m F R c | false ↦ into a 13 a (fBody (ifRow x 1 id g) g i m) F R c ])
+    at true = close-fit (ifRow x 0 id g) g i m R c s
+    at false = into-fit (fBody (ifRow x 1 id g) g i m) a 13 a R c (inside-fewer c 0 s (omega arith))
 
 otherWay-fit : {p u : ℕ} (x id a b m : ℕ) {F : List Frame} (R : List Row) (c : Context) → Inside p 1 0 u F c → Good (Fit p) (otherWay x id a b m F R c)
 unfolding otherWay
-otherWay-fit x id a b m R c s = into-fit (fBody (Machine.ifRow x 1 id none) none 0 m) a 19 b R c (inside-fewer c 0 s (omega arith))
+otherWay-fit x id a b m R c s = into-fit (fBody (ifRow x 1 id none) none 0 m) a 19 b R c (inside-fewer c 0 s (omega arith))
 
 nextCase-fit : {p : ℕ} (x id : ℕ) (g : Option ℕ) (i b f m : ℕ) {F : List Frame} (ks : List Case) (report : ℕ) (R : List Row) (c : Context) → Inside p 1 (report + opens g) report F c
     → Good (Fit p) (nextCase x id g i b f m F ks report R c)
@@ -311,9 +312,9 @@ resume-fit values vg vm (fLoop r g i m) F R c s = closeLoop-fit r g i m R c (loo
 -- ---- a block that is entered
 
 held-jump : (w : Variant) (b g i : ℕ) (c : Context) → Good (λ s. Held c 0 (length (c .stack)) (s .context)) (visitGoto w b g i c)
-unfolding visitGoto
-held-jump Break b g i c = good-bind Any (λ s. Held c 0 (length (c .stack)) (s .context)) _ _ (any (visitBreak b g i c (breakTargetFrom (c .stack) g true false))) (λ s _. held c)
-held-jump Continue b g i c = good-bind Any (λ s. Held c 0 (length (c .stack)) (s .context)) _ _ (any (visitContinue g i c (continueTargetFrom (c .stack) g true false))) (λ s _. held c)
+unfolding visitGoto visitBreak visitContinue getBreakTarget getContinueTarget
+held-jump Break b g i c = good-bind Any (λ s. Held c 0 (length (c .stack)) (s .context)) _ _ (any (breakResolved b g i c (breakTargetFrom (c .stack) g true false))) (λ s _. held c)
+held-jump Continue b g i c = good-bind Any (λ s. Held c 0 (length (c .stack)) (s .context)) _ _ (any (continueResolved g i c (continueTargetFrom (c .stack) g true false))) (λ s _. held c)
 held-jump Try b g i c = held c
 
 module _ (t : Table) (values : VisitValueBlock) (vg : Grows values) (vm : Fews values) {p : ℕ} (F : List Frame) (R : List Row) (m : ℕ) (c : Context) (s : Inside p 0 0 0 F c) where
@@ -326,10 +327,10 @@ module _ (t : Table) (values : VisitValueBlock) (vg : Grows values) (vm : Fews v
     where
       at : (z : Bool) → Good (Fit p)
           (elim z [
-            | true ↦ visitBreak b y id c (breakTargetFrom (c .stack) y true false) >>= λ o. otherWay x id a b m F ((R ++ Machine.jumpOut o) ++ (Machine.blockRow (Machine.added o 0) ∷ [])) c
+            | true ↦ breakResolved b y id c (breakTargetFrom (c .stack) y true false) >>= λ o. otherWay x id a b m F ((R ++ jumpOut o) ++ (blockRow (added o 0) ∷ [])) c
             | false ↦ ok (visiting y (fWays x id a b m ∷ F) R 0 c)
           ])
-      at true = good-bind Any (Fit p) _ _ (any (visitBreak b y id c (breakTargetFrom (c .stack) y true false))) (λ o _. otherWay-fit x id a b m _ c (looser s))
+      at true = good-bind Any (Fit p) _ _ (any (breakResolved b y id c (breakTargetFrom (c .stack) y true false))) (λ o _. otherWay-fit x id a b m _ c (looser s))
       at false = push-fit (fWays x id a b m) y c (looser s)
 
   value-fit : (e : Terminal) (b : ℕ) (k : Block) (f : ℕ) → Good (Fit p) (valueStep t values e b k f F R m c)
@@ -338,7 +339,7 @@ module _ (t : Table) (values : VisitValueBlock) (vg : Grows values) (vm : Fews v
       good-bind (Held c 1 (opens (unlessScheduled c f) + length (c .stack))) (Fit p) _ _ (opened-held (unlessScheduled c f) c) (λ c1 h.
       good-bind (λ r. (c1 .visits ≤ r .visits) × (r .visits ≤ 8192)) (Fit p) _ _
       (good-both (λ r. c1 .visits ≤ r .visits) FewT (visitValueBlockTerminal t values e (k .id) (k .span) (c1 .visits) b) (terminal-grows t values vg e (k .id) (k .span) (c1 .visits) b) (terminal-few t values vm e (k .id) (k .span) (c1 .visits) b (omega arith))) (λ r q.
-      close-fit _ (unlessScheduled c f) (c .next) m _ (withVisits (r .visits) c1) (inside-visited c1 (r .visits) (inside-held c s h (omega arith)) (q .0) (q .1))))
+      close-fit _ (unlessScheduled c f) (c .nextId) m _ (withVisits (r .visits) c1) (inside-visited c1 (r .visits) (inside-held c s h (omega arith)) (q .0) (q .1))))
 
   loop-fit : (cl : Row) (b l : ℕ) (bad : Bool) (w : ℕ) (g : Option ℕ) (i : ℕ) (R₁ : List Row) (c1 : Context) → Held c 1 (suc (length (c .stack))) c1 → (c1 .visits ≤ w) × (w ≤ 8192)
       → Good (Fit p) (intoLoop b l bad w (fLoop cl g i m) F R₁ c1)
@@ -368,29 +369,29 @@ module _ (t : Table) (values : VisitValueBlock) (vg : Grows values) (vm : Fews v
   dispatch-fit (branch x y a) b k = way-fit x y a (k .id) b
   dispatch-fit (switch x i n f) b k =
       good-bind Any (Fit p) _ _ (any (unlessUnreachable t c f)) (λ g _. good-bind (Held c 1 (opens g + length (c .stack))) (Fit p) _ _ (openedSwitch-held g c) (λ c1 h.
-      nextCase-fit x (k .id) g (c .next) b f m (casesLastFirst t i n) 0 R c1 (inside-held c s h (omega arith))))
+      nextCase-fit x (k .id) g (c .nextId) b f m (casesLastFirst t i n) 0 R c1 (inside-held c s h (omega arith))))
   dispatch-fit (do-while l x f) b k =
       good-bind (Held c 1 (suc (length (c .stack)))) (Fit p) _ _ (loop-held f x l c) (λ c1 h. good-bind Any (Fit p) _ _ (any (refuseIf (loopIsTaken c l f) 16 b (c1 .visits))) (λ _ _.
       push-fit _ l c1 (inside-held c s h (omega arith))))
   dispatch-fit (while x l f) b k =
       good-bind Any (Fit p) _ _ (any (unlessUnreachable t c f)) (λ g _. good-bind (Held c 1 (suc (length (c .stack)))) (Fit p) _ _ (loop-held f x l c) (λ c1 h.
       good-bind (λ w. (c1 .visits ≤ w .visits) × (w .visits ≤ 8192)) (Fit p) _ _ (vals x none (k .span) (c1 .visits) (c1 .visits) (le-refl _) (omega arith)) (λ w q.
-      loop-fit _ b l _ (w .visits) g (c .next) _ c1 h q)))
+      loop-fit _ b l _ (w .visits) g (c .nextId) _ c1 h q)))
   dispatch-fit (for i x u l f) b k =
       good-bind (Held c 1 (suc (length (c .stack)))) (Fit p) _ _ (loop-held f (continueBlockOf u x) l c) (λ c1 h.
       good-bind (λ w. (c1 .visits ≤ w .visits) × (w .visits ≤ 8192)) (Fit p) _ _ (vals i none (k .span) (c1 .visits) (c1 .visits) (le-refl _) (omega arith)) (λ n q.
       good-bind (λ w. (c1 .visits ≤ w .visits) × (w .visits ≤ 8192)) (Fit p) _ _ (vals x none (k .span) (n .visits) (c1 .visits) (q .0) (q .1)) (λ w q₁.
       good-bind (λ z. (w .visits ≤ z .visits) × (z .visits ≤ 8192)) (Fit p) _ _ (good-both (λ z. w .visits ≤ z .visits) (λ z. z .visits ≤ 8192) (visitUpdate values u (k .span) (w .visits)) (update-grows t values vg u (k .span) (w .visits)) (update-few t values vm u (k .span) (w .visits) (q₁ .1))) (λ z q₂.
-      loop-fit _ b l _ (z .visits) (unlessScheduled c f) (c .next) _ c1 h (omega arith)))))
+      loop-fit _ b l _ (z .visits) (unlessScheduled c f) (c .nextId) _ c1 h (omega arith)))))
   dispatch-fit (for-of i x l f) b k =
       good-bind (Held c 1 (suc (length (c .stack)))) (Fit p) _ _ (loop-held f i l c) (λ c1 h.
       good-bind (λ w. (c1 .visits ≤ w .visits) × (w .visits ≤ 8192)) (Fit p) _ _ (vals i none (k .span) (c1 .visits) (c1 .visits) (le-refl _) (omega arith)) (λ n q.
       good-bind (λ w. (c1 .visits ≤ w .visits) × (w .visits ≤ 8192)) (Fit p) _ _ (vals x none (k .span) (n .visits) (c1 .visits) (q .0) (q .1)) (λ w q₁.
-      loop-fit _ b l _ (w .visits) (unlessScheduled c f) (c .next) _ c1 h q₁)))
+      loop-fit _ b l _ (w .visits) (unlessScheduled c f) (c .nextId) _ c1 h q₁)))
   dispatch-fit (for-in i l f) b k =
       good-bind (Held c 1 (suc (length (c .stack)))) (Fit p) _ _ (loop-held f i l c) (λ c1 h.
       good-bind (λ w. (c1 .visits ≤ w .visits) × (w .visits ≤ 8192)) (Fit p) _ _ (vals i none (k .span) (c1 .visits) (c1 .visits) (le-refl _) (omega arith)) (λ n q.
-      loop-fit _ b l _ (n .visits) (unlessScheduled c f) (c .next) _ c1 h q))
+      loop-fit _ b l _ (n .visits) (unlessScheduled c f) (c .nextId) _ c1 h q))
   dispatch-fit (logical o x f) b k = value-fit (logical o x f) b k f
   dispatch-fit (ternary x f) b k = value-fit (ternary x f) b k f
   dispatch-fit (optional g x f) b k = value-fit (optional g x f) b k f
@@ -401,7 +402,7 @@ module _ (t : Table) (values : VisitValueBlock) (vg : Grows values) (vm : Fews v
   dispatch-fit (maybe-throw n) b k = leaves (unlessScheduled c n) R m
   dispatch-fit (try x y f n) b k =
       good-bind Any (Fit p) _ _ (any (unlessUnreachable t c f)) (λ g _. good-bind (Held c 1 (opens g + length (c .stack))) (Fit p) _ _ (opened-held g c) (λ c1 h.
-      push-fit (fTry (k .id) g (c .next) y n m) x (scheduleCatchHandler y c1) (inside-held c s (caught-held y h) (omega arith))))
+      push-fit (fTry (k .id) g (c .nextId) y n m) x (scheduleCatchHandler y c1) (inside-held c s (caught-held y h) (omega arith))))
   dispatch-fit (scope q x f z) b k =
       good-bind (Held c 1 (opens (unlessScheduled c f) + length (c .stack))) (Fit p) _ _ (opened-held (unlessScheduled c f) c) (λ c1 h.
       into-fit _ x 18 b R (markScopeFallthroughIf (unlessScheduled c f) c1) (inside-held c1 (inside-held c {w₁ = opens (unlessScheduled c f)} s h (omega arith)) (scoped-held (unlessScheduled c f) c1) (omega arith)))
@@ -424,14 +425,14 @@ visit-fit t few b F R m c h =
     good-unless (Fit (2 * (8192 - c .visits) + length F)) _ 30 b (c .visits) _ (λ q.
     let d : length F < 128 = leb-false 128 (length F) q in
     good-bind (Entered c) (Fit (2 * (8192 - c .visits) + length F)) _ _ (enter-sound t b c few (h .flags)) (λ c1 e.
-    dispatch-fit t (value t (left F)) (value-grows t (left F)) (value-few t (left F)) F _ _ c1
+    dispatch-fit t (visitValueBlock t (left F)) (value-grows t (left F)) (value-few t (left F)) F _ _ c1
     (record { few = omega arith; ids = omega arith; lower = omega arith; stack = omega arith; marked = omega arith; deep = d; flags = e .flags }) (terminalAt t b) b (blockAt t b)))
 
 step-next : (t : Table) → length (t .blocks) ≤ 1024 → (s : State) → Sound s → Next (potential s) (step t s)
 unfolding step
 step-next t few (visiting b F R m c) h = next-of _ (visit t b F R m c) (visit-fit t few b F R m c h)
 step-next t few (ended [] R m c) h = tt
-step-next t few (ended (f ∷ F) R m c) h = next-of _ (resume (value t (left F)) f F (R ++ (Machine.blockRow m ∷ [])) c) (resume-fit (value t (left F)) (value-grows t (left F)) (value-few t (left F)) f F _ c (ended-inside f F c h))
+step-next t few (ended (f ∷ F) R m c) h = next-of _ (resume (visitValueBlock t (left F)) f F (R ++ (blockRow m ∷ [])) c) (resume-fit (visitValueBlock t (left F)) (value-grows t (left F)) (value-few t (left F)) f F _ c (ended-inside f F c h))
 
 -- of a sound state the next one is sound, and its potential is lower
 pub step-sound : (t : Table) → length (t .blocks) ≤ 1024 → (s s′ : State) → Sound s → step t s ≡ going s′ → (potential s′ < potential s) × Sound s′

@@ -9,18 +9,20 @@ use mathlib.Core.Bool.{Bool, true, false}
 use lib.ListN.{length}
 use lib.Dec.{T, eqb}
 use borrow.Author.Tests.{eqb-true}
-use Rattle.table.specs.Table.{Table, Block, Instruction, Operation, other, load-local, store-local, Terminal, absent, unreachable, throw, return, goto, if, branch, switch, do-while, while, for, for-of, for-in, logical, ternary, optional, label, sequence, maybe-throw, try, scope, Variant, Break, Continue, Try, codeOf, blockAt, terminalAt, instructionAt, instructionRowsAt, instructionRows}
-use Rattle.definition.specs.Tree.{Kind, implicit, labeled, unlabeled, Value, PLAIN, LOAD, SEQ, Instructions, no-instructions, instruction, Statement, IF, WHILE, LABEL, SCOPE, RETURN, THROW, BREAK, CONTINUE, Statements, done, _▸_}
-use Rattle.definition.specs.Context.{Result, ok, refused, _>>=_, refuseIf, has, add, Entry, target-if, target-loop, Context, start, isScheduled, withVisits, markScopeFallthrough, pushed, schedule, scheduleLoop, unschedule, breakTargetFrom, Resolution, continueTargetFrom}
-use Rattle.definition.specs.Walk.{isAbsent, isUnreachable, branchWays, beginVisit, ValueBlockResult, VisitValueBlock, isThis, instructionsOf, wrapWithSequence, finalValue, finalPlace, storedToNamed, allButLast, last, extractValueBlockResult, branchValue, visitValueBlockAt, value, TerminalResult, BlockResult, TraverseBlock, enterBlock, unlessScheduled, unlessUnreachable, scheduleIf, unscheduleIf, markScopeFallthroughIf, traverseUnscheduled, AlternateResult, traverseAlternate, visitBreak, visitContinue, visitGoto, traverseEnclosed, loopIsTaken, traverseLoop, Ways, visitTerminal, instructionStatements, followedBy, thenNext, visitBlock, traverseBlock, buildTree}
+use Rattle.table.specs.Table.{codeOf, Table, Block, Instruction, Operation, other, load-local, store-local, Terminal, absent, unreachable, throw, return, goto, if, branch, switch, do-while, while, for, for-of, for-in, logical, ternary, optional, sequence, maybe-throw, try, scope, Variant, Break, Continue, Try, blockAt, terminalAt, instructionAt, instructionRowsAt, instructionRows, isAbsent, isUnreachable, label}
+use Rattle.definition.specs.Context.{getBreakTarget, getContinueTarget, Resolution, has, add, Entry, target-if, target-loop, Context, start, isScheduled, withVisits, markScopeFallthrough, pushed, schedule, scheduleLoop, unschedule, breakTargetFrom, continueTargetFrom}
+use Rattle.definition.specs.Plain.{Plain, Ranged, fallthroughOf, plainCodes, among, isBranch, isStore, endsInStore, NotBranch, otherNames, All}
+use Rattle.definition.specs.Result.{refused, Result, ok, _>>=_, refuseIf}
 use Rattle.definition.specs.Reading.{WellFormed}
 use Rattle.definition.specs.Run.{Answers}
 use Rattle.definition.specs.Completion.{Completion, break, continue}
 use Rattle.definition.specs.TreeRun.{performs, performsAll, runStatements, completed, prefix, then, thenOn, jumpCompletion}
-use Rattle.definition.specs.Plain.{Plain, Ranged, fallthroughOf, plainCodes, among, isBranch, isStore, endsInStore, NotBranch, otherNames, All}
+use Rattle.definition.specs.Statement.{breakToScope, visitBreak, visitContinue, TerminalResult, BlockResult, TraverseBlock, enterBlock, unlessScheduled, unlessUnreachable, scheduleIf, unscheduleIf, markScopeFallthroughIf, traverseUnscheduled, AlternateResult, traverseAlternate, breakResolved, continueResolved, visitGoto, traverseEnclosed, loopIsTaken, traverseLoop, visitTerminal, instructionStatements, followedBy, thenNext, visitBlock, traverseBlock, buildTree}
+use Rattle.definition.specs.Tree.{Kind, implicit, labeled, unlabeled, Value, PLAIN, LOAD, SEQ, Instructions, no-instructions, instruction, Statement, IF, WHILE, LABEL, SCOPE, RETURN, THROW, BREAK, CONTINUE, Statements, done, _▸_}
+use Rattle.definition.specs.Value.{visitValueBlock, branchWays, beginVisit, ValueBlockResult, VisitValueBlock, isThis, instructionsOf, wrapWithSequence, finalValue, finalPlace, storedToNamed, allButLast, last, extractValueBlockResult, branchValue, visitValueBlockAt, Ways}
 use Rattle.definition.proofs.Semantics.{Frame, fLabel, fScope, fLoop, target, Built, bReturn, bThrow, bJump, bIf, bIfOnly, bLabel, bScope, bWhile}
 use Rattle.definition.proofs.Tools.{true-false, refused-ok, ok-eq, bind-ok, unless-ok, below-blocks}
-use Rattle.definition.proofs.Resolve.{Framed, break-target, continue-target}
+use Rattle.definition.proofs.Resolve.{break-exit, break-names, Framed, break-target, continue-target}
 use Rattle.definition.proofs.State.{Known, ft-of, Inv, inv-start, inv-visited, Entered, enter-ok, ft-free, untaken-free, inv-label, inv-scope, inv-loop, schedule-ok, scheduleLoop-ok, Closed, unschedule-ok}
 
 -- ---- the value of a test
@@ -66,13 +68,13 @@ module _ (t : Table) where
   unfoldable pub TestOk : VisitValueBlock → Type 0
   TestOk values = (x y c a span v : ℕ) (r : ValueBlockResult) → terminalAt t x ≡ branch y c a → endsInStore t (instructionRowsAt t x) ≡ false → values x none span v ≡ ok r → performs (r .value) ≡ instructionRowsAt t x
 
-  pub value-ok : (d : ℕ) → TestOk (value t d)
-  unfolding TestOk value visitValueBlockAt
+  pub value-ok : (d : ℕ) → TestOk (visitValueBlock t d)
+  unfolding TestOk visitValueBlock visitValueBlockAt
   value-ok zero x y c a span v r e h k = absurd (refused-ok k)
   value-ok (suc d) x y c a span v r e h k =
       let (v₁, h₁, k₁) = bind-ok (beginVisit t x v) _ r k in
       let (u, h₂, k₂) = bind-ok (refuseIf false 23 x v₁) _ r k₁ in
-      branch-performs x y (blockAt t x .id) v₁ (instructionRowsAt t x) r h (subst (λ (m : Terminal). visitValueBlockAt t (value t d) m x (blockAt t x) none span v₁ ≡ ok r) e k₂)
+      branch-performs x y (blockAt t x .id) v₁ (instructionRowsAt t x) r h (subst (λ (m : Terminal). visitValueBlockAt t (visitValueBlock t d) m x (blockAt t x) none span v₁ ≡ ok r) e k₂)
 
 -- ---- a part of the walk
 
@@ -110,20 +112,20 @@ module _ (t : Table) where
   unfolding scheduleIf pushed
   opened-label {F} {c} {c₁} f p k e =
       subst (λ (d : Context). Opened (fLabel f) F c d) (schedule-ok t f c c₁ e)
-      (record { inv = inv-label t f p k; top = record { id = c .next; target = target-if f }; stack = refl })
+      (record { inv = inv-label t f p k; top = record { id = c .nextId; target = target-if f }; stack = refl })
 
   opened-scope : {F : List Frame} {c c₁ : Context} (f : ℕ) → f < 1024 → Inv t F c → Known t (c .emitted) f → scheduleIf (some f) c ≡ ok c₁ → Opened (fScope f) F c (markScopeFallthroughIf (some f) c₁)
   unfolding scheduleIf pushed markScopeFallthroughIf markScopeFallthrough
   opened-scope {F} {c} {c₁} f h p k e =
       subst (λ (d : Context). Opened (fScope f) F c (markScopeFallthrough f d)) (schedule-ok t f c c₁ e)
-      (record { inv = inv-scope t f h p k; top = record { id = c .next; target = target-if f }; stack = refl })
+      (record { inv = inv-scope t f h p k; top = record { id = c .nextId; target = target-if f }; stack = refl })
 
   opened-loop : {F : List Frame} {c c₁ : Context} (w x l f : ℕ) → Inv t F c → terminalAt t w ≡ while x l f → Known t (c .emitted) f → scheduleLoop f x (some l) c ≡ ok c₁ → Opened (fLoop f x) F c c₁
   unfolding pushed
   opened-loop {F} {c} {c₁} w x l f p h k e =
       let (o, q) = scheduleLoop-ok t f x l c c₁ e in
       subst (λ (d : Context). Opened (fLoop f x) F c d) q
-      (record { inv = inv-loop t w x l f o p h k; top = record { id = c .next; target = target-loop f x (some l) o }; stack = refl })
+      (record { inv = inv-loop t w x l f o p h k; top = record { id = c .nextId; target = target-loop f x (some l) o }; stack = refl })
 
   fresh-ok : (inner : TraverseBlock) → WalkOk inner → (F : List Frame) (b code at : ℕ) (c : Context) (r : BlockResult) → Inv t F c → NotBranch t b
       → traverseUnscheduled inner b code at c ≡ ok r → Made F b (c .stack) r
@@ -162,9 +164,9 @@ module _ (t : Table) where
       let (u, h₁, e₁) = bind-ok (refuseIf (isAbsent (terminalAt t f)) 10 f (c .visits)) _ g e in
       sym (ok-eq e₁) ∙ ap (λ (y : Bool). elim y [ true ↦ none | false ↦ unlessScheduled c f ]) (plain-reachable (terminalAt t f) (pl .ends f)) ∙ untaken-free t c f h
 
-  closed-ok : {G : Frame} {F : List Frame} {c c₁ d c₂ : Context} (f : ℕ) → Opened G F c c₁ → Closed t (G ∷ F) (c₁ .stack) d → unscheduleIf (some f) (c .next) d ≡ ok c₂ → Closed t F (c .stack) c₂
+  closed-ok : {G : Frame} {F : List Frame} {c c₁ d c₂ : Context} (f : ℕ) → Opened G F c c₁ → Closed t (G ∷ F) (c₁ .stack) d → unscheduleIf (some f) (c .nextId) d ≡ ok c₂ → Closed t F (c .stack) c₂
   unfolding unscheduleIf
-  closed-ok {G} {F} {c} {c₁} {d} {c₂} f o p e = unschedule-ok t (c .next) (o .top) (c .stack) d c₂ (p .inv) (p .same ∙ o .stack) e
+  closed-ok {G} {F} {c} {c₁} {d} {c₂} f o p e = unschedule-ok t (c .nextId) (o .top) (c .stack) d c₂ (p .inv) (p .same ∙ o .stack) e
 
   -- ---- If
 
@@ -209,14 +211,14 @@ module _ (t : Table) where
         let (c₁, h₂, k₂) = bind-ok (scheduleIf g c) _ s k₁ in
         let (r, h₃, k₃) = bind-ok (traverseUnscheduled inner y 12 y c₁) _ s k₂ in
         let (w, h₄, k₄) = bind-ok (traverseAlternate inner a f (r .context)) _ s k₃ in
-        let (c₂, h₅, k₅) = bind-ok (unscheduleIf g (c .next) (w .context)) _ s k₄ in
+        let (c₂, h₅, k₅) = bind-ok (unscheduleIf g (c .nextId) (w .context)) _ s k₄ in
         finish g c₁ r w c₂ (reached-ok pl c f g (ft-free t pl b f p (ap fallthroughOf e)) h₁) h₂ h₃ h₄ h₅ k₅
       where
         parts : All (NotBranch t) (otherNames (if x y a f))
         parts = subst (λ (m : Terminal). All (NotBranch t) (otherNames m)) e (pl .names b)
 
         finish : (g : Option ℕ) (c₁ : Context) (r : BlockResult) (w : AlternateResult) (c₂ : Context) → g ≡ some f → scheduleIf g c ≡ ok c₁ → traverseUnscheduled inner y 12 y c₁ ≡ ok r
-            → traverseAlternate inner a f (r .context) ≡ ok w → unscheduleIf g (c .next) (w .context) ≡ ok c₂
+            → traverseAlternate inner a f (r .context) ≡ ok w → unscheduleIf g (c .nextId) (w .context) ≡ ok c₂
             → ok (record { statement = some (IF x (k .id) g (r .statements) (w .present) (w .statements)); next = g; context = c₂ }) ≡ ok s → StepOk F b (c .stack) s
         finish g c₁ r w c₂ q h₂ h₃ h₄ h₅ k₅ =
             let o : Opened (fLabel f) F c c₁ = opened-label f (p .inv) (ft-of b (p .new) (ap fallthroughOf e)) (rw q at h₂) in
@@ -234,7 +236,7 @@ module _ (t : Table) where
     unfolding traverseEnclosed
     enclosed-ok {G} {F} {c} {c₁} b x code at f make s o n nf mk h =
         let (r, h₁, k₁) = bind-ok (traverseUnscheduled inner x code at c₁) _ s h in
-        let (c₂, h₂, k₂) = bind-ok (unscheduleIf (some f) (c .next) (r .context)) _ s k₁ in
+        let (c₂, h₂, k₂) = bind-ok (unscheduleIf (some f) (c .nextId) (r .context)) _ s k₁ in
         let m : Made (G ∷ F) x (c₁ .stack) r = fresh-ok inner wo (G ∷ F) x code at c₁ r (o .inv) n h₁ in
         subst (λ (v : TerminalResult). StepOk F b (c .stack) v) (ok-eq k₂)
         (goes-on f refl nf (λ r′ q. mk (r .statements) r′ (m .tree) q) (closed-ok f o (m .left) h₂))
@@ -287,14 +289,14 @@ module _ (t : Table) where
         let (v, h₃, k₃) = bind-ok (values x none (k .span) (c₁ .visits)) _ s k₂ in
         let (u, h₄, k₄) = bind-ok (refuseIf (loopIsTaken c l f) 16 b (v .visits)) _ s k₃ in
         let (r, h₅, k₅) = bind-ok (inner l (withVisits (v .visits) c₁)) _ s k₄ in
-        let (c₂, h₆, k₆) = bind-ok (unschedule (c .next) (r .context)) _ s k₅ in
+        let (c₂, h₆, k₆) = bind-ok (unschedule (c .nextId) (r .context)) _ s k₅ in
         finish g c₁ v r c₂ (reached-ok pl c f g (ft-free t pl b f p (ap fallthroughOf e)) h₁) h₂ h₃ h₅ h₆ k₆
       where
         parts : All (NotBranch t) (otherNames (while x l f))
         parts = subst (λ (m : Terminal). All (NotBranch t) (otherNames m)) e (pl .names b)
 
         finish : (g : Option ℕ) (c₁ : Context) (v : ValueBlockResult) (r : BlockResult) (c₂ : Context) → g ≡ some f → scheduleLoop f x (some l) c ≡ ok c₁
-            → values x none (k .span) (c₁ .visits) ≡ ok v → inner l (withVisits (v .visits) c₁) ≡ ok r → unschedule (c .next) (r .context) ≡ ok c₂
+            → values x none (k .span) (c₁ .visits) ≡ ok v → inner l (withVisits (v .visits) c₁) ≡ ok r → unschedule (c .nextId) (r .context) ≡ ok c₂
             → ok (record { statement = some (WHILE (k .id) g (v .value) (r .statements)); next = g; context = c₂ }) ≡ ok s → StepOk F b (c .stack) s
         finish g c₁ v r c₂ q h₂ h₃ h₅ h₆ k₆ =
             let o : Opened (fLoop f x) F c c₁ = opened-loop b x l f (p .inv) e (ft-of b (p .new) (ap fallthroughOf e)) h₂ in
@@ -303,7 +305,7 @@ module _ (t : Table) where
             subst (λ (z : TerminalResult). StepOk F b (c .stack) z) (ok-eq k₆)
             (rw q (goes-on f refl (parts .1 .0)
             (λ r′ p′. bWhile x l f y (k .id) (v .value) e e₁ (vo x y l f (k .span) (c₁ .visits) v e₁ (pl .no-store x y l f e₁) h₃) (m .tree) p′)
-            (unschedule-ok t (c .next) (o .top) (c .stack) (r .context) c₂ (m .left .inv) (m .left .same ∙ o .stack) h₆)))
+            (unschedule-ok t (c .nextId) (o .top) (c .stack) (r .context) c₂ (m .left .inv) (m .left .same ∙ o .stack) h₆)))
 
     -- ---- Goto
 
@@ -321,23 +323,34 @@ module _ (t : Table) where
     unfolding runStatements jumpCompletion
     run-done g ans = refl
 
-    broke : {F : List Frame} {c : Context} (g i : ℕ) (k : Kind) (s : Option Statement) (y : Bool) (x : Result (Option Statement)) → Inv t F c
-        → breakTargetFrom (c .stack) g true false ≡ some k → has (c .scopeFallthroughs) g ≡ y → elim y [ true ↦ x | false ↦ ok (some (BREAK g i k)) ] ≡ ok s
+    broke : {F : List Frame} {c : Context} (g i : ℕ) (r : Resolution) (s : Option Statement) (y : Bool) (x : Result (Option Statement)) → Inv t F c
+        → breakTargetFrom (c .stack) g true false ≡ some r → r .target ≡ g → has (c .scopeFallthroughs) g ≡ y → elim y [ true ↦ x | false ↦ ok (some (BREAK g i (r .kind))) ] ≡ ok s
         → (x ≡ ok s → JumpOk F g s) → JumpOk F g s
     unfolding WellFormed
-    broke g i k s true x p e n h z = z h
-    broke {F} g i k s false x p e n h z =
-        subst (λ (w : Option Statement). JumpOk F g w) (ok-eq h) (goes-as (jumpCompletion k g break) (break-target t (p .framed) g k e (inr n)) (tt, tt) (run-break g i k))
+    broke g i r s true x p e q n h z = z h
+    broke {F} g i r s false x p e q n h z =
+        subst (λ (w : Option Statement). JumpOk F g w) (ok-eq h) (goes-as (jumpCompletion (r .kind) g break) (break-target t (p .framed) g r e n (r .kind) refl) (tt, tt) (run-break g i (r .kind)))
 
-    break-ok : {F : List Frame} (c : Context) (b g i : ℕ) (k : Option Kind) (s : Option Statement) → Inv t F c → breakTargetFrom (c .stack) g true false ≡ k
-        → visitBreak b g i c k ≡ ok s → JumpOk F g s
-    unfolding visitBreak WellFormed
+    -- to a scope: no row, as good as an Implicit one
+    to-scope : {F : List Frame} (c : Context) (b g : ℕ) (r : Resolution) (s : Option Statement) (k : Kind) → Inv t F c → breakTargetFrom (c .stack) g true false ≡ some r → r .kind ≡ k
+        → breakToScope k b (c .visits) ≡ ok s → JumpOk F g s
+    unfolding breakToScope jumpCompletion WellFormed
+    to-scope {F} c b g r s implicit p e k h =
+        subst (λ (w : Option Statement). JumpOk F g w) (ok-eq h) (goes-as (jumpCompletion implicit g break) (break-exit t (p .framed) g true false r e k) tt (run-done g))
+    to-scope c b g r s labeled p e k h = absurd (refused-ok h)
+    to-scope c b g r s unlabeled p e k h = absurd (refused-ok h)
+
+    break-ok : {F : List Frame} (c : Context) (b g i : ℕ) (r : Option Resolution) (s : Option Statement) → Inv t F c → breakTargetFrom (c .stack) g true false ≡ r
+        → breakResolved b g i c r ≡ ok s → JumpOk F g s
+    unfolding breakResolved
     break-ok c b g i none s p e h = absurd (refused-ok h)
-    break-ok {F} c b g i (some implicit) s p e h =
-        broke g i implicit s (has (c .scopeFallthroughs) g) (ok none) p e refl h
-        (λ q. subst (λ (w : Option Statement). JumpOk F g w) (ok-eq q) (goes-as (jumpCompletion implicit g break) (break-target t (p .framed) g implicit e (inl refl)) tt (run-done g)))
-    break-ok c b g i (some labeled) s p e h = broke g i labeled s (has (c .scopeFallthroughs) g) (refused 22 b (c .visits)) p e refl h (λ q. absurd (refused-ok q))
-    break-ok c b g i (some unlabeled) s p e h = broke g i unlabeled s (has (c .scopeFallthroughs) g) (refused 22 b (c .visits)) p e refl h (λ q. absurd (refused-ok q))
+    break-ok c b g i (some r) s p e h =
+        let q : r .target ≡ g = break-names t (c .stack) g true false r e in
+        broke g i r s (has (c .scopeFallthroughs) g) (breakToScope (r .kind) b (c .visits)) p e q refl (named q h) (λ z. to-scope c b g r s (r .kind) p e refl z)
+      where
+        named : {n : ℕ} → n ≡ g → elim (has (c .scopeFallthroughs) n) [ true ↦ breakToScope (r .kind) b (c .visits) | false ↦ ok (some (BREAK n i (r .kind))) ] ≡ ok s
+            → elim (has (c .scopeFallthroughs) g) [ true ↦ breakToScope (r .kind) b (c .visits) | false ↦ ok (some (BREAK g i (r .kind))) ] ≡ ok s
+        named z k = subst (λ (n : ℕ). elim (has (c .scopeFallthroughs) n) [ true ↦ breakToScope (r .kind) b (c .visits) | false ↦ ok (some (BREAK n i (r .kind))) ] ≡ ok s) z k
 
     run-continue : (f i : ℕ) (k : Kind) (ans : Answers) → runStatements (CONTINUE f i k ▸ done) ans ≡ completed [] (jumpCompletion k f continue) ans
     unfolding runStatements then thenOn prefix completed jumpCompletion
@@ -346,25 +359,25 @@ module _ (t : Table) where
     run-continue f i unlabeled ans = refl
 
     continue-ok : {F : List Frame} (c : Context) (g i : ℕ) (k : Option Resolution) (s : Statement) → Inv t F c → continueTargetFrom (c .stack) g true false ≡ k
-        → visitContinue g i c k ≡ ok s → JumpOk F g (some s)
-    unfolding visitContinue WellFormed
+        → continueResolved g i c k ≡ ok s → JumpOk F g (some s)
+    unfolding continueResolved WellFormed
     continue-ok c g i none s p e h = absurd (refused-ok h)
     continue-ok {F} c g i (some k) s p e h =
         subst (λ (z : Statement). JumpOk F g (some z)) (ok-eq h)
-        (goes-as (jumpCompletion (k .kind) (k .fallthrough) continue) (continue-target t pl (p .framed) g (k .fallthrough) (k .kind) e) (tt, tt) (run-continue (k .fallthrough) i (k .kind)))
+        (goes-as (jumpCompletion (k .kind) (k .target) continue) (continue-target t pl (p .framed) g (k .target) (k .kind) e) (tt, tt) (run-continue (k .target) i (k .kind)))
 
     jump-built : {F : List Frame} (b g : ℕ) (v : Variant) (s : Option Statement) → terminalAt t b ≡ goto g v → JumpOk F g s → Built t F b (instructionStatements t (instructionRowsAt t b) (followedBy s done))
     jump-built b g v s e (goes-as z q w r) = bJump g v z (followedBy s done) e q w r
 
     jump-ok : {F : List Frame} {c₀ c : Context} (b g i : ℕ) (v : Variant) (s : TerminalResult) → Entered t b F c₀ c → terminalAt t b ≡ goto g v
         → visitGoto v b g i c ≡ ok s → StepOk F b (c .stack) s
-    unfolding visitGoto
+    unfolding visitGoto visitBreak visitContinue getBreakTarget getContinueTarget
     jump-ok {F} {c₀} {c} b g i Break s p e h =
-        let (o, h₁, k₁) = bind-ok (visitBreak b g i c (breakTargetFrom (c .stack) g true false)) _ s h in
+        let (o, h₁, k₁) = bind-ok (breakResolved b g i c (breakTargetFrom (c .stack) g true false)) _ s h in
         subst (λ (z : TerminalResult). StepOk F b (c .stack) z) (ok-eq k₁)
         (ends-here refl (jump-built b g Break o e (break-ok c b g i (breakTargetFrom (c .stack) g true false) o (p .inv) refl h₁)) (record { inv = p .inv; same = refl }))
     jump-ok {F} {c₀} {c} b g i Continue s p e h =
-        let (o, h₁, k₁) = bind-ok (visitContinue g i c (continueTargetFrom (c .stack) g true false)) _ s h in
+        let (o, h₁, k₁) = bind-ok (continueResolved g i c (continueTargetFrom (c .stack) g true false)) _ s h in
         subst (λ (z : TerminalResult). StepOk F b (c .stack) z) (ok-eq k₁)
         (ends-here refl (jump-built b g Continue (some o) e (continue-ok c g i (continueTargetFrom (c .stack) g true false) o (p .inv) refl h₁)) (record { inv = p .inv; same = refl }))
     jump-ok b g i Try s p e h = absurd (pl .no-goto-try b g e)
@@ -416,4 +429,4 @@ module _ (t : Table) where
     pub walk-ok : (d : ℕ) → WalkOk (traverseBlock t d)
     unfolding WalkOk traverseBlock
     walk-ok zero F b c r p nb e = absurd (refused-ok e)
-    walk-ok (suc d) F b c r p nb e = chain-ok pl rg (value t d) (value-ok t d) (traverseBlock t d) (walk-ok d) 8193 F b c r p nb e
+    walk-ok (suc d) F b c r p nb e = chain-ok pl rg (visitValueBlock t d) (value-ok t d) (traverseBlock t d) (walk-ok d) 8193 F b c r p nb e

@@ -8,12 +8,13 @@ use mathlib.Core.Option.{Option, none, some}
 use mathlib.Core.Bool.{Bool, true, false, not}
 use lib.ListN.{length, length-append}
 use lib.Dec.{eqb, leb}
-use Rattle.table.specs.Table.{Table, Block, Case, Terminal, absent, unreachable, throw, return, goto, if, branch, switch, do-while, while, for, for-of, for-in, logical, ternary, optional, label, sequence, maybe-throw, try, scope, Variant, Break, Continue, Try, blockAt, terminalAt, instructionRowsAt, instructionAt}
+use Rattle.table.specs.Table.{Table, Block, Case, Terminal, absent, unreachable, throw, return, goto, if, branch, switch, do-while, while, for, for-of, for-in, logical, ternary, optional, sequence, maybe-throw, try, scope, Variant, Break, Continue, Try, blockAt, terminalAt, instructionRowsAt, instructionAt, label}
+use Rattle.definition.specs.Context.{getBreakTarget, getContinueTarget, Resolution, has, target-case, Context, start, isScheduled, withVisits, scheduleCatchHandler, schedule, scheduleLoop, unschedule, breakTargetFrom, continueTargetFrom}
+use Rattle.definition.specs.Machine.{updateOut, Frame, fThen, fWays, fCase, fDo, fTry, fBody, fLoop, State, visiting, ended, Turn, going, halt, turn, leave, ifRow, blockRow, valueOut, stmtOut, jumpOut, added, instrOut, into, intoLoop, close, closeLoop, orElse, otherWay, popCases, nextCase, resume, firstWay, valueStep, dispatch, left, visit, step}
+use Rattle.definition.specs.Result.{refused, Result, ok, _>>=_, refuseIf}
+use Rattle.definition.specs.Statement.{breakToScope, visitBreak, visitContinue, breakResolved, continueResolved, visitUpdate, continueBlockOf, TerminalResult, enterBlock, unlessScheduled, unlessUnreachable, scheduleIf, unscheduleIf, markScopeFallthroughIf, visitGoto, loopIsTaken, scheduleSwitch, casesLastFirst}
 use Rattle.definition.specs.Tree.{Kind, implicit, labeled, unlabeled, Statement, Row, row, BREAK, CONTINUE}
-use Rattle.definition.specs.Context.{Result, ok, refused, _>>=_, refuseIf, has, target-case, Context, start, isScheduled, withVisits, scheduleCatchHandler, schedule, scheduleLoop, unschedule, breakTargetFrom, Resolution, continueTargetFrom}
-use Rattle.definition.specs.Walk.{VisitValueBlock, visitValueBlockTerminal, value, visitUpdate, valueBlockResultToSequence, continueBlockOf, TerminalResult, enterBlock, unlessScheduled, unlessUnreachable, scheduleIf, unscheduleIf, markScopeFallthroughIf, visitBreak, visitContinue, visitGoto, loopIsTaken, scheduleSwitch, casesLastFirst}
-use Rattle.definition.specs.Machine
-use Rattle.definition.specs.Machine.{Frame, fThen, fWays, fCase, fDo, fTry, fBody, fLoop, State, visiting, ended, Turn, going, halt, turn, leave, ifRow, blockRow, valueOut, stmtOut, jumpOut, added, instrOut, into, intoLoop, close, closeLoop, orElse, otherWay, popCases, nextCase, resume, firstWay, valueStep, dispatch, left, visit, step}
+use Rattle.definition.specs.Value.{visitValueBlock, VisitValueBlock, visitValueBlockTerminal, valueBlockResultToSequence}
 use Rattle.definition.proofs.Grow.{Good, good-bind, Any, any}
 
 abbrev pub saved : Frame → ℕ
@@ -116,20 +117,24 @@ pick : {A : Type 0} (P : A → Type 0) (y : Bool) (a b : Result A) → Good P a 
 pick P true a b p q = p
 pick P false a b p q = q
 
-breakStmt-rowed : (b g i : ℕ) (c : Context) (k : Option Kind) → Good Rowed (visitBreak b g i c k)
-unfolding visitBreak
-breakStmt-rowed b g i c none = tt
-breakStmt-rowed b g i c (some implicit) = pick Rowed (has (c .scopeFallthroughs) g) _ _ none-rowed (break-rowed g i implicit)
-breakStmt-rowed b g i c (some labeled) = pick Rowed (has (c .scopeFallthroughs) g) _ _ tt (break-rowed g i labeled)
-breakStmt-rowed b g i c (some unlabeled) = pick Rowed (has (c .scopeFallthroughs) g) _ _ tt (break-rowed g i unlabeled)
+scope-break-rowed : (k : Kind) (at v : ℕ) → Good Rowed (breakToScope k at v)
+unfolding breakToScope
+scope-break-rowed implicit at v = none-rowed
+scope-break-rowed labeled at v = tt
+scope-break-rowed unlabeled at v = tt
 
-continueStmt-rowed : (g i : ℕ) (c : Context) (k : Option Resolution) → Good (λ s. Rowed (some s)) (visitContinue g i c k)
-unfolding visitContinue
+breakStmt-rowed : (b g i : ℕ) (c : Context) (r : Option Resolution) → Good Rowed (breakResolved b g i c r)
+unfolding breakResolved
+breakStmt-rowed b g i c none = tt
+breakStmt-rowed b g i c (some r) = pick Rowed (has (c .scopeFallthroughs) (r .target)) _ _ (scope-break-rowed (r .kind) b (c .visits)) (break-rowed (r .target) i (r .kind))
+
+continueStmt-rowed : (g i : ℕ) (c : Context) (k : Option Resolution) → Good (λ s. Rowed (some s)) (continueResolved g i c k)
+unfolding continueResolved
 continueStmt-rowed g i c none = tt
-continueStmt-rowed g i c (some k) = continue-rowed (k .fallthrough) i (k .kind)
+continueStmt-rowed g i c (some k) = continue-rowed (k .target) i (k .kind)
 
 jump-rowed : (v : Variant) (b g i : ℕ) (c : Context) → Good (λ s. Rowed (s .statement)) (visitGoto v b g i c)
-unfolding visitGoto
+unfolding visitGoto visitBreak visitContinue getBreakTarget getContinueTarget
 jump-rowed Break b g i c = good-bind Rowed (λ s. Rowed (s .statement)) _ _ (breakStmt-rowed b g i c (breakTargetFrom (c .stack) g true false)) (λ s h. h)
 jump-rowed Continue b g i c = good-bind (λ s. Rowed (some s)) (λ s. Rowed (s .statement)) _ _ (continueStmt-rowed g i c (continueTargetFrom (c .stack) g true false)) (λ s h. h)
 jump-rowed Try b g i c = none-rowed
@@ -148,10 +153,10 @@ module _ (t : Table) (values : VisitValueBlock) (F : List Frame) (R : List Row) 
     where
       at : (z : Bool) → Good Tallied
           (elim z [
-            | true ↦ visitBreak b y id c (breakTargetFrom (c .stack) y true false) >>= λ o. otherWay x id a b m F ((R ++ jumpOut o) ++ (blockRow (added o 0) ∷ [])) c
+            | true ↦ breakResolved b y id c (breakTargetFrom (c .stack) y true false) >>= λ o. otherWay x id a b m F ((R ++ jumpOut o) ++ (blockRow (added o 0) ∷ [])) c
             | false ↦ ok (visiting y (fWays x id a b m ∷ F) R 0 c)
           ])
-      at true = go (visitBreak b y id c (breakTargetFrom (c .stack) y true false)) _
+      at true = go (breakResolved b y id c (breakTargetFrom (c .stack) y true false)) _
           (λ o. otherWay-tally x id a b m F _ c (omega (arith, longer R (jumpOut o), longer (R ++ jumpOut o) (blockRow (added o 0) ∷ []))))
       at false = omega arith
 
@@ -159,7 +164,7 @@ module _ (t : Table) (values : VisitValueBlock) (F : List Frame) (R : List Row) 
   unfolding valueStep
   value-tally e b k f =
       go (scheduleIf (unlessScheduled c f) c) _ (λ c1. go (visitValueBlockTerminal t values e (k .id) (k .span) (c1 .visits) b) _ (λ r.
-      close-tally _ (unlessScheduled c f) (c .next) m F _ _ (omega (arith, longer R (valueOut (r .value))))))
+      close-tally _ (unlessScheduled c f) (c .nextId) m F _ _ (omega (arith, longer R (valueOut (r .value))))))
 
   dispatch-tally : (e : Terminal) (b : ℕ) (k : Block) → Good Tallied (dispatch t values e b k F R m c)
   unfolding dispatch
@@ -172,7 +177,7 @@ module _ (t : Table) (values : VisitValueBlock) (F : List Frame) (R : List Row) 
       leave-tally (s .next) F _ _ (s .context) (omega (arith, added-plus (s .statement) m (tally F), q (m + tally F), length-append R (jumpOut (s .statement)))))
   dispatch-tally (if x y a f) b k = go (unlessUnreachable t c f) _ (λ g. go (scheduleIf g c) _ (λ c1. into-tally y 12 y _ F R c1 h))
   dispatch-tally (branch x y a) b k = way-tally x y a (k .id) b
-  dispatch-tally (switch x i n f) b k = go (unlessUnreachable t c f) _ (λ g. go (scheduleSwitch g c) _ (λ c1. nextCase-tally x (k .id) g (c .next) b f m F (casesLastFirst t i n) 0 R c1 h))
+  dispatch-tally (switch x i n f) b k = go (unlessUnreachable t c f) _ (λ g. go (scheduleSwitch g c) _ (λ c1. nextCase-tally x (k .id) g (c .nextId) b f m F (casesLastFirst t i n) 0 R c1 h))
   dispatch-tally (do-while l x f) b k = go (scheduleLoop f x (some l) c) _ (λ c1. go (refuseIf (loopIsTaken c l f) 16 b (c1 .visits)) _ (λ _. omega arith))
   dispatch-tally (while x l f) b k =
       go (unlessUnreachable t c f) _ (λ g. go (scheduleLoop f x (some l) c) _ (λ c1. go (values x none (k .span) (c1 .visits)) _ (λ v.
@@ -184,7 +189,7 @@ module _ (t : Table) (values : VisitValueBlock) (F : List Frame) (R : List Row) 
         arith,
         longer R (valueOut (valueBlockResultToSequence t n (k .span))),
         longer (R ++ valueOut (valueBlockResultToSequence t n (k .span))) (valueOut (v .value)),
-        longer ((R ++ valueOut (valueBlockResultToSequence t n (k .span))) ++ valueOut (v .value)) (Machine.updateOut (w .value)),
+        longer ((R ++ valueOut (valueBlockResultToSequence t n (k .span))) ++ valueOut (v .value)) (updateOut (w .value)),
       ))))))
   dispatch-tally (for-of i x l f) b k =
       go (scheduleLoop f i (some l) c) _ (λ c1. go (values i none (k .span) (c1 .visits)) _ (λ n. go (values x none (k .span) (n .visits)) _ (λ v.
@@ -211,7 +216,7 @@ visit-tally : (t : Table) (b : ℕ) (F : List Frame) (R : List Row) (m : ℕ) (c
 unfolding visit
 visit-tally t b F R m c h =
     go (refuseIf (leb 128 (length F)) 30 b (c .visits)) _ (λ _. go (enterBlock t b c) _ (λ c1.
-    dispatch-tally t (value t (left F)) F (R ++ instrOut t (instructionRowsAt t b)) (m + length (instructionRowsAt t b)) c1
+    dispatch-tally t (visitValueBlock t (left F)) F (R ++ instrOut t (instructionRowsAt t b)) (m + length (instructionRowsAt t b)) c1
     (omega (arith, length-append R (instrOut t (instructionRowsAt t b)), instr-long t (instructionRowsAt t b))) (terminalAt t b) b (blockAt t b)))
 
 abbrev After : Turn → Type 0
@@ -228,7 +233,7 @@ unfolding step
 step-after t (visiting b F R m c) h = after (visit t b F R m c) (visit-tally t b F R m c h)
 step-after t (ended [] R m c) h = tt
 step-after t (ended (f ∷ F) R m c) h =
-    after (resume (value t (left F)) f F (R ++ (blockRow m ∷ [])) c) (resume-tally (value t (left F)) f F _ c (omega (arith, longer R (blockRow m ∷ []))))
+    after (resume (visitValueBlock t (left F)) f F (R ++ (blockRow m ∷ [])) c) (resume-tally (visitValueBlock t (left F)) f F _ c (omega (arith, longer R (blockRow m ∷ []))))
 
 pub step-tally : (t : Table) (s s′ : State) → Tallied s → step t s ≡ going s′ → Tallied s′
 step-tally t s s′ h e = subst After e (step-after t s h)

@@ -10,9 +10,9 @@ use mathlib.Core.Bool.{Bool, true, false}
 use lib.ListN.{length, getD, set, length-set, replicate, getD-replicate, length-replicate}
 use lib.Seq.{getD-set-same, getD-set-other}
 use native.Mathlib.Decide.{ℕ-discrete}
-use Rattle.table.specs.Table.{Table, Block, noBlock, Terminal, absent, blockAt, terminalAt}
-use Rattle.definition.specs.Context.{Result, ok, refused, _>>=_, refuseIf, or, Flags, no-flags, has, add, remove}
-use Rattle.definition.specs.Walk.{isAbsent}
+use Rattle.table.specs.Table.{Table, Block, noBlock, Terminal, absent, blockAt, terminalAt, isAbsent}
+use Rattle.definition.specs.Context.{or, Flags, no-flags, has, add, remove}
+use Rattle.definition.specs.Result.{refused, Result, ok, _>>=_, refuseIf}
 
 pub true-false : true ≡ false → ⊥
 true-false e = let z : _≡_ {A = ℕ} 0 1 = cc in omega arith

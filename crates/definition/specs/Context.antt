@@ -1,32 +1,19 @@
--- The state of the statement walk: `Context` of the Rust, with the count of visits.
+-- The Rust's `ControlFlowTarget` and `Context`, with the count of visits.
 use Prim.Native.Nat.{ℕ, zero, suc, _+_}
 use mathlib.Core.List.{List, [], _∷_}
 use mathlib.Core.Option.{Option, none, some}
 use mathlib.Core.Bool.{Bool, true, false}
 use lib.ListN.{getD, set, replicate}
-use lib.Dec.{eqb, leb}
+use lib.Dec.{eqb}
+use Rattle.definition.specs.Result.{Result, ok, refused, _>>=_, refuseIf, already-scheduled, unschedule-out-of-order}
 use Rattle.definition.specs.Tree.{Kind, implicit, labeled, unlabeled}
-
--- an answer, or a refusal: its code, its place and the visits begun
-pub data Result (A : Type 0) : Type 0 where
-  ok : A → Result A
-  refused : (code at visits : ℕ) → Result A
-
-infixl 20 _>>=_
-unfoldable pub _>>=_ : {A B : Type 0} → Result A → (A → Result B) → Result B
-_>>=_ (ok a) f = f a
-_>>=_ (refused c p v) f = refused c p v
-
--- go on where the test fails
-unfoldable pub refuseIf : Bool → ℕ → ℕ → ℕ → Result (Unit {0})
-refuseIf true c p v = refused c p v
-refuseIf false c p v = ok tt
 
 abbrev pub or : Bool → Bool → Bool
 or true b = true
 or false b = b
 
--- a set of blocks: one flag for each of the 1,024
+-- ---- sets of blocks: "one flag for each of the 1,024 blocks"
+
 abbrev pub Flags : Type 0
 Flags = List Bool
 
@@ -34,46 +21,48 @@ unfoldable pub no-flags : Flags
 no-flags = replicate 1024 false
 
 unfoldable pub has : Flags → ℕ → Bool
-has s b = getD s b false
+has flags block = getD flags block false
 
 unfoldable pub add : Flags → ℕ → Flags
-add s b = set s b true
+add flags block = set flags block true
 
 unfoldable pub remove : Flags → ℕ → Flags
-remove s b = set s b false
+remove flags block = set flags block false
 
+-- ---- the control stack
+
+-- a loop's `block` is its fallthrough; it owns the loop block if that was not scheduled before
 pub data ControlFlowTarget : Type 0 where
   target-if : (block : ℕ) → ControlFlowTarget
   target-switch : (block : ℕ) → ControlFlowTarget
   target-case : (block : ℕ) → ControlFlowTarget
-  target-loop : (block continue : ℕ) → (loop : Option ℕ) → (owns : Bool) → ControlFlowTarget
+  target-loop : (block continueBlock : ℕ) → (loopBlock : Option ℕ) → (ownsLoop : Bool) → ControlFlowTarget
+
+abbrev pub targetBlock : ControlFlowTarget → ℕ
+targetBlock (target-if block) = block
+targetBlock (target-switch block) = block
+targetBlock (target-case block) = block
+targetBlock (target-loop block continueBlock loopBlock ownsLoop) = block
+
+abbrev pub isLoop : ControlFlowTarget → Bool
+isLoop (target-if block) = false
+isLoop (target-switch block) = false
+isLoop (target-case block) = false
+isLoop (target-loop block continueBlock loopBlock ownsLoop) = true
+
+abbrev pub continuesAt : ControlFlowTarget → ℕ → Bool
+continuesAt (target-if block) wanted = false
+continuesAt (target-switch block) wanted = false
+continuesAt (target-case block) wanted = false
+continuesAt (target-loop block continueBlock loopBlock ownsLoop) wanted = eqb continueBlock wanted
 
 pub record Entry : Type 0 where
   pub id : ℕ
   pub target : ControlFlowTarget
 
-abbrev pub targetBlock : ControlFlowTarget → ℕ
-targetBlock (target-if b) = b
-targetBlock (target-switch b) = b
-targetBlock (target-case b) = b
-targetBlock (target-loop b c l o) = b
-
-abbrev pub isLoop : ControlFlowTarget → Bool
-isLoop (target-if b) = false
-isLoop (target-switch b) = false
-isLoop (target-case b) = false
-isLoop (target-loop b c l o) = true
-
--- the continue block, of a loop
-abbrev pub continueBlock : ControlFlowTarget → Option ℕ
-continueBlock (target-if b) = none
-continueBlock (target-switch b) = none
-continueBlock (target-case b) = none
-continueBlock (target-loop b c l o) = some c
-
 -- the stack's top comes first
 pub record Context : Type 0 where
-  pub next : ℕ
+  pub nextId : ℕ
   pub emitted : Flags
   pub scopeFallthroughs : Flags
   pub scheduled : Flags
@@ -83,86 +72,113 @@ pub record Context : Type 0 where
 
 unfoldable pub start : Context
 unfolding no-flags
-start = record { next = 0; emitted = no-flags; scopeFallthroughs = no-flags; scheduled = no-flags; catchHandlers = no-flags; stack = []; visits = 0 }
+start = record { nextId = 0; emitted = no-flags; scopeFallthroughs = no-flags; scheduled = no-flags; catchHandlers = no-flags; stack = []; visits = 0 }
 
+-- a catch handler counts as scheduled here, and nowhere else
 unfoldable pub isScheduled : Context → ℕ → Bool
-isScheduled c b = or (has (c .scheduled) b) (has (c .catchHandlers) b)
+isScheduled cx block = or (has (cx .scheduled) block) (has (cx .catchHandlers) block)
+
+-- ---- steps that change one field
 
 unfoldable pub emit : ℕ → Context → Context
-emit b c = record { next = c .next; emitted = add (c .emitted) b; scopeFallthroughs = c .scopeFallthroughs; scheduled = c .scheduled; catchHandlers = c .catchHandlers; stack = c .stack; visits = c .visits }
+emit block cx = record { nextId = cx .nextId; emitted = add (cx .emitted) block; scopeFallthroughs = cx .scopeFallthroughs; scheduled = cx .scheduled; catchHandlers = cx .catchHandlers; stack = cx .stack; visits = cx .visits }
 
 unfoldable pub withVisits : ℕ → Context → Context
-withVisits v c = record { next = c .next; emitted = c .emitted; scopeFallthroughs = c .scopeFallthroughs; scheduled = c .scheduled; catchHandlers = c .catchHandlers; stack = c .stack; visits = v }
+withVisits visits cx = record { nextId = cx .nextId; emitted = cx .emitted; scopeFallthroughs = cx .scopeFallthroughs; scheduled = cx .scheduled; catchHandlers = cx .catchHandlers; stack = cx .stack; visits = visits }
 
 unfoldable pub markScopeFallthrough : ℕ → Context → Context
-markScopeFallthrough b c = record { next = c .next; emitted = c .emitted; scopeFallthroughs = add (c .scopeFallthroughs) b; scheduled = c .scheduled; catchHandlers = c .catchHandlers; stack = c .stack; visits = c .visits }
+markScopeFallthrough block cx = record { nextId = cx .nextId; emitted = cx .emitted; scopeFallthroughs = add (cx .scopeFallthroughs) block; scheduled = cx .scheduled; catchHandlers = cx .catchHandlers; stack = cx .stack; visits = cx .visits }
 
 unfoldable pub scheduleCatchHandler : ℕ → Context → Context
-scheduleCatchHandler b c = record { next = c .next; emitted = c .emitted; scopeFallthroughs = c .scopeFallthroughs; scheduled = c .scheduled; catchHandlers = add (c .catchHandlers) b; stack = c .stack; visits = c .visits }
+scheduleCatchHandler block cx = record { nextId = cx .nextId; emitted = cx .emitted; scopeFallthroughs = cx .scopeFallthroughs; scheduled = cx .scheduled; catchHandlers = add (cx .catchHandlers) block; stack = cx .stack; visits = cx .visits }
 
--- a target pushed, with the scheduled set that it leaves
+-- ---- schedule, schedule_loop, unschedule
+
+-- a target on the stack under the next id, and the scheduled set that it leaves
 unfoldable pub pushed : ControlFlowTarget → Flags → Context → Context
-pushed t s c = record { next = suc (c .next); emitted = c .emitted; scopeFallthroughs = c .scopeFallthroughs; scheduled = s; catchHandlers = c .catchHandlers; stack = record { id = c .next; target = t } ∷ c .stack; visits = c .visits }
+pushed target scheduled cx = record { nextId = suc (cx .nextId); emitted = cx .emitted; scopeFallthroughs = cx .scopeFallthroughs; scheduled = scheduled; catchHandlers = cx .catchHandlers; stack = record { id = cx .nextId; target = target } ∷ cx .stack; visits = cx .visits }
 
--- a target other than a loop. 90 stands for a message of the Rust that never occurs
+-- a target that is no loop
 unfoldable pub schedule : ControlFlowTarget → Context → Result Context
-schedule t c = refuseIf (has (c .scheduled) (targetBlock t)) 90 (targetBlock t) (c .visits) >>= λ _. ok (pushed t (add (c .scheduled) (targetBlock t)) c)
+schedule target cx =
+    refuseIf (has (cx .scheduled) (targetBlock target)) already-scheduled (targetBlock target) (cx .visits) >>= λ _.
+    ok (pushed target (add (cx .scheduled) (targetBlock target)) cx)
 
--- the fallthrough is put in without a test, and then the continue block is tested
-unfoldable pub scheduleLoop : ℕ → ℕ → Option ℕ → Context → Result Context
-scheduleLoop ft k none c =
-    let s1 : Flags = add (c .scheduled) ft in
-    refuseIf (has s1 k) 15 k (c .visits) >>= λ _. ok (pushed (target-loop ft k none false) (add s1 k) c)
-scheduleLoop ft k (some l) c =
-    let s1 : Flags = add (c .scheduled) ft in
-    refuseIf (has s1 k) 15 k (c .visits) >>= λ _.
-    ok (pushed (target-loop ft k (some l) (elim (has (add s1 k) l) [ true ↦ false | false ↦ true ])) (add (add s1 k) l) c)
+-- "`schedule_loop` inserts the fallthrough without a test and only then tests the continue block."
+unfoldable pub scheduleLoop : (fallthrough continueBlock : ℕ) → Option ℕ → Context → Result Context
+scheduleLoop fallthrough continueBlock none cx =
+    let inserted : Flags = add (cx .scheduled) fallthrough in
+    refuseIf (has inserted continueBlock) 15 continueBlock (cx .visits) >>= λ _.
+    ok (pushed (target-loop fallthrough continueBlock none false) (add inserted continueBlock) cx)
+scheduleLoop fallthrough continueBlock (some loopBlock) cx =
+    let inserted : Flags = add (cx .scheduled) fallthrough in
+    refuseIf (has inserted continueBlock) 15 continueBlock (cx .visits) >>= λ _.
+    ok (pushed (target-loop fallthrough continueBlock (some loopBlock) (elim (has (add inserted continueBlock) loopBlock) [ true ↦ false | false ↦ true ])) (add (add inserted continueBlock) loopBlock) cx)
 
--- what a popped target takes out of the scheduled set
+-- "`unschedule` of a loop removes its fallthrough and continue block from the scheduled set even where an outer statement put them there.
+-- The loop block is removed only if this loop owns it."
 unfoldable pub unscheduledBy : ControlFlowTarget → Flags → Flags
-unscheduledBy (target-if b) s = remove s b
-unscheduledBy (target-switch b) s = remove s b
-unscheduledBy (target-case b) s = remove s b
-unscheduledBy (target-loop b k l false) s = remove (remove s b) k
-unscheduledBy (target-loop b k none true) s = remove (remove s b) k
-unscheduledBy (target-loop b k (some l) true) s = remove (remove (remove s b) k) l
+unscheduledBy (target-if block) scheduled = remove scheduled block
+unscheduledBy (target-switch block) scheduled = remove scheduled block
+unscheduledBy (target-case block) scheduled = remove scheduled block
+unscheduledBy (target-loop block continueBlock loopBlock false) scheduled = remove (remove scheduled block) continueBlock
+unscheduledBy (target-loop block continueBlock none true) scheduled = remove (remove scheduled block) continueBlock
+unscheduledBy (target-loop block continueBlock (some loopBlock) true) scheduled = remove (remove (remove scheduled block) continueBlock) loopBlock
 
 unfoldable pub popped : List Entry → Flags → Context → Context
-popped r s c = record { next = c .next; emitted = c .emitted; scopeFallthroughs = c .scopeFallthroughs; scheduled = s; catchHandlers = c .catchHandlers; stack = r; visits = c .visits }
+popped stack scheduled cx = record { nextId = cx .nextId; emitted = cx .emitted; scopeFallthroughs = cx .scopeFallthroughs; scheduled = scheduled; catchHandlers = cx .catchHandlers; stack = stack; visits = cx .visits }
 
 unfoldable pub unscheduleTop : List Entry → ℕ → Context → Result Context
-unscheduleTop [] i c = refused 91 0 (c .visits)
-unscheduleTop (e ∷ r) i c = elim (eqb (e .id) i) [ true ↦ ok (popped r (unscheduledBy (e .target) (c .scheduled)) c) | false ↦ refused 91 0 (c .visits) ]
+unscheduleTop [] id cx = refused unschedule-out-of-order 0 (cx .visits)
+unscheduleTop (top ∷ below) id cx =
+    elim (eqb (top .id) id) [
+      | true ↦ ok (popped below (unscheduledBy (top .target) (cx .scheduled)) cx)
+      | false ↦ refused unschedule-out-of-order 0 (cx .visits)
+    ]
 
 unfoldable pub unschedule : ℕ → Context → Result Context
-unschedule i c = unscheduleTop (c .stack) i c
+unschedule id cx = unscheduleTop (cx .stack) id cx
 
--- the kind of a break to the entry that was found
-unfoldable pub breakKind : Bool → Bool → Bool → Kind
+-- ---- get_break_target, get_continue_target
+
+-- what a jump resolves to: the block that its row names, and its kind
+pub record Resolution : Type 0 where
+  pub target : ℕ
+  pub kind : Kind
+
+-- "A loop gives Unlabeled, or Labeled if a loop lies above. Another entry gives Implicit at the top, else Labeled."
+unfoldable pub breakKind : (loop top loopAbove : Bool) → Kind
 breakKind true top true = labeled
 breakKind true top false = unlabeled
-breakKind false true above = implicit
-breakKind false false above = labeled
+breakKind false true loopAbove = implicit
+breakKind false false loopAbove = labeled
 
-unfoldable pub breakTargetFrom : List Entry → ℕ → Bool → Bool → Option Kind
-breakTargetFrom [] t top above = none
-breakTargetFrom (e ∷ r) t top above =
-    elim (eqb (targetBlock (e .target)) t) [ true ↦ some (breakKind (isLoop (e .target)) top above) | false ↦ breakTargetFrom r t false (or above (isLoop (e .target))) ]
+-- "A break resolves on the innermost stack entry whose block is the target."
+unfoldable pub breakTargetFrom : List Entry → (block : ℕ) → (top loopAbove : Bool) → Option Resolution
+breakTargetFrom [] block top loopAbove = none
+breakTargetFrom (entry ∷ below) block top loopAbove =
+    elim (eqb (targetBlock (entry .target)) block) [
+      | true ↦ some (record { target = block; kind = breakKind (isLoop (entry .target)) top loopAbove })
+      | false ↦ breakTargetFrom below block false (or loopAbove (isLoop (entry .target)))
+    ]
 
-unfoldable pub continueKind : Bool → Bool → Kind
+unfoldable pub getBreakTarget : Context → (block : ℕ) → Option Resolution
+getBreakTarget cx block = breakTargetFrom (cx .stack) block true false
+
+-- "Labeled if a loop lies above, else Implicit at the top, else Unlabeled."
+unfoldable pub continueKind : (top loopAbove : Bool) → Kind
 continueKind top true = labeled
 continueKind true false = implicit
 continueKind false false = unlabeled
 
-pub record Resolution : Type 0 where
-  pub fallthrough : ℕ
-  pub kind : Kind
+-- "A continue resolves on the loop with that continue block … Its target is the loop's fallthrough." (The innermost, of several.)
+unfoldable pub continueTargetFrom : List Entry → (block : ℕ) → (top loopAbove : Bool) → Option Resolution
+continueTargetFrom [] block top loopAbove = none
+continueTargetFrom (entry ∷ below) block top loopAbove =
+    elim (continuesAt (entry .target) block) [
+      | true ↦ some (record { target = targetBlock (entry .target); kind = continueKind top loopAbove })
+      | false ↦ continueTargetFrom below block false (or loopAbove (isLoop (entry .target)))
+    ]
 
-unfoldable pub isContinueBlock : Option ℕ → ℕ → Bool
-isContinueBlock none t = false
-isContinueBlock (some k) t = eqb k t
-
-unfoldable pub continueTargetFrom : List Entry → ℕ → Bool → Bool → Option Resolution
-continueTargetFrom [] t top above = none
-continueTargetFrom (e ∷ r) t top above =
-    elim (isContinueBlock (continueBlock (e .target)) t) [ true ↦ some (record { fallthrough = targetBlock (e .target); kind = continueKind top above }) | false ↦ continueTargetFrom r t false (or above (isLoop (e .target))) ]
+unfoldable pub getContinueTarget : Context → (block : ℕ) → Option Resolution
+getContinueTarget cx block = continueTargetFrom (cx .stack) block true false

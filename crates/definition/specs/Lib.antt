@@ -1,7 +1,10 @@
 pub mod Tree
 pub mod Reading
+pub mod Result
 pub mod Context
-pub mod Walk
+pub mod Value
+pub mod Statement
+pub mod Build
 pub mod Run
 pub mod BlockRun
 pub mod Completion

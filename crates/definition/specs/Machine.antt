@@ -5,10 +5,13 @@ use mathlib.Core.Option.{Option, none, some}
 use mathlib.Core.Bool.{Bool, true, false, not}
 use lib.ListN.{length}
 use lib.Dec.{eqb, leb}
-use Rattle.table.specs.Table.{Table, Block, Case, Terminal, absent, unreachable, throw, return, goto, if, branch, switch, do-while, while, for, for-of, for-in, logical, ternary, optional, label, sequence, maybe-throw, try, scope, blockAt, terminalAt, instructionAt, instructionRowsAt}
+use Rattle.table.specs.Table.{Table, Block, Case, Terminal, absent, unreachable, throw, return, goto, if, branch, switch, do-while, while, for, for-of, for-in, logical, ternary, optional, sequence, maybe-throw, try, scope, blockAt, terminalAt, instructionAt, instructionRowsAt, label}
+use Rattle.definition.specs.Build.{accepted, Report, rejected}
+use Rattle.definition.specs.Context.{ControlFlowTarget, target-case, Entry, Context, start, isScheduled, withVisits, scheduleCatchHandler, schedule, scheduleLoop, unscheduledBy, popped, unschedule, breakTargetFrom}
+use Rattle.definition.specs.Result.{refused, Result, ok, _>>=_, refuseIf}
+use Rattle.definition.specs.Statement.{OptionalValue, visitUpdate, continueBlockOf, TerminalResult, enterBlock, unlessScheduled, unlessUnreachable, scheduleIf, unscheduleIf, markScopeFallthroughIf, breakResolved, visitGoto, loopIsTaken, scheduleSwitch, casesLastFirst}
 use Rattle.definition.specs.Tree.{Value, Statement, Row, row, orNone, flag, present, valueRows, statementRows}
-use Rattle.definition.specs.Context.{Result, ok, refused, _>>=_, refuseIf, ControlFlowTarget, target-case, Entry, Context, start, isScheduled, withVisits, scheduleCatchHandler, schedule, scheduleLoop, unscheduledBy, popped, unschedule, breakTargetFrom}
-use Rattle.definition.specs.Walk.{mostDepth, ValueBlockResult, ValueTerminalResult, VisitValueBlock, visitValueBlockTerminal, value, OptionalValue, visitUpdate, valueBlockResultToSequence, continueBlockOf, TerminalResult, enterBlock, unlessScheduled, unlessUnreachable, scheduleIf, unscheduleIf, markScopeFallthroughIf, visitBreak, visitGoto, loopIsTaken, scheduleSwitch, casesLastFirst, Report, accepted, rejected}
+use Rattle.definition.specs.Value.{visitValueBlock, mostDepth, ValueBlockResult, ValueTerminalResult, VisitValueBlock, visitValueBlockTerminal, valueBlockResultToSequence}
 
 -- what a nested list is awaited for. g the label, i the schedule id, m the statements so far of the list around.
 -- fBody: a last part, after which `closing` is put out (If and Branch alternate, Label, scopes, Try handler); fLoop: the body of While, For, ForOf, ForIn
@@ -132,7 +135,7 @@ resume values (fLoop r g i m) F R c = closeLoop r g i m F R c
 unfoldable pub firstWay : (x y a id b m : ℕ) → List Frame → List Row → Context → Result State
 firstWay x y a id b m F R c =
     elim (isScheduled c y) [
-      | true ↦ visitBreak b y id c (breakTargetFrom (c .stack) y true false) >>= λ s. otherWay x id a b m F ((R ++ jumpOut s) ++ (blockRow (added s 0) ∷ [])) c
+      | true ↦ breakResolved b y id c (breakTargetFrom (c .stack) y true false) >>= λ s. otherWay x id a b m F ((R ++ jumpOut s) ++ (blockRow (added s 0) ∷ [])) c
       | false ↦ ok (visiting y (fWays x id a b m ∷ F) R 0 c)
     ]
 
@@ -140,7 +143,7 @@ unfoldable pub valueStep : Table → VisitValueBlock → Terminal → ℕ → Bl
 valueStep t values e b k f F R m c =
     let g : Option ℕ = unlessScheduled c f in
     scheduleIf g c >>= λ c1. visitValueBlockTerminal t values e (k .id) (k .span) (c1 .visits) b >>= λ r.
-    close (row 4 (r .id) (r .place) (k .span) 0 0) g (c .next) m F (R ++ valueOut (r .value)) (withVisits (r .visits) c1)
+    close (row 4 (r .id) (r .place) (k .span) 0 0) g (c .nextId) m F (R ++ valueOut (r .value)) (withVisits (r .visits) c1)
 
 unfoldable pub dispatch : Table → VisitValueBlock → Terminal → ℕ → Block → List Frame → List Row → ℕ → Context → Result State
 dispatch t values absent b k F R m c = refused 99 b (c .visits)
@@ -149,43 +152,43 @@ dispatch t values (throw v) b k F R m c = ok (ended F (R ++ (row 23 v (k .id) 0 
 dispatch t values (return v) b k F R m c = ok (ended F (R ++ (row 22 v (k .id) 0 0 0 ∷ [])) (suc m) c)
 dispatch t values (goto g v) b k F R m c = visitGoto v b g (k .id) c >>= λ s. ok (leave (s .next) F (R ++ jumpOut (s .statement)) (added (s .statement) m) (s .context))
 dispatch t values (if x y a f) b k F R m c =
-    unlessUnreachable t c f >>= λ g. scheduleIf g c >>= λ c1. into y 12 y (fThen x (k .id) g (c .next) a f m) F R c1
+    unlessUnreachable t c f >>= λ g. scheduleIf g c >>= λ c1. into y 12 y (fThen x (k .id) g (c .nextId) a f m) F R c1
 dispatch t values (branch x y a) b k F R m c = firstWay x y a (k .id) b m F R c
 dispatch t values (switch x i n f) b k F R m c =
-    unlessUnreachable t c f >>= λ g. scheduleSwitch g c >>= λ c1. nextCase x (k .id) g (c .next) b f m F (casesLastFirst t i n) 0 R c1
+    unlessUnreachable t c f >>= λ g. scheduleSwitch g c >>= λ c1. nextCase x (k .id) g (c .nextId) b f m F (casesLastFirst t i n) 0 R c1
 dispatch t values (do-while l x f) b k F R m c =
     let g : Option ℕ = unlessScheduled c f in
-    scheduleLoop f x (some l) c >>= λ c1. refuseIf (loopIsTaken c l f) 16 b (c1 .visits) >>= λ _. ok (visiting l (fDo (k .id) g (c .next) x (k .span) m ∷ F) R 0 c1)
+    scheduleLoop f x (some l) c >>= λ c1. refuseIf (loopIsTaken c l f) 16 b (c1 .visits) >>= λ _. ok (visiting l (fDo (k .id) g (c .nextId) x (k .span) m ∷ F) R 0 c1)
 dispatch t values (while x l f) b k F R m c =
     unlessUnreachable t c f >>= λ g. scheduleLoop f x (some l) c >>= λ c1. values x none (k .span) (c1 .visits) >>= λ v.
-    intoLoop b l (loopIsTaken c l f) (v .visits) (fLoop (row 14 (k .id) (orNone g) 0 0 0) g (c .next) m) F (R ++ valueOut (v .value)) c1
+    intoLoop b l (loopIsTaken c l f) (v .visits) (fLoop (row 14 (k .id) (orNone g) 0 0 0) g (c .nextId) m) F (R ++ valueOut (v .value)) c1
 dispatch t values (for i x u l f) b k F R m c =
     let g : Option ℕ = unlessScheduled c f in
     scheduleLoop f (continueBlockOf u x) (some l) c >>= λ c1.
     values i none (k .span) (c1 .visits) >>= λ n. values x none (k .span) (n .visits) >>= λ v. visitUpdate values u (k .span) (v .visits) >>= λ w.
-    intoLoop b l (loopIsTaken c l f) (w .visits) (fLoop (row 15 (k .id) (orNone g) (present (w .value)) 0 0) g (c .next) m) F
+    intoLoop b l (loopIsTaken c l f) (w .visits) (fLoop (row 15 (k .id) (orNone g) (present (w .value)) 0 0) g (c .nextId) m) F
     (((R ++ valueOut (valueBlockResultToSequence t n (k .span))) ++ valueOut (v .value)) ++ updateOut (w .value)) c1
 dispatch t values (for-of i x l f) b k F R m c =
     let g : Option ℕ = unlessScheduled c f in
     scheduleLoop f i (some l) c >>= λ c1. values i none (k .span) (c1 .visits) >>= λ n. values x none (k .span) (n .visits) >>= λ v.
-    intoLoop b l (loopIsTaken c l f) (v .visits) (fLoop (row 16 (k .id) (orNone g) (k .span) 0 0) g (c .next) m) F
+    intoLoop b l (loopIsTaken c l f) (v .visits) (fLoop (row 16 (k .id) (orNone g) (k .span) 0 0) g (c .nextId) m) F
     ((R ++ valueOut (valueBlockResultToSequence t n (k .span))) ++ valueOut (valueBlockResultToSequence t v (k .span))) c1
 dispatch t values (for-in i l f) b k F R m c =
     let g : Option ℕ = unlessScheduled c f in
     scheduleLoop f i (some l) c >>= λ c1. values i none (k .span) (c1 .visits) >>= λ n.
-    intoLoop b l (loopIsTaken c l f) (n .visits) (fLoop (row 17 (k .id) (orNone g) (k .span) 0 0) g (c .next) m) F (R ++ valueOut (valueBlockResultToSequence t n (k .span))) c1
+    intoLoop b l (loopIsTaken c l f) (n .visits) (fLoop (row 17 (k .id) (orNone g) (k .span) 0 0) g (c .nextId) m) F (R ++ valueOut (valueBlockResultToSequence t n (k .span))) c1
 dispatch t values (logical o x f) b k F R m c = valueStep t values (logical o x f) b k f F R m c
 dispatch t values (ternary x f) b k F R m c = valueStep t values (ternary x f) b k f F R m c
 dispatch t values (optional g x f) b k F R m c = valueStep t values (optional g x f) b k f F R m c
 dispatch t values (label x f) b k F R m c =
-    unlessUnreachable t c f >>= λ g. scheduleIf g c >>= λ c1. into x 17 b (fBody (row 18 (k .id) (orNone g) 0 0 0) g (c .next) m) F R c1
+    unlessUnreachable t c f >>= λ g. scheduleIf g c >>= λ c1. into x 17 b (fBody (row 18 (k .id) (orNone g) 0 0 0) g (c .nextId) m) F R c1
 dispatch t values (sequence x f) b k F R m c = valueStep t values (sequence x f) b k f F R m c
 dispatch t values (maybe-throw n) b k F R m c = ok (leave (unlessScheduled c n) F R m c)
 dispatch t values (try x h f n) b k F R m c =
-    unlessUnreachable t c f >>= λ g. scheduleIf g c >>= λ c1. ok (visiting x (fTry (k .id) g (c .next) h n m ∷ F) R 0 (scheduleCatchHandler h c1))
+    unlessUnreachable t c f >>= λ g. scheduleIf g c >>= λ c1. ok (visiting x (fTry (k .id) g (c .nextId) h n m ∷ F) R 0 (scheduleCatchHandler h c1))
 dispatch t values (scope p x f s) b k F R m c =
     let g : Option ℕ = unlessScheduled c f in
-    scheduleIf g c >>= λ c1. into x 18 b (fBody (scopeRow p s) g (c .next) m) F R (markScopeFallthroughIf g c1)
+    scheduleIf g c >>= λ c1. into x 18 b (fBody (scopeRow p s) g (c .nextId) m) F R (markScopeFallthroughIf g c1)
 
 -- ---- the loop
 
@@ -196,12 +199,12 @@ left F = 127 - length F
 unfoldable pub visit : Table → ℕ → List Frame → List Row → ℕ → Context → Result State
 visit t b F R m c =
     refuseIf (leb mostDepth (length F)) 30 b (c .visits) >>= λ _. enterBlock t b c >>= λ c1.
-    dispatch t (value t (left F)) (terminalAt t b) b (blockAt t b) F (R ++ instrOut t (instructionRowsAt t b)) (m + length (instructionRowsAt t b)) c1
+    dispatch t (visitValueBlock t (left F)) (terminalAt t b) b (blockAt t b) F (R ++ instrOut t (instructionRowsAt t b)) (m + length (instructionRowsAt t b)) c1
 
 unfoldable pub step : Table → State → Turn
 step t (visiting b F R m c) = turn (visit t b F R m c)
 step t (ended [] R m c) = halt (accepted (R ++ (blockRow m ∷ [])) (c .visits))
-step t (ended (f ∷ F) R m c) = turn (resume (value t (left F)) f F (R ++ (blockRow m ∷ [])) c)
+step t (ended (f ∷ F) R m c) = turn (resume (visitValueBlock t (left F)) f F (R ++ (blockRow m ∷ [])) c)
 
 -- at most so many steps; 98 where they do not suffice
 unfoldable pub run : Table → ℕ → State → Report

@@ -4,10 +4,10 @@ use mathlib.Core.List.{List, [], _∷_}
 use mathlib.Core.Option.{Option, none, some}
 use mathlib.Core.Bool.{Bool, true, false}
 use lib.ListN.{getD}
-use Rattle.table.specs.Table.{Table, Block, Case, Terminal, absent, unreachable, throw, return, goto, if, branch, switch, do-while, while, for, for-of, for-in, logical, ternary, optional, label, sequence, maybe-throw, try, scope, blockAt, terminalAt}
-use Rattle.definition.specs.Tree.{Row, row, orNone}
-use Rattle.definition.specs.Walk.{casesLastFirst}
+use Rattle.table.specs.Table.{Table, Block, Case, Terminal, absent, unreachable, throw, return, goto, if, branch, switch, do-while, while, for, for-of, for-in, logical, ternary, optional, sequence, maybe-throw, try, scope, blockAt, terminalAt, label}
 use Rattle.definition.specs.Machine.{Frame, fThen, fWays, fCase, fDo, fTry, fBody, fLoop, ifRow, scopeRow}
+use Rattle.definition.specs.Statement.{casesLastFirst}
+use Rattle.definition.specs.Tree.{Row, row, orNone}
 
 -- second: the later of two parts (If and Branch alternate, Try handler). left: the cases still to come; built: those made.
 -- A Branch has the label none and the id 0. An end with no nested list never has a slot; its clause is there to be total

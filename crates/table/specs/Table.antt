@@ -60,6 +60,16 @@ codeOf (try block handler fallthrough binding) = 19
 codeOf (scope false block fallthrough number) = 20
 codeOf (scope true block fallthrough number) = 21
 
+-- "0 no such block"
+abbrev pub isAbsent : Terminal → Bool
+isAbsent terminal = eqb (codeOf terminal) 0
+
+abbrev pub isUnreachable : Terminal → Bool
+isUnreachable terminal = eqb (codeOf terminal) 1
+
+abbrev pub isGoto : Terminal → Bool
+isGoto terminal = eqb (codeOf terminal) 4
+
 pub record Block : Type 0 where
   pub first : ℕ
   pub count : ℕ
