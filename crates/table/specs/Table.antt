@@ -35,6 +35,41 @@ pub data Terminal : Type 0 where
   try : (block handler fallthrough : ℕ) → (binding : Option ℕ) → Terminal
   scope : (pruned : Bool) → (block fallthrough scope : ℕ) → Terminal
 
+-- the code of a terminal
+abbrev pub codeOf : Terminal → ℕ
+codeOf absent = 0
+codeOf unreachable = 1
+codeOf (throw value) = 2
+codeOf (return value) = 3
+codeOf (goto block variant) = 4
+codeOf (if test consequent alternate fallthrough) = 5
+codeOf (branch test consequent alternate) = 6
+codeOf (switch test first number fallthrough) = 7
+codeOf (do-while loop test fallthrough) = 8
+codeOf (while test loop fallthrough) = 9
+codeOf (for init test update loop fallthrough) = 10
+codeOf (for-of init test loop fallthrough) = 11
+codeOf (for-in init loop fallthrough) = 12
+codeOf (logical operator test fallthrough) = 13
+codeOf (ternary test fallthrough) = 14
+codeOf (optional flag test fallthrough) = 15
+codeOf (label block fallthrough) = 16
+codeOf (sequence block fallthrough) = 17
+codeOf (maybe-throw continuation) = 18
+codeOf (try block handler fallthrough binding) = 19
+codeOf (scope false block fallthrough number) = 20
+codeOf (scope true block fallthrough number) = 21
+
+-- "0 no such block"
+abbrev pub isAbsent : Terminal → Bool
+isAbsent terminal = eqb (codeOf terminal) 0
+
+abbrev pub isUnreachable : Terminal → Bool
+isUnreachable terminal = eqb (codeOf terminal) 1
+
+abbrev pub isGoto : Terminal → Bool
+isGoto terminal = eqb (codeOf terminal) 4
+
 pub record Block : Type 0 where
   pub first : ℕ
   pub count : ℕ
@@ -167,3 +202,6 @@ rowsFrom first (suc count) = first ∷ rowsFrom (suc first) count
 -- "A block's instructions are `count` rows from `first`"
 abbrev pub instructionRows : Block → List ℕ
 instructionRows block = rowsFrom (block .first) (block .count)
+
+abbrev pub instructionRowsAt : Table → ℕ → List ℕ
+instructionRowsAt t b = instructionRows (blockAt t b)
