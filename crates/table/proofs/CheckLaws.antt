@@ -65,6 +65,14 @@ module _ (ws : List ℕ) where
       go true e h ih (suc k) l = let z : suc at + k ≡ at + suc k = omega arith in rw (← z) (ih h k (omega arith))
       go false e h ih k l = absurd (let z : _≡_ {A = ℕ} 0 1 = cc in omega arith)
 
+  pub counts-all : (at : ℕ) (limits : List ℕ) → ((k : ℕ) → k < length limits → word ws (at + k) ≤ getD limits k 0) → countsVerdict ws at limits ≡ accepted
+  unfolding countsVerdict
+  counts-all at [] h = refl
+  counts-all at (limit ∷ limits) h =
+      let z : at + 0 ≡ at = omega arith in
+      let first : word ws at ≤ limit = rw z at (h 0 (omega arith)) in
+      rw (le-leb (word ws at) limit first, countsVerdict) (counts-all (suc at) limits λ k l. (let y : suc at + k ≡ at + suc k = omega arith in rw y (h (suc k) (omega arith))))
+
   pub limited : 6 ≤ length ws → countsVerdict ws 1 limits ≡ accepted → Limited ws
   unfolding blockCount instructionCount caseCount placeCount identifierCount
   limited h e = record {

@@ -191,9 +191,9 @@ module _ (ws : List ℕ) (rules : ℕ → List Rule) (width : ℕ) (wide : (i : 
       let f : first + 0 ≡ first = omega arith in
       let g : rowVerdict ws at (rules first) ≡ accepted = rw (e, f) at (h 0 (omega arith)) in
       on _ _ g ∙ rw (wide first) (row-rows (at + width) (suc first) count λ i l.
-          (let e : at + suc i * width ≡ at + width + i * width = omega (arith, suc-mul i width) in
-          let f : first + suc i ≡ suc first + i = omega arith in
-          rw (e, f) at (h (suc i) (omega arith))))
+      (let e : at + suc i * width ≡ at + width + i * width = omega (arith, suc-mul i width) in
+      let f : first + suc i ≡ suc first + i = omega arith in
+      rw (e, f) at (h (suc i) (omega arith))))
 
   -- a loop over the rows: what is left from a row on gives what all give
   module _ (begin rows : ℕ) where
@@ -223,13 +223,13 @@ module _ (ws : List ℕ) (rules : ℕ → List Rule) (width : ℕ) (wide : (i : 
           let e : begin + (row + 1) * width ≡ begin + row * width + width = omega (arith, add-mul row 1 width, one-mul width) in
           let f : rows - row - 1 ≡ rows - (row + 1) = omega arith in
           let g : rowVerdict ws (begin + row * width) (rules row) ≡ accepted =
-            rw at-row at (row-good ws (begin + row * width) 0 (rules row) (omega (arith, wide row, found))) in
+          rw at-row at (row-good ws (begin + row * width) 0 (rules row) (omega (arith, wide row, found))) in
           one _ row (omega arith) ∙ (on _ _ g ∙ rw (e, f, add-one row))
 
       pub rows-off : bad < width → {from : ℕ} → from ≡ begin → refused 4 (from + row * width + bad) ≡ left row
       rows-off h e =
           let g : rowVerdict ws (begin + row * width) (rules row) ≡ refused 4 (begin + row * width + firstBad (column row) 0 (rules row)) =
-            rw at-row at (row-bad ws (begin + row * width) 0 (rules row) (omega (arith, wide row, found))) in
+          rw at-row at (row-bad ws (begin + row * width) 0 (rules row) (omega (arith, wide row, found))) in
           rw (e, found) (sym (one _ row (omega arith) ∙ off _ _ g))
 
 -- rows of one word, and so of one rule

@@ -64,9 +64,9 @@ past (suc count) n h = let l : count ≤ n = past count n (h .0) in omega (arith
 
 -- a code that there is not
 pub no-terminal : (ws : List ℕ) (code first : ℕ) → 22 ≤ code → terminalRules ws code first ≡ []
-unfolding terminalRules rulesByCode
+unfolding terminalRules
 no-terminal ws code first h = List·getD-eq-default (rulesByCode ws first) [] h
 
 pub no-operation : (ws : List ℕ) (code : ℕ) → 3 ≤ code → operandRules ws code ≡ []
-unfolding operandRules operandsByCode
+unfolding operandRules
 no-operation ws code h = List·getD-eq-default (operandsByCode ws) [] h

@@ -44,7 +44,7 @@ module _ (ws : List ℕ) where
   place-or-none = row-or-none (placeCount ws)
 
   -- the columns a to e of each code, in the order of the codes; those not listed are unused. A Switch's number of cases is charged with its sum
-  unfoldable pub rulesByCode : (firstCase : ℕ) → List (List Rule)
+  abbrev pub rulesByCode : (firstCase : ℕ) → List (List Rule)
   rulesByCode firstCase =
       []
       ∷ []
@@ -95,7 +95,7 @@ module _ (ws : List ℕ) where
       ]
 
   -- p and q of an instruction, by its code; those not listed are unused
-  unfoldable pub operandsByCode : List (List Rule)
+  abbrev pub operandsByCode : List (List Rule)
   operandsByCode = [] ∷ (place ∷ []) ∷ (place ∷ place ∷ []) ∷ []
 
   unfoldable pub operandRules : (code : ℕ) → List Rule

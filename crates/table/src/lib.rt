@@ -1,7 +1,7 @@
 // Refusals 1 to 4 of paper 01, and the accessors that index the words by what the check promises.
-pub mod words;
-mod rules;
 mod rows;
+mod rules;
+pub mod words;
 
 ghost use mathlib.Core.Path.{_≡_};
 ghost use Prim.Native.Nat.{_+_, _*_, _<_, _≤_};

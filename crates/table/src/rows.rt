@@ -1,9 +1,8 @@
 // The rows of the five tables: the first bad word of each.
-use crate::rules::fits;
-use crate::rules::Rule;
-use crate::words;
 use crate::Checked;
-
+use crate::rules::Rule;
+use crate::rules::fits;
+use crate::words;
 ghost use mathlib.Core.Path.{_≡_};
 ghost use mathlib.Core.List.{[], _∷_};
 ghost use Prim.Native.Nat.{_+_, _*_, _<_, _≤_};
@@ -111,7 +110,10 @@ fn block_row(words: &[u32], row: u32) -> u32
         return 0;
     }
     let instructions = words::instruction_count(words);
-    if !fits(Rule::RowsFrom(first, instructions), words::block_word(words, row, 1)) {
+    if !fits(
+        Rule::RowsFrom(first, instructions),
+        words::block_word(words, row, 1),
+    ) {
         return 1;
     }
     if !fits(Rule::Number(21), code) {

@@ -1,5 +1,5 @@
 use Rattle.table.proofs.RuleLaws.{no-operation, past}
-use Rattle.table.specs.Check.{operandsByCode, operandRules, place}
+use Rattle.table.specs.Check.{operandRules, place}
 use native.Mathlib.Omega.{arith}
 use mathlib.Core.Path.{_≡_, refl, sym, ap, _∙_}
 use borrow.Author.Needs.{needs}
@@ -32,17 +32,17 @@ operands-requires-4 c κs = search needs
 
 -- src/rows.rt:149:1
 returns : tie.Need-returns
-unfolding operandsByCode operandRules place
+unfolding operandRules place
 returns c = rw (c .before .match .keys1) (c .operands .ensures)
 
 -- src/rows.rt:149:1
 returns-2 : tie.Need-returns-2
-unfolding operandsByCode operandRules place
+unfolding operandRules place
 returns-2 c = rw (c .before .match .keys2, ← (c .before .before .place-count .ensures)) (c .operands2 .ensures)
 
 -- src/rows.rt:149:1
 returns-3 : tie.Need-returns-3
-unfolding operandsByCode operandRules place
+unfolding operandRules place
 returns-3 c = rw (c .before .match .keys3, ← (c .before .before .place-count .ensures)) (c .operands3 .ensures)
 
 -- src/rows.rt:149:1

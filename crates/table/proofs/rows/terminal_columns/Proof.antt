@@ -1,5 +1,5 @@
 use Rattle.table.proofs.RuleLaws.{no-terminal, past}
-use Rattle.table.specs.Check.{rulesByCode, terminalRules, block, block-or-none, place, place-or-none}
+use Rattle.table.specs.Check.{terminalRules, block, block-or-none, place, place-or-none}
 use native.Mathlib.Omega.{arith}
 use mathlib.Core.Path.{_≡_, refl, sym, ap, _∙_}
 use borrow.Author.Needs.{needs}
@@ -131,112 +131,112 @@ columns-requires-23 c κs = search needs
 
 -- src/rows.rt:59:1
 returns : tie.Need-returns
-unfolding rulesByCode terminalRules block block-or-none place place-or-none
+unfolding terminalRules block block-or-none place place-or-none
 returns c = rw (c .before .match .keys1) (c .columns .ensures)
 
 -- src/rows.rt:59:1
 returns-2 : tie.Need-returns-2
-unfolding rulesByCode terminalRules block block-or-none place place-or-none
+unfolding terminalRules block block-or-none place place-or-none
 returns-2 c = rw (c .before .match .keys2) (c .columns2 .ensures)
 
 -- src/rows.rt:59:1
 returns-3 : tie.Need-returns-3
-unfolding rulesByCode terminalRules block block-or-none place place-or-none
+unfolding terminalRules block block-or-none place place-or-none
 returns-3 c = rw (c .before .match .keys3, ← (c .before .before .before .place-count .ensures)) (c .columns3 .ensures)
 
 -- src/rows.rt:59:1
 returns-4 : tie.Need-returns-4
-unfolding rulesByCode terminalRules block block-or-none place place-or-none
+unfolding terminalRules block block-or-none place place-or-none
 returns-4 c = rw (c .before .match .keys4, ← (c .before .before .before .place-count .ensures)) (c .columns4 .ensures)
 
 -- src/rows.rt:59:1
 returns-5 : tie.Need-returns-5
-unfolding rulesByCode terminalRules block block-or-none place place-or-none
+unfolding terminalRules block block-or-none place place-or-none
 returns-5 c = rw (c .before .match .keys5, ← (c .before .before .before .before .before .block-count .ensures)) (c .columns5 .ensures)
 
 -- src/rows.rt:59:1
 returns-6 : tie.Need-returns-6
-unfolding rulesByCode terminalRules block block-or-none place place-or-none
+unfolding terminalRules block block-or-none place place-or-none
 returns-6 c = rw (c .before .match .keys6, ← (c .before .before .before .place-count .ensures), ← (c .before .before .before .before .before .block-count .ensures)) (c .columns6 .ensures)
 
 -- src/rows.rt:59:1
 returns-7 : tie.Need-returns-7
-unfolding rulesByCode terminalRules block block-or-none place place-or-none
+unfolding terminalRules block block-or-none place place-or-none
 returns-7 c = rw (c .before .match .keys7, ← (c .before .before .before .place-count .ensures), ← (c .before .before .before .before .before .block-count .ensures)) (c .columns7 .ensures)
 
 -- src/rows.rt:59:1
 returns-8 : tie.Need-returns-8
-unfolding rulesByCode terminalRules block block-or-none place place-or-none
+unfolding terminalRules block block-or-none place place-or-none
 returns-8 c = rw (c .before .match .keys8, ← (c .before .before .before .place-count .ensures), ← (c .before .before .before .before .before .block-count .ensures), ← (c .before .before .before .before .before .before .case-count .ensures), ← (c .before .before .before .before .before .before .before .block-word .ensures)) (c .columns8 .ensures)
 
 -- src/rows.rt:59:1
 returns-9 : tie.Need-returns-9
-unfolding rulesByCode terminalRules block block-or-none place place-or-none
+unfolding terminalRules block block-or-none place place-or-none
 returns-9 c = rw (c .before .match .keys9, ← (c .before .before .before .before .before .block-count .ensures)) (c .columns9 .ensures)
 
 -- src/rows.rt:59:1
 returns-10 : tie.Need-returns-10
-unfolding rulesByCode terminalRules block block-or-none place place-or-none
+unfolding terminalRules block block-or-none place place-or-none
 returns-10 c = rw (c .before .match .keys10, ← (c .before .before .before .before .before .block-count .ensures)) (c .columns10 .ensures)
 
 -- src/rows.rt:59:1
 returns-11 : tie.Need-returns-11
-unfolding rulesByCode terminalRules block block-or-none place place-or-none
+unfolding terminalRules block block-or-none place place-or-none
 returns-11 c = rw (c .before .match .keys11, ← (c .before .before .before .before .before .block-count .ensures)) (rw (sym (c .before .before .before .before .before .block-count .ensures ∙ sym (c .before .before .before .before .block-count2 .ensures))) at (c .columns11 .ensures))
 
 -- src/rows.rt:59:1
 returns-12 : tie.Need-returns-12
-unfolding rulesByCode terminalRules block block-or-none place place-or-none
+unfolding terminalRules block block-or-none place place-or-none
 returns-12 c = rw (c .before .match .keys12, ← (c .before .before .before .before .before .block-count .ensures)) (c .columns12 .ensures)
 
 -- src/rows.rt:59:1
 returns-13 : tie.Need-returns-13
-unfolding rulesByCode terminalRules block block-or-none place place-or-none
+unfolding terminalRules block block-or-none place place-or-none
 returns-13 c = rw (c .before .match .keys13, ← (c .before .before .before .before .before .block-count .ensures)) (c .columns13 .ensures)
 
 -- src/rows.rt:59:1
 returns-14 : tie.Need-returns-14
-unfolding rulesByCode terminalRules block block-or-none place place-or-none
+unfolding terminalRules block block-or-none place place-or-none
 returns-14 c = rw (c .before .match .keys14, ← (c .before .before .before .before .before .block-count .ensures)) (c .columns14 .ensures)
 
 -- src/rows.rt:59:1
 returns-15 : tie.Need-returns-15
-unfolding rulesByCode terminalRules block block-or-none place place-or-none
+unfolding terminalRules block block-or-none place place-or-none
 returns-15 c = rw (c .before .match .keys15, ← (c .before .before .before .before .before .block-count .ensures)) (c .columns15 .ensures)
 
 -- src/rows.rt:59:1
 returns-16 : tie.Need-returns-16
-unfolding rulesByCode terminalRules block block-or-none place place-or-none
+unfolding terminalRules block block-or-none place place-or-none
 returns-16 c = rw (c .before .match .keys16, ← (c .before .before .before .before .before .block-count .ensures)) (c .columns16 .ensures)
 
 -- src/rows.rt:59:1
 returns-17 : tie.Need-returns-17
-unfolding rulesByCode terminalRules block block-or-none place place-or-none
+unfolding terminalRules block block-or-none place place-or-none
 returns-17 c = rw (c .before .match .keys17, ← (c .before .before .before .before .before .block-count .ensures)) (c .columns17 .ensures)
 
 -- src/rows.rt:59:1
 returns-18 : tie.Need-returns-18
-unfolding rulesByCode terminalRules block block-or-none place place-or-none
+unfolding terminalRules block block-or-none place place-or-none
 returns-18 c = rw (c .before .match .keys18, ← (c .before .before .before .before .before .block-count .ensures)) (c .columns18 .ensures)
 
 -- src/rows.rt:59:1
 returns-19 : tie.Need-returns-19
-unfolding rulesByCode terminalRules block block-or-none place place-or-none
+unfolding terminalRules block block-or-none place place-or-none
 returns-19 c = rw (c .before .match .keys19, ← (c .before .before .before .before .before .block-count .ensures)) (c .columns19 .ensures)
 
 -- src/rows.rt:59:1
 returns-20 : tie.Need-returns-20
-unfolding rulesByCode terminalRules block block-or-none place place-or-none
+unfolding terminalRules block block-or-none place place-or-none
 returns-20 c = rw (c .before .match .keys20, ← (c .before .before .before .before .before .block-count .ensures), ← (c .before .before .before .place-count .ensures)) (rw (sym (c .before .before .before .place-count .ensures ∙ sym (c .before .before .place-count2 .ensures))) at (c .columns20 .ensures))
 
 -- src/rows.rt:59:1
 returns-21 : tie.Need-returns-21
-unfolding rulesByCode terminalRules block block-or-none place place-or-none
+unfolding terminalRules block block-or-none place place-or-none
 returns-21 c = rw (c .before .match .keys21, ← (c .before .before .before .before .before .block-count .ensures)) (c .columns21 .ensures)
 
 -- src/rows.rt:59:1
 returns-22 : tie.Need-returns-22
-unfolding rulesByCode terminalRules block block-or-none place place-or-none
+unfolding terminalRules block block-or-none place place-or-none
 returns-22 c = rw (c .before .match .keys22, ← (c .before .before .before .before .before .block-count .ensures)) (c .columns22 .ensures)
 
 -- src/rows.rt:59:1
