@@ -1,75 +1,98 @@
--- The run law of plain tables: the block run and the tree run both stop, with the same rows and for the same reason.
+-- The run law of plain tables: the block run and the tree run both stop, with the same rows, the same answers taken and for the same reason.
 use mathlib.Core.Path.{_≡_, refl, sym, ap, _∙_, subst}
-use Prim.Native.Nat.{ℕ, zero, suc}
-use mathlib.Core.List.{List, [], _∷_}
+use Prim.Native.Nat.{ℕ, zero, suc, _+_}
+use mathlib.Core.List.{List, [], _∷_, _++_}
 use mathlib.Core.Option.{Option, none, some}
 use mathlib.Core.Bool.{Bool, true, false}
+use native.Mathlib.Nat.{zero-add, suc-add}
 use native.Mathlib.Omega.{arith}
 use lib.Dec.{T}
-use Rattle.table.specs.Table.{Table, terminalAt, instructionRowsAt}
-use Rattle.definition.specs.Context.{start}
-use Rattle.definition.specs.Plain.{Plain, Ranged}
-use Rattle.definition.specs.Result.{Result, ok}
-use Rattle.definition.specs.Run.{Answers, Reason, Run, more, stopped, Move, go, halt, move, after, blockRun, treeRun, Jump, breakNearest, continueNearest, breakTo, continueTo, Ending, normal, jumps, stops, Completed, runStmts, reason}
-use Rattle.definition.specs.Statement.{BlockResult, traverseBlock, buildTree}
+use Rattle.table.specs.Table.{Table, blockAt, terminalAt, instructionRowsAt}
 use Rattle.definition.specs.Tree.{Statements}
-use Rattle.definition.proofs.Semantics.{LeadsOn, Stops, proper, runs}
+use Rattle.definition.specs.Result.{Result, ok}
+use Rattle.definition.specs.Context.{start}
+use Rattle.definition.specs.Statement.{BlockResult, traverseBlock, buildTree}
+use Rattle.definition.specs.Run.{Answers, Reason, Run, unfinished, stopped}
+use Rattle.definition.specs.BlockRun.{Move, go, halt, move, performing, blockRun}
+use Rattle.definition.specs.Completion.{Completion, normal, break, continue, stop}
+use Rattle.definition.specs.TreeRun.{Completed, runStatements, reasonOf, treeRun}
+use Rattle.definition.specs.Plain.{Plain, Ranged}
+use Rattle.definition.proofs.Semantics.{Built, LeadsOn, Stops, proper, runs}
 use Rattle.definition.proofs.State.{inv-start}
 use Rattle.definition.proofs.Structure.{WalkOk, walk-ok, Made}
+use Rattle.definition.proofs.Loops.{Taken, takes-statements}
 
--- both runs give the same rows and the same reason, and the reason is a return, a throw or a wanted answer
-pub record Agree (t : Table) (s : Statements) (ans : Answers) : Type 0 where
+-- both runs stop with the same rows performed, the same answers taken and left, and for the same reason: a return, a throw or no answer left
+pub record Agree (t : Table) (root : Statements) (answers : Answers) : Type 0 where
   pub steps : ℕ
-  pub rows : List ℕ
-  pub why : Reason
-  pub blocks : blockRun t steps (t .entry) ans ≡ stopped rows why
-  pub tree : treeRun s ans ≡ stopped rows why
-  pub good : T (proper why)
+  pub performed : List ℕ
+  pub taken : Answers
+  pub left : Answers
+  pub reason : Reason
+  pub block-run : blockRun t steps (t .entry) answers ≡ stopped performed left reason
+  pub tree-run : treeRun root answers ≡ stopped performed left reason
+  pub answers-taken : taken ++ left ≡ answers
+  pub good : T (proper reason)
 
 none-some : (y : ℕ) → _≡_ {A = Option ℕ} none (some y) → ⊥
 none-some y e = let z : _≡_ {A = ℕ} 0 1 = cc in omega arith
 
-agree-on : (t : Table) (s : Statements) (ans : Answers) (e : Ending) → runStmts s ans .ending ≡ e
-    → LeadsOn t [] (t .entry) ans (runStmts s ans .trace) e (runStmts s ans .left) → Agree t s ans
-unfolding treeRun reason
+agree-on : (t : Table) (s : Statements) (ans : Answers) (e : Completion) → runStatements s ans .completion ≡ e
+    → LeadsOn t [] (t .entry) ans (runStatements s ans .rows) e (runStatements s ans .left) → Agree t s ans
+unfolding treeRun reasonOf
 agree-on t s ans normal h (b, k, p) = absurd (none-some b k)
-agree-on t s ans (jumps breakNearest) h (b, k, p) = absurd (none-some b k)
-agree-on t s ans (jumps continueNearest) h (b, k, p) = absurd (none-some b k)
-agree-on t s ans (jumps (breakTo x)) h (b, k, p) = absurd (none-some b k)
-agree-on t s ans (jumps (continueTo x)) h (b, k, p) = absurd (none-some b k)
-agree-on t s ans (stops r) h p = record {
+agree-on t s ans (break none) h (b, k, p) = absurd (none-some b k)
+agree-on t s ans (break (some x)) h (b, k, p) = absurd (none-some b k)
+agree-on t s ans (continue none) h (b, k, p) = absurd (none-some b k)
+agree-on t s ans (continue (some x)) h (b, k, p) = absurd (none-some b k)
+agree-on t s ans (stop r) h p = record {
   steps = p .steps;
-  rows = runStmts s ans .trace;
-  why = r;
-  blocks = p .runs;
-  tree = ap (λ (e : Ending). stopped (runStmts s ans .trace) (reason e)) h;
+  performed = runStatements s ans .rows;
+  taken = takes-statements s ans .taken;
+  left = runStatements s ans .left;
+  reason = r;
+  block-run = p .runs;
+  tree-run = ap (λ (e : Completion). stopped (runStatements s ans .rows) (runStatements s ans .left) (reasonOf e)) h;
+  answers-taken = takes-statements s ans .whole;
   good = p .good;
 }
 
-pub run-law : (t : Table) → Plain t → Ranged t → (r : BlockResult) → buildTree t ≡ ok r → (ans : Answers) → Agree t (r .statements) ans
+built-agrees : (t : Table) (s : Statements) → Built t [] (t .entry) s → (ans : Answers) → Agree t s ans
+built-agrees t s b ans = agree-on t s ans (runStatements s ans .completion) refl (runs t b ans)
+
+-- what an accepted build of a plain table makes
+pub tree-built : (t : Table) → Plain t → Ranged t → (r : BlockResult) → buildTree t ≡ ok r → Built t [] (t .entry) (r .statements)
 unfolding buildTree WalkOk
-run-law t pl rg r e ans =
-    agree-on t (r .statements) ans (runStmts (r .statements) ans .ending) refl
-    (runs t (walk-ok t pl rg 128 [] (t .entry) start r (inv-start t) (pl .entry) e .tree) ans)
+tree-built t pl rg r e = walk-ok t pl rg 128 [] (t .entry) start r (inv-start t) (pl .entry) e .tree
+
+pub run-law : (t : Table) → Plain t → Ranged t → (r : BlockResult) → buildTree t ≡ ok r → (ans : Answers) → Agree t (r .statements) ans
+run-law t pl rg r e = built-agrees t (r .statements) (tree-built t pl rg r e)
 
 -- ---- more steps change nothing: there is one block run
 
-more-ran : {tr : List ℕ} {r : Reason} → more ≡ stopped tr r → ⊥
-more-ran e = let z : _≡_ {A = ℕ} 0 1 = cc in omega arith
+unfinished-stopped : {tr : List ℕ} {a : Answers} {r : Reason} → unfinished ≡ stopped tr a r → ⊥
+unfinished-stopped e = let z : _≡_ {A = ℕ} 0 1 = cc in omega arith
 
-after-more : (rs : List ℕ) (x y : Run) (tr : List ℕ) (r : Reason) → ((tr′ : List ℕ) (r′ : Reason) → x ≡ stopped tr′ r′ → y ≡ stopped tr′ r′)
-    → after rs x ≡ stopped tr r → after rs y ≡ stopped tr r
-unfolding after
-after-more rs more y tr r f e = absurd (more-ran e)
-after-more rs (stopped tr′ r′) y tr r f e = ap (λ (z : Run). after rs z) (f tr′ r′ refl) ∙ e
+-- what stops goes on stopping alike
+abbrev Still : Run → Run → Type 0
+Still x y = (tr : List ℕ) (a : Answers) (r : Reason) → x ≡ stopped tr a r → y ≡ stopped tr a r
 
-pub run-more : (t : Table) (n b : ℕ) (ans : Answers) (tr : List ℕ) (r : Reason) → blockRun t n b ans ≡ stopped tr r → blockRun t (suc n) b ans ≡ stopped tr r
+performing-still : (rs : List ℕ) (x y : Run) → Still x y → Still (performing rs x) (performing rs y)
+unfolding performing
+performing-still rs unfinished y f tr a r e = absurd (unfinished-stopped e)
+performing-still rs (stopped tr′ a′ r′) y f tr a r e = ap (λ (z : Run). performing rs z) (f tr′ a′ r′ refl) ∙ e
+
+one-more : (t : Table) (n b : ℕ) (ans : Answers) → Still (blockRun t n b ans) (blockRun t (suc n) b ans)
 unfolding blockRun
-run-more t zero b ans tr r e = absurd (more-ran e)
-run-more t (suc n) b ans tr r e = at (move (terminalAt t b) ans) (λ b′ a′ tr′ r′ h. run-more t n b′ a′ tr′ r′ h) e
+one-more t zero b ans = λ tr a r e. absurd (unfinished-stopped e)
+one-more t (suc n) b ans = performing-still (instructionRowsAt t b) _ _ (at (move (terminalAt t b) (blockAt t b .id) ans) (λ b′ a′. one-more t n b′ a′))
   where
-    at : (m : Move) → ((b′ : ℕ) (a′ : Answers) (tr′ : List ℕ) (r′ : Reason) → blockRun t n b′ a′ ≡ stopped tr′ r′ → blockRun t (suc n) b′ a′ ≡ stopped tr′ r′)
-        → after (instructionRowsAt t b) (elim m [ go x y ↦ blockRun t n x y | halt e ↦ stopped [] e ]) ≡ stopped tr r
-        → after (instructionRowsAt t b) (elim m [ go x y ↦ blockRun t (suc n) x y | halt e ↦ stopped [] e ]) ≡ stopped tr r
-    at (go x y) f h = after-more (instructionRowsAt t b) (blockRun t n x y) (blockRun t (suc n) x y) tr r (f x y) h
-    at (halt q) f h = h
+    at : (m : Move) → ((b′ : ℕ) (a′ : Answers) → Still (blockRun t n b′ a′) (blockRun t (suc n) b′ a′))
+        → Still (elim m [ go x y ↦ blockRun t n x y | halt e ↦ stopped [] ans e ]) (elim m [ go x y ↦ blockRun t (suc n) x y | halt e ↦ stopped [] ans e ])
+    at (go x y) f = f x y
+    at (halt q) f = λ tr a r e. e
+
+pub more-steps : (t : Table) (more n b : ℕ) (ans : Answers) (tr : List ℕ) (left : Answers) (r : Reason)
+    → blockRun t n b ans ≡ stopped tr left r → blockRun t (more + n) b ans ≡ stopped tr left r
+more-steps t zero n b ans tr left r e = rw zero-add e
+more-steps t (suc more) n b ans tr left r e = rw suc-add (one-more t (more + n) b ans tr left r (more-steps t more n b ans tr left r e))
