@@ -1,5 +1,6 @@
 use Rattle.value.proofs.ExtractLaws.{loaded-load, loaded-none}
-use Rattle.value.proofs.TableLaws.{instruction-at, no-number, some-number}
+use Rattle.table.proofs.TableLaws.{instruction-at}
+use Rattle.value.proofs.TableLaws.{no-number, some-number}
 use Rattle.value.proofs.Ranges.{loaded}
 use Rattle.definition.specs.Value.{loadedBy}
 use Rattle.table.specs.Table.{Instruction, instructionOf}

@@ -1,4 +1,4 @@
-use Rattle.value.proofs.TableLaws.{instruction-at}
+use Rattle.table.proofs.TableLaws.{instruction-at}
 use Rattle.rows.proofs.StackLaws.{push-next-row}
 use Rattle.rows.specs.Stack.{pushInstructionRows}
 use Rattle.rows.specs.Rows.{Holds}
