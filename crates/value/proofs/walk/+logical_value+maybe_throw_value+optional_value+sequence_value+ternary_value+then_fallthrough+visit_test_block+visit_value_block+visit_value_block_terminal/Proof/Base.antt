@@ -22,31 +22,31 @@ use Rattle.value.proofs.walk.visit_value_block.Kinds as visit-value-blo
 use Rattle.value.proofs.walk.visit_value_block_terminal.Kinds as visit-value-block-terminal-kinds
 
 abbrev pub μ-logical-value : Measures 2 logical-value-kinds.ps ℕ
-μ-logical-value κs a = ?
+μ-logical-value κs a = a .1 .1 .1 .0 * 5 + 2
 
 abbrev pub μ-maybe-throw-value : Measures 2 maybe-throw-value-kinds.ps ℕ
-μ-maybe-throw-value κs a = ?
+μ-maybe-throw-value κs a = a .1 .1 .1 .0 * 5 + 1
 
 abbrev pub μ-optional-value : Measures 2 optional-value-kinds.ps ℕ
-μ-optional-value κs a = ?
+μ-optional-value κs a = a .1 .1 .1 .0 * 5 + 2
 
 abbrev pub μ-sequence-value : Measures 2 sequence-value-kinds.ps ℕ
-μ-sequence-value κs a = ?
+μ-sequence-value κs a = a .1 .1 .1 .0 * 5 + 2
 
 abbrev pub μ-ternary-value : Measures 2 ternary-value-kinds.ps ℕ
-μ-ternary-value κs a = ?
+μ-ternary-value κs a = a .1 .1 .1 .0 * 5 + 2
 
 abbrev pub μ-then-fallthrough : Measures 2 then-fallthrough-kinds.ps ℕ
-μ-then-fallthrough κs a = ?
+μ-then-fallthrough κs a = a .1 .1 .1 .0 * 5 + 4
 
 abbrev pub μ-visit-test-block : Measures 2 visit-test-block-kinds.ps ℕ
-μ-visit-test-block κs a = ?
+μ-visit-test-block κs a = a .1 .1 .1 .0 * 5 + 1
 
 abbrev pub μ-visit-value-block : Measures 2 visit-value-block-kinds.ps ℕ
-μ-visit-value-block κs a = ?
+μ-visit-value-block κs a = a .1 .1 .1 .0 * 5 + 0
 
 abbrev pub μ-visit-value-block-terminal : Measures 2 visit-value-block-terminal-kinds.ps ℕ
-μ-visit-value-block-terminal κs a = ?
+μ-visit-value-block-terminal κs a = a .1 .1 .1 .0 * 5 + 3
 
 abbrev pub logical-value-at : ℕ → In 2 logical-value-kinds.ps
 logical-value-at t = and 2 logical-value-kinds.ps (is 2 logical-value-kinds.ps μ-logical-value t) logical-value.Pre

@@ -1,4 +1,11 @@
 -- The answers of `visit_test_block`.
+use Rattle.value.proofs.WalkLaws.{ended-branch, ended-other}
+use Rattle.value.specs.Met.{blockResult}
+use Rattle.value.proofs.MetLaws.{pass, goes, stops, defined}
+use Rattle.definition.specs.Value.{visitTestBlock}
+use Rattle.table.specs.Table.{unlessNone}
+use borrow.Author.Tests.{eq-eqb}
+use mathlib.Core.Path.{_≡_, refl, sym, ap, _∙_}
 use borrow.Author.Needs.{needs}
 use native.Mathlib.Omega.{arith}
 use Prim.Native.Nat.{ℕ}
@@ -14,40 +21,66 @@ abbrev calls : ℕ → lts.Claims
 calls t = (visit-value-block-below t, visit-value-block.Post, block-word-reads.Asked, block-word-reads.Learnt, refused-reads.Asked, refused-reads.Learnt)
 
 module _ (t : ℕ) where
-  -- src/walk.rt:220:9
+  visit-value-block-requires : lts.Need-visit-value-block-requires (calls t) (visit-test-block-at t) visit-test-block.Post
+  visit-value-block-requires c κs = (omega (arith, c .before .before .before .pre .0), c .before .before .before .pre .1)
+
   same-length : lts.Need-same-length (calls t) (visit-test-block-at t) visit-test-block.Post
-  same-length c = ?
+  same-length c = c .before .before .before .before .visit-value-block .kept .1 .0
 
-  -- src/walk.rt:220:9
   returns : lts.Need-returns (calls t) (visit-test-block-at t) visit-test-block.Post
-  returns c = ?
+  unfolding visitTestBlock unlessNone
+  returns c =
+      let at-visit-value-block = c .before .before .before .before in
+      record { met = pass _ (at-visit-value-block .visit-value-block .ensures) (c .if1 .taken) (at-visit-value-block .visit-value-block .ensures .numbers); branch = λ e. absurd (c .if1 .taken e) }
 
-  -- src/walk.rt:222:9
   block-word-requires : lts.Need-block-word-requires (calls t) (visit-test-block-at t) visit-test-block.Post
-  block-word-requires c κs = ?
+  block-word-requires c κs =
+      let at-visit-value-block = c .before .before .before .before in
+      let at-entry = at-visit-value-block .before .before .before .before in
+      (at-entry .pre .1 .promise .sized, (at-visit-value-block .visit-value-block .ensures .found (c .if1 .left) .block, omega arith))
 
-  -- src/walk.rt:224:9
   refused-requires : lts.Need-refused-requires (calls t) (visit-test-block-at t) visit-test-block.Post
-  refused-requires c κs = ?
+  refused-requires c κs = tt
 
-  -- src/walk.rt:224:9
   same-length-2 : lts.Need-same-length-2 (calls t) (visit-test-block-at t) visit-test-block.Post
-  same-length-2 c = ?
+  same-length-2 c = c .before .before .before .before .before .before .before .visit-value-block .kept .1 .0
 
-  -- src/walk.rt:224:9
   returns-2 : lts.Need-returns-2 (calls t) (visit-test-block-at t) visit-test-block.Post
-  returns-2 c = ?
+  unfolding visitTestBlock unlessNone
+  returns-2 c =
+      let at-if2 = c .before in
+      let at-block-word = at-if2 .before in
+      let at-if1 = at-block-word .before in
+      let at-visit-value-block = at-if1 .before .before .before .before in
+      let at-entry = at-visit-value-block .before .before .before .before in
+      let v = at-visit-value-block .visit-value-block .ensures in
+      let at-branch = ended-other (at-entry .pre .1 .promise) (blockResult (at-visit-value-block .visit-value-block .result) (v .value)) (at-entry .args .at) (v .found (at-if1 .if1 .left) .block) (λ e. at-if2 .if2 .taken (at-block-word .block-word .ensures ∙ e)) in
+      rw (c .refused .ensures) (record {
+        met = goes _ v (at-if1 .if1 .left) (defined at-branch (stops (v .value) refl refl (omega (arith, v .numbers))));
+        branch = λ e. absurd (omega arith);
+      })
 
-  -- src/walk.rt:206:1
   same-length-3 : lts.Need-same-length-3 (calls t) (visit-test-block-at t) visit-test-block.Post
-  same-length-3 c = ?
+  same-length-3 c = c .before .before .before .before .before .before .visit-value-block .kept .1 .0
 
-  -- src/walk.rt:206:1
   returns-3 : lts.Need-returns-3 (calls t) (visit-test-block-at t) visit-test-block.Post
-  returns-3 c = ?
+  unfolding visitTestBlock unlessNone
+  returns-3 c =
+      let at-block-word = c .before in
+      let at-if1 = at-block-word .before in
+      let at-visit-value-block = at-if1 .before .before .before .before in
+      let at-entry = at-visit-value-block .before .before .before .before in
+      let v = at-visit-value-block .visit-value-block .ensures in
+      let code = sym (at-block-word .block-word .ensures) ∙ c .if2 .left in
+      let at-branch = ended-branch (at-entry .pre .1 .promise) (blockResult (at-visit-value-block .visit-value-block .result) (v .value)) (at-entry .args .at) (v .found (at-if1 .if1 .left) .block) code in
+      record {
+        met = goes _ v (at-if1 .if1 .left) (defined at-branch (record { value = v .value; same = rw (eq-eqb _ 0 (at-if1 .if1 .left)); found = λ _. v .found (at-if1 .if1 .left); numbers = v .numbers }));
+        branch = λ _. code;
+      }
 
 pub closed : {M : Type 1} (t : ℕ) → lts.Closed (calls t) (visit-test-block-at t) visit-test-block.Post M
 closed t = lts.spec (calls t) (visit-test-block-at t) visit-test-block.Post
+    (visit-value-block-requires t)
     (same-length t)
     (returns t)
     (block-word-requires t)
