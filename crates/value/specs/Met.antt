@@ -21,11 +21,12 @@ use Rattle.value.specs.declared.walk.ValueTerminal.{ValueTerminal}
 
 -- ---- the code's results, and the definition's
 
-abbrev pub noTrailing : Trailing
-noTrailing = record { sequences = 0; instructions = 0; loaded = largest }
+-- the end of a value that is one row: the place that it loads, or none
+abbrev pub loads : ℕ → Trailing
+loads place = record { sequences = 0; instructions = 0; loaded = place }
 
 abbrev pub refusal : (code at : ℕ) → Tally → ValueResult
-refusal code at tally = record { code = code; at = at; block = 0; place = 0; id = 0; tally = tally; trailing = noTrailing }
+refusal code at tally = record { code = code; at = at; block = 0; place = 0; id = 0; tally = tally; trailing = loads largest }
 
 abbrev pub finished : (block place id : ℕ) → Tally → Trailing → ValueResult
 finished block place id tally trailing = record { code = 0; at = 0; block = block; place = place; id = id; tally = tally; trailing = trailing }
@@ -99,6 +100,12 @@ pub record TestMet (words : List ℕ) (outcome : Result TestBlockResult) (start 
   pub branch : r .code ≡ 0 → blockWord words (r .block) 2 ≡ 6
 
 -- ---- the helpers
+
+-- a row was put: whatever rows the buffer held, it holds them and this one
+pub record RowPut (buffer : List ℕ) (tally : Tally) (r : Row) (buffer′ : List ℕ) (tally′ : Tally) : Type 0 where
+  pub rows : tally′ .rows ≡ tally .rows + 1
+  pub visits : tally′ .visits ≡ tally .visits
+  pub kept : (stack : List Row) → Holds buffer (tally .rows) stack → Holds buffer′ (tally′ .rows) (r ∷ stack)
 
 -- a block's instruction rows were written, two rows for each
 pub record InstructionsPut (words : List ℕ) (first count : ℕ) (buffer : List ℕ) (rows : ℕ) (buffer′ : List ℕ) (rows′ : ℕ) : Type 0 where

@@ -4,6 +4,8 @@ use crate::result::Tally;
 use crate::result::Trailing;
 use crate::result::ValueResult;
 use crate::result::found;
+use crate::result::loading;
+use crate::result::put_row;
 use crate::result::refused;
 use rows::INSTR;
 use rows::LOAD;
@@ -85,39 +87,13 @@ fn final_value(words: &[u32], buffer: &mut [u32], tally: Tally, i: u32, block: u
     if stores_to_unnamed(words, i) {
         let stored_to = instruction_word(words, i, 3);
         let stored = instruction_word(words, i, 4);
-        let rows = put(buffer, tally.rows, LOAD, stored, 0, 0, 0, 0);
-        return found(
-            block,
-            stored_to,
-            id,
-            Tally {
-                rows,
-                visits: tally.visits,
-            },
-            Trailing {
-                sequences: 0,
-                instructions: 0,
-                loaded: stored,
-            },
-        );
+        let load = put_row(buffer, tally, LOAD, stored, 0);
+        return found(block, stored_to, id, load, loading(stored));
     }
     let lvalue = instruction_word(words, i, 1);
     let loaded = loaded_by(words, i);
-    let rows = put(buffer, tally.rows, PLAIN, i, 0, 0, 0, 0);
-    found(
-        block,
-        lvalue,
-        id,
-        Tally {
-            rows,
-            visits: tally.visits,
-        },
-        Trailing {
-            sequences: 0,
-            instructions: 0,
-            loaded,
-        },
-    )
+    let plain = put_row(buffer, tally, PLAIN, i, 0);
+    found(block, lvalue, id, plain, loading(loaded))
 }
 
 // A SEQ row over `count` instructions that stand before a value; nothing where there are none.
@@ -128,21 +104,13 @@ pub fn wrap_with_sequence(buffer: &mut [u32], count: u32, value: ValueResult) ->
     if count == 0 {
         return value;
     }
-    let rows = put(buffer, value.tally.rows, SEQ, count, value.id, 0, 0, 0);
-    found(
-        value.block,
-        value.place,
-        value.id,
-        Tally {
-            rows,
-            visits: value.tally.visits,
-        },
-        Trailing {
-            sequences: value.trailing.sequences + 1,
-            instructions: value.trailing.instructions + count,
-            loaded: value.trailing.loaded,
-        },
-    )
+    let seq = put_row(buffer, value.tally, SEQ, count, value.id);
+    let trailing = Trailing {
+        sequences: value.trailing.sequences + 1,
+        instructions: value.trailing.instructions + count,
+        loaded: value.trailing.loaded,
+    };
+    found(value.block, value.place, value.id, seq, trailing)
 }
 
 // The value of the instruction `first` and the `more` ones after it: the last, with the others in a sequence before it.
@@ -159,16 +127,11 @@ fn extract_value_block_result(
     ensures { λ r. ⌜ Met (now (words .entry)) blockResult (ok (extractValueBlockResult (tableOf (now (words .entry))) block first (rowsFrom (suc first) more) (tally .visits))) tally 8192 (now (buffer .entry)) r (now (buffer .exit)) ⌝ }
 {
     let rows = put_instructions(words, buffer, tally.rows, first, more);
-    let value = final_value(
-        words,
-        buffer,
-        Tally {
-            rows,
-            visits: tally.visits,
-        },
-        first + more,
-        block,
-    );
+    let after = Tally {
+        rows,
+        visits: tally.visits,
+    };
+    let value = final_value(words, buffer, after, first + more, block);
     wrap_with_sequence(buffer, more, value)
 }
 
@@ -204,21 +167,8 @@ pub fn branch_value(words: &[u32], buffer: &mut [u32], tally: Tally, block: u32)
     if count == 0 {
         let test = block_word(words, block, 3);
         let id = block_word(words, block, 8);
-        let rows = put(buffer, tally.rows, LOAD, test, 0, 0, 0, 0);
-        return found(
-            block,
-            test,
-            id,
-            Tally {
-                rows,
-                visits: tally.visits,
-            },
-            Trailing {
-                sequences: 0,
-                instructions: 0,
-                loaded: test,
-            },
-        );
+        let load = put_row(buffer, tally, LOAD, test, 0);
+        return found(block, test, id, load, loading(test));
     }
     let first = block_word(words, block, 0);
     extract_value_block_result(words, buffer, tally, block, first, count - 1)

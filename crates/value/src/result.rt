@@ -1,6 +1,10 @@
 // What the steps of the value walk take and give.
 ghost use mathlib.Core.Path.{_≡_};
-ghost use Rattle.value.specs.Met.{refusal, finished};
+ghost use Prim.Native.Nat.{_<_};
+ghost use Rattle.definition.specs.Tree.{row};
+ghost use Rattle.value.specs.Met.{loads, refusal, finished, RowPut};
+use rows::INSTR;
+use rows::put;
 
 // 65,535: no fallthrough, no place.
 pub const NONE: u32 = 65535;
@@ -30,13 +34,14 @@ pub struct ValueResult {
     pub trailing: Trailing,
 }
 
-pub fn no_trailing() -> Trailing
-    ensures { λ r. ⌜ r ≡ record { sequences = 0; instructions = 0; loaded = 65535 } ⌝ }
+// The end of a value that is one row: the place that it loads, or NONE.
+pub fn loading(place: u32) -> Trailing
+    ensures { λ r. ⌜ r ≡ loads place ⌝ }
 {
     Trailing {
         sequences: 0,
         instructions: 0,
-        loaded: NONE,
+        loaded: place,
     }
 }
 
@@ -69,5 +74,29 @@ pub fn found(block: u32, place: u32, id: u32, tally: Tally, trailing: Trailing) 
         id,
         tally,
         trailing,
+    }
+}
+
+// Puts a row with two columns.
+pub fn put_row(buffer: &mut [u32], tally: Tally, op: u32, a: u32, b: u32) -> Tally
+    requires { ⌜ tally .rows < 4000000000 ⌝ }
+    ensures { λ r. ⌜ RowPut (now (buffer .entry)) tally (row op a b 0 0 0) (now (buffer .exit)) r ⌝ }
+{
+    let rows = put(buffer, tally.rows, op, a, b, 0, 0, 0);
+    Tally {
+        rows,
+        visits: tally.visits,
+    }
+}
+
+// Puts the INSTR row of the value whose rows are out.
+pub fn put_instr(buffer: &mut [u32], tally: Tally, id: u32, lvalue: u32, span: u32) -> Tally
+    requires { ⌜ tally .rows < 4000000000 ⌝ }
+    ensures { λ r. ⌜ RowPut (now (buffer .entry)) tally (row 4 id lvalue span 0 0) (now (buffer .exit)) r ⌝ }
+{
+    let rows = put(buffer, tally.rows, INSTR, id, lvalue, span, 0, 0);
+    Tally {
+        rows,
+        visits: tally.visits,
     }
 }

@@ -9,16 +9,17 @@ use crate::result::NONE;
 use crate::result::Tally;
 use crate::result::ValueResult;
 use crate::result::found;
-use crate::result::no_trailing;
+use crate::result::loading;
+use crate::result::put_instr;
+use crate::result::put_row;
 use crate::result::refused;
 use rows::COND;
-use rows::INSTR;
 use rows::LOGICAL;
 use rows::OPTIONAL;
 use rows::SEQ;
-use rows::put;
 use table::words::block_word;
 ghost use mathlib.Core.Path.{_≡_};
+ghost use mathlib.Core.Option.{some};
 ghost use Prim.Native.Nat.{_+_, _≤_, _<_};
 ghost use Rattle.table.specs.Words.{blockCount, blockWord};
 ghost use Rattle.table.specs.Table.{tableOf, blockAt, unlessNone, logical, ternary, optional, sequence};
@@ -89,18 +90,11 @@ fn maybe_throw_value(
     let first = block_word(words, block, 0);
     let count = block_word(words, block, 1);
     let rows = put_instructions(words, buffer, tally.rows, first, count);
-    let value = visit_value_block(
-        words,
-        buffer,
-        Tally {
-            rows,
-            visits: tally.visits,
-        },
-        levels,
-        continuation,
-        fallthrough,
-        span,
-    );
+    let own = Tally {
+        rows,
+        visits: tally.visits,
+    };
+    let value = visit_value_block(words, buffer, own, levels, continuation, fallthrough, span);
     if value.code != 0 {
         return value;
     }
@@ -122,41 +116,16 @@ fn then_fallthrough(
     let first = block_word(words, block, 0);
     let count = block_word(words, block, 1);
     let rows = put_instructions(words, buffer, tally.rows, first, count);
-    let init = visit_value_block_terminal(
-        words,
-        buffer,
-        Tally {
-            rows,
-            visits: tally.visits,
-        },
-        levels,
-        block,
-    );
+    let own = Tally {
+        rows,
+        visits: tally.visits,
+    };
+    let init = visit_value_block_terminal(words, buffer, own, levels, block);
     if init.code != 0 {
         return init;
     }
-    let rows = put(
-        buffer,
-        init.tally.rows,
-        INSTR,
-        init.id,
-        init.place,
-        span,
-        0,
-        0,
-    );
-    let value = visit_value_block(
-        words,
-        buffer,
-        Tally {
-            rows,
-            visits: init.tally.visits,
-        },
-        levels,
-        init.block,
-        NONE,
-        span,
-    );
+    let instr = put_instr(buffer, init.tally, init.id, init.place, span);
+    let value = visit_value_block(words, buffer, instr, levels, init.block, NONE, span);
     if value.code != 0 {
         return value;
     }
@@ -219,31 +188,62 @@ pub fn visit_value_block_terminal(
     }
 }
 
-// The value of a test block, which must end in a Branch; the result's block is that Branch's.
+// The value of the test block, which must end in a Branch; the result's block is that Branch's.
 fn visit_test_block(
     words: &[u32],
     buffer: &mut [u32],
     tally: Tally,
     levels: u32,
-    block: u32,
-    span: u32,
-    at: u32,
+    terminal: ValueTerminal,
 ) -> ValueResult
-    requires { ⌜ Fit (now words) tally 0 block ⌝ }
-    ensures { λ r. ⌜ TestMet (now (words .entry)) (testOutcome (now (words .entry)) levels block span (tally .visits) at) tally (now (buffer .entry)) r (now (buffer .exit)) ⌝ }
+    requires { ⌜ Ended (now words) tally terminal ⌝ }
+    ensures { λ r. ⌜ TestMet (now (words .entry)) (testOutcome (now (words .entry)) levels (terminal .test) (terminal .span) (tally .visits) (terminal .at)) tally (now (buffer .entry)) r (now (buffer .exit)) ⌝ }
 {
-    let test = visit_value_block(words, buffer, tally, levels, block, NONE, span);
+    let test = visit_value_block(
+        words,
+        buffer,
+        tally,
+        levels,
+        terminal.test,
+        NONE,
+        terminal.span,
+    );
     if test.code != 0 {
         return test;
     }
     let ended_by = block_word(words, test.block, 2);
     if ended_by != 6 {
-        return refused(25, at, test.tally);
+        return refused(25, terminal.at, test.tally);
     }
     test
 }
 
-// Logical: the test as an instruction and the consequent make the left side, the alternate the right.
+// A way of the test's Branch, or Sequence's block: it must not reach the terminal's fallthrough.
+fn visit_way(
+    words: &[u32],
+    buffer: &mut [u32],
+    tally: Tally,
+    levels: u32,
+    block: u32,
+    terminal: ValueTerminal,
+) -> ValueResult
+    requires { ⌜ Fit (now words) tally 0 block ⌝ }
+    requires { ⌜ terminal .fallthrough < blockCount (now words) ⌝ }
+    ensures { λ r. ⌜ Met (now (words .entry)) blockResult (visit (now (words .entry)) levels block (some (terminal .fallthrough)) (terminal .span) (tally .visits)) tally 0 (now (buffer .entry)) r (now (buffer .exit)) ⌝ }
+{
+    let fallthrough = terminal.fallthrough;
+    visit_value_block(
+        words,
+        buffer,
+        tally,
+        levels,
+        block,
+        fallthrough,
+        terminal.span,
+    )
+}
+
+// Logical: the test as an instruction and the consequent make the left side, the alternate the right. The place is the consequent's.
 fn logical_value(
     words: &[u32],
     buffer: &mut [u32],
@@ -254,84 +254,33 @@ fn logical_value(
     requires { ⌜ Ended (now words) tally terminal ⌝ }
     ensures { λ r. ⌜ Met (now (words .entry)) terminalResult (endOutcome (now (words .entry)) levels (logical (terminal .operator) (terminal .test) (terminal .fallthrough)) terminal (tally .visits)) tally 3 (now (buffer .entry)) r (now (buffer .exit)) ⌝ }
 {
-    let test = visit_test_block(
-        words,
-        buffer,
-        tally,
-        levels,
-        terminal.test,
-        terminal.span,
-        terminal.at,
-    );
+    let test = visit_test_block(words, buffer, tally, levels, terminal);
     if test.code != 0 {
         return test;
     }
     let consequent = block_word(words, test.block, 4);
     let alternate = block_word(words, test.block, 5);
-    let rows = put(
-        buffer,
-        test.tally.rows,
-        INSTR,
-        test.id,
-        test.place,
-        terminal.span,
-        0,
-        0,
-    );
-    let left = visit_value_block(
-        words,
-        buffer,
-        Tally {
-            rows,
-            visits: test.tally.visits,
-        },
-        levels,
-        consequent,
-        terminal.fallthrough,
-        terminal.span,
-    );
+    let instr = put_instr(buffer, test.tally, test.id, test.place, terminal.span);
+    let left = visit_way(words, buffer, instr, levels, consequent, terminal);
     if left.code != 0 {
         return left;
     }
-    let rows = put(buffer, left.tally.rows, SEQ, 1, left.id, 0, 0, 0);
-    let right = visit_value_block(
-        words,
-        buffer,
-        Tally {
-            rows,
-            visits: left.tally.visits,
-        },
-        levels,
-        alternate,
-        terminal.fallthrough,
-        terminal.span,
-    );
+    let seq = put_row(buffer, left.tally, SEQ, 1, left.id);
+    let right = visit_way(words, buffer, seq, levels, alternate, terminal);
     if right.code != 0 {
         return right;
     }
-    let rows = put(
-        buffer,
-        right.tally.rows,
-        LOGICAL,
-        terminal.operator,
-        0,
-        0,
-        0,
-        0,
-    );
+    let logical = put_row(buffer, right.tally, LOGICAL, terminal.operator, 0);
     found(
         terminal.fallthrough,
         left.place,
         terminal.id,
-        Tally {
-            rows,
-            visits: right.tally.visits,
-        },
-        no_trailing(),
+        logical,
+        loading(NONE),
     )
 }
 
-// Ternary: the place is the consequent's.
+// Ternary: the test, the consequent and the alternate. The place is the consequent's.
 fn ternary_value(
     words: &[u32],
     buffer: &mut [u32],
@@ -342,54 +291,27 @@ fn ternary_value(
     requires { ⌜ Ended (now words) tally terminal ⌝ }
     ensures { λ r. ⌜ Met (now (words .entry)) terminalResult (endOutcome (now (words .entry)) levels (ternary (terminal .test) (terminal .fallthrough)) terminal (tally .visits)) tally 3 (now (buffer .entry)) r (now (buffer .exit)) ⌝ }
 {
-    let test = visit_test_block(
-        words,
-        buffer,
-        tally,
-        levels,
-        terminal.test,
-        terminal.span,
-        terminal.at,
-    );
+    let test = visit_test_block(words, buffer, tally, levels, terminal);
     if test.code != 0 {
         return test;
     }
     let first = block_word(words, test.block, 4);
     let second = block_word(words, test.block, 5);
-    let consequent = visit_value_block(
-        words,
-        buffer,
-        test.tally,
-        levels,
-        first,
-        terminal.fallthrough,
-        terminal.span,
-    );
+    let consequent = visit_way(words, buffer, test.tally, levels, first, terminal);
     if consequent.code != 0 {
         return consequent;
     }
-    let alternate = visit_value_block(
-        words,
-        buffer,
-        consequent.tally,
-        levels,
-        second,
-        terminal.fallthrough,
-        terminal.span,
-    );
+    let alternate = visit_way(words, buffer, consequent.tally, levels, second, terminal);
     if alternate.code != 0 {
         return alternate;
     }
-    let rows = put(buffer, alternate.tally.rows, COND, 0, 0, 0, 0, 0);
+    let cond = put_row(buffer, alternate.tally, COND, 0, 0);
     found(
         terminal.fallthrough,
         consequent.place,
         terminal.id,
-        Tally {
-            rows,
-            visits: alternate.tally.visits,
-        },
-        no_trailing(),
+        cond,
+        loading(NONE),
     )
 }
 
@@ -404,65 +326,25 @@ fn optional_value(
     requires { ⌜ Ended (now words) tally terminal ⌝ }
     ensures { λ r. ⌜ Met (now (words .entry)) terminalResult (endOutcome (now (words .entry)) levels (optional (terminal .operator) (terminal .test) (terminal .fallthrough)) terminal (tally .visits)) tally 3 (now (buffer .entry)) r (now (buffer .exit)) ⌝ }
 {
-    let test = visit_test_block(
-        words,
-        buffer,
-        tally,
-        levels,
-        terminal.test,
-        terminal.span,
-        terminal.at,
-    );
+    let test = visit_test_block(words, buffer, tally, levels, terminal);
     if test.code != 0 {
         return test;
     }
     let first = block_word(words, test.block, 4);
     let branch_span = block_word(words, test.block, 9);
-    let rows = put(
-        buffer,
-        test.tally.rows,
-        INSTR,
-        test.id,
-        test.place,
-        branch_span,
-        0,
-        0,
-    );
-    let consequent = visit_value_block(
-        words,
-        buffer,
-        Tally {
-            rows,
-            visits: test.tally.visits,
-        },
-        levels,
-        first,
-        terminal.fallthrough,
-        terminal.span,
-    );
+    let instr = put_instr(buffer, test.tally, test.id, test.place, branch_span);
+    let consequent = visit_way(words, buffer, instr, levels, first, terminal);
     if consequent.code != 0 {
         return consequent;
     }
-    let rows = put(
-        buffer,
-        consequent.tally.rows,
-        SEQ,
-        1,
-        consequent.id,
-        0,
-        0,
-        0,
-    );
-    let rows = put(buffer, rows, OPTIONAL, terminal.operator, 0, 0, 0, 0);
+    let seq = put_row(buffer, consequent.tally, SEQ, 1, consequent.id);
+    let optional = put_row(buffer, seq, OPTIONAL, terminal.operator, 0);
     found(
         terminal.fallthrough,
         consequent.place,
         terminal.id,
-        Tally {
-            rows,
-            visits: consequent.tally.visits,
-        },
-        no_trailing(),
+        optional,
+        loading(NONE),
     )
 }
 
@@ -477,15 +359,7 @@ fn sequence_value(
     requires { ⌜ Ended (now words) tally terminal ⌝ }
     ensures { λ r. ⌜ Met (now (words .entry)) terminalResult (endOutcome (now (words .entry)) levels (sequence (terminal .test) (terminal .fallthrough)) terminal (tally .visits)) tally 3 (now (buffer .entry)) r (now (buffer .exit)) ⌝ }
 {
-    let inner = visit_value_block(
-        words,
-        buffer,
-        tally,
-        levels,
-        terminal.test,
-        terminal.fallthrough,
-        terminal.span,
-    );
+    let inner = visit_way(words, buffer, tally, levels, terminal.test, terminal);
     if inner.code != 0 {
         return inner;
     }

@@ -13,10 +13,11 @@ use Rattle.value.proofs.instructions.branch_value.Statement.{statement}
 use Rattle.value.proofs.instructions.branch_value.Tie as tie
 use Rattle.value.proofs.instructions.branch_value.Reads as reads
 use Rattle.value.proofs.instructions.branch_value.Lts as lts
-use Rattle.rows.proofs.put.Reads as put-reads
 use Rattle.table.proofs.words.block_word.Reads as block-word-reads
 use Rattle.value.proofs.instructions.extract_value_block_result.Reads as extract-value-block-result-reads
 use Rattle.value.proofs.result.found.Reads as found-reads
+use Rattle.value.proofs.result.loading.Reads as loading-reads
+use Rattle.value.proofs.result.put_row.Reads as put-row-reads
 
 block-word-requires : tie.Need-block-word-requires
 block-word-requires c κs = search needs
@@ -27,8 +28,11 @@ block-word-requires-2 c κs = search needs
 block-word-requires-3 : tie.Need-block-word-requires-3
 block-word-requires-3 c κs = search needs
 
-put-requires : tie.Need-put-requires
-put-requires c κs = search needs
+put-row-requires : tie.Need-put-row-requires
+put-row-requires c κs = search needs
+
+loading-requires : tie.Need-loading-requires
+loading-requires c κs = search needs
 
 found-requires : tie.Need-found-requires
 found-requires c κs = search needs
@@ -39,8 +43,9 @@ same-length c = search needs
 returns : tie.Need-returns
 unfolding pushValue
 returns c =
-    let at-put = c .before .before .before in
-    let at-block-word3 = at-put .before .before in
+    let at-loading = c .before in
+    let at-put-row = at-loading .before .before .before in
+    let at-block-word3 = at-put-row .before .before in
     let at-block-word2 = at-block-word3 .before in
     let at-if1 = at-block-word2 .before in
     let at-block-word = at-if1 .before in
@@ -50,18 +55,19 @@ returns c =
     let ws = at-entry .args .words .now in
     let b = at-entry .args .block in
     let q = branch-test p b (f .at) (at-entry .pre .1) in
-    rw (rows-at ws b (f .at), branch-none (tableOf ws) b (blockWord ws b 0) (blockWord ws b 1) (at-entry .args .tally .visits) (blockWord ws b 3) (blockWord ws b 8) (sym (at-block-word .block-word .ensures) ∙ at-if1 .if1 .taken), ← (at-block-word2 .block-word2 .ensures), ← (at-block-word3 .block-word3 .ensures))
-    (named (c .found .ensures) (record {
+    let load = at-put-row .put-row .ensures in
+    rw (rows-at ws b (f .at), branch-none (tableOf ws) b (blockWord ws b 0) (blockWord ws b 1) (at-entry .args .tally .visits) (blockWord ws b 3) (blockWord ws b 8) (sym (at-block-word .block-word .ensures) ∙ at-if1 .if1 .taken), ← (at-block-word2 .block-word2 .ensures), ← (at-block-word3 .block-word3 .ensures), ← (load .visits))
+    (named (rw (at-loading .loading .ensures) at (c .found .ensures)) (record {
       value = LOAD (at-block-word2 .block-word2 .result);
       same = refl;
       found = λ _. record {
-        held = λ stack h. at-put .put .ensures .kept stack h;
+        held = λ stack h. load .kept stack h;
         block = f .at;
         place = rw (at-block-word2 .block-word2 .ensures) q;
         ends = record { sequences = refl; instructions = refl; loaded = some-number _ (omega (arith, q, at-block-word2 .block-word2 .ensures, p .sized .limited .places)); there = λ _. rw (at-block-word2 .block-word2 .ensures) q };
-        more = omega (arith, at-put .put .ensures .count);
+        more = omega (arith, load .rows);
       };
-      numbers = omega (arith, at-put .put .ensures .count, f .visits);
+      numbers = omega (arith, load .rows, load .visits, f .visits);
     }))
 
 block-word-requires-4 : tie.Need-block-word-requires-4
@@ -102,7 +108,8 @@ branch-value-spec =
     block-word-requires
     block-word-requires-2
     block-word-requires-3
-    put-requires
+    put-row-requires
+    loading-requires
     found-requires
     same-length
     returns

@@ -14,8 +14,8 @@ use Rattle.value.proofs.walk.maybe_throw_value.Reads as maybe-throw-val
 use Rattle.value.proofs.result.refused.Reads as refused-reads
 use Rattle.value.proofs.walk.then_fallthrough.Reads as then-fallthrough
 use Rattle.value.proofs.walk.visit_value_block.Reads as visit-value-block
-use Rattle.value.proofs.walk.+logical_value+maybe_throw_value+optional_value+sequence_value+ternary_value+then_fallthrough+visit_test_block+visit_value_block+visit_value_block_terminal.Lts-visit_value_block as lts
-use Rattle.value.proofs.walk.+logical_value+maybe_throw_value+optional_value+sequence_value+ternary_value+then_fallthrough+visit_test_block+visit_value_block+visit_value_block_terminal.Proof.Base.{visit-value-block-at, maybe-throw-value-below, then-fallthrough-below}
+use Rattle.value.proofs.walk.+logical_value+maybe_throw_value+optional_value+sequence_value+ternary_value+then_fallthrough+visit_test_block+visit_value_block+visit_value_block_terminal+visit_way.Lts-visit_value_block as lts
+use Rattle.value.proofs.walk.+logical_value+maybe_throw_value+optional_value+sequence_value+ternary_value+then_fallthrough+visit_test_block+visit_value_block+visit_value_block_terminal+visit_way.Proof.Base.{visit-value-block-at, maybe-throw-value-below, then-fallthrough-below}
 
 -- what is known of the callees
 abbrev calls : ℕ → lts.Claims

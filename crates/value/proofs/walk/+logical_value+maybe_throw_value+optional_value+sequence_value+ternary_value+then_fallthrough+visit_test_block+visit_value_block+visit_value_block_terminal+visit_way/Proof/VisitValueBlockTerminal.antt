@@ -14,8 +14,8 @@ use Rattle.value.proofs.result.refused.Reads as refused-reads
 use Rattle.value.proofs.walk.sequence_value.Reads as sequence-value
 use Rattle.value.proofs.walk.ternary_value.Reads as ternary-value
 use Rattle.value.proofs.walk.visit_value_block_terminal.Reads as visit-value-block-terminal
-use Rattle.value.proofs.walk.+logical_value+maybe_throw_value+optional_value+sequence_value+ternary_value+then_fallthrough+visit_test_block+visit_value_block+visit_value_block_terminal.Lts-visit_value_block_terminal as lts
-use Rattle.value.proofs.walk.+logical_value+maybe_throw_value+optional_value+sequence_value+ternary_value+then_fallthrough+visit_test_block+visit_value_block+visit_value_block_terminal.Proof.Base.{visit-value-block-terminal-at, logical-value-below, optional-value-below, sequence-value-below, ternary-value-below}
+use Rattle.value.proofs.walk.+logical_value+maybe_throw_value+optional_value+sequence_value+ternary_value+then_fallthrough+visit_test_block+visit_value_block+visit_value_block_terminal+visit_way.Lts-visit_value_block_terminal as lts
+use Rattle.value.proofs.walk.+logical_value+maybe_throw_value+optional_value+sequence_value+ternary_value+then_fallthrough+visit_test_block+visit_value_block+visit_value_block_terminal+visit_way.Proof.Base.{visit-value-block-terminal-at, logical-value-below, optional-value-below, sequence-value-below, ternary-value-below}
 
 -- what is known of the callees
 abbrev calls : ℕ → lts.Claims

@@ -15,8 +15,8 @@ use Rattle.value.proofs.instructions.put_instructions.Reads as put-inst
 use Rattle.value.proofs.result.refused.Reads as refused-reads
 use Rattle.value.proofs.walk.visit_value_block.Reads as visit-value-block
 use Rattle.value.proofs.instructions.wrap_with_sequence.Reads as wrap-with-sequence-reads
-use Rattle.value.proofs.walk.+logical_value+maybe_throw_value+optional_value+sequence_value+ternary_value+then_fallthrough+visit_test_block+visit_value_block+visit_value_block_terminal.Lts-maybe_throw_value as lts
-use Rattle.value.proofs.walk.+logical_value+maybe_throw_value+optional_value+sequence_value+ternary_value+then_fallthrough+visit_test_block+visit_value_block+visit_value_block_terminal.Proof.Base.{maybe-throw-value-at, visit-value-block-below}
+use Rattle.value.proofs.walk.+logical_value+maybe_throw_value+optional_value+sequence_value+ternary_value+then_fallthrough+visit_test_block+visit_value_block+visit_value_block_terminal+visit_way.Lts-maybe_throw_value as lts
+use Rattle.value.proofs.walk.+logical_value+maybe_throw_value+optional_value+sequence_value+ternary_value+then_fallthrough+visit_test_block+visit_value_block+visit_value_block_terminal+visit_way.Proof.Base.{maybe-throw-value-at, visit-value-block-below}
 
 -- what is known of the callees
 abbrev calls : ℕ → lts.Claims

@@ -11,6 +11,7 @@ use Rattle.value.proofs.walk.then_fallthrough.Reads as then-fallthrough
 use Rattle.value.proofs.walk.visit_test_block.Reads as visit-test-block
 use Rattle.value.proofs.walk.visit_value_block.Reads as visit-value-block
 use Rattle.value.proofs.walk.visit_value_block_terminal.Reads as visit-value-block-terminal
+use Rattle.value.proofs.walk.visit_way.Reads as visit-way
 use Rattle.value.proofs.walk.logical_value.Kinds as logical-value-kinds
 use Rattle.value.proofs.walk.maybe_throw_value.Kinds as maybe-throw-value-kinds
 use Rattle.value.proofs.walk.optional_value.Kinds as optional-value-kinds
@@ -20,6 +21,7 @@ use Rattle.value.proofs.walk.then_fallthrough.Kinds as then-fallthrough
 use Rattle.value.proofs.walk.visit_test_block.Kinds as visit-test-block-kinds
 use Rattle.value.proofs.walk.visit_value_block.Kinds as visit-value-block-kinds
 use Rattle.value.proofs.walk.visit_value_block_terminal.Kinds as visit-value-block-terminal-kinds
+use Rattle.value.proofs.walk.visit_way.Kinds as visit-way-kinds
 
 abbrev pub μ-logical-value : Measures 2 logical-value-kinds.ps ℕ
 μ-logical-value κs a = a .1 .1 .1 .0 * 5 + 2
@@ -47,6 +49,9 @@ abbrev pub μ-visit-value-block : Measures 2 visit-value-block-kinds.ps ℕ
 
 abbrev pub μ-visit-value-block-terminal : Measures 2 visit-value-block-terminal-kinds.ps ℕ
 μ-visit-value-block-terminal κs a = a .1 .1 .1 .0 * 5 + 3
+
+abbrev pub μ-visit-way : Measures 2 visit-way-kinds.ps ℕ
+μ-visit-way κs a = a .1 .1 .1 .0 * 5 + 1
 
 abbrev pub logical-value-at : ℕ → In 2 logical-value-kinds.ps
 logical-value-at t = and 2 logical-value-kinds.ps (is 2 logical-value-kinds.ps μ-logical-value t) logical-value.Pre
@@ -101,3 +106,9 @@ visit-value-block-terminal-at t = and 2 visit-value-block-terminal-kinds.ps (is 
 
 abbrev pub visit-value-block-terminal-below : ℕ → In 2 visit-value-block-terminal-kinds.ps
 visit-value-block-terminal-below t = and 2 visit-value-block-terminal-kinds.ps (falls 2 visit-value-block-terminal-kinds.ps _<_ μ-visit-value-block-terminal t) visit-value-block-terminal.Pre
+
+abbrev pub visit-way-at : ℕ → In 2 visit-way-kinds.ps
+visit-way-at t = and 2 visit-way-kinds.ps (is 2 visit-way-kinds.ps μ-visit-way t) visit-way.Pre
+
+abbrev pub visit-way-below : ℕ → In 2 visit-way-kinds.ps
+visit-way-below t = and 2 visit-way-kinds.ps (falls 2 visit-way-kinds.ps _<_ μ-visit-way t) visit-way.Pre

@@ -13,8 +13,8 @@ use Rattle.table.proofs.words.block_word.Reads as block-word-reads
 use Rattle.value.proofs.result.refused.Reads as refused-reads
 use Rattle.value.proofs.walk.visit_test_block.Reads as visit-test-block
 use Rattle.value.proofs.walk.visit_value_block.Reads as visit-value-block
-use Rattle.value.proofs.walk.+logical_value+maybe_throw_value+optional_value+sequence_value+ternary_value+then_fallthrough+visit_test_block+visit_value_block+visit_value_block_terminal.Lts-visit_test_block as lts
-use Rattle.value.proofs.walk.+logical_value+maybe_throw_value+optional_value+sequence_value+ternary_value+then_fallthrough+visit_test_block+visit_value_block+visit_value_block_terminal.Proof.Base.{visit-test-block-at, visit-value-block-below}
+use Rattle.value.proofs.walk.+logical_value+maybe_throw_value+optional_value+sequence_value+ternary_value+then_fallthrough+visit_test_block+visit_value_block+visit_value_block_terminal+visit_way.Lts-visit_test_block as lts
+use Rattle.value.proofs.walk.+logical_value+maybe_throw_value+optional_value+sequence_value+ternary_value+then_fallthrough+visit_test_block+visit_value_block+visit_value_block_terminal+visit_way.Proof.Base.{visit-test-block-at, visit-value-block-below}
 
 -- what is known of the callees
 abbrev calls : ℕ → lts.Claims
@@ -22,7 +22,7 @@ calls t = (visit-value-block-below t, visit-value-block.Post, block-word-reads.A
 
 module _ (t : ℕ) where
   visit-value-block-requires : lts.Need-visit-value-block-requires (calls t) (visit-test-block-at t) visit-test-block.Post
-  visit-value-block-requires c κs = (omega (arith, c .before .before .before .pre .0), c .before .before .before .pre .1)
+  visit-value-block-requires c κs = (omega (arith, c .before .before .before .pre .0), record { promise = c .before .before .before .pre .1 .fit .promise; at = c .before .before .before .pre .1 .fit .at; visits = c .before .before .before .pre .1 .fit .visits; room = omega (arith, c .before .before .before .pre .1 .fit .room) })
 
   same-length : lts.Need-same-length (calls t) (visit-test-block-at t) visit-test-block.Post
   same-length c = c .before .before .before .before .visit-value-block .kept .1 .0
@@ -37,7 +37,7 @@ module _ (t : ℕ) where
   block-word-requires c κs =
       let at-visit-value-block = c .before .before .before .before in
       let at-entry = at-visit-value-block .before .before .before .before in
-      (at-entry .pre .1 .promise .sized, (at-visit-value-block .visit-value-block .ensures .found (c .if1 .left) .block, omega arith))
+      (at-entry .pre .1 .fit .promise .sized, (at-visit-value-block .visit-value-block .ensures .found (c .if1 .left) .block, omega arith))
 
   refused-requires : lts.Need-refused-requires (calls t) (visit-test-block-at t) visit-test-block.Post
   refused-requires c κs = tt
@@ -54,7 +54,7 @@ module _ (t : ℕ) where
       let at-visit-value-block = at-if1 .before .before .before .before in
       let at-entry = at-visit-value-block .before .before .before .before in
       let v = at-visit-value-block .visit-value-block .ensures in
-      let at-branch = ended-other (at-entry .pre .1 .promise) (blockResult (at-visit-value-block .visit-value-block .result) (v .value)) (at-entry .args .at) (v .found (at-if1 .if1 .left) .block) (λ e. at-if2 .if2 .taken (at-block-word .block-word .ensures ∙ e)) in
+      let at-branch = ended-other (at-entry .pre .1 .fit .promise) (blockResult (at-visit-value-block .visit-value-block .result) (v .value)) (at-entry .args .terminal .at) (v .found (at-if1 .if1 .left) .block) (λ e. at-if2 .if2 .taken (at-block-word .block-word .ensures ∙ e)) in
       rw (c .refused .ensures) (record {
         met = goes _ v (at-if1 .if1 .left) (defined at-branch (stops (v .value) refl refl (omega (arith, v .numbers))));
         branch = λ e. absurd (omega arith);
@@ -72,7 +72,7 @@ module _ (t : ℕ) where
       let at-entry = at-visit-value-block .before .before .before .before in
       let v = at-visit-value-block .visit-value-block .ensures in
       let code = sym (at-block-word .block-word .ensures) ∙ c .if2 .left in
-      let at-branch = ended-branch (at-entry .pre .1 .promise) (blockResult (at-visit-value-block .visit-value-block .result) (v .value)) (at-entry .args .at) (v .found (at-if1 .if1 .left) .block) code in
+      let at-branch = ended-branch (at-entry .pre .1 .fit .promise) (blockResult (at-visit-value-block .visit-value-block .result) (v .value)) (at-entry .args .terminal .at) (v .found (at-if1 .if1 .left) .block) code in
       record {
         met = goes _ v (at-if1 .if1 .left) (defined at-branch (record { value = v .value; same = rw (eq-eqb _ 0 (at-if1 .if1 .left)); found = λ _. v .found (at-if1 .if1 .left); numbers = v .numbers }));
         branch = λ _. code;
