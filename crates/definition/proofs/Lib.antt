@@ -17,3 +17,4 @@ pub mod Paid
 pub mod Most
 pub mod Loop
 pub mod Flatten
+pub mod PlainTest
