@@ -18,3 +18,4 @@ pub mod Most
 pub mod Loop
 pub mod Flatten
 pub mod PlainTest
+pub mod Readings
