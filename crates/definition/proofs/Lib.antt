@@ -19,3 +19,4 @@ pub mod Loop
 pub mod Flatten
 pub mod PlainTest
 pub mod Readings
+pub mod Samples
