@@ -20,3 +20,5 @@ pub mod Flatten
 pub mod PlainTest
 pub mod Readings
 pub mod Samples
+pub mod Checked
+pub mod Accepted

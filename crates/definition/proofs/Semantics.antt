@@ -12,7 +12,7 @@ use Rattle.table.specs.Table.{Table, Block, Terminal, throw, return, goto, if, 
 use Rattle.definition.specs.Tree.{Value, PLAIN, Statement, INSTR, IF, WHILE, LABEL, SCOPE, RETURN, THROW, Statements, done, _▸_}
 use Rattle.definition.specs.Statement.{instructionStatements}
 use Rattle.definition.specs.Reading.{WellFormed}
-use Rattle.definition.specs.Run.{Answers, Reason, returned, threw, no-answer-left, not-plain, no-target, end-of-tree, Run, unfinished, stopped}
+use Rattle.definition.specs.Run.{Answers, Reason, returned, threw, no-answer-left, not-plain, no-target, end-of-tree, isGood, Run, unfinished, stopped}
 use Rattle.definition.specs.BlockRun.{Move, go, halt, byAnswer, move, performing, blockRun}
 use Rattle.definition.specs.Completion.{Completion, normal, break, continue, stop, labelSet, contains, loopContinues, breakable, labelled}
 use Rattle.definition.specs.TreeRun.{Completed, completed, completing, prefix, thenOn, then, choose, performs, afterBody, whileRounds, loop, runStatement, runStatements}
@@ -68,15 +68,6 @@ target F (stop r) = none
 
 -- ---- the block run
 
--- the reasons that a run of an accepted plain table may have
-abbrev pub proper : Reason → Bool
-proper (returned v i) = true
-proper (threw v i) = true
-proper no-answer-left = true
-proper not-plain = false
-proper no-target = false
-proper end-of-tree = false
-
 module _ (t : Table) where
   abbrev pub moveAt : ℕ → Answers → Move
   moveAt b ans = move (terminalAt t b) (blockAt t b .id) ans
@@ -88,7 +79,7 @@ module _ (t : Table) where
   pub record Stops (b : ℕ) (ans : Answers) (tr : List ℕ) (left : Answers) (r : Reason) : Type 0 where
     pub steps : ℕ
     pub runs : blockRun t steps b ans ≡ stopped tr left r
-    pub good : T (proper r)
+    pub good : isGood r ≡ true
 
   pub record Onward (b : ℕ) (ans : Answers) (tr : List ℕ) (b′ : ℕ) (left : Answers) : Type 0 where
     pub fewer : length left ≤ length ans
@@ -149,7 +140,7 @@ module _ (t : Table) where
     };
   }
 
-  pub stops-halt : (b : ℕ) (ans : Answers) (r : Reason) → moveAt b ans ≡ halt r → T (proper r) → Stops b ans (instructionRowsAt t b ++ []) ans r
+  pub stops-halt : (b : ℕ) (ans : Answers) (r : Reason) → moveAt b ans ≡ halt r → isGood r ≡ true → Stops b ans (instructionRowsAt t b ++ []) ans r
   stops-halt b ans r e g = record { steps = 1; runs = run-halt b ans r e; good = g }
 
   onward-onward : {b : ℕ} {ans : Answers} {tr : List ℕ} {b₁ : ℕ} {a₁ : Answers} {tr₁ : List ℕ} {b₂ : ℕ} {a₂ : Answers}
@@ -284,10 +275,10 @@ module _ (t : Table) where
       → (n : ℕ) (a : Answers) → length a ≤ n → LoopEnds F f x a (whileRounds (f ∷ []) (instructionRowsAt t x) body n a)
   unfolding whileRounds choose prefix completed move byAnswer labelled breakable
   ends-rounds F c f x l body e ih zero [] h =
-      rw append-nil at (stops-halt x [] no-answer-left (move-of x (branch c l f) [] (halt no-answer-left) e refl) tt)
+      rw append-nil at (stops-halt x [] no-answer-left (move-of x (branch c l f) [] (halt no-answer-left) e refl) refl)
   ends-rounds F c f x l body e ih zero (y ∷ a) h = absurd (not-suc-le-zero h)
   ends-rounds F c f x l body e ih (suc n) [] h =
-      stops-halt x [] no-answer-left (move-of x (branch c l f) [] (halt no-answer-left) e refl) tt
+      stops-halt x [] no-answer-left (move-of x (branch c l f) [] (halt no-answer-left) e refl) refl
   ends-rounds F c f x l body e ih (suc n) (suc m ∷ a) h =
       loop-prefix F f (afterBody (f ∷ []) (body a) (λ a′. whileRounds (f ∷ []) (instructionRowsAt t x) body n a′))
       (onward-go x (suc m ∷ a) l a (move-of x (branch c l f) (suc m ∷ a) (go l a) e refl) (le-step (le-refl (length a))))
@@ -349,7 +340,7 @@ module _ (t : Table) where
   wants : (F : List Frame) (b f : ℕ) (l : Option ℕ) (k : Answers → Completed) → moveAt b [] ≡ halt no-answer-left
       → Leads F b [] (prefix (instructionRowsAt t b) (then (completing (labelled l) (completed [] (stop no-answer-left) [])) k))
   unfolding prefix completed then thenOn completing labelled
-  wants F b f l k e = stops-halt b [] no-answer-left e tt
+  wants F b f l k e = stops-halt b [] no-answer-left e refl
 
   if-leads : (F : List Frame) (b x c a f i : ℕ) (p : Bool) (s₁ s₂ r : Statements) → terminalAt t b ≡ if x c a f
       → ((y : Answers) → Leads (fLabel f ∷ F) c y (runStatements s₁ y)) → ((y : Answers) → Ends F f a y (completing (labelled (some f)) (runStatements s₂ y)))
@@ -369,12 +360,12 @@ module _ (t : Table) where
   return-leads : (F : List Frame) (b v i : ℕ) (ans : Answers) → moveAt b ans ≡ halt (returned v i)
       → Leads F b ans (prefix (instructionRowsAt t b) (runStatements (RETURN v i ▸ done) ans))
   unfolding prefix completed then thenOn runStatements
-  return-leads F b v i ans e = stops-halt b ans (returned v i) e tt
+  return-leads F b v i ans e = stops-halt b ans (returned v i) e refl
 
   throw-leads : (F : List Frame) (b v i : ℕ) (ans : Answers) → moveAt b ans ≡ halt (threw v i)
       → Leads F b ans (prefix (instructionRowsAt t b) (runStatements (THROW v i ▸ done) ans))
   unfolding prefix completed then thenOn runStatements
-  throw-leads F b v i ans e = stops-halt b ans (threw v i) e tt
+  throw-leads F b v i ans e = stops-halt b ans (threw v i) e refl
 
   jump-out : (F : List Frame) (g : ℕ) (ans : Answers) (e : Completion) → target F e ≡ some g → Leads F g ans (completed [] e ans)
   unfolding completed

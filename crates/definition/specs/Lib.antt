@@ -12,3 +12,4 @@ pub mod TreeRun
 pub mod Plain
 pub mod Machine
 pub mod Slot
+pub mod RunLaw
