@@ -22,3 +22,4 @@ pub mod Readings
 pub mod Samples
 pub mod Checked
 pub mod Accepted
+pub mod Example
