@@ -1,4 +1,4 @@
--- What the run law needs of the check of the words: there are at most 1,024 blocks, and a fallthrough is one of them.
+-- What the proofs over the table need of the check of its words: there are at most 1,024 blocks, a fallthrough is one of them, and a binding is a place.
 use mathlib.Core.Path.{_≡_, refl, sym, ap, _∙_, subst}
 use Prim.Native.Nat.{ℕ, zero, suc, _+_, _*_, _≤_, _<_}
 use native.Mathlib.Nat.{not-suc-le-zero, le-of-suc-le-suc, zero-lt-suc}
@@ -7,15 +7,15 @@ use native.Mathlib.Decide.{ℕ-discrete}
 use mathlib.Core.Logic.{_⊎_, inl, inr}
 use mathlib.Core.List.{List, [], _∷_}
 use mathlib.Core.Option.{Option, none, some}
-use mathlib.Core.Bool.{Bool, true, false}
+use mathlib.Core.Bool.{Bool, true, false, _||_}
 use lib.ListN.{length, getD, replicate}
 use lib.Dec.{T, eqb, leb, ltb, lit<}
 use borrow.Author.Tests.{leb-true, ltb-true, ne-eqb}
-use Rattle.table.specs.Words.{word, entryWord, blockCount, blocksBegin, blockWord, wordsNeeded, instructionCount, caseCount, largest}
+use Rattle.table.specs.Words.{word, entryWord, blockCount, placeCount, blocksBegin, blockWord, wordsNeeded, instructionCount, caseCount, largest}
 use Rattle.table.specs.Check.{Verdict, accepted, refused, Rule, unused, number, row, rows-from, fits, block, block-or-none, place, place-or-none, terminalRules, blockRules, instructionRules, caseRules, placeRules, identifierRules, andThen, rowVerdict, rowsVerdict, wordsVerdict, limits, countsVerdict, checked}
 use Rattle.table.specs.Table.{Table, Block, noBlock, Terminal, absent, unreachable, throw, return, goto, if, branch, switch, do-while, while, for, for-of, for-in, logical, ternary, optional, label, sequence, maybe-throw, try, scope, unlessNone, variantOf, terminalOf, blockOf, tabulate, tableOf, blockAt, terminalAt}
-use Rattle.definition.specs.Plain.{fallthroughOf, Ranged}
-use Rattle.definition.proofs.Tools.{true-false}
+use Rattle.definition.specs.Plain.{fallthroughOf}
+use Rattle.definition.proofs.Ranged.{bindingOf, Ranged}
 
 refused-accepted : {code at : ℕ} → refused code at ≡ accepted → ⊥
 refused-accepted e = let z : _≡_ {A = ℕ} 0 1 = cc in omega arith
@@ -62,6 +62,14 @@ module _ (ws : List ℕ) where
   few : checked ws ≡ accepted → blockCount ws ≤ 1024
   unfolding countsVerdict blockCount
   few h = leb-true (word ws 1) 1024 (passes (leb (word ws 1) 1024) 2 1 _ (parts h .counts) .0)
+
+  few-places : checked ws ≡ accepted → placeCount ws ≤ 4096
+  unfolding countsVerdict placeCount
+  few-places h =
+      let c₁ = passes (leb (word ws 1) 1024) 2 1 _ (parts h .counts) .1 in
+      let c₂ = passes (leb (word ws 2) 4096) 2 2 _ c₁ .1 in
+      let c₃ = passes (leb (word ws 3) 1024) 2 3 _ c₂ .1 in
+      leb-true (word ws 4) 4096 (passes (leb (word ws 4) 4096) 2 4 _ c₃ .0)
 
   -- ---- rows
 
@@ -144,9 +152,9 @@ module _ (ws : List ℕ) where
 
   -- ---- fallthroughs
 
-  -- a terminal that the columns and these rules make has its fallthrough below the count
-  abbrev Within : (ℕ → ℕ) → Terminal → List Rule → Type 0
-  Within column m rules = ((j : ℕ) → j < 5 → fits (getD rules j unused) (column j) ≡ true) → (f : ℕ) → fallthroughOf m ≡ some f → f < blockCount ws
+  -- where the columns fit these rules, the terminal has this part, if any, below the limit
+  abbrev Within : (part : Terminal → Option ℕ) → (limit : ℕ) → (ℕ → ℕ) → Terminal → List Rule → Type 0
+  Within part limit column m rules = ((j : ℕ) → j < 5 → fits (getD rules j unused) (column j) ≡ true) → (f : ℕ) → part m ≡ some f → f < limit
 
   abbrev All2 : (Terminal → List Rule → Type 0) → List Terminal → List (List Rule) → Type 0
   All2 P [] [] = Unit {0}
@@ -162,7 +170,7 @@ module _ (ws : List ℕ) where
   at-code P (m ∷ ms) (r ∷ rs) n h (suc code) = at-code P ms rs n (h .1) code
 
   module _ (column : ℕ → ℕ) where
-    nowhere : {P : Type 0} → P → (f : ℕ) → _≡_ {A = Option ℕ} none (some f) → f < blockCount ws
+    nowhere : {P : Type 0} {limit : ℕ} → P → (f : ℕ) → _≡_ {A = Option ℕ} none (some f) → f < limit
     nowhere fit f e = absurd (none-some e)
 
     in-column : (j f : ℕ) → fits (block ws) (column j) ≡ true → some (column j) ≡ some f → f < blockCount ws
@@ -222,11 +230,11 @@ module _ (ws : List ℕ) where
       ∷ (block ws ∷ block ws ∷ number largest ∷ [])
       ∷ []
 
-    within : (code first : ℕ) → Within column (terminalOf code (column 0) (column 1) (column 2) (column 3) (column 4)) (terminalRules ws code first)
+    fallthrough-within : (code first : ℕ) → Within fallthroughOf (blockCount ws) column (terminalOf code (column 0) (column 1) (column 2) (column 3) (column 4)) (terminalRules ws code first)
     unfolding terminalOf terminalRules
-    within code first = at-code (Within column) terminals (rules first) nowhere all code
+    fallthrough-within code first = at-code (Within fallthroughOf (blockCount ws) column) terminals (rules first) nowhere all code
       where
-        all : All2 (Within column) terminals (rules first)
+        all : All2 (Within fallthroughOf (blockCount ws) column) terminals (rules first)
         all =
             (nowhere,
             (nowhere,
@@ -252,6 +260,44 @@ module _ (ws : List ℕ) where
             ((λ fit f. in-column 1 f (fit 1 (lit< tt))),
             tt))))))))))))))))))))))
 
+    -- 65,535 is none, and a place is below the count
+    in-binding : (most : placeCount ws ≤ 4096) (d n : ℕ) (y : Bool) → eqb d largest ≡ y → y || ltb d (placeCount ws) ≡ true → elim y [ true ↦ none | false ↦ some d ] ≡ some n → n < largest
+    in-binding most d n true q h e = absurd (none-some e)
+    in-binding most d n false q h e = omega (arith, ltb-true d (placeCount ws) h, most, some-eq e)
+
+    binding-within : placeCount ws ≤ 4096 → (code first : ℕ)
+        → Within bindingOf largest column (terminalOf code (column 0) (column 1) (column 2) (column 3) (column 4)) (terminalRules ws code first)
+    unfolding terminalOf terminalRules fits place-or-none unlessNone
+    binding-within most code first = at-code (Within bindingOf largest column) terminals (rules first) nowhere all code
+      where
+        binding : (fit : (j : ℕ) → j < 5 → fits (getD (block ws ∷ block ws ∷ block ws ∷ place-or-none ws ∷ []) j unused) (column j) ≡ true) (n : ℕ) → unlessNone (column 3) ≡ some n → n < largest
+        binding fit n e = in-binding most (column 3) n (eqb (column 3) largest) refl (fit 3 (lit< tt)) e
+        all : All2 (Within bindingOf largest column) terminals (rules first)
+        all =
+            (nowhere,
+            (nowhere,
+            (nowhere,
+            (nowhere,
+            (nowhere,
+            (nowhere,
+            (nowhere,
+            (nowhere,
+            (nowhere,
+            (nowhere,
+            (nowhere,
+            (nowhere,
+            (nowhere,
+            (nowhere,
+            (nowhere,
+            (nowhere,
+            (nowhere,
+            (nowhere,
+            (nowhere,
+            (binding,
+            (nowhere,
+            (nowhere,
+            tt))))))))))))))))))))))
+
 -- ---- the table of the words
 
 tabulated : (f : ℕ → Block) (n b : ℕ) → ((b < n) × (getD (tabulate f n) b noBlock ≡ f b)) ⊎ (getD (tabulate f n) b noBlock ≡ noBlock)
@@ -265,29 +311,34 @@ unfolding tabulate
 tabulate-length f zero = refl
 tabulate-length f (suc n) = ap suc (tabulate-length (λ i. f (suc i)) n)
 
-module _ (ws : List ℕ) (h : checked ws ≡ accepted) where
-  present-within : (b f : ℕ) → b < blockCount ws → fallthroughOf (blockOf ws b .terminal) ≡ some f → f < blockCount ws
+module _ (ws : List ℕ) (h : checked ws ≡ accepted) (part : Terminal → Option ℕ) (limit : ℕ) (not-absent : part absent ≡ none)
+    (within : (column : ℕ → ℕ) (code first : ℕ) → Within ws part limit column (terminalOf code (column 0) (column 1) (column 2) (column 3) (column 4)) (terminalRules ws code first)) where
+  present-within : (b f : ℕ) → b < blockCount ws → part (blockOf ws b .terminal) ≡ some f → f < limit
   unfolding blockOf terminalOf
   present-within b f below e = by (ℕ-discrete (blockWord ws b 2) 0)
     where
       columns : ℕ → Terminal
       columns code = terminalOf code (blockWord ws b 3) (blockWord ws b 4) (blockWord ws b 5) (blockWord ws b 6) (blockWord ws b 7)
-      by : Dec (blockWord ws b 2 ≡ 0) → f < blockCount ws
-      by (yes z) = absurd (none-some (ap (λ (code : ℕ). fallthroughOf (columns code)) (sym z) ∙ e))
-      by (no z) = within ws (λ j. blockWord ws b (3 + j)) (blockWord ws b 2) (blockWord ws b 4) (columns-fit ws h b below z) f e
+      by : Dec (blockWord ws b 2 ≡ 0) → f < limit
+      by (yes z) = absurd (none-some (sym not-absent ∙ ap (λ (code : ℕ). part (columns code)) (sym z) ∙ e))
+      by (no z) = within (λ j. blockWord ws b (3 + j)) (blockWord ws b 2) (blockWord ws b 4) (columns-fit ws h b below z) f e
 
-  -- what the run law asks of a table
-  pub ranged : Ranged (tableOf ws)
+  block-within : (b f : ℕ) → part (terminalAt (tableOf ws) b) ≡ some f → f < limit
   unfolding tableOf
-  ranged = record {
-    few = rw (tabulate-length (blockOf ws) (blockCount ws)) (few ws h);
-    fallthroughs = λ b f e. rw (tabulate-length (blockOf ws) (blockCount ws)) (at b f e (tabulated (blockOf ws) (blockCount ws) b));
-  }
+  block-within b f e = at (tabulated (blockOf ws) (blockCount ws) b)
     where
-      at : (b f : ℕ) → fallthroughOf (getD (tabulate (blockOf ws) (blockCount ws)) b noBlock .terminal) ≡ some f
-          → ((b < blockCount ws) × (getD (tabulate (blockOf ws) (blockCount ws)) b noBlock ≡ blockOf ws b)) ⊎ (getD (tabulate (blockOf ws) (blockCount ws)) b noBlock ≡ noBlock) → f < blockCount ws
-      at b f e (inl (below, q)) = present-within b f below (ap (λ (k : Block). fallthroughOf (k .terminal)) (sym q) ∙ e)
-      at b f e (inr q) = absurd (none-some (ap (λ (k : Block). fallthroughOf (k .terminal)) (sym q) ∙ e))
+      at : ((b < blockCount ws) × (getD (tabulate (blockOf ws) (blockCount ws)) b noBlock ≡ blockOf ws b)) ⊎ (getD (tabulate (blockOf ws) (blockCount ws)) b noBlock ≡ noBlock) → f < limit
+      at (inl (below, q)) = present-within b f below (ap (λ (k : Block). part (k .terminal)) (sym q) ∙ e)
+      at (inr q) = absurd (none-some (sym not-absent ∙ ap (λ (k : Block). part (k .terminal)) (sym q) ∙ e))
+
+-- what the proofs over the table ask of it
+pub ranged : (ws : List ℕ) → checked ws ≡ accepted → Ranged (tableOf ws)
+unfolding tableOf
+ranged ws h = record {
+  few = rw (tabulate-length (blockOf ws) (blockCount ws)) (few ws h);
+  fallthroughs = λ b f e. rw (tabulate-length (blockOf ws) (blockCount ws)) (block-within ws h fallthroughOf (blockCount ws) refl (fallthrough-within ws) b f e);
+  bindings = λ b n e. block-within ws h bindingOf largest refl (λ column. binding-within ws column (few-places ws h)) b n e;
+}
 
 -- ---- a refusal of the check has a code that is not 0
 

@@ -11,7 +11,6 @@ use lib.Dec.{T, eqb}
 use Rattle.table.specs.Table.{Table, Block, Terminal, throw, return, goto, if, branch, while, label, scope, Variant, blockAt, terminalAt, instructionRowsAt}
 use Rattle.definition.specs.Tree.{Value, PLAIN, Statement, INSTR, IF, WHILE, LABEL, SCOPE, RETURN, THROW, Statements, done, _▸_}
 use Rattle.definition.specs.Statement.{instructionStatements}
-use Rattle.definition.specs.Reading.{WellFormed}
 use Rattle.definition.specs.Run.{Answers, Reason, returned, threw, no-answer-left, not-plain, no-target, end-of-tree, isGood, Run, unfinished, stopped}
 use Rattle.definition.specs.BlockRun.{Move, go, halt, byAnswer, move, performing, blockRun}
 use Rattle.definition.specs.Completion.{Completion, normal, break, continue, stop, labelSet, contains, loopContinues, breakable, labelled}
@@ -301,7 +300,7 @@ module _ (t : Table) where
     bThrow : {F : List Frame} {b : ℕ} (v : ℕ) → terminalAt t b ≡ throw v → Built F b (instructionStatements t (instructionRowsAt t b) (THROW v (blockAt t b .id) ▸ done))
     -- the jump's rows, if any, complete as `e`, which leads to the Goto's block
     bJump : {F : List Frame} {b : ℕ} (g : ℕ) (v : Variant) (e : Completion) (s : Statements) → terminalAt t b ≡ goto g v → target F e ≡ some g
-        → WellFormed s → ((ans : Answers) → runStatements s ans ≡ completed [] e ans) → Built F b (instructionStatements t (instructionRowsAt t b) s)
+        → ((ans : Answers) → runStatements s ans ≡ completed [] e ans) → Built F b (instructionStatements t (instructionRowsAt t b) s)
     bIf : {F : List Frame} {b : ℕ} (x c a f i : ℕ) {s₁ s₂ r : Statements} → terminalAt t b ≡ if x c a f
         → Built (fLabel f ∷ F) c s₁ → Built (fLabel f ∷ F) a s₂ → Built F f r
         → Built F b (instructionStatements t (instructionRowsAt t b) (IF x i (some f) s₁ true s₂ ▸ r))
@@ -385,7 +384,7 @@ module _ (t : Table) where
   runs {F} {b} (bThrow v e) ans =
       leads-instructions F b (THROW v (blockAt t b .id) ▸ done) ans
       (throw-leads F b v (blockAt t b .id) ans (move-of b (throw v) ans (halt (threw v (blockAt t b .id))) e refl))
-  runs {F} {b} (bJump g v e s h k w q) ans =
+  runs {F} {b} (bJump g v e s h k q) ans =
       leads-instructions F b s ans (subst (λ (o : Completed). Leads F b ans (prefix (instructionRowsAt t b) o)) (sym (q ans))
       (leads-prefix F (completed [] e ans) (onward-go b ans g ans (move-of b (goto g v) ans (go g ans) h refl) (le-refl (length ans))) (jump-out F g ans e k)))
   runs {F} {b} (bIf x c a f i {s₁} {s₂} {r} e h₁ h₂ h₃) ans =
