@@ -1,0 +1,41 @@
+-- Laws of a lent buffer.
+use mathlib.Core.Path.{_≡_, refl, sym, ap, _∙_}
+use mathlib.Core.List.{List, [], _∷_, _++_, append-nil}
+use mathlib.Core.Bool.{Bool, true, false}
+use Prim.Native.Nat.{ℕ, zero, suc, _+_, _-_, _≤_, _<_}
+use native.Mathlib.Omega.{arith}
+use native.Mathlib.Numerals.{add-one}
+use lib.Dec.{ltb}
+use lib.ListN.{length, take, set, replicate, length-append, length-set}
+use lib.Seq.{take-all, take-suc-set, take-append-le, set-out}
+use borrow.Author.Tests.{ltb-true, ltb-false}
+use Rattle.text.specs.Lent.{Holds, padded}
+
+-- nothing is held at first
+pub holds-none : (b : List ℕ) → Holds b 0 []
+holds-none b = record { counted = refl; held = sym (take-all (length b) [] (omega arith)) }
+
+module _ (b : List ℕ) (n v : ℕ) (items : List ℕ) (h : Holds b n items) where
+  put-by : (fits : Bool) → ltb n (length b) ≡ fits → take (suc n) (set b n v) ≡ take (length (set b n v)) (items ++ (v ∷ []))
+  put-by true e =
+      let p : n < length b = ltb-true n (length b) e in
+      let l = h .counted in
+      let s : length (set b n v) ≡ length b = length-set b n v in
+      take-suc-set b n v p
+      ∙ ap (λ (l : List ℕ). l ++ (v ∷ [])) (h .held ∙ take-all (length b) items (omega arith))
+      ∙ sym (take-all (length (set b n v)) (items ++ (v ∷ [])) (omega (arith, length-append items (v ∷ []))))
+  put-by false e =
+      let p : length b ≤ n = ltb-false n (length b) e in
+      let l = h .counted in
+      rw (set-out b n v p) (take-all (suc n) b (omega arith) ∙ sym (take-all n b p) ∙ h .held ∙ sym (take-append-le (length b) items (v ∷ []) (omega arith)))
+
+  -- an item more, which is stored if there is a place for it
+  pub holds-put : Holds (set b n v) (n + 1) (items ++ (v ∷ []))
+  holds-put = record {
+    counted = length-append items (v ∷ []) ∙ ap (λ (k : ℕ). k + 1) (h .counted);
+    held = rw (add-one n) (put-by (ltb n (length b)) refl);
+  }
+
+-- what is held, if it fits
+pub holds-all : (b : List ℕ) (n : ℕ) (items : List ℕ) → Holds b n items → n ≤ length b → take n b ≡ items
+holds-all b n items h p = h .held ∙ take-all (length b) items (omega (arith, h .counted))
