@@ -12,20 +12,21 @@ use lib.Seq.{append-snoc}
 use borrow.Author.Tests.{ltb-true, ltb-false}
 use Rattle.text.specs.Decimal.{decimal}
 use Rattle.text.specs.Line.{after, line, lines, flat}
-use Rattle.text.specs.File.{Words, Row, Rows, Table, Tables, Formed, textOf, wordsOf, Good}
+use Rattle.text.specs.File.{Words, Row, Rows, Table, Tables, Formed, textOf, wordsOf, Good, headNames, blockNames, instructionNames, caseNames, placeNames, identifierNames}
 use Rattle.text.specs.Form.{Form, finished, byte, field, digits, ending, isZero, literal, row, rows, table, body, whole, Text}
 use Rattle.text.proofs.DecimalLaws.{decimal-small, decimal-more, decimal-next}
+use Rattle.text.proofs.StepLaws.{ending-low}
 
 -- ---- a line of names
 
 literal-in : (names : List ℕ) (next : Form) (bytes words : List ℕ) → Text next bytes words → Text (literal names next) (names ++ bytes) words
-unfolding literal
+unfolding literal Text
 literal-in [] next bytes words t = t
 literal-in (b ∷ names) next bytes words t = (refl, literal-in names next bytes words t)
 
 literal-out : (names : List ℕ) (next : Form) (bytes words : List ℕ) → Text (literal names next) bytes words
     → (rest : List ℕ) × (bytes ≡ names ++ rest) × Text next rest words
-unfolding literal
+unfolding literal Text
 literal-out [] next bytes words t = (bytes, refl, t)
 literal-out (b ∷ names) next [] words t = absurd t
 literal-out (b ∷ names) next (c ∷ bytes) words t =
@@ -40,7 +41,7 @@ module _ (last : Bool) (next : ℕ → Form) where
   Leads n = n < 2 ^ 32 → (bytes words : List ℕ) → Text (digits n last next) bytes words → Text (field last next) (decimal n ++ bytes) words
 
   leads-by : (n : ℕ) (small : Bool) → ltb n 10 ≡ small → (10 ≤ n → Leads (n / 10)) → Leads n
-  unfolding Leads
+  unfolding Leads Text
   leads-by n true e shorter q bytes words t = rw (decimal-small n (ltb-true n 10 e)) (n, ltb-true n 10 e, refl, t)
   leads-by n false e shorter q bytes words t =
       let h : 10 ≤ n = ltb-false n 10 e in
@@ -54,7 +55,7 @@ module _ (last : Bool) (next : ℕ → Form) where
   leads (suc most) n p = leads-by n (ltb n 10) refl (λ h. leads most (n / 10) (omega arith))
 
   field-in : (n : ℕ) → n < 2 ^ 32 → (bytes words : List ℕ) → Text (next n) bytes words → Text (field last next) (decimal n ++ (ending last ∷ bytes)) (n ∷ words)
-  unfolding Leads
+  unfolding Leads Text
   field-in n p bytes words t = leads n n (omega arith) p (ending last ∷ bytes) (n ∷ words) (inl (refl, (words, refl, t)))
 
   record Number (bytes words : List ℕ) : Type 0 where
@@ -67,6 +68,7 @@ module _ (last : Bool) (next : ℕ → Form) where
     text : Text (next n) rest more
 
   digits-out : (v : ℕ) → v < 2 ^ 32 → (bytes words : List ℕ) → Text (digits v last next) bytes words → Number (decimal v ++ bytes) words
+  unfolding Text
   digits-out v p [] words t = absurd t
   digits-out v p (c ∷ bytes) words t =
       ⊎-elim
@@ -85,6 +87,7 @@ module _ (last : Bool) (next : ℕ → Form) where
       t
 
   field-out : (bytes words : List ℕ) → Text (field last next) bytes words → Number bytes words
+  unfolding Text
   field-out [] words t = absurd t
   field-out (c ∷ bytes) words t =
       let r = digits-out (t .0) (omega (arith, t .1)) bytes words (t .3) in
@@ -152,16 +155,17 @@ rows-in width (r ∷ rs) next bytes words p t =
     (subst (λ (k : ℕ). Text (row k [] (λ _. rows width (length rs) next)) (line r ++ (lines rs ++ bytes)) (r ++ (flat rs ++ words))) (p .0 .long)
     (row-in r [] (λ _. rows width (length rs) next) (lines rs ++ bytes) (flat rs ++ words) (p .0 .words) u))
 
-record Lines (width count : ℕ) (next : Form) (bytes words : List ℕ) : Type 0 where
+-- bytes that begin with a table: its line of names, then its lines
+record Listed (names : List ℕ) (width count : ℕ) (next : Form) (bytes words : List ℕ) : Type 0 where
   rs : List (List ℕ)
   table : Table count width rs
   rest : List ℕ
   more : List ℕ
-  shown : bytes ≡ lines rs ++ rest
+  shown : bytes ≡ names ++ (lines rs ++ rest)
   kept : words ≡ flat rs ++ more
   text : Text next rest more
 
-rows-out : (width count : ℕ) (next : Form) (bytes words : List ℕ) → Text (rows width count next) bytes words → Lines width count next bytes words
+rows-out : (width count : ℕ) (next : Form) (bytes words : List ℕ) → Text (rows width count next) bytes words → Listed [] width count next bytes words
 unfolding rows lines flat
 rows-out width zero next bytes words t = record {
   rs = [];
@@ -194,15 +198,6 @@ table-in names width count rs next bytes words p t =
     literal-in names (rows width count next) (lines rs ++ bytes) (flat rs ++ words)
     (subst (λ (k : ℕ). Text (rows width k next) (lines rs ++ bytes) (flat rs ++ words)) (p .many) (rows-in width rs next bytes words (p .each) t))
 
-record Listed (names : List ℕ) (width count : ℕ) (next : Form) (bytes words : List ℕ) : Type 0 where
-  rs : List (List ℕ)
-  table : Table count width rs
-  rest : List ℕ
-  more : List ℕ
-  shown : bytes ≡ names ++ (lines rs ++ rest)
-  kept : words ≡ flat rs ++ more
-  text : Text next rest more
-
 table-out : (names : List ℕ) (width count : ℕ) (next : Form) (bytes words : List ℕ) → Text (table names width count next) bytes words → Listed names width count next bytes words
 unfolding table
 table-out names width count next bytes words t =
@@ -217,3 +212,99 @@ table-out names width count next bytes words t =
       kept = r .kept;
       text = r .text;
     }
+
+-- ---- the file
+
+regroup : (a b c d e f g h i j k l : List ℕ) → a ++ b ++ c ++ d ++ e ++ f ++ g ++ h ++ i ++ j ++ k ++ l ≡ a ++ (b ++ (c ++ (d ++ (e ++ (f ++ (g ++ (h ++ (i ++ (j ++ (k ++ (l ++ [])))))))))))
+regroup a b c d e f g h i j k l = simp (append-assoc, append-nil)
+
+regroup-words : (a b c d e f : List ℕ) → a ++ b ++ c ++ d ++ e ++ f ≡ a ++ (b ++ (c ++ (d ++ (e ++ (f ++ [])))))
+regroup-words a b c d e f = simp (append-assoc, append-nil)
+
+assemble : {file r₀ r₁ r₂ r₃ r₄ r₅ r₆ : List ℕ} (a b c d e f g h i j k l : List ℕ)
+    → file ≡ a ++ r₀ → r₀ ≡ b ++ r₁ → r₁ ≡ c ++ (d ++ r₂) → r₂ ≡ e ++ (f ++ r₃) → r₃ ≡ g ++ (h ++ r₄) → r₄ ≡ i ++ (j ++ r₅) → r₅ ≡ k ++ (l ++ r₆) → r₆ ≡ []
+    → file ≡ a ++ b ++ c ++ d ++ e ++ f ++ g ++ h ++ i ++ j ++ k ++ l
+assemble a b c d e f g h i j k l p q r s t u v w = rw (regroup a b c d e f g h i j k l, p, q, r, s, t, u, v, w)
+
+assemble-words : {words r₁ r₂ r₃ r₄ r₅ r₆ : List ℕ} (a b c d e f : List ℕ)
+    → words ≡ a ++ r₁ → r₁ ≡ b ++ r₂ → r₂ ≡ c ++ r₃ → r₃ ≡ d ++ r₄ → r₄ ≡ e ++ r₅ → r₅ ≡ f ++ r₆ → r₆ ≡ []
+    → words ≡ a ++ b ++ c ++ d ++ e ++ f
+assemble-words a b c d e f p q r s t u v = rw (regroup-words a b c d e f, p, q, r, s, t, u, v)
+
+finished-in : Text finished [] []
+unfolding Text
+finished-in = refl
+
+tables-in : (t : Tables) → Formed t → Text whole (textOf t) (wordsOf t)
+unfolding whole body
+tables-in t f =
+    let h = t .head in
+    let t₅ = table-in identifierNames 1 (getD h 5 0) (t .identifiers) finished [] [] (f .identifiers) finished-in in
+    let t₄ = table-in placeNames 1 (getD h 4 0) (t .places) _ _ _ (f .places) t₅ in
+    let t₃ = table-in caseNames 2 (getD h 3 0) (t .cases) _ _ _ (f .cases) t₄ in
+    let t₂ = table-in instructionNames 6 (getD h 2 0) (t .instructions) _ _ _ (f .instructions) t₃ in
+    let t₁ = table-in blockNames 10 (getD h 1 0) (t .blocks) _ _ _ (f .blocks) t₂ in
+    let r = row-in h [] body _ _ (f .head .words) t₁ in
+    let w = literal-in headNames (row 6 [] body) _ _ (rw (f .head .long) at r) in
+    rw (
+      regroup headNames (line h) blockNames (lines (t .blocks)) instructionNames (lines (t .instructions)) caseNames (lines (t .cases)) placeNames (lines (t .places)) identifierNames (lines (t .identifiers)),
+      regroup-words h (flat (t .blocks)) (flat (t .instructions)) (flat (t .cases)) (flat (t .places)) (flat (t .identifiers)),
+    )
+    w
+
+finished-out : (bytes words : List ℕ) → Text finished bytes words → (bytes ≡ []) × (words ≡ [])
+unfolding Text
+finished-out [] words t = (refl, t)
+finished-out (c ∷ bytes) words t = absurd t
+
+pub good-text : (file words : List ℕ) → Good file words → Text whole file words
+good-text file words g = rw (g .text, g .word) (tables-in (g .tables) (g .formed))
+
+pub text-good : (file words : List ℕ) → Text whole file words → Good file words
+unfolding whole body
+text-good file words t =
+    let (rest, named, u) = literal-out headNames (row 6 [] body) file words t in
+    let r = row-out 6 [] body rest words u in
+    let h = r .ns in
+    let t₁ = table-out blockNames 10 (getD h 1 0) _ (r .rest) (r .more) (r .text) in
+    let t₂ = table-out instructionNames 6 (getD h 2 0) _ (t₁ .rest) (t₁ .more) (t₁ .text) in
+    let t₃ = table-out caseNames 2 (getD h 3 0) _ (t₂ .rest) (t₂ .more) (t₂ .text) in
+    let t₄ = table-out placeNames 1 (getD h 4 0) _ (t₃ .rest) (t₃ .more) (t₃ .text) in
+    let t₅ = table-out identifierNames 1 (getD h 5 0) _ (t₄ .rest) (t₄ .more) (t₄ .text) in
+    let z = finished-out (t₅ .rest) (t₅ .more) (t₅ .text) in
+    record {
+      tables = record { head = h; blocks = t₁ .rs; instructions = t₂ .rs; cases = t₃ .rs; places = t₄ .rs; identifiers = t₅ .rs };
+      formed = record { head = r .row; blocks = t₁ .table; instructions = t₂ .table; cases = t₃ .table; places = t₄ .table; identifiers = t₅ .table };
+      text = assemble headNames (line h) blockNames (lines (t₁ .rs)) instructionNames (lines (t₂ .rs)) caseNames (lines (t₃ .rs)) placeNames (lines (t₄ .rs)) identifierNames (lines (t₅ .rs))
+          named (r .shown) (t₁ .shown) (t₂ .shown) (t₃ .shown) (t₄ .shown) (t₅ .shown) (z .0);
+      word = assemble-words h (flat (t₁ .rs)) (flat (t₂ .rs)) (flat (t₃ .rs)) (flat (t₄ .rs)) (flat (t₅ .rs))
+          (r .kept) (t₁ .kept) (t₂ .kept) (t₃ .kept) (t₄ .kept) (t₅ .kept) (z .1);
+    }
+
+-- ---- one reading
+
+-- a text of the form has one list of words
+pub text-one : (form : Form) (bytes us vs : List ℕ) → Text form bytes us → Text form bytes vs → us ≡ vs
+unfolding Text
+text-one finished [] us vs t u = t ∙ sym u
+text-one finished (c ∷ bytes) us vs t u = absurd t
+text-one (byte b next) [] us vs t u = absurd t
+text-one (byte b next) (c ∷ bytes) us vs t u = text-one next bytes us vs (t .1) (u .1)
+text-one (field last next) [] us vs t u = absurd t
+text-one (field last next) (c ∷ bytes) us vs t u =
+    let same : u .0 ≡ t .0 = omega (arith, t .2, u .2) in
+    text-one (digits (t .0) last next) bytes us vs (t .3) (subst (λ (d : ℕ). Text (digits d last next) bytes vs) same (u .3))
+text-one (digits v last next) [] us vs t u = absurd t
+text-one (digits v last next) (c ∷ bytes) us vs t u =
+    ⊎-elim
+    (λ a. ⊎-elim
+      (λ b. a .1 .1 ∙ ap (λ (l : List ℕ). v ∷ l) (text-one (next v) bytes (a .1 .0) (b .1 .0) (a .1 .2) (b .1 .2)) ∙ sym (b .1 .1))
+      (λ b. absurd (omega (arith, a .0, b .2, ending-low last)))
+      u)
+    (λ a. ⊎-elim
+      (λ b. absurd (omega (arith, b .0, a .2, ending-low last)))
+      (λ b.
+        let same : b .0 ≡ a .0 = omega (arith, a .2, b .2) in
+        text-one (digits (v * 10 + a .0) last next) bytes us vs (a .5) (subst (λ (d : ℕ). Text (digits (v * 10 + d) last next) bytes vs) same (b .5)))
+      u)
+    t

@@ -22,6 +22,7 @@ record Step (form : Form) (c : ℕ) (new : List ℕ) (next : Form) : Type 0 wher
 
 -- every form has a text: where a number is wanted, 0
 inhabited : (form : Form) → (bytes : List ℕ) × (words : List ℕ) × Text form bytes words
+unfolding Text
 inhabited finished = ([], [], refl)
 inhabited (byte b rest) = let (bytes, words, t) = inhabited rest in (b ∷ bytes, words, (refl, t))
 inhabited (field last rest) =
@@ -80,21 +81,25 @@ module _ (file : List ℕ) (at : ℕ) (words : List ℕ) (form : Form) (h : Reac
 
 module _ (file : List ℕ) (at : ℕ) (words : List ℕ) (b : ℕ) (next : Form) (h : Reached file at words (byte b next)) where
   pub byte-taken : at < length file → getD file at 0 ≡ b → Reached file (at + 1) words next
+  unfolding Text
   byte-taken p e = advance-in file at words (byte b next) h p next (record {
     sound = λ bytes more t. (e, t);
     only = λ bytes all t. (all, refl, t .1);
   })
 
   pub byte-other : at < length file → (getD file at 0 ≡ b → ⊥) → Stopped file at
+  unfolding Text
   byte-other p f = halt file at words (byte b next) h p (λ bytes all t. f (t .0))
 
   pub byte-missing : at ≡ length file → Stopped file at
+  unfolding Text
   byte-missing e = halt-short file at words (byte b next) h e (λ all t. t)
 
 -- ---- the first digit of a number
 
 module _ (file : List ℕ) (at : ℕ) (words : List ℕ) (last : Bool) (rest : ℕ → Form) (h : Reached file at words (field last rest)) where
   pub first-taken : (d : ℕ) → at < length file → d < 10 → getD file at 0 ≡ 48 + d → Reached file (at + 1) words (digits d last rest)
+  unfolding Text
   first-taken d p q e = advance-in file at words (field last rest) h p (digits d last rest) (record {
     sound = λ bytes more t. (d, q, e, t);
     only = λ bytes all t.
@@ -103,19 +108,22 @@ module _ (file : List ℕ) (at : ℕ) (words : List ℕ) (last : Bool) (rest : �
   })
 
   pub first-other : at < length file → ((d : ℕ) → d < 10 → getD file at 0 ≡ 48 + d → ⊥) → Stopped file at
+  unfolding Text
   first-other p f = halt file at words (field last rest) h p (λ bytes all t. f (t .0) (t .1) (t .2))
 
   pub first-missing : at ≡ length file → Stopped file at
+  unfolding Text
   first-missing e = halt-short file at words (field last rest) h e (λ all t. t)
 
 -- ---- after digits of the value v: another digit, or the end
 
-ending-low : (last : Bool) → ending last < 48
+pub ending-low : (last : Bool) → ending last < 48
 ending-low true = omega arith
 ending-low false = omega arith
 
 module _ (file : List ℕ) (at : ℕ) (words : List ℕ) (v : ℕ) (last : Bool) (rest : ℕ → Form) (h : Reached file at words (digits v last rest)) where
   pub digit-taken : (d : ℕ) → at < length file → d < 10 → getD file at 0 ≡ 48 + d → 0 < v → v * 10 + d < 2 ^ 32 → Reached file (at + 1) words (digits (v * 10 + d) last rest)
+  unfolding Text
   digit-taken d p q e r m = advance-in file at words (digits v last rest) h p (digits (v * 10 + d) last rest) (record {
     sound = λ bytes more t. inr (d, q, e, r, m, t);
     only = λ bytes all t.
@@ -128,6 +136,7 @@ module _ (file : List ℕ) (at : ℕ) (words : List ℕ) (v : ℕ) (last : Bool)
   })
 
   pub end-taken : at < length file → getD file at 0 ≡ ending last → Reached file (at + 1) (words ++ (v ∷ [])) (rest v)
+  unfolding Text
   end-taken p e = advance file at words (digits v last rest) h p (v ∷ []) (rest v) (record {
     sound = λ bytes more t. inl (e, (more, refl, t));
     only = λ bytes all t.
@@ -139,18 +148,22 @@ module _ (file : List ℕ) (at : ℕ) (words : List ℕ) (v : ℕ) (last : Bool)
 
   -- a byte that is neither the end nor a digit that may follow
   pub digit-other : at < length file → (getD file at 0 ≡ ending last → ⊥) → ((d : ℕ) → d < 10 → getD file at 0 ≡ 48 + d → 0 < v → v * 10 + d < 2 ^ 32 → ⊥) → Stopped file at
+  unfolding Text
   digit-other p f g = halt file at words (digits v last rest) h p (λ bytes all t. ⊎-elim (λ w. f (w .0)) (λ w. g (w .0) (w .1) (w .2) (w .3) (w .4)) t)
 
   pub digit-missing : at ≡ length file → Stopped file at
+  unfolding Text
   digit-missing e = halt-short file at words (digits v last rest) h e (λ all t. t)
 
 -- ---- the end of the file
 
 module _ (file : List ℕ) (at : ℕ) (words : List ℕ) (h : Reached file at words finished) where
   pub finished-good : at ≡ length file → Text whole file words
+  unfolding Text
   finished-good e =
       let f : take at file ++ [] ≡ file = rw (e, take-length file, append-nil file) in
       rw f at (rw (append-nil words) at (h .sound [] [] refl))
 
   pub finished-more : at < length file → Stopped file at
+  unfolding Text
   finished-more p = halt file at words finished h p (λ bytes all t. t)

@@ -55,7 +55,7 @@ unfoldable pub whole : Form
 whole = literal headNames (row 6 [] body)
 
 -- the bytes are in the form and have these words
-abbrev pub Text : Form → List ℕ → List ℕ → Type 0
+unfoldable pub Text : Form → List ℕ → List ℕ → Type 0
 Text finished [] words = words ≡ []
 Text finished (c ∷ bytes) words = ⊥
 Text (byte b rest) [] words = ⊥
