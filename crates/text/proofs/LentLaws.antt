@@ -1,13 +1,13 @@
 -- Laws of a lent buffer.
 use mathlib.Core.Path.{_≡_, refl, sym, ap, _∙_}
-use mathlib.Core.List.{List, [], _∷_, _++_, append-nil}
+use mathlib.Core.List.{List, [], _∷_, _++_, append-nil, append-assoc}
 use mathlib.Core.Bool.{Bool, true, false}
 use Prim.Native.Nat.{ℕ, zero, suc, _+_, _-_, _≤_, _<_}
 use native.Mathlib.Omega.{arith}
 use native.Mathlib.Numerals.{add-one}
 use lib.Dec.{ltb}
-use lib.ListN.{length, take, set, replicate, length-append, length-set}
-use lib.Seq.{take-all, take-suc-set, take-append-le, set-out}
+use lib.ListN.{length, take, set, replicate, length-append, length-set, replicate-append-replicate}
+use lib.Seq.{take-all, take-length, take-suc-set, take-append-le, set-out}
 use borrow.Author.Tests.{ltb-true, ltb-false}
 use Rattle.text.specs.Lent.{Holds, padded}
 
@@ -39,3 +39,33 @@ module _ (b : List ℕ) (n v : ℕ) (items : List ℕ) (h : Holds b n items) whe
 -- what is held, if it fits
 pub holds-all : (b : List ℕ) (n : ℕ) (items : List ℕ) → Holds b n items → n ≤ length b → take n b ≡ items
 holds-all b n items h p = h .held ∙ take-all (length b) items (omega (arith, h .counted))
+
+-- ---- clearing a buffer from an index on
+
+-- the places from `from` up to i are cleared
+pub record Cleared (b₀ : List ℕ) (from : ℕ) (b : List ℕ) (i : ℕ) : Type 0 where
+  pub least : from ≤ i
+  pub most : i ≤ length b
+  pub long : length b ≡ length b₀
+  pub front : take i b ≡ take from b₀ ++ replicate (i - from) 0
+
+pub cleared-none : (b : List ℕ) (from : ℕ) → from ≤ length b → Cleared b from b from
+cleared-none b from p =
+    let e : from - from ≡ 0 = omega arith in
+    record { least = omega arith; most = p; long = refl; front = rw e (sym (append-nil (take from b))) }
+
+pub cleared-more : (b₀ b : List ℕ) (from i : ℕ) → Cleared b₀ from b i → i < length b → Cleared b₀ from (set b i 0) (i + 1)
+cleared-more b₀ b from i h p =
+    let e : i + 1 - from ≡ i - from + 1 = omega (arith, h .least) in
+    record {
+      least = omega (arith, h .least);
+      most = simp length-set (omega arith);
+      long = simp length-set (h .long);
+      front = rw (e, add-one i) (take-suc-set b i 0 p ∙ rw (h .front, append-assoc, replicate-append-replicate {A = ℕ} (i - from) 1 0));
+    }
+
+pub cleared-all : (b₀ b : List ℕ) (from i : ℕ) → Cleared b₀ from b i → length b ≤ i → b ≡ take from b₀ ++ replicate (length b₀ - from) 0
+cleared-all b₀ b from i h p =
+    let e : i ≡ length b = omega (arith, h .most) in
+    let f = h .long in
+    rw (← f, ← e) (sym (rw e (take-length b)) ∙ h .front)

@@ -9,7 +9,8 @@ use native.Mathlib.Numerals.{add-one}
 use lib.ListN.{length, take, drop, getD}
 use lib.Seq.{take-suc, take-length, split-at, append-snoc}
 use Rattle.text.specs.Form.{Form, finished, byte, field, digits, ending, Text, whole}
-use Rattle.text.specs.Steps.{Reached, Stopped}
+use Rattle.text.specs.Steps.{Reached, Stopped, NumberRead, numberRefused}
+use Rattle.text.specs.declared.read.Number.{Number}
 
 -- at first all of the file is to come
 pub reached-none : (file : List ℕ) → Reached file 0 [] whole
@@ -167,3 +168,20 @@ module _ (file : List ℕ) (at : ℕ) (words : List ℕ) (h : Reached file at wo
   pub finished-more : at < length file → Stopped file at
   unfolding Text
   finished-more p = halt file at words finished h p (λ bytes all t. t)
+
+-- ---- what reading a number gives
+
+true-false : true ≡ false → ⊥
+true-false e = let z : _≡_ {A = ℕ} 0 1 = cc in omega arith
+
+pub false-true : false ≡ true → ⊥
+false-true e = true-false (sym e)
+
+pub number-refused : {file : List ℕ} {start : ℕ} {last : Bool} {r : Number} {at : ℕ} → r ≡ numberRefused at → at ≤ length file
+    → ((words : List ℕ) (next : ℕ → Form) → Reached file start words (field last next) → Stopped file at) → NumberRead file start last r
+number-refused e p f = rw e (record {
+  within = p;
+  long = λ g. absurd (true-false g);
+  stopped = λ words next h g. f words next h;
+  reached = λ words next h g. absurd (true-false g);
+})

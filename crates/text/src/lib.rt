@@ -1,4 +1,3 @@
-// The text form: a file's bytes read as words, and a result written as lines.
-pub fn zero() -> u32 {
-    0
-}
+// The text form of paper 01, "Samples": a file's bytes read as words, and a result written as lines.
+pub mod lent;
+pub mod read;
