@@ -13,7 +13,7 @@ use borrow.Author.Tests.{ltb-true, ltb-false}
 use Rattle.text.specs.Decimal.{decimal}
 use Rattle.text.specs.Line.{after, line, lines, flat}
 use Rattle.text.specs.File.{Words, Row, Rows, Table, Tables, Formed, textOf, wordsOf, Good, headNames, blockNames, instructionNames, caseNames, placeNames, identifierNames}
-use Rattle.text.specs.Form.{Form, finished, byte, field, digits, ending, isZero, literal, row, rows, table, body, whole, Text}
+use Rattle.text.specs.Form.{Form, finished, byte, field, digits, ending, isZero, literal, row, rows, table, tables, whole, Text}
 use Rattle.text.proofs.DecimalLaws.{decimal-small, decimal-more, decimal-next}
 use Rattle.text.proofs.StepLaws.{ending-low}
 
@@ -231,12 +231,15 @@ assemble-words : {words r₁ r₂ r₃ r₄ r₅ r₆ : List ℕ} (a b c d e f :
     → words ≡ a ++ b ++ c ++ d ++ e ++ f
 assemble-words a b c d e f p q r s t u v = rw (regroup-words a b c d e f, p, q, r, s, t, u, v)
 
+abbrev body : List ℕ → Form
+body head = tables head finished
+
 finished-in : Text finished [] []
 unfolding Text
 finished-in = refl
 
 tables-in : (t : Tables) → Formed t → Text whole (textOf t) (wordsOf t)
-unfolding whole body
+unfolding whole tables
 tables-in t f =
     let h = t .head in
     let t₅ = table-in identifierNames 1 (getD h 5 0) (t .identifiers) finished [] [] (f .identifiers) finished-in in
@@ -261,7 +264,7 @@ pub good-text : (file words : List ℕ) → Good file words → Text whole file 
 good-text file words g = rw (g .text, g .word) (tables-in (g .tables) (g .formed))
 
 pub text-good : (file words : List ℕ) → Text whole file words → Good file words
-unfolding whole body
+unfolding whole tables
 text-good file words t =
     let (rest, named, u) = literal-out headNames (row 6 [] body) file words t in
     let r = row-out 6 [] body rest words u in

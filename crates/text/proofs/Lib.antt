@@ -3,3 +3,4 @@ pub mod DecimalLaws
 pub mod LentLaws
 pub mod StepLaws
 pub mod FormLaws
+pub mod PartLaws

@@ -171,7 +171,7 @@ module _ (file : List ℕ) (at : ℕ) (words : List ℕ) (h : Reached file at wo
 
 -- ---- what reading a number gives
 
-true-false : true ≡ false → ⊥
+pub true-false : true ≡ false → ⊥
 true-false e = let z : _≡_ {A = ℕ} 0 1 = cc in omega arith
 
 pub false-true : false ≡ true → ⊥

@@ -42,17 +42,18 @@ rows width (suc count) rest = row width [] λ _. rows width count rest
 unfoldable pub table : List ℕ → ℕ → ℕ → Form → Form
 table names width count rest = literal names (rows width count rest)
 
-unfoldable pub body : List ℕ → Form
-body head =
+-- the five tables that the head counts
+unfoldable pub tables : List ℕ → Form → Form
+tables head rest =
     table blockNames 10 (getD head 1 0)
     (table instructionNames 6 (getD head 2 0)
     (table caseNames 2 (getD head 3 0)
     (table placeNames 1 (getD head 4 0)
     (table identifierNames 1 (getD head 5 0)
-    finished))))
+    rest))))
 
 unfoldable pub whole : Form
-whole = literal headNames (row 6 [] body)
+whole = literal headNames (row 6 [] λ head. tables head finished)
 
 -- the bytes are in the form and have these words
 unfoldable pub Text : Form → List ℕ → List ℕ → Type 0

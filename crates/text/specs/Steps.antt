@@ -51,3 +51,54 @@ pub record NumberRead (file : List ℕ) (at : ℕ) (last : Bool) (r : Number) : 
   pub long : r .refused ≡ false → at + 2 ≤ r .at
   pub stopped : (words : List ℕ) (next : ℕ → Form) → Reached file at words (field last next) → r .refused ≡ true → Stopped file (r .at)
   pub reached : (words : List ℕ) (next : ℕ → Form) → Reached file at words (field last next) → r .refused ≡ false → Reached file (r .at) (words ++ (r .value ∷ [])) (next (r .value))
+
+-- ---- parts of the file
+
+-- within the file, with no more words than bytes
+pub record Near (file : List ℕ) (c : Cursor) : Type 0 where
+  pub within : c .at ≤ length file
+  pub few : c .count ≤ c .at
+
+-- the reading has come so far, and the words are in the buffer
+pub record At (file buffer : List ℕ) (at count : ℕ) (words : List ℕ) (next : Form) : Type 0 where
+  pub reached : Reached file at words next
+  pub holds : Holds buffer count words
+
+-- what reading a part of the file gives, from the cursor c on, whatever comes after the part
+pub record PartRead (file : List ℕ) (part : Form → Form) (c : Cursor) (buffer : List ℕ) (r : Cursor) (buffer′ : List ℕ) : Type 0 where
+  pub near : Near file r
+  pub stopped : (words : List ℕ) (next : Form) → At file buffer (c .at) (c .count) words (part next) → r .refused ≡ true → Stopped file (r .at)
+  pub reached : (words : List ℕ) (next : Form) → At file buffer (c .at) (c .count) words (part next) → r .refused ≡ false
+      → (new : List ℕ) × At file buffer′ (r .at) (r .count) (words ++ new) next
+
+-- what reading a line of names gives
+pub record NamesRead (file names : List ℕ) (c r : Cursor) : Type 0 where
+  pub near : Near file r
+  pub stopped : (words : List ℕ) (next : Form) → Reached file (c .at) words (literal names next) → r .refused ≡ true → Stopped file (r .at)
+  pub reached : (words : List ℕ) (next : Form) → Reached file (c .at) words (literal names next) → r .refused ≡ false → Reached file (r .at) words next
+  pub count : r .refused ≡ false → r .count ≡ c .count
+
+-- the numbers of a row that was read
+pub record RowEnd (file : List ℕ) (width : ℕ) (words : List ℕ) (next : List ℕ → Form) (r : Cursor) (buffer : List ℕ) : Type 0 where
+  pub numbers : List ℕ
+  pub long : length numbers ≡ width
+  pub at : At file buffer (r .at) (r .count) (words ++ numbers) (next numbers)
+
+-- what reading a row gives: its numbers decide what comes next
+pub record RowRead (file : List ℕ) (width : ℕ) (c : Cursor) (buffer : List ℕ) (r : Cursor) (buffer′ : List ℕ) : Type 0 where
+  pub near : Near file r
+  pub stopped : (words : List ℕ) (next : List ℕ → Form) → At file buffer (c .at) (c .count) words (row width [] next) → r .refused ≡ true → Stopped file (r .at)
+  pub reached : (words : List ℕ) (next : List ℕ → Form) → At file buffer (c .at) (c .count) words (row width [] next) → r .refused ≡ false
+      → RowEnd file width words next r buffer′
+
+-- what reading the whole file gives
+pub record FileRead (file : List ℕ) (r : Cursor) (buffer : List ℕ) : Type 0 where
+  pub near : Near file r
+  pub stopped : r .refused ≡ true → Stopped file (r .at)
+  pub reached : r .refused ≡ false → (words : List ℕ) × Text whole file words × Holds buffer (r .count) words
+
+abbrev pub cursorRefused : ℕ → Cursor
+cursorRefused at = record { refused = true; at = at; count = 0 }
+
+abbrev pub cursorAt : ℕ → ℕ → Cursor
+cursorAt at count = record { refused = false; at = at; count = count }

@@ -3,6 +3,7 @@ ghost use mathlib.Core.Path.{_≡_};
 ghost use mathlib.Core.List.{_++_};
 ghost use Prim.Native.Nat.{_-_, _≤_};
 ghost use lib.ListN.{length, set, take, replicate};
+ghost use Rattle.text.specs.Lent.{Holds};
 
 // Stores a word, if there is a place for it.
 pub fn put_word(words: &mut [u32], at: usize, word: u32)
@@ -10,6 +11,17 @@ pub fn put_word(words: &mut [u32], at: usize, word: u32)
 {
     if at < words.len() {
         words[at] = word;
+    }
+}
+
+// Stores words from the start on, as far as there are places for them.
+pub fn put_words(words: &mut [u32], source: &[u32])
+    ensures { λ _. ⌜ Holds (now (words .exit)) (length (now (source .entry))) (now (source .entry)) ⌝ }
+{
+    let mut i = 0;
+    while i < source.len() {
+        put_word(words, i, source[i]);
+        i += 1;
     }
 }
 
