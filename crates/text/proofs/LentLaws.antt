@@ -4,6 +4,7 @@ use mathlib.Core.List.{List, [], _∷_, _++_, append-nil, append-assoc}
 use mathlib.Core.Bool.{Bool, true, false}
 use Prim.Native.Nat.{ℕ, zero, suc, _+_, _-_, _≤_, _<_}
 use native.Mathlib.Omega.{arith}
+use native.Mathlib.Nat.{sub-zero}
 use native.Mathlib.Numerals.{add-one}
 use lib.Dec.{ltb}
 use lib.ListN.{length, take, set, replicate, length-append, length-set, replicate-append-replicate}
@@ -69,3 +70,11 @@ cleared-all b₀ b from i h p =
     let e : i ≡ length b = omega (arith, h .most) in
     let f = h .long in
     rw (← f, ← e) (sym (rw e (take-length b)) ∙ h .front)
+
+-- a buffer that is cleared whole
+pub cleared-zeros : (b₀ b : List ℕ) (room : ℕ) → length b₀ ≡ room → b ≡ take 0 b₀ ++ replicate (length b₀ - 0) 0 → b ≡ replicate room 0
+cleared-zeros b₀ b room p e = e ∙ rw (sub-zero (length b₀), p)
+
+-- a buffer that is cleared after what it holds
+pub cleared-padded : (b₀ b items : List ℕ) (n room : ℕ) → length b₀ ≡ room → Holds b₀ n items → n ≤ length b₀ → b ≡ take n b₀ ++ replicate (length b₀ - n) 0 → b ≡ padded room items
+cleared-padded b₀ b items n room p h q e = e ∙ rw (holds-all b₀ n items h q, p, h .counted)

@@ -4,3 +4,4 @@ pub mod LentLaws
 pub mod StepLaws
 pub mod FormLaws
 pub mod PartLaws
+pub mod AnswerLaws

@@ -7,3 +7,4 @@ pub mod File
 pub mod Lent
 pub mod Form
 pub mod Steps
+pub mod Answer

@@ -1,10 +1,22 @@
 ghost use mathlib.Core.Path.{_≡_};
 ghost use Prim.Native.Nat.{_+_, _≤_, _<_};
 ghost use lib.ListN.{length};
+ghost use Rattle.text.specs.Answer.{Answered};
 ghost use Rattle.text.specs.Form.{ending, rows, table, tables};
 ghost use Rattle.text.specs.Steps.{Digit, Extended, NumberRead, numberRefused, Near, NamesRead, PartRead, RowRead, FileRead, cursorAt, cursorRefused};
+use crate::lent::clear_words;
 use crate::lent::put_word;
 use crate::lent::put_words;
+
+// What reading a file gives.
+pub enum Answer {
+    // The file is in the form: the number of its words.
+    Words(usize),
+    // A refusal of paper 01, 50 or 51, and its place.
+    Refused { code: u32, at: u32 },
+    // The file is in the form, and has more words than were lent.
+    NoRoom,
+}
 
 // How far the reading has come: the next byte and the number of words so far; or the byte that it is refused at.
 pub struct Cursor {
@@ -239,4 +251,28 @@ fn read_file(file: &[u8], words: &mut [u32]) -> Cursor
         return cursor_refused(end.at);
     }
     end
+}
+
+// Reads a file: its words into the lent ones, then zeros. Where there is no such answer the lent words are all zeros.
+pub fn read(file: &[u8], words: &mut [u32]) -> Answer
+    ensures { λ r. ⌜ Answered (now (file .entry)) (length (now (words .entry))) (now (words .exit)) r ⌝ }
+{
+    if 32768 < file.len() {
+        clear_words(words, 0);
+        return Answer::Refused { code: 51, at: 0 };
+    }
+    let end = read_file(file, words);
+    if end.refused {
+        clear_words(words, 0);
+        return Answer::Refused {
+            code: 50,
+            at: end.at as u32,
+        };
+    }
+    if words.len() < end.count {
+        clear_words(words, 0);
+        return Answer::NoRoom;
+    }
+    clear_words(words, end.count);
+    Answer::Words(end.count)
 }
