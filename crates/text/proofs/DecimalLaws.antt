@@ -40,3 +40,47 @@ decimal-next v d p q =
     let e : (v * 10 + d) / 10 ≡ v = omega arith in
     let f : (v * 10 + d) % 10 ≡ d = omega arith in
     decimal-more (v * 10 + d) (omega arith) ∙ rw (e, f)
+
+-- ---- length
+
+-- a number has a digit
+pub decimal-some : (n : ℕ) → 1 ≤ length (decimal n)
+decimal-some n = some-by (ltb n 10) refl
+  where
+    some-by : (small : Bool) → ltb n 10 ≡ small → 1 ≤ length (decimal n)
+    some-by true e = omega (arith, ap (λ (l : List ℕ). length l) (decimal-small n (ltb-true n 10 e)))
+    some-by false e = omega (arith, ap (λ (l : List ℕ). length l) (decimal-more n (ltb-false n 10 e)) ∙ length-append (decimal (n / 10)) ((48 + n % 10) ∷ []))
+
+-- numbers below ten times m have at most one digit more than those below m
+Within : ℕ → ℕ → Type 0
+Within m k = (n : ℕ) → n < m → length (decimal n) ≤ k
+
+within-ten : Within 10 1
+unfolding Within
+within-ten n p = omega (arith, ap (λ (l : List ℕ). length l) (decimal-small n p))
+
+within-more : (m k : ℕ) → 1 ≤ k → Within m k → Within (m * 10) (k + 1)
+unfolding Within
+within-more m k q h n p = more-by (ltb n 10) refl
+  where
+    more-by : (small : Bool) → ltb n 10 ≡ small → length (decimal n) ≤ k + 1
+    more-by true e = omega (arith, ap (λ (l : List ℕ). length l) (decimal-small n (ltb-true n 10 e)))
+    more-by false e = omega (
+      arith,
+      ap (λ (l : List ℕ). length l) (decimal-more n (ltb-false n 10 e)) ∙ length-append (decimal (n / 10)) ((48 + n % 10) ∷ []),
+      h (n / 10) (omega arith),
+    )
+
+-- a number of 32 bits has at most ten digits
+pub decimal-ten : (n : ℕ) → n < 2 ^ 32 → length (decimal n) ≤ 10
+unfolding Within
+decimal-ten n p =
+    let w₂ = within-more 10 1 (omega arith) within-ten in
+    let w₃ = within-more 100 2 (omega arith) w₂ in
+    let w₄ = within-more 1000 3 (omega arith) w₃ in
+    let w₅ = within-more 10000 4 (omega arith) w₄ in
+    let w₆ = within-more 100000 5 (omega arith) w₅ in
+    let w₇ = within-more 1000000 6 (omega arith) w₆ in
+    let w₈ = within-more 10000000 7 (omega arith) w₇ in
+    let w₉ = within-more 100000000 8 (omega arith) w₈ in
+    within-more 1000000000 9 (omega arith) w₉ n (omega arith)
