@@ -95,7 +95,7 @@ module _ (last : Bool) (next : ℕ → Form) where
 
 -- ---- a line of numbers
 
-after-ending : (ns : List ℕ) → after ns ≡ ending (isZero (length ns))
+pub after-ending : (ns : List ℕ) → after ns ≡ ending (isZero (length ns))
 after-ending [] = refl
 after-ending (n ∷ ns) = refl
 

@@ -5,3 +5,4 @@ pub mod StepLaws
 pub mod FormLaws
 pub mod PartLaws
 pub mod AnswerLaws
+pub mod WriteLaws

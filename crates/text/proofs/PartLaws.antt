@@ -41,7 +41,7 @@ module _ (file : List ℕ) (at : ℕ) (words names : List ℕ) (i : ℕ) (next :
 
 -- ---- a row
 
-last-number : (more i width : ℕ) → width ≡ i + 1 + more → isZero more ≡ eqb (i + 1) width
+pub last-number : (more i width : ℕ) → width ≡ i + 1 + more → isZero more ≡ eqb (i + 1) width
 last-number zero i width e = sym (eq-eqb (i + 1) width (omega arith))
 last-number (suc more) i width e = sym (ne-eqb (i + 1) width (omega arith))
 

@@ -8,3 +8,4 @@ pub mod Lent
 pub mod Form
 pub mod Steps
 pub mod Answer
+pub mod Printed

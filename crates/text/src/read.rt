@@ -61,7 +61,7 @@ fn extended(value: u32, byte: u8) -> u64
 }
 
 // What ends a number: LF if it is the last of its line, else a space.
-fn ending_byte(last: bool) -> u8
+pub fn ending_byte(last: bool) -> u8
     ensures { λ r. ⌜ r ≡ ending last ⌝ }
 {
     if last { 10 } else { 32 }
