@@ -6,15 +6,19 @@ use Prim.Native.Nat.{ℕ, zero, suc, _+_, _-_, _*_, _/_, _^_, _≤_, _<_}
 use native.Mathlib.Omega.{arith}
 use native.Mathlib.Nat.{add-zero}
 use native.Mathlib.Numerals.{add-one}
-use lib.Dec.{eqb}
-use lib.ListN.{length, take, drop, getD, set, length-append, length-drop, drop-of-length-le}
+use lib.Dec.{eqb, leb}
+use borrow.Author.Tests.{le-leb, lt-leb}
+use lib.ListN.{length, take, drop, getD, set, replicate, length-append, length-drop, drop-of-length-le}
 use lib.Seq.{drop-cons, drop-drop}
 use Rattle.text.specs.Decimal.{decimal}
 use Rattle.text.specs.Line.{after, line, lines}
 use Rattle.text.specs.Form.{ending}
 use Rattle.text.specs.Lent.{Holds}
-use Rattle.text.specs.Printed.{rowsOf, Wrote, Held, WroteSome}
-use Rattle.text.proofs.LentLaws.{holds-put}
+use Rattle.text.specs.Printed.{resultNames, treeNames, rowsOf, treeLines, printed, writtenOf, lentOf, Wrote, Held, WroteSome}
+use Rattle.text.specs.File.{Words}
+use Rattle.text.specs.declared.write.Written.the-variants.{Bytes, NoRoom}
+use Rattle.text.proofs.LentLaws.{holds-put, cleared-zeros, cleared-padded}
+use Rattle.text.proofs.DecimalLaws.{decimal-ten}
 use Rattle.text.proofs.FormLaws.{after-ending}
 use Rattle.text.proofs.PartLaws.{last-number}
 
@@ -98,3 +102,52 @@ wrote-part text rest all h e f before p = record {
   holds = h .holds before p;
   whole = f;
 }
+
+-- ---- the result
+
+-- a line of numbers of 32 bits
+pub line-most : (ns : List ℕ) → Words ns → length (line ns) ≤ length ns * 11
+unfolding line
+line-most [] p = omega arith
+line-most (n ∷ ns) p = simp length-append (omega (arith, line-most ns (p .1), decimal-ten n (p .0)))
+
+pub printed-refused : (code at rows visits : ℕ) (tree : List ℕ) → (code ≡ 0 → ⊥) → printed code at rows visits tree ≡ resultNames ++ line (code ∷ at ∷ rows ∷ visits ∷ [])
+unfolding printed treeLines
+printed-refused zero at rows visits tree f = absurd (f refl)
+printed-refused (suc code) at rows visits tree f = rw (append-nil (line (suc code ∷ at ∷ rows ∷ visits ∷ [])))
+
+pub printed-accepted : (code at rows visits : ℕ) (tree : List ℕ) → code ≡ 0
+    → printed code at rows visits tree ≡ resultNames ++ (line (code ∷ at ∷ rows ∷ visits ∷ []) ++ (treeNames ++ lines (rowsOf (length tree / 6) tree)))
+unfolding printed treeLines
+printed-accepted zero at rows visits tree e = refl
+printed-accepted (suc code) at rows visits tree e = absurd (omega arith)
+
+module _ (text b′ b″ : List ℕ) (end room : ℕ) (long : length b′ ≡ room) (h : Held text b′ end) where
+  -- all of it is there
+  all-held : end ≤ length b′ → Holds b′ end text
+  all-held p =
+      let e : text ≡ h .held = h .split ∙ rw (h .whole p) (append-nil (h .held)) in
+      rw e (h .holds)
+
+  pub fits-answer : end ≤ length b′ → Bytes end ≡ writtenOf room text
+  unfolding writtenOf
+  fits-answer p =
+      let l = all-held p .counted in
+      rw (le-leb (length text) room (omega arith)) (ap Bytes (sym l))
+
+  pub fits-lent : end ≤ length b′ → b″ ≡ take end b′ ++ replicate (length b′ - end) 0 → b″ ≡ lentOf room text
+  unfolding lentOf
+  fits-lent p e =
+      let l = all-held p .counted in
+      rw (le-leb (length text) room (omega arith)) (cleared-padded b′ b″ text end room long (all-held p) p e)
+
+  over : length b′ < end → room < length text
+  over p = omega (arith, h .holds .counted, ap (λ (l : List ℕ). length l) (h .split) ∙ length-append (h .held) (h .rest))
+
+  pub over-answer : length b′ < end → NoRoom ≡ writtenOf room text
+  unfolding writtenOf
+  over-answer p = rw (lt-leb (length text) room (over p))
+
+  pub over-lent : length b′ < end → b″ ≡ take 0 b′ ++ replicate (length b′ - 0) 0 → b″ ≡ lentOf room text
+  unfolding lentOf
+  over-lent p e = rw (lt-leb (length text) room (over p)) (cleared-zeros b′ b″ room long e)
