@@ -1,5 +1,7 @@
 //! What a run has met.
 
+use walk_observer::{Seen, Walk};
+
 use crate::generate::FAMILIES;
 use crate::model::{Outcome, ROW_WORDS};
 
@@ -70,15 +72,16 @@ impl Coverage {
     }
 
     /// Counts the ends of the blocks that the reference visited, and its greatest depth.
-    pub fn walk(&mut self, words: &[u32], statements: &[u32], values: &[u32], deepest: u32) {
+    pub fn walk(&mut self, words: &[u32], seen: &Seen) {
         self.compared += 1;
-        let code = |block: u32| words[6 + 10 * block as usize + 2] as usize;
-        for block in statements {
-            self.statement_ends[code(*block)] += 1;
+        for (block, walk) in &seen.trail {
+            let end = words[6 + 10 * *block as usize + 2] as usize;
+            match walk {
+                Walk::Statement => self.statement_ends[end] += 1,
+                Walk::Value => self.value_ends[end] += 1,
+            }
         }
-        for block in values {
-            self.value_ends[code(*block)] += 1;
-        }
+        let deepest = seen.deepest as u32;
         let class = DEPTHS.iter().position(|bound| deepest <= *bound).expect("at most 128");
         self.depths[class] += 1;
     }

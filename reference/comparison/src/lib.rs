@@ -1,6 +1,7 @@
 //! The reference beside a model of paper 01.
 
 pub mod coverage;
+pub mod features;
 pub mod generate;
 pub mod model;
 pub mod reference;

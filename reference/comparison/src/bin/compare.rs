@@ -78,7 +78,7 @@ fn compare(seed: u64, number: u64, coverage: &mut Coverage) {
         return;
     };
     let (walked, seen) = reference::walk(&table);
-    coverage.walk(&words, &seen.statement_visits, &seen.value_visits, walked.deepest);
+    coverage.walk(&words, &seen);
 
     let rows = walked.result.as_ref().map_or(0, Vec::len);
     let length = buffer_length(rows, &mut lent);

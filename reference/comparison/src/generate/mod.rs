@@ -1,12 +1,15 @@
 //! Tables to run, each repeatable from a seed and its number.
 
+pub mod corners;
 pub mod draft;
+
 pub mod limits;
 pub mod mutate;
 pub mod plain;
 pub mod program;
 pub mod shared;
 pub mod small;
+pub mod words;
 
 use crate::rng::Rng;
 use draft::Draft;

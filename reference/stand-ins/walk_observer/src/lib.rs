@@ -27,9 +27,8 @@ pub enum Stop {
 #[derive(Debug, Clone, Default)]
 pub struct Seen {
     pub visits: u32,
-    /// The blocks of the visits begun, by the walk that made them.
-    pub statement_visits: Vec<u32>,
-    pub value_visits: Vec<u32>,
+    /// The visits begun: the block, and the walk that made it.
+    pub trail: Vec<(u32, Walk)>,
     pub deepest: usize,
     /// The innermost open visit when the first diagnostic was made or the first panic raised.
     pub gave_up_in: Option<u32>,
@@ -86,10 +85,7 @@ pub fn visit(block: u32, walk: Walk) {
         observer.seen.visits += 1;
         observer.seen.deepest = observer.seen.deepest.max(depth);
         observer.visited = block;
-        match walk {
-            Walk::Statement => observer.seen.statement_visits.push(block),
-            Walk::Value => observer.seen.value_visits.push(block),
-        }
+        observer.seen.trail.push((block, walk));
         None
     });
     if let Some(stop) = stop {
