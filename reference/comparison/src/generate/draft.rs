@@ -1,6 +1,6 @@
 //! A table under construction.
 
-use crate::model::columns::{Column, NONE, operand_columns, terminal_columns};
+use crate::model::columns::{Column, LARGEST, NONE, operand_columns, terminal_columns};
 use crate::model::table::LIMITS;
 use crate::rng::Rng;
 
@@ -17,8 +17,10 @@ pub struct Draft {
 impl Draft {
     /// No blocks yet; some places over few identifiers, so that equal identifiers are common.
     pub fn with_places(rng: &mut Rng) -> Self {
-        let identifiers: Vec<u32> = (0..rng.from_to(1, 4)).map(|_| rng.below(2)).collect();
-        let places = (0..rng.from_to(1, 6)).map(|_| rng.below(identifiers.len() as u32)).collect();
+        let more = if rng.percent(5) { 60 } else { 0 };
+        let identifiers: Vec<u32> = (0..rng.from_to(1, 4 + more)).map(|_| rng.below(2)).collect();
+        let count = identifiers.len() as u32;
+        let places = (0..rng.from_to(1, 6 + more)).map(|_| rng.below(count)).collect();
         Self { places, identifiers, ..Self::default() }
     }
 
@@ -84,7 +86,7 @@ impl Draft {
         let code = rng.below(3);
         let operands = operand_columns(code).map(|column| self.any_word(column, rng));
         let lvalue = self.any_place(rng);
-        [rng.below(40), lvalue, code, operands[0], operands[1], any_span(rng)]
+        [any_id(rng), lvalue, code, operands[0], operands[1], any_span(rng)]
     }
 
     /// Gives the block its end.
@@ -93,7 +95,7 @@ impl Draft {
         row[2] = code;
         row[3..8].fill(0);
         row[3..3 + operands.len()].copy_from_slice(operands);
-        row[8] = rng.below(100);
+        row[8] = any_id(rng);
         row[9] = any_span(rng);
     }
 
@@ -117,11 +119,35 @@ impl Draft {
         self.end(block, code, &operands, rng);
     }
 
+    /// Gives the blocks other numbers: block `n` becomes block `to[n]`.
+    pub fn renumber(&mut self, to: &[u32]) {
+        let mut blocks = vec![[0; 10]; self.blocks.len()];
+        for (row, number) in self.blocks.iter().zip(to) {
+            blocks[*number as usize] = *row;
+        }
+        for row in &mut blocks {
+            if row[2] == 0 {
+                continue;
+            }
+            for (at, column) in terminal_columns(row[2]).into_iter().enumerate() {
+                let word = &mut row[3 + at];
+                if column == Column::Block || column == Column::BlockOrNone && *word != NONE {
+                    *word = to[*word as usize];
+                }
+            }
+        }
+        for case in &mut self.cases {
+            case[1] = to[case[1] as usize];
+        }
+        self.entry = to[self.entry as usize];
+        self.blocks = blocks;
+    }
+
     /// Any word that the column allows. Counts of rows are not asked for here.
     pub fn any_word(&self, column: Column, rng: &mut Rng) -> u32 {
         match column {
             Column::Zero | Column::InstructionCount | Column::CaseCount => 0,
-            Column::Any => rng.below(9),
+            Column::Any => any_id(rng),
             Column::UpTo(largest) => rng.from_to(0, largest),
             Column::Block => self.any_block(rng),
             Column::BlockOrNone if rng.percent(30) => NONE,
@@ -134,5 +160,10 @@ impl Draft {
 }
 
 pub fn any_span(rng: &mut Rng) -> u32 {
-    if rng.percent(30) { 0 } else { rng.from_to(1, 50) }
+    if rng.percent(30) { 0 } else { any_id(rng) }
+}
+
+/// A number that the walk only copies: small as a rule, the largest now and then.
+pub fn any_id(rng: &mut Rng) -> u32 {
+    if rng.percent(2) { LARGEST } else { rng.below(100) }
 }

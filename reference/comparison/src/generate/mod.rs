@@ -2,7 +2,7 @@
 
 pub mod corners;
 pub mod draft;
-
+pub mod files;
 pub mod limits;
 pub mod mutate;
 pub mod plain;
@@ -66,12 +66,17 @@ pub fn generate(seed: u64, number: u64) -> Generated {
 
 fn any_program(rng: &mut Rng, most: u32) -> Draft {
     let blocks = rng.from_to(1, most);
-    program::program(rng, blocks)
+    let mut draft = program::program(rng, blocks);
+    if rng.percent(20) {
+        mutate::shuffle(&mut draft, rng);
+    }
+    draft
 }
 
 fn mutated_program(rng: &mut Rng) -> Draft {
-    let mut draft = any_program(rng, 25);
-    for _ in 0..rng.from_to(1, 4) {
+    let blocks = rng.from_to(1, 25);
+    let mut draft = program::program(rng, blocks);
+    for _ in 0..rng.from_to(1, 3) {
         mutate::mutate(&mut draft, rng);
     }
     draft

@@ -9,8 +9,9 @@ use crate::rng::Rng;
 /// One change after which the words still pass the check.
 pub fn mutate(draft: &mut Draft, rng: &mut Rng) {
     let block = draft.any_block(rng);
-    match rng.below(12) {
+    match rng.below(16) {
         0..=3 => retarget(draft, block, rng),
+        12..=15 => to_an_end(draft, block, rng),
         4 => {
             let code = rng.below(22);
             draft.end_anyhow(block, code, rng);
@@ -70,6 +71,29 @@ fn retarget(draft: &mut Draft, block: u32, rng: &mut Rng) {
         let other = draft.any_block(rng);
         draft.blocks[block as usize][rng.pick(&columns)] = other;
     }
+}
+
+/// Has a part of the block's end be where an earlier statement ends: often one that is open.
+fn to_an_end(draft: &mut Draft, block: u32, rng: &mut Rng) {
+    let columns = match draft.blocks[block as usize][2] {
+        5 => vec![5],
+        _ => block_columns(draft, block),
+    };
+    let statement = rng.from_to(0, block);
+    let ends = block_columns(draft, statement);
+    if let (Some(end), false) = (ends.last(), columns.is_empty()) {
+        let end = draft.blocks[statement as usize][*end];
+        draft.blocks[block as usize][rng.pick(&columns)] = end;
+    }
+}
+
+/// Other numbers for all the blocks.
+pub fn shuffle(draft: &mut Draft, rng: &mut Rng) {
+    let mut to: Vec<u32> = (0..draft.block_count()).collect();
+    for last in (1..to.len()).rev() {
+        to.swap(last, rng.below(last as u32 + 1) as usize);
+    }
+    draft.renumber(&to);
 }
 
 /// Spoils the words: a word out of its range, a head count, the length.

@@ -292,7 +292,8 @@ impl Lowering<'_> {
                 self.end(block, 6, &[test, consequent, alternate]);
             }
             Ends::Goto { block: next } => {
-                self.fill(block, 1, 3);
+                let least = u32::from(!self.rng.percent(1));
+                self.fill(block, least, 3);
                 let variant = if self.rng.percent(90) { BREAK } else { self.rng.below(3) };
                 if self.budget > 0 && self.rng.percent(15) {
                     let empty = self.fresh();

@@ -5,6 +5,7 @@ mod rows;
 
 use std::any::Any;
 use std::panic::{self, AssertUnwindSafe};
+use std::thread;
 
 use oxc_allocator::Allocator;
 use oxc_diagnostics::OxcDiagnostic;
@@ -27,6 +28,14 @@ pub fn install_panic_hook() {
             default(info);
         }
     }));
+}
+
+/// Runs this on a thread with stack enough for any walk.
+pub fn on_large_stack<T: Send>(work: impl FnOnce() -> T + Send) -> T {
+    thread::scope(|scope| {
+        let builder = thread::Builder::new().stack_size(STACK_BYTES);
+        builder.spawn_scoped(scope, work).expect("a thread").join().expect("it ends")
+    })
 }
 
 /// The rows or the refusal, the visits and the greatest depth; and the blocks visited.
