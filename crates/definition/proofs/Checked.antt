@@ -12,8 +12,8 @@ use lib.ListN.{length, getD, replicate}
 use lib.Dec.{T, eqb, leb, ltb, lit<}
 use borrow.Author.Tests.{leb-true, ltb-true, ne-eqb}
 use Rattle.table.specs.Words.{word, entryWord, blockCount, placeCount, blocksBegin, blockWord, wordsNeeded, instructionCount, caseCount, largest}
-use Rattle.table.specs.Check.{Verdict, accepted, refused, Rule, unused, number, row, rows-from, fits, block, block-or-none, place, place-or-none, terminalRules, blockRules, instructionRules, caseRules, placeRules, identifierRules, andThen, rowVerdict, rowsVerdict, wordsVerdict, limits, countsVerdict, checked}
-use Rattle.table.specs.Table.{Table, Block, noBlock, Terminal, absent, unreachable, throw, return, goto, if, branch, switch, do-while, while, for, for-of, for-in, logical, ternary, optional, label, sequence, maybe-throw, try, scope, unlessNone, variantOf, terminalOf, blockOf, tabulate, tableOf, blockAt, terminalAt}
+use Rattle.table.specs.Check.{Verdict, accepted, refused, Rule, unused, number, rows-from, fits, block, block-or-none, place, place-or-none, terminalRules, blockRules, instructionRules, caseRules, placeRules, identifierRules, andThen, rowVerdict, rowsVerdict, wordsVerdict, limits, countsVerdict, checked}
+use Rattle.table.specs.Table.{Block, noBlock, Terminal, absent, unreachable, throw, return, goto, if, branch, switch, do-while, while, for, for-of, for-in, logical, ternary, optional, label, sequence, maybe-throw, try, scope, unlessNone, variantOf, terminalOf, blockOf, tabulate, tableOf, terminalAt}
 use Rattle.definition.specs.Plain.{fallthroughOf}
 use Rattle.definition.proofs.Ranged.{bindingOf, Ranged}
 
@@ -80,7 +80,7 @@ module _ (ws : List ℕ) where
       subst (λ (n : ℕ). fits rule (word ws n) ≡ true) (omega arith) (passes (fits rule (word ws at)) 4 at (rowVerdict ws (suc at) rules) h .0)
   row-fits at (rule ∷ rules) (suc k) b h =
       subst (λ (n : ℕ). fits (getD rules k unused) (word ws n) ≡ true) (omega arith)
-        (row-fits (suc at) rules k (le-of-suc-le-suc b) (passes (fits rule (word ws at)) 4 at (rowVerdict ws (suc at) rules) h .1))
+      (row-fits (suc at) rules k (le-of-suc-le-suc b) (passes (fits rule (word ws at)) 4 at (rowVerdict ws (suc at) rules) h .1))
 
   rows-row : (rules : ℕ → List Rule) → ((b : ℕ) → length (rules b) ≡ 10) → (at first count i : ℕ) → i < count → rowsVerdict ws rules at first count ≡ accepted
       → rowVerdict ws (at + i * 10) (rules (first + i)) ≡ accepted
@@ -88,13 +88,13 @@ module _ (ws : List ℕ) where
   rows-row rules w at first zero i b h = absurd (not-suc-le-zero b)
   rows-row rules w at first (suc count) zero b h =
       subst (λ (n : ℕ). rowVerdict ws n (rules (first + 0)) ≡ accepted) (omega arith)
-        (subst (λ (n : ℕ). rowVerdict ws at (rules n) ≡ accepted) (omega arith)
-          (both (rowVerdict ws at (rules first)) (rowsVerdict ws rules (at + length (rules first)) (suc first) count) h))
+      (subst (λ (n : ℕ). rowVerdict ws at (rules n) ≡ accepted) (omega arith)
+      (both (rowVerdict ws at (rules first)) (rowsVerdict ws rules (at + length (rules first)) (suc first) count) h))
   rows-row rules w at first (suc count) (suc i) b h =
       subst (λ (n : ℕ). rowVerdict ws n (rules (first + suc i)) ≡ accepted) (omega (arith, w first))
-        (subst (λ (n : ℕ). rowVerdict ws (at + length (rules first) + i * 10) (rules n) ≡ accepted) (omega arith)
-          (rows-row rules w (at + length (rules first)) (suc first) count i (le-of-suc-le-suc b)
-            (rest (rowVerdict ws at (rules first)) (rowsVerdict ws rules (at + length (rules first)) (suc first) count) h)))
+      (subst (λ (n : ℕ). rowVerdict ws (at + length (rules first) + i * 10) (rules n) ≡ accepted) (omega arith)
+      (rows-row rules w (at + length (rules first)) (suc first) count i (le-of-suc-le-suc b)
+      (rest (rowVerdict ws at (rules first)) (rowsVerdict ws rules (at + length (rules first)) (suc first) count) h)))
     where
       rest : (first next : Verdict) → andThen first next ≡ accepted → next ≡ accepted
       rest accepted next h = h
@@ -137,10 +137,10 @@ module _ (ws : List ℕ) where
   unfolding blockWord blocksBegin wordsVerdict
   columns-fit h b below present j small =
       subst (λ (rule : Rule). fits rule (word ws (6 + b * 10 + (3 + j))) ≡ true) (column j small)
-        (subst (λ (rules : List Rule). fits (getD rules (3 + j) unused) (word ws (6 + b * 10 + (3 + j))) ≡ true) (rules-by b ∙ ap (λ (y : Bool). rulesBy y b) (ne-eqb (blockWord ws b 2) 0 present))
-          (row-fits (6 + b * 10) (blockRules ws b) (3 + j) (omega (arith, width b))
-            (subst (λ (n : ℕ). rowVerdict ws (6 + b * 10) (blockRules ws n) ≡ accepted) (omega arith)
-              (rows-row (blockRules ws) width 6 0 (blockCount ws) b below (both (rowsVerdict ws (blockRules ws) 6 0 (blockCount ws)) _ (parts h .words))))))
+      (subst (λ (rules : List Rule). fits (getD rules (3 + j) unused) (word ws (6 + b * 10 + (3 + j))) ≡ true) (rules-by b ∙ ap (λ (y : Bool). rulesBy y b) (ne-eqb (blockWord ws b 2) 0 present))
+      (row-fits (6 + b * 10) (blockRules ws b) (3 + j) (omega (arith, width b))
+      (subst (λ (n : ℕ). rowVerdict ws (6 + b * 10) (blockRules ws n) ≡ accepted) (omega arith)
+      (rows-row (blockRules ws) width 6 0 (blockCount ws) b below (both (rowsVerdict ws (blockRules ws) 6 0 (blockCount ws)) _ (parts h .words))))))
     where
       column : (j : ℕ) → j < 5 → getD (presentRules b) (3 + j) unused ≡ terminalRule b j
       column zero k = refl
@@ -180,85 +180,128 @@ module _ (ws : List ℕ) where
     -- the lists of `terminalOf` and of `terminalRules`
     abbrev terminals : List Terminal
     terminals =
-      absent
-      ∷ unreachable
-      ∷ throw (column 0)
-      ∷ return (column 0)
-      ∷ goto (column 0) (variantOf (column 1))
-      ∷ if (column 0) (column 1) (column 2) (column 3)
-      ∷ branch (column 0) (column 1) (column 2)
-      ∷ switch (column 0) (column 1) (column 2) (column 3)
-      ∷ do-while (column 0) (column 1) (column 2)
-      ∷ while (column 0) (column 1) (column 2)
-      ∷ for (column 0) (column 1) (unlessNone (column 2)) (column 3) (column 4)
-      ∷ for-of (column 0) (column 1) (column 2) (column 3)
-      ∷ for-in (column 0) (column 1) (column 2)
-      ∷ logical (column 0) (column 1) (column 2)
-      ∷ ternary (column 0) (column 1)
-      ∷ optional (column 0) (column 1) (column 2)
-      ∷ label (column 0) (column 1)
-      ∷ sequence (column 0) (column 1)
-      ∷ maybe-throw (column 0)
-      ∷ try (column 0) (column 1) (column 2) (unlessNone (column 3))
-      ∷ scope false (column 0) (column 1) (column 2)
-      ∷ scope true (column 0) (column 1) (column 2)
-      ∷ []
+        absent
+        ∷ unreachable
+        ∷ throw (column 0)
+        ∷ return (column 0)
+        ∷ goto (column 0) (variantOf (column 1))
+        ∷ if (column 0) (column 1) (column 2) (column 3)
+        ∷ branch (column 0) (column 1) (column 2)
+        ∷ switch (column 0) (column 1) (column 2) (column 3)
+        ∷ do-while (column 0) (column 1) (column 2)
+        ∷ while (column 0) (column 1) (column 2)
+        ∷ for (column 0) (column 1) (unlessNone (column 2)) (column 3) (column 4)
+        ∷ for-of (column 0) (column 1) (column 2) (column 3)
+        ∷ for-in (column 0) (column 1) (column 2)
+        ∷ logical (column 0) (column 1) (column 2)
+        ∷ ternary (column 0) (column 1)
+        ∷ optional (column 0) (column 1) (column 2)
+        ∷ label (column 0) (column 1)
+        ∷ sequence (column 0) (column 1)
+        ∷ maybe-throw (column 0)
+        ∷ try (column 0) (column 1) (column 2) (unlessNone (column 3))
+        ∷ scope false (column 0) (column 1) (column 2)
+        ∷ scope true (column 0) (column 1) (column 2)
+        ∷ []
 
     abbrev rules : ℕ → List (List Rule)
     rules first =
-      []
-      ∷ []
-      ∷ (place ws ∷ [])
-      ∷ (place ws ∷ [])
-      ∷ (block ws ∷ number 2 ∷ [])
-      ∷ (place ws ∷ block ws ∷ block ws ∷ block ws ∷ [])
-      ∷ (place ws ∷ block ws ∷ block ws ∷ [])
-      ∷ (place ws ∷ number largest ∷ rows-from first (caseCount ws) ∷ block ws ∷ [])
-      ∷ (block ws ∷ block ws ∷ block ws ∷ [])
-      ∷ (block ws ∷ block ws ∷ block ws ∷ [])
-      ∷ (block ws ∷ block ws ∷ block-or-none ws ∷ block ws ∷ block ws ∷ [])
-      ∷ (block ws ∷ block ws ∷ block ws ∷ block ws ∷ [])
-      ∷ (block ws ∷ block ws ∷ block ws ∷ [])
-      ∷ (number 2 ∷ block ws ∷ block ws ∷ [])
-      ∷ (block ws ∷ block ws ∷ [])
-      ∷ (number 1 ∷ block ws ∷ block ws ∷ [])
-      ∷ (block ws ∷ block ws ∷ [])
-      ∷ (block ws ∷ block ws ∷ [])
-      ∷ (block ws ∷ [])
-      ∷ (block ws ∷ block ws ∷ block ws ∷ place-or-none ws ∷ [])
-      ∷ (block ws ∷ block ws ∷ number largest ∷ [])
-      ∷ (block ws ∷ block ws ∷ number largest ∷ [])
-      ∷ []
+        []
+        ∷ []
+        ∷ (place ws ∷ [])
+        ∷ (place ws ∷ [])
+        ∷ (block ws ∷ number 2 ∷ [])
+        ∷ (place ws ∷ block ws ∷ block ws ∷ block ws ∷ [])
+        ∷ (place ws ∷ block ws ∷ block ws ∷ [])
+        ∷ (place ws ∷ number largest ∷ rows-from first (caseCount ws) ∷ block ws ∷ [])
+        ∷ (block ws ∷ block ws ∷ block ws ∷ [])
+        ∷ (block ws ∷ block ws ∷ block ws ∷ [])
+        ∷ (block ws ∷ block ws ∷ block-or-none ws ∷ block ws ∷ block ws ∷ [])
+        ∷ (block ws ∷ block ws ∷ block ws ∷ block ws ∷ [])
+        ∷ (block ws ∷ block ws ∷ block ws ∷ [])
+        ∷ (number 2 ∷ block ws ∷ block ws ∷ [])
+        ∷ (block ws ∷ block ws ∷ [])
+        ∷ (number 1 ∷ block ws ∷ block ws ∷ [])
+        ∷ (block ws ∷ block ws ∷ [])
+        ∷ (block ws ∷ block ws ∷ [])
+        ∷ (block ws ∷ [])
+        ∷ (block ws ∷ block ws ∷ block ws ∷ place-or-none ws ∷ [])
+        ∷ (block ws ∷ block ws ∷ number largest ∷ [])
+        ∷ (block ws ∷ block ws ∷ number largest ∷ [])
+        ∷ []
 
     fallthrough-within : (code first : ℕ) → Within fallthroughOf (blockCount ws) column (terminalOf code (column 0) (column 1) (column 2) (column 3) (column 4)) (terminalRules ws code first)
     unfolding terminalOf terminalRules
     fallthrough-within code first = at-code (Within fallthroughOf (blockCount ws) column) terminals (rules first) nowhere all code
       where
         all : All2 (Within fallthroughOf (blockCount ws) column) terminals (rules first)
-        all =
-            (nowhere,
-            (nowhere,
-            (nowhere,
-            (nowhere,
-            (nowhere,
-            ((λ fit f. in-column 3 f (fit 3 (lit< tt))),
-            (nowhere,
-            ((λ fit f. in-column 3 f (fit 3 (lit< tt))),
-            ((λ fit f. in-column 2 f (fit 2 (lit< tt))),
-            ((λ fit f. in-column 2 f (fit 2 (lit< tt))),
-            ((λ fit f. in-column 4 f (fit 4 (lit< tt))),
-            ((λ fit f. in-column 3 f (fit 3 (lit< tt))),
-            ((λ fit f. in-column 2 f (fit 2 (lit< tt))),
-            ((λ fit f. in-column 2 f (fit 2 (lit< tt))),
-            ((λ fit f. in-column 1 f (fit 1 (lit< tt))),
-            ((λ fit f. in-column 2 f (fit 2 (lit< tt))),
-            ((λ fit f. in-column 1 f (fit 1 (lit< tt))),
-            ((λ fit f. in-column 1 f (fit 1 (lit< tt))),
-            (nowhere,
-            ((λ fit f. in-column 2 f (fit 2 (lit< tt))),
-            ((λ fit f. in-column 1 f (fit 1 (lit< tt))),
-            ((λ fit f. in-column 1 f (fit 1 (lit< tt))),
-            tt))))))))))))))))))))))
+        all = (
+          nowhere,
+          (
+            nowhere,
+            (
+              nowhere,
+              (
+                nowhere,
+                (
+                  nowhere,
+                  (
+                    (λ fit f. in-column 3 f (fit 3 (lit< tt))),
+                    (
+                      nowhere,
+                      (
+                        (λ fit f. in-column 3 f (fit 3 (lit< tt))),
+                        (
+                          (λ fit f. in-column 2 f (fit 2 (lit< tt))),
+                          (
+                            (λ fit f. in-column 2 f (fit 2 (lit< tt))),
+                            (
+                              (λ fit f. in-column 4 f (fit 4 (lit< tt))),
+                              (
+                                (λ fit f. in-column 3 f (fit 3 (lit< tt))),
+                                (
+                                  (λ fit f. in-column 2 f (fit 2 (lit< tt))),
+                                  (
+                                    (λ fit f. in-column 2 f (fit 2 (lit< tt))),
+                                    (
+                                      (λ fit f. in-column 1 f (fit 1 (lit< tt))),
+                                      (
+                                        (λ fit f. in-column 2 f (fit 2 (lit< tt))),
+                                        (
+                                          (λ fit f. in-column 1 f (fit 1 (lit< tt))),
+                                          (
+                                            (λ fit f. in-column 1 f (fit 1 (lit< tt))),
+                                            (
+                                              nowhere,
+                                              (
+                                                (λ fit f. in-column 2 f (fit 2 (lit< tt))),
+                                                (
+                                                  (λ fit f. in-column 1 f (fit 1 (lit< tt))),
+                                                  (
+                                                    (λ fit f. in-column 1 f (fit 1 (lit< tt))),
+                                                    tt,
+                                                  ),
+                                                ),
+                                              ),
+                                            ),
+                                          ),
+                                        ),
+                                      ),
+                                    ),
+                                  ),
+                                ),
+                              ),
+                            ),
+                          ),
+                        ),
+                      ),
+                    ),
+                  ),
+                ),
+              ),
+            ),
+          ),
+        )
 
     -- 65,535 is none, and a place is below the count
     in-binding : (most : placeCount ws ≤ 4096) (d n : ℕ) (y : Bool) → eqb d largest ≡ y → y || ltb d (placeCount ws) ≡ true → elim y [ true ↦ none | false ↦ some d ] ≡ some n → n < largest
@@ -272,31 +315,75 @@ module _ (ws : List ℕ) where
       where
         binding : (fit : (j : ℕ) → j < 5 → fits (getD (block ws ∷ block ws ∷ block ws ∷ place-or-none ws ∷ []) j unused) (column j) ≡ true) (n : ℕ) → unlessNone (column 3) ≡ some n → n < largest
         binding fit n e = in-binding most (column 3) n (eqb (column 3) largest) refl (fit 3 (lit< tt)) e
+
         all : All2 (Within bindingOf largest column) terminals (rules first)
-        all =
-            (nowhere,
-            (nowhere,
-            (nowhere,
-            (nowhere,
-            (nowhere,
-            (nowhere,
-            (nowhere,
-            (nowhere,
-            (nowhere,
-            (nowhere,
-            (nowhere,
-            (nowhere,
-            (nowhere,
-            (nowhere,
-            (nowhere,
-            (nowhere,
-            (nowhere,
-            (nowhere,
-            (nowhere,
-            (binding,
-            (nowhere,
-            (nowhere,
-            tt))))))))))))))))))))))
+        all = (
+          nowhere,
+          (
+            nowhere,
+            (
+              nowhere,
+              (
+                nowhere,
+                (
+                  nowhere,
+                  (
+                    nowhere,
+                    (
+                      nowhere,
+                      (
+                        nowhere,
+                        (
+                          nowhere,
+                          (
+                            nowhere,
+                            (
+                              nowhere,
+                              (
+                                nowhere,
+                                (
+                                  nowhere,
+                                  (
+                                    nowhere,
+                                    (
+                                      nowhere,
+                                      (
+                                        nowhere,
+                                        (
+                                          nowhere,
+                                          (
+                                            nowhere,
+                                            (
+                                              nowhere,
+                                              (
+                                                binding,
+                                                (
+                                                  nowhere,
+                                                  (
+                                                    nowhere,
+                                                    tt,
+                                                  ),
+                                                ),
+                                              ),
+                                            ),
+                                          ),
+                                        ),
+                                      ),
+                                    ),
+                                  ),
+                                ),
+                              ),
+                            ),
+                          ),
+                        ),
+                      ),
+                    ),
+                  ),
+                ),
+              ),
+            ),
+          ),
+        )
 
 -- ---- the table of the words
 
@@ -319,6 +406,7 @@ module _ (ws : List ℕ) (h : checked ws ≡ accepted) (part : Terminal → Opti
     where
       columns : ℕ → Terminal
       columns code = terminalOf code (blockWord ws b 3) (blockWord ws b 4) (blockWord ws b 5) (blockWord ws b 6) (blockWord ws b 7)
+
       by : Dec (blockWord ws b 2 ≡ 0) → f < limit
       by (yes z) = absurd (none-some (sym not-absent ∙ ap (λ (code : ℕ). part (columns code)) (sym z) ∙ e))
       by (no z) = within (λ j. blockWord ws b (3 + j)) (blockWord ws b 2) (blockWord ws b 4) (columns-fit ws h b below z) f e
@@ -370,7 +458,7 @@ module _ (ws : List ℕ) where
   coded-rows rules at first zero = tt
   coded-rows rules at first (suc count) =
       coded-then (rowVerdict ws at (rules first)) (rowsVerdict ws rules (at + length (rules first)) (suc first) count)
-        (coded-row at (rules first)) (coded-rows rules (at + length (rules first)) (suc first) count)
+      (coded-row at (rules first)) (coded-rows rules (at + length (rules first)) (suc first) count)
 
   coded-counts : (at : ℕ) (most : List ℕ) → Coded (countsVerdict ws at most)
   unfolding countsVerdict
@@ -381,11 +469,11 @@ module _ (ws : List ℕ) where
   unfolding wordsVerdict
   coded-words =
       coded-then _ _ (coded-rows (blockRules ws) _ 0 _) (coded-then _ _ (coded-rows (instructionRules ws) _ 0 _)
-        (coded-then _ _ (coded-rows (caseRules ws) _ 0 _) (coded-then _ _ (coded-rows (placeRules ws) _ 0 _) (coded-rows (identifierRules ws) _ 0 _))))
+      (coded-then _ _ (coded-rows (caseRules ws) _ 0 _) (coded-then _ _ (coded-rows (placeRules ws) _ 0 _) (coded-rows (identifierRules ws) _ 0 _))))
 
   pub coded : Coded (checked ws)
   unfolding checked
   coded =
       coded-test (ltb (length ws) 6) (refused 1 0) _ tt
-        (coded-counted (countsVerdict ws 1 limits) _ (coded-counts 1 limits)
-          (coded-test (eqb (length ws) (wordsNeeded ws)) _ (refused 1 0) (coded-test (ltb (entryWord ws) (blockCount ws)) (wordsVerdict ws) (refused 3 0) coded-words tt) tt))
+      (coded-counted (countsVerdict ws 1 limits) _ (coded-counts 1 limits)
+      (coded-test (eqb (length ws) (wordsNeeded ws)) _ (refused 1 0) (coded-test (ltb (entryWord ws) (blockCount ws)) (wordsVerdict ws) (refused 3 0) coded-words tt) tt))

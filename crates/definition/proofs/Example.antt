@@ -10,7 +10,7 @@ use Rattle.definition.specs.Result.{_>>=_, refuseIf}
 use Rattle.definition.specs.Context.{no-flags, has, add, remove, start, isScheduled, emit, withVisits, markScopeFallthrough, scheduleCatchHandler, pushed, schedule, scheduleLoop, unscheduledBy, popped, unscheduleTop, unschedule, breakKind, breakTargetFrom, getBreakTarget, continueKind, continueTargetFrom, getContinueTarget}
 use Rattle.definition.specs.Value.{beginVisit, instructionsOf, wrapWithSequence, finalValue, finalPlace, storedToNamed, allButLast, last, extractValueBlockResult, extractOrRefuse, testBlockEnded, visitTestBlock, visitValueBlockTerminal, thenFallthrough, branchValue, isEmptyGoto, maybeThrowValue, visitValueBlockAt, visitValueBlock, appended, sameIdentifier, unlessSame, valueBlockResultToSequence}
 use Rattle.definition.specs.Statement.{enterBlock, unlessScheduled, unlessUnreachable, scheduleIf, scheduleSwitch, unscheduleIf, markScopeFallthroughIf, breakToScope, breakResolved, visitBreak, continueResolved, visitContinue, visitGoto, traverseUnscheduled, traverseAlternate, traverseConsequent, traverseEnclosed, loopIsTaken, traverseLoop, visitUpdate, casesLastFirst, traverseCases, unscheduleAll, visitValueStatement, visitTerminal, instructionStatements, thenNext, visitBlock, traverseBlock, buildTree}
-use Rattle.definition.specs.Build.{Outcome, reported, report, refusal, wordsOf, placed, outcomeOf, afterCheck, built}
+use Rattle.definition.specs.Build.{reported, report, refusal, wordsOf, placed, outcomeOf, afterCheck, built}
 use Rattle.definition.specs.Tree.{Statements, done}
 use Rattle.definition.specs.Result.{Result, ok, refused}
 use Rattle.definition.specs.Statement.{BlockResult}
@@ -19,8 +19,8 @@ use Rattle.definition.specs.BlockRun.{move, byAnswer, performing, blockR
 use Rattle.definition.specs.Completion.{contains, loopContinues, breakable, labelled}
 use Rattle.definition.specs.TreeRun.{completed, completing, prefix, thenOn, then, choose, afterBody, whileRounds, whileLoop, loop, jumpCompletion, runStatement, reasonOf, treeRun}
 use Rattle.definition.specs.Plain.{Plain}
-use Rattle.definition.specs.RunLaw.{Agree, RunLaw}
-use Rattle.definition.proofs.PlainTest.{isPlain, is-plain}
+use Rattle.definition.specs.RunLaw.{RunLaw}
+use Rattle.definition.proofs.PlainTest.{is-plain}
 use Rattle.definition.proofs.Law.{run-law}
 
 -- first, count, code, a to e, id, span

@@ -1,29 +1,27 @@
 -- The run law of plain tables: the block run and the tree run both stop, with the same rows, the same answers taken and for the same reason.
-use mathlib.Core.Path.{_≡_, refl, sym, ap, _∙_, subst}
+use mathlib.Core.Path.{_≡_, refl, sym, ap, _∙_}
 use Prim.Native.Nat.{ℕ, zero, suc, _+_}
-use mathlib.Core.List.{List, [], _∷_, _++_}
+use mathlib.Core.List.{List, []}
 use mathlib.Core.Option.{Option, none, some}
-use mathlib.Core.Bool.{Bool, true, false}
 use native.Mathlib.Nat.{zero-add, suc-add}
 use native.Mathlib.Omega.{arith}
-use lib.Dec.{T}
 use Rattle.table.specs.Table.{Table, tableOf, blockAt, terminalAt, instructionRowsAt}
 use Rattle.definition.specs.Tree.{Statements, rows}
 use Rattle.definition.specs.Build.{built}
-use Rattle.definition.specs.Result.{Result, ok}
+use Rattle.definition.specs.Result.{ok}
 use Rattle.definition.specs.Context.{start}
-use Rattle.definition.specs.Statement.{BlockResult, traverseBlock, buildTree}
-use Rattle.definition.specs.Reading.{ReadAs, TreeOf, OneTree}
+use Rattle.definition.specs.Statement.{BlockResult, buildTree}
+use Rattle.definition.specs.Reading.{TreeOf, OneTree}
 use Rattle.definition.specs.Run.{Answers, Reason, Run, unfinished, stopped}
 use Rattle.definition.specs.BlockRun.{Move, go, halt, move, performing, blockRun}
 use Rattle.definition.specs.Completion.{Completion, normal, break, continue, stop}
-use Rattle.definition.specs.TreeRun.{Completed, runStatements, reasonOf, treeRun}
+use Rattle.definition.specs.TreeRun.{runStatements, reasonOf, treeRun}
 use Rattle.definition.specs.Plain.{Plain}
 use Rattle.definition.specs.RunLaw.{Agree, RunLaw}
-use Rattle.definition.proofs.Semantics.{Built, LeadsOn, Stops, runs}
+use Rattle.definition.proofs.Semantics.{Built, LeadsOn, runs}
 use Rattle.definition.proofs.State.{inv-start}
-use Rattle.definition.proofs.Structure.{WalkOk, walk-ok, Made}
-use Rattle.definition.proofs.Loops.{Taken, takes-statements}
+use Rattle.definition.proofs.Structure.{WalkOk, walk-ok}
+use Rattle.definition.proofs.Loops.{takes-statements}
 use Rattle.definition.proofs.Checked.{ranged}
 use Rattle.definition.proofs.Ranged.{Ranged}
 use Rattle.definition.proofs.Accepted.{Accepted, accepted-of, rows-of-buffer, words-rows}
@@ -92,7 +90,6 @@ pub tree-built : (t : Table) → Plain t → Ranged t → (r : BlockResult) → 
 unfolding buildTree WalkOk
 tree-built t pl rg r e = walk-ok t pl rg 128 [] (t .entry) start r (inv-start t) (pl .entry) e .tree
 
-
 -- ---- the tree in the buffer
 
 -- the build's own tree, and no other: one list of rows is read as one tree
@@ -107,8 +104,8 @@ module _ (words : List ℕ) (lent : ℕ) (a : Accepted words lent) where
   tree-only : (other : Statements) → TreeOf (built words lent) other → other ≡ a .root .statements
   tree-only other o =
       one-reading (rows (a .root .statements)) other (a .root .statements)
-        (record { well-formed = o .well-formed; same-rows = words-rows (rows other) (rows (a .root .statements)) (o .held ∙ rows-of-buffer words lent a) })
-        (record { well-formed = tree-held .well-formed; same-rows = refl })
+      (record { well-formed = o .well-formed; same-rows = words-rows (rows other) (rows (a .root .statements)) (o .held ∙ rows-of-buffer words lent a) })
+      (record { well-formed = tree-held .well-formed; same-rows = refl })
 
   tree-one : OneTree (built words lent)
   tree-one = record { tree = a .root .statements; held = tree-held; only = tree-only }

@@ -1,20 +1,20 @@
 -- The run law for what the build makes: from a description of the tree, the block run and the tree run agree.
 use mathlib.Core.Path.{_≡_, refl, sym, ap, _∙_, subst}
-use Prim.Native.Nat.{ℕ, zero, suc, _+_, _≤_, _<_}
+use Prim.Native.Nat.{ℕ, zero, suc, _≤_}
 use native.Mathlib.Nat.{le-refl, le-trans, le-of-suc-le-suc, not-suc-le-zero, le-step}
 use native.Mathlib.Omega.{arith}
 use mathlib.Core.List.{List, [], _∷_, _++_, append-assoc, append-nil}
 use mathlib.Core.Option.{Option, none, some}
 use mathlib.Core.Bool.{Bool, true, false, _||_}
 use lib.ListN.{length}
-use lib.Dec.{T, eqb}
-use Rattle.table.specs.Table.{Table, Block, Terminal, throw, return, goto, if, branch, while, label, scope, Variant, blockAt, terminalAt, instructionRowsAt}
-use Rattle.definition.specs.Tree.{Value, PLAIN, Statement, INSTR, IF, WHILE, LABEL, SCOPE, RETURN, THROW, Statements, done, _▸_}
+use lib.Dec.{eqb}
+use Rattle.table.specs.Table.{Table, Terminal, throw, return, goto, if, branch, while, label, scope, Variant, blockAt, terminalAt, instructionRowsAt}
+use Rattle.definition.specs.Tree.{Value, IF, WHILE, LABEL, SCOPE, RETURN, THROW, Statements, done, _▸_}
 use Rattle.definition.specs.Statement.{instructionStatements}
-use Rattle.definition.specs.Run.{Answers, Reason, returned, threw, no-answer-left, not-plain, no-target, end-of-tree, isGood, Run, unfinished, stopped}
+use Rattle.definition.specs.Run.{Answers, Reason, returned, threw, no-answer-left, isGood, Run, stopped}
 use Rattle.definition.specs.BlockRun.{Move, go, halt, byAnswer, move, performing, blockRun}
-use Rattle.definition.specs.Completion.{Completion, normal, break, continue, stop, labelSet, contains, loopContinues, breakable, labelled}
-use Rattle.definition.specs.TreeRun.{Completed, completed, completing, prefix, thenOn, then, choose, performs, afterBody, whileRounds, whileLoop, loop, runStatement, runStatements}
+use Rattle.definition.specs.Completion.{Completion, normal, break, continue, stop, contains, loopContinues, breakable, labelled}
+use Rattle.definition.specs.TreeRun.{Completed, completed, completing, prefix, thenOn, then, choose, performs, afterBody, whileRounds, whileLoop, loop, runStatements}
 
 -- ---- where a completion leads: the statements around, from the innermost
 
@@ -350,12 +350,12 @@ module _ (t : Table) where
   if-leads F b x c a f s₁ ifNo r e h₁ h₂ h₃ [] = wants F b f (some f) (λ y. runStatements r y) (move-of b (if x c a f) [] (halt no-answer-left) e refl)
   if-leads F b x c a f s₁ ifNo r e h₁ h₂ h₃ (suc n ∷ y) =
       leads-part F b c f (suc n ∷ y) y (completing (labelled (some f)) (runStatements s₁ y)) (λ a′. runStatements r a′)
-        (move-of b (if x c a f) (suc n ∷ y) (go c y) e refl) (le-step (le-refl (length y)))
-        (ends-label F f c y (runStatements s₁ y) (h₁ y)) h₃
+      (move-of b (if x c a f) (suc n ∷ y) (go c y) e refl) (le-step (le-refl (length y)))
+      (ends-label F f c y (runStatements s₁ y) (h₁ y)) h₃
   if-leads F b x c a f s₁ ifNo r e h₁ h₂ h₃ (zero ∷ y) =
       leads-part F b a f (zero ∷ y) y (completing (labelled (some f)) (ifNo y)) (λ a′. runStatements r a′)
-        (move-of b (if x c a f) (zero ∷ y) (go a y) e refl) (le-step (le-refl (length y)))
-        (h₂ y) h₃
+      (move-of b (if x c a f) (zero ∷ y) (go a y) e refl) (le-step (le-refl (length y)))
+      (h₂ y) h₃
 
   return-leads : (F : List Frame) (b v i : ℕ) (ans : Answers) → moveAt b ans ≡ halt (returned v i)
       → Leads F b ans (prefix (instructionRowsAt t b) (runStatements (RETURN v i ▸ done) ans))
@@ -390,10 +390,10 @@ module _ (t : Table) where
       (leads-prefix F (completed [] e ans) (onward-go b ans g ans (move-of b (goto g v) ans (go g ans) h refl) (le-refl (length ans))) (jump-out F g ans e k)))
   runs {F} {b} (bIf x c a f i {s₁} {s₂} {r} e h₁ h₂ h₃) ans =
       leads-instructions F b (IF x i (some f) s₁ true s₂ ▸ r) ans
-        (if-leads F b x c a f s₁ (λ y. runStatements s₂ y) r e (λ y. runs h₁ y) (λ y. ends-label F f a y (runStatements s₂ y) (runs h₂ y)) (λ y. runs h₃ y) ans)
+      (if-leads F b x c a f s₁ (λ y. runStatements s₂ y) r e (λ y. runs h₁ y) (λ y. ends-label F f a y (runStatements s₂ y) (runs h₂ y)) (λ y. runs h₃ y) ans)
   runs {F} {b} (bIfOnly x c f i {s₁} {r} e h₁ h₃) ans =
       leads-instructions F b (IF x i (some f) s₁ false done ▸ r) ans
-        (if-leads F b x c f f s₁ (λ y. completed [] normal y) r e (λ y. runs h₁ y) (λ y. ends-nothing F f y) (λ y. runs h₃ y) ans)
+      (if-leads F b x c f f s₁ (λ y. completed [] normal y) r e (λ y. runs h₁ y) (λ y. ends-nothing F f y) (λ y. runs h₃ y) ans)
   runs {F} {b} (bLabel c f i {s} {r} e h₁ h₃) ans =
       leads-instructions F b (LABEL i (some f) s ▸ r) ans
       (leads-part F b c f ans ans (completing (labelled (some f)) (runStatements s ans)) (λ a′. runStatements r a′)

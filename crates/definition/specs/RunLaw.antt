@@ -7,7 +7,7 @@ use Rattle.table.specs.Table.{Table, tableOf}
 use Rattle.definition.specs.Tree.{Statements}
 use Rattle.definition.specs.Build.{Outcome}
 use Rattle.definition.specs.Reading.{OneTree}
-use Rattle.definition.specs.Run.{Answers, Reason, isGood, Run, stopped}
+use Rattle.definition.specs.Run.{Answers, Reason, isGood, stopped}
 use Rattle.definition.specs.BlockRun.{blockRun}
 use Rattle.definition.specs.TreeRun.{treeRun}
 

@@ -2,7 +2,7 @@
 use Prim.Native.Nat.{ℕ, zero, suc}
 use mathlib.Core.List.{List, [], _∷_, _++_}
 use mathlib.Core.Option.{Option, none, some}
-use mathlib.Core.Bool.{Bool, true, false}
+use mathlib.Core.Bool.{true, false}
 use lib.ListN.{length}
 use Rattle.definition.specs.Tree.{Kind, implicit, labeled, unlabeled, Value, PLAIN, LOAD, UNDEF, SEQ, LOGICAL, COND, OPTIONAL, Instructions, no-instructions, instruction, Statement, INSTR, IF, SWITCH, DOWHILE, WHILE, FOR, FOROF, FORIN, LABEL, TRY, SCOPE, RETURN, THROW, BREAK, CONTINUE, Statements, done, _▸_}
 use Rattle.definition.specs.Run.{Answers, Reason, returned, threw, no-answer-left, not-plain, no-target, end-of-tree, Run, stopped}
@@ -86,7 +86,7 @@ unfoldable mutual
   runStatement (INSTR id lvalue span value) answers = completed (performs value) normal answers
   runStatement (IF test id label consequent present alternate) answers =
       completing (labelled label)
-        (choose (λ left. runStatements consequent left) (λ left. elim present [ true ↦ runStatements alternate left | false ↦ completed [] normal left ]) answers)
+      (choose (λ left. runStatements consequent left) (λ left. elim present [ true ↦ runStatements alternate left | false ↦ completed [] normal left ]) answers)
   runStatement (WHILE id label test body) answers = loop label (whileLoop (labelSet label) (performs test) (λ left. runStatements body left) answers)
   runStatement (LABEL id label body) answers = completing (labelled label) (runStatements body answers)
   runStatement (SCOPE pruned scope body) answers = runStatements body answers
