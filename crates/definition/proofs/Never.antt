@@ -191,17 +191,17 @@ to-entered c b v = record { same = refl; sub = λ x h. h }
 
 -- ---- targets other than loops
 
-Free : Option ℕ → Context → Type 0
+unfoldable pub Free : Option ℕ → Context → Type 0
 Free g c = (f : ℕ) → g ≡ some f → has (c .scheduled) f ≡ false
 
-or-false : (x y : Bool) → or x y ≡ false → x ≡ false
+pub or-false : (x y : Bool) → or x y ≡ false → x ≡ false
 or-false true y e = e
 or-false false y e = refl
 
 none-some : {y : ℕ} → _≡_ {A = Option ℕ} none (some y) → ⊥
 none-some e = let z : _≡_ {A = ℕ} 0 1 = cc in omega arith
 
-untaken-free : (c : Context) (f : ℕ) → Free (unlessScheduled c f) c
+pub untaken-free : (c : Context) (f : ℕ) → Free (unlessScheduled c f) c
 unfolding unlessScheduled Free isScheduled
 untaken-free c f g e = at (isScheduled c f) refl e
   where
@@ -209,7 +209,7 @@ untaken-free c f g e = at (isScheduled c f) refl e
     at true h q = absurd (none-some q)
     at false h q = ap (has (c .scheduled)) (cc q) ∙ or-false (has (c .scheduled) f) (has (c .catchHandlers) f) h
 
-reached-fine : (t : Table) (c : Context) (f : ℕ) → Fine (λ g. Free g c) (unlessUnreachable t c f)
+pub reached-fine : (t : Table) (c : Context) (f : ℕ) → Fine (λ g. Free g c) (unlessUnreachable t c f)
 unfolding unlessUnreachable
 reached-fine t c f = fine-unless (λ g. Free g c) _ 10 f (c .visits) _ tt (λ h. at (isUnreachable (terminalAt t f)))
   where
@@ -217,7 +217,7 @@ reached-fine t c f = fine-unless (λ g. Free g c) _ 10 f (c .visits) _ tt (λ h.
     at true = unfold Free in (λ g e. absurd (none-some e))
     at false = untaken-free c f
 
-schedule-free : (g : ControlFlowTarget) (c : Context) → has (c .scheduled) (targetBlock g) ≡ false → schedule g c ≡ ok (pushed g (add (c .scheduled) (targetBlock g)) c)
+pub schedule-free : (g : ControlFlowTarget) (c : Context) → has (c .scheduled) (targetBlock g) ≡ false → schedule g c ≡ ok (pushed g (add (c .scheduled) (targetBlock g)) c)
 unfolding schedule refuseIf _>>=_
 schedule-free g c e = ap (λ (y : Bool). refuseIf y 90 (targetBlock g) (c .visits) >>= λ _. ok (pushed g (add (c .scheduled) (targetBlock g)) c)) e
 
@@ -373,7 +373,7 @@ openedSwitch-fine (some f) c h =
 case-fine : (k : ℕ) (c : Context) → has (c .scheduled) k ≡ false → Fine (λ d. On (target-case k) (c .nextId) c d) (schedule (target-case k) c)
 case-fine k c h = subst (λ (r : Result Context). Fine (λ d. On (target-case k) (c .nextId) c d) r) (sym (schedule-free (target-case k) c h)) (on-pushed (target-case k) c)
 
-false-of : (y : Bool) → (y ≡ true → ⊥) → y ≡ false
+pub false-of : (y : Bool) → (y ≡ true → ⊥) → y ≡ false
 false-of true h = absurd (h refl)
 false-of false h = refl
 

@@ -7,4 +7,3 @@ pub mod Build
 pub mod Run
 pub mod Plain
 pub mod Machine
-pub mod Slot
