@@ -12,3 +12,4 @@ pub mod Bound
 pub mod Most
 pub mod Flatten
 pub mod Simulation
+pub mod Invariant

@@ -7,11 +7,12 @@ use mathlib.Core.List.{List, [], _∷_, _++_}
 use mathlib.Core.Option.{Option, none, some}
 use mathlib.Core.Bool.{Bool, true, false, not}
 use lib.ListN.{getD, set}
-use lib.Dec.{T, eqb, ltb, eqb-refl}
+use lib.Dec.{T, eqb, ltb, eqb-refl, ltb→lt}
 use borrow.Author.Tests.{eqb-true, eq-eqb}
 use Rattle.table.specs.Table.{Table, Block, Case, Terminal, absent, unreachable, throw, return, goto, if, branch, switch, do-while, while, for, for-of, for-in, logical, ternary, optional, sequence, maybe-throw, try, scope, Variant, Break, Continue, Try, blockAt, terminalAt, instructionRowsAt, instructionRows, isAbsent, isUnreachable, label}
 use Rattle.definition.specs.Context.{or, Flags, has, add, remove, ControlFlowTarget, target-if, target-switch, target-case, target-loop, targetBlock, Entry, Context, start, isScheduled, emit, withVisits, markScopeFallthrough, scheduleCatchHandler, pushed, schedule, scheduleLoop, unscheduledBy, popped, unscheduleTop, unschedule, breakTargetFrom, Resolution, continueTargetFrom}
-use Rattle.definition.specs.Result.{refused, Result, ok, _>>=_, refuseIf}
+use Rattle.definition.specs.Build.{accepted, rejected, report, reported}
+use Rattle.definition.specs.Result.{refused, Result, ok, _>>=_, refuseIf, already-scheduled, unschedule-out-of-order, maybe-throw-in-value-terminal}
 use Rattle.definition.specs.Statement.{breakToScope, visitBreak, visitContinue, breakResolved, continueResolved, TerminalResult, BlockResult, TraverseBlock, enterBlock, unlessScheduled, unlessUnreachable, scheduleIf, unscheduleIf, markScopeFallthroughIf, traverseUnscheduled, AlternateResult, traverseAlternate, visitGoto, traverseEnclosed, loopIsTaken, traverseLoop, CasesResult, traverseCases, unscheduleAll, scheduleSwitch, scheduleIds, casesLastFirst, OptionalValue, visitUpdate, traverseConsequent, visitValueStatement, visitTerminal, thenNext, visitBlock, traverseBlock, buildTree}
 use Rattle.definition.specs.Tree.{Kind, implicit, labeled, unlabeled, Statement, Statements}
 use Rattle.definition.specs.Value.{visitValueBlock, branchWays, Ways, isThis, beginVisit, ValueBlockResult, ValueTerminalResult, TestBlockResult, VisitValueBlock, extractOrRefuse, testBlockEnded, visitTestBlock, visitValueBlockTerminal, thenFallthrough, branchValue, isEmptyGoto, maybeThrowValue, visitValueBlockAt}
@@ -560,3 +561,27 @@ walk-fine t (suc d) b c = chain-fine t (visitValueBlock t d) (value-fine t d) (t
 pub never : (t : Table) (c p v : ℕ) → buildTree t ≡ refused c p v → T (ltb c 90)
 unfolding buildTree WalkFine
 never t c p v e = subst (λ (r : Result BlockResult). Fine (λ r. After start (r .context)) r) e (walk-fine t 128 (t .entry) start)
+
+rejected-is : (y : Result BlockResult) (code at visits : ℕ) → reported y ≡ rejected code at visits → y ≡ refused code at visits
+unfolding reported
+rejected-is (ok r) code at visits e = absurd (let z : _≡_ {A = ℕ} 0 1 = cc in omega arith)
+rejected-is (refused c p v) code at visits e = cc
+
+-- whatever refuses a table is one of the paper's refusals
+pub never-above : (t : Table) (code at visits : ℕ) → report t ≡ rejected code at visits → code < 90
+unfolding report
+never-above t code at visits e = ltb→lt code 90 (never t code at visits (rejected-is (buildTree t) code at visits e))
+
+-- "Four Rust messages never occur and are proved so". The fourth has no counterpart: a target's type is a constructor
+pub never-already-scheduled : (t : Table) (at visits : ℕ) → report t ≡ rejected already-scheduled at visits → ⊥
+never-already-scheduled t at visits e = omega (arith, never-above t already-scheduled at visits e)
+
+pub never-unschedule-out-of-order : (t : Table) (at visits : ℕ) → report t ≡ rejected unschedule-out-of-order at visits → ⊥
+never-unschedule-out-of-order t at visits e = omega (arith, never-above t unschedule-out-of-order at visits e)
+
+pub never-maybe-throw-in-value-terminal : (t : Table) (at visits : ℕ) → report t ≡ rejected maybe-throw-in-value-terminal at visits → ⊥
+never-maybe-throw-in-value-terminal t at visits e = omega (arith, never-above t maybe-throw-in-value-terminal at visits e)
+
+-- 99, the terminal of a block that is not there, is no refusal either: such a block is refused 10 before
+pub never-absent-terminal : (t : Table) (at visits : ℕ) → report t ≡ rejected 99 at visits → ⊥
+never-absent-terminal t at visits e = omega (arith, never-above t 99 at visits e)
