@@ -13,3 +13,9 @@ pub mod Most
 pub mod Flatten
 pub mod Simulation
 pub mod Invariant
+pub mod PlainTest
+pub mod Readings
+pub mod Samples
+pub mod Checked
+pub mod Accepted
+pub mod Example
