@@ -8,15 +8,11 @@ pub mod Loops
 pub mod Never
 pub mod Rows
 pub mod Grow
-pub mod Simulation
-pub mod Steps
-pub mod Slots
-pub mod Tally
 pub mod Bound
-pub mod Paid
 pub mod Most
-pub mod Loop
 pub mod Flatten
+pub mod Simulation
+pub mod Invariant
 pub mod PlainTest
 pub mod Readings
 pub mod Samples
