@@ -1,0 +1,81 @@
+use native.Mathlib.Omega.{arith}
+use borrow.Author.Needs.{needs}
+use Rattle.value_cases.proofs.block_answer.Statement.{statement}
+use Rattle.value_cases.proofs.block_answer.Tie as tie
+use Rattle.value_cases.proofs.block_answer.Reads as reads
+use Rattle.value_cases.proofs.block_answer.Lts as lts
+use Rattle.value.proofs.sequence.value_block_result_to_sequence.Reads as value-block-result-to-sequence-reads
+use Rattle.value.proofs.walk.visit_value_block.Reads as visit-value-block-reads
+use Rattle.value_cases.proofs.at.Reads as at-reads
+use Rattle.value_cases.proofs.given.Reads as given-reads
+
+at-requires : tie.Need-at-requires
+at-requires c κs = search needs
+
+at-requires-2 : tie.Need-at-requires-2
+at-requires-2 c κs = search needs
+
+at-requires-3 : tie.Need-at-requires-3
+at-requires-3 c κs = search needs
+
+visit-value-block-requires : tie.Need-visit-value-block-requires
+visit-value-block-requires c κs = search needs
+
+given-requires : tie.Need-given-requires
+given-requires c κs = search needs
+
+same-length : tie.Need-same-length
+same-length c = search needs
+
+returns : tie.Need-returns
+returns c = search needs
+
+at-requires-4 : tie.Need-at-requires-4
+at-requires-4 c κs = search needs
+
+given-requires-2 : tie.Need-given-requires-2
+given-requires-2 c κs = search needs
+
+same-length-2 : tie.Need-same-length-2
+same-length-2 c = search needs
+
+returns-2 : tie.Need-returns-2
+returns-2 c = search needs
+
+value-block-result-to-sequence-requires : tie.Need-value-block-result-to-sequence-requires
+value-block-result-to-sequence-requires c κs =
+    let at-if1 = c .before .before .before in
+    let at-visit-value-block = at-if1 .before .before .before .before in
+    let at-entry = at-visit-value-block .before .before .before .before .before .before .before .before in
+    let v = at-visit-value-block .visit-value-block .ensures in
+    let f = v .found (at-if1 .if1 .left) in
+    record { promise = at-entry .pre .0; place = f .place; there = f .ends .there; more = omega (arith, f .more); room = omega (arith, v .numbers, at-entry .pre .1 .1) }
+
+given-requires-3 : tie.Need-given-requires-3
+given-requires-3 c κs = search needs
+
+same-length-3 : tie.Need-same-length-3
+same-length-3 c = search needs
+
+returns-3 : tie.Need-returns-3
+returns-3 c = search needs
+
+pub block-answer-spec : {M : Type 1} → statement M
+block-answer-spec =
+    tie.close
+    (tie.spec
+    at-requires
+    at-requires-2
+    at-requires-3
+    visit-value-block-requires
+    given-requires
+    same-length
+    returns
+    at-requires-4
+    given-requires-2
+    same-length-2
+    returns-2
+    value-block-result-to-sequence-requires
+    given-requires-3
+    same-length-3
+    returns-3)
