@@ -2,8 +2,10 @@
 """cases.py [VECTORS ..]: writes `stdin`, the cases of this program, and checks the model that gives their answers.
 
 The model below is the value walk of paper 01, written from the paper and the Rust, and not from the Rattle code. A VECTORS file has tables and
-the answers of the whole build, which the Rust gave (a line: words | length of the buffer | code at rows visits | words of the rows). Each of
-its tables that begins with a value (its entry ends in a value terminal or a loop) is compared with the model, and becomes a case.
+the answers of the whole build, on which the Rust agreed: `definition-samples.txt` and `more-definition-samples.txt`, as the program `samples`
+of reference/comparison writes them (a line: words | length of the buffer | code at rows visits | words of the rows). Each of its tables that
+begins with a value (its entry ends in a value terminal or a loop) is compared with the model, and becomes a case; without these files `stdin`
+has the cases by hand only.
 
 A case is a run of numbers: the number of words and the words; what is asked: op (0 visit_value_block, 1 visit_value_block_terminal, 2 the
 first and value_block_result_to_sequence), block, fallthrough, span, levels, visits, words lent; the answer: code, at, block, place, id, rows,
