@@ -280,6 +280,27 @@ fn scheduling() -> Vec<(&'static str, Vec<u32>)> {
             ),
         ),
         (
+            "a loop's continue block can be walked into after the loop",
+            table(
+                &[
+                    (0, 0, 9, &[1, 2, 3]),
+                    (0, 1, 6, &[0, 4, 5]),
+                    (0, 0, 4, &[1, 1]),
+                    (0, 0, 18, &[1]),
+                    (0, 0, 3, &[0]),
+                    (0, 0, 3, &[1]),
+                ],
+                &[],
+            ),
+        ),
+        (
+            "a scope that does not take its end is not remembered: a break gives its row",
+            table(
+                &[(0, 0, 16, &[1, 3]), (0, 0, 20, &[2, 3, 7]), (0, 0, 4, &[3, 0]), (0, 0, 3, &[0])],
+                &[],
+            ),
+        ),
+        (
             "a break out of a scope from an If: 22",
             table(
                 &[
