@@ -25,11 +25,17 @@ fn main() -> ExitCode {
         let copied = Command::new("cp").args(["-rpu", part, WORK]).status().expect("cp");
         assert!(copied.success());
     }
+    let right = |mutant: &Mutant| {
+        fs::read_to_string(Path::new(MODEL).join(&mutant.file)).expect(&mutant.file)
+    };
+    for mutant in &mutants {
+        let times = right(mutant).matches(&mutant.old).count();
+        assert_eq!(times, 1, "{}: its text is there once", mutant.name);
+    }
     let (mut by_vectors, mut missed) = (0, 0);
     for mutant in &mutants {
         let path = Path::new(WORK).join(MODEL).join(&mutant.file);
-        let right = fs::read_to_string(Path::new(MODEL).join(&mutant.file)).expect(&mutant.file);
-        assert_eq!(right.matches(&mutant.old).count(), 1, "{}: its text is there once", mutant.name);
+        let right = right(mutant);
         fs::write(&path, right.replace(&mutant.old, &mutant.new)).expect("written");
         let built = cargo_build();
         let in_vectors = built && !run("vectors", &["replay", "vectors/vectors.bin"]);

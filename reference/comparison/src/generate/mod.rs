@@ -36,7 +36,7 @@ pub struct Generated {
 /// limits, the same for every seed.
 pub fn generate(seed: u64, number: u64) -> Generated {
     let mut rng = Rng::new(seed ^ number.wrapping_mul(0xD134_2543_DE82_EF95));
-    rng.next();
+    rng.word();
     if number < small::EXHAUSTIVE {
         return Generated { family: 0, words: small::exhaustive(number) };
     }

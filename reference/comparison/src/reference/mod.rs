@@ -50,9 +50,8 @@ pub fn walk_within(table: &Table, bounds: Bounds) -> (Walked, Seen) {
     let environment = lowering.environment();
     let function = lowering.function();
     walk_observer::start(bounds);
-    let ended = panic::catch_unwind(AssertUnwindSafe(|| {
-        build_reactive_function(&function, &environment)
-    }));
+    let ended =
+        panic::catch_unwind(AssertUnwindSafe(|| build_reactive_function(&function, &environment)));
     let seen = walk_observer::finish();
     let result = match ended {
         Ok(Ok(built)) => {
