@@ -1,6 +1,6 @@
-//! `mutants`, run in the folder `reference`: builds each wrong model of `mutants.txt` and says
-//! whether the vectors find it and whether a run of the comparison does. The status is not 0 if
-//! one is found by neither.
+//! `mutants [PART OF A NAME]`, run in the folder `reference`: builds each wrong model of
+//! `mutants.txt` and says whether the vectors find it and, if not, whether a run of the comparison
+//! does. The status is not 0 if one is found by neither.
 
 use std::fs;
 use std::path::Path;
@@ -19,7 +19,9 @@ struct Mutant {
 
 fn main() -> ExitCode {
     let list = fs::read_to_string("mutants.txt").expect("mutants.txt");
-    let mutants = read(&list);
+    let part = std::env::args().nth(1).unwrap_or_default();
+    let mut mutants = read(&list);
+    mutants.retain(|mutant| mutant.name.contains(&part));
     fs::create_dir_all(WORK).expect("a folder");
     for part in ["Cargo.toml", "comparison", "oxc_react_compiler", "stand-ins"] {
         let copied = Command::new("cp").args(["-rpu", part, WORK]).status().expect("cp");
@@ -37,9 +39,9 @@ fn main() -> ExitCode {
         let path = Path::new(WORK).join(MODEL).join(&mutant.file);
         let right = right(mutant);
         fs::write(&path, right.replace(&mutant.old, &mutant.new)).expect("written");
-        let built = cargo_build();
+        let built = build("vectors");
         let in_vectors = built && !run("vectors", &["replay", "vectors/vectors.bin"]);
-        let in_run = built && !in_vectors && !run("compare", &[TABLES]);
+        let in_run = built && !in_vectors && build("compare") && !run("compare", &[TABLES]);
         fs::write(&path, right).expect("written");
         by_vectors += usize::from(in_vectors);
         missed += usize::from(!in_vectors && !in_run);
@@ -72,9 +74,9 @@ fn read(list: &str) -> Vec<Mutant> {
     blocks.map(mutant).collect()
 }
 
-fn cargo_build() -> bool {
+fn build(program: &str) -> bool {
     let mut cargo = Command::new("cargo");
-    cargo.args(["build", "--offline", "--quiet", "--profile", "mutant"]);
+    cargo.args(["build", "--offline", "--quiet", "--profile", "mutant", "--bin", program]);
     cargo.args(["--target-dir", "target/mutants/target", "--manifest-path"]);
     cargo.arg(format!("{WORK}/Cargo.toml")).env("RUSTFLAGS", "-Awarnings");
     cargo.status().expect("cargo").success()

@@ -289,6 +289,13 @@ fn scheduling() -> Vec<(&'static str, Vec<u32>)> {
             ),
         ),
         (
+            "a loop's block is not scheduled after the loop: 11 and no stop",
+            table(
+                &[(0, 0, 9, &[1, 2, 3]), (0, 1, 6, &[0, 2, 3]), (0, 0, 3, &[0]), (0, 0, 18, &[2])],
+                &[],
+            ),
+        ),
+        (
             "a scope that does not take its end is not remembered: a break gives its row",
             table(
                 &[(0, 0, 16, &[1, 3]), (0, 0, 20, &[2, 3, 7]), (0, 0, 4, &[3, 0]), (0, 0, 3, &[0])],
