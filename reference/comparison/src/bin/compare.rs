@@ -7,7 +7,7 @@ use std::sync::atomic::{AtomicU64, Ordering};
 use std::thread;
 use std::time::Instant;
 
-use comparison::candidate::{CANDIDATE, Candidate};
+use comparison::candidate::{CANDIDATE, CANDIDATE_CHECK, Candidate};
 use comparison::coverage::Coverage;
 use comparison::generate::{Generated, generate};
 use comparison::model::table::Table;
@@ -59,7 +59,12 @@ fn main() -> ExitCode {
     for what in &missing {
         println!("never met: {what}");
     }
-    let compared = if CANDIDATE.is_some() { "model and candidate" } else { "model" };
+    let compared = match (CANDIDATE, CANDIDATE_CHECK) {
+        (None, None) => "model",
+        (None, Some(_)) => "model and proved check",
+        (Some(_), None) => "model and proved build",
+        (Some(_), Some(_)) => "model, proved check and proved build",
+    };
     println!(
         "seed {seed}: {} tables, {} walked by the reference, {} runs of plain tables, {compared} with {} differences, {} not met, {seconds:.1} s, {:.0} tables/s",
         total.tables,
@@ -76,7 +81,18 @@ fn main() -> ExitCode {
 fn compare(seed: u64, number: u64, coverage: &mut Coverage) {
     let Generated { family, words } = generate(seed, number);
     let mut lent = Rng::new(seed ^ number.rotate_left(32));
-    let expected = match model::check::check(&words) {
+    let checked = model::check::check(&words);
+    if let Some(check) = CANDIDATE_CHECK {
+        let expected =
+            checked.as_ref().map_or_else(|refusal| (refusal.code, refusal.at), |_| (0, 0));
+        let answer = check(&words);
+        if answer != expected {
+            coverage.differences += 1;
+            println!("table {number} differs in its check: {words:?}");
+            println!("  expected {expected:?}, candidate {answer:?}");
+        }
+    }
+    let expected = match checked {
         Ok(table) => {
             let (walked, seen) = reference::walk(&table);
             coverage.walk(&words, &seen);
