@@ -4,6 +4,7 @@ pub mod corners;
 pub mod draft;
 pub mod files;
 pub mod limits;
+pub mod long;
 pub mod mutate;
 pub mod plain;
 pub mod program;
