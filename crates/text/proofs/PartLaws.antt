@@ -13,7 +13,7 @@ use Rattle.text.specs.Lent.{Holds}
 use Rattle.text.specs.File.{headNames}
 use Rattle.text.specs.Form.{Form, byte, field, literal, row, rows, tables, whole, finished, isZero}
 use Rattle.text.specs.Steps.{Reached, Stopped, Near, At, NamesRead, PartRead, RowEnd, RowRead, cursorAt, cursorRefused}
-use Rattle.text.specs.declared.read.Cursor.{Cursor}
+use Rattle.text.specs.declared.table.Cursor.{Cursor}
 use Rattle.text.proofs.StepLaws.{reached-none, byte-taken, byte-other, byte-missing, true-false, false-true}
 
 -- ---- a line of names

@@ -10,7 +10,7 @@ use lib.ListN.{length, take, drop, getD}
 use lib.Seq.{take-suc, take-length, split-at, append-snoc}
 use Rattle.text.specs.Form.{Form, finished, byte, field, digits, ending, Text, whole}
 use Rattle.text.specs.Steps.{Reached, Stopped, NumberRead, numberRefused}
-use Rattle.text.specs.declared.read.Number.{Number}
+use Rattle.text.specs.declared.number.Number.{Number}
 
 -- at first all of the file is to come
 pub reached-none : (file : List ℕ) → Reached file 0 [] whole

@@ -6,8 +6,8 @@ use Prim.Native.Nat.{ℕ, _+_, _*_, _^_, _≤_, _<_}
 use lib.ListN.{length, take}
 use Rattle.text.specs.Lent.{Holds}
 use Rattle.text.specs.Form.{Form, field, literal, row, rows, whole, Text}
-use Rattle.text.specs.declared.read.Cursor.{Cursor}
-use Rattle.text.specs.declared.read.Number.{Number}
+use Rattle.text.specs.declared.table.Cursor.{Cursor}
+use Rattle.text.specs.declared.number.Number.{Number}
 
 -- after the first `at` bytes, which have these words, what is left of the file is of the form `next`, and of no other
 pub record Reached (file : List ℕ) (at : ℕ) (words : List ℕ) (next : Form) : Type 0 where

@@ -14,7 +14,7 @@ use Rattle.text.proofs.read.read.Tie as tie
 use Rattle.text.proofs.read.read.Reads as reads
 use Rattle.text.proofs.read.read.Lts as lts
 use Rattle.text.proofs.lent.clear_words.Reads as clear-words-reads
-use Rattle.text.proofs.read.read_file.Reads as read-file-reads
+use Rattle.text.proofs.table.read_file.Reads as read-file-reads
 
 -- src/read.rt:261:9
 clear-words-requires : tie.Need-clear-words-requires

@@ -17,7 +17,7 @@ use Rattle.text.proofs.write.write_line.Tie as tie
 use Rattle.text.proofs.write.write_line.Reads as reads
 use Rattle.text.proofs.write.write_line.Lts as lts
 use Rattle.text.proofs.lent.put_byte.Reads as put-byte-reads
-use Rattle.text.proofs.read.ending_byte.Reads as ending-byte-reads
+use Rattle.text.proofs.number.ending_byte.Reads as ending-byte-reads
 use Rattle.text.proofs.write.write_number.Reads as write-number-reads
 
 -- the first i numbers were written

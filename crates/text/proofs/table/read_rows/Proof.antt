@@ -10,12 +10,12 @@ use Rattle.text.specs.Form.{Form, rows}
 use Rattle.text.specs.Steps.{Near, At, cursorAt}
 use Rattle.text.proofs.StepLaws.{true-false}
 use Rattle.text.proofs.PartLaws.{rows-open, rows-done, part-at}
-use Rattle.text.proofs.read.read_rows.Statement.{statement}
-use Rattle.text.proofs.read.read_rows.Tie as tie
-use Rattle.text.proofs.read.read_rows.Reads as reads
-use Rattle.text.proofs.read.read_rows.Lts as lts
-use Rattle.text.proofs.read.cursor_at.Reads as cursor-at-reads
-use Rattle.text.proofs.read.read_row.Reads as read-row-reads
+use Rattle.text.proofs.table.read_rows.Statement.{statement}
+use Rattle.text.proofs.table.read_rows.Tie as tie
+use Rattle.text.proofs.table.read_rows.Reads as reads
+use Rattle.text.proofs.table.read_rows.Lts as lts
+use Rattle.text.proofs.table.cursor_at.Reads as cursor-at-reads
+use Rattle.text.proofs.table.read_row.Reads as read-row-reads
 
 -- the first i lines were read
 record Run (file : List ℕ) (width lines : ℕ) (words₀ : List ℕ) (at₀ count₀ : ℕ) (words : List ℕ) (at count i : ℕ) : Type 0 where

@@ -7,12 +7,12 @@ use Prim.Native.Nat.{ℕ, _+_, _-_, _≤_, _<_}
 use lib.ListN.{length, take, drop, getD}
 use Rattle.text.specs.Form.{table}
 use Rattle.text.proofs.PartLaws.{names-part, part-then, part-stops}
-use Rattle.text.proofs.read.read_table.Statement.{statement}
-use Rattle.text.proofs.read.read_table.Tie as tie
-use Rattle.text.proofs.read.read_table.Reads as reads
-use Rattle.text.proofs.read.read_table.Lts as lts
-use Rattle.text.proofs.read.read_names.Reads as read-names-reads
-use Rattle.text.proofs.read.read_rows.Reads as read-rows-reads
+use Rattle.text.proofs.table.read_table.Statement.{statement}
+use Rattle.text.proofs.table.read_table.Tie as tie
+use Rattle.text.proofs.table.read_table.Reads as reads
+use Rattle.text.proofs.table.read_table.Lts as lts
+use Rattle.text.proofs.table.read_names.Reads as read-names-reads
+use Rattle.text.proofs.table.read_rows.Reads as read-rows-reads
 
 -- src/read.rt:191:9
 read-names-requires : tie.Need-read-names-requires

@@ -11,16 +11,16 @@ use Rattle.text.specs.Steps.{At}
 use Rattle.text.proofs.LentLaws.{holds-none}
 use Rattle.text.proofs.StepLaws.{finished-good, finished-more, true-false}
 use Rattle.text.proofs.PartLaws.{headed, begun, head-stored}
-use Rattle.text.proofs.read.read_file.Statement.{statement}
-use Rattle.text.proofs.read.read_file.Tie as tie
-use Rattle.text.proofs.read.read_file.Reads as reads
-use Rattle.text.proofs.read.read_file.Lts as lts
+use Rattle.text.proofs.table.read_file.Statement.{statement}
+use Rattle.text.proofs.table.read_file.Tie as tie
+use Rattle.text.proofs.table.read_file.Reads as reads
+use Rattle.text.proofs.table.read_file.Lts as lts
 use Rattle.text.proofs.lent.put_words.Reads as put-words-reads
-use Rattle.text.proofs.read.cursor_at.Reads as cursor-at-reads
-use Rattle.text.proofs.read.cursor_refused.Reads as cursor-refused-reads
-use Rattle.text.proofs.read.read_names.Reads as read-names-reads
-use Rattle.text.proofs.read.read_row.Reads as read-row-reads
-use Rattle.text.proofs.read.read_tables.Reads as read-tables-reads
+use Rattle.text.proofs.table.cursor_at.Reads as cursor-at-reads
+use Rattle.text.proofs.table.cursor_refused.Reads as cursor-refused-reads
+use Rattle.text.proofs.table.read_names.Reads as read-names-reads
+use Rattle.text.proofs.table.read_row.Reads as read-row-reads
+use Rattle.text.proofs.table.read_tables.Reads as read-tables-reads
 
 -- src/read.rt:227:34
 cursor-at-requires : tie.Need-cursor-at-requires

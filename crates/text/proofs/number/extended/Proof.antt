@@ -2,11 +2,11 @@ use mathlib.Core.Path.{refl}
 use native.Mathlib.Omega.{arith}
 use Prim.Native.Nat.{_<_}
 use borrow.Author.Needs.{needs}
-use Rattle.text.proofs.read.extended.Statement.{statement}
-use Rattle.text.proofs.read.extended.Tie as tie
-use Rattle.text.proofs.read.extended.Reads as reads
-use Rattle.text.proofs.read.extended.Lts as lts
-use Rattle.text.proofs.read.digit_value.Reads as digit-value-reads
+use Rattle.text.proofs.number.extended.Statement.{statement}
+use Rattle.text.proofs.number.extended.Tie as tie
+use Rattle.text.proofs.number.extended.Reads as reads
+use Rattle.text.proofs.number.extended.Lts as lts
+use Rattle.text.proofs.number.digit_value.Reads as digit-value-reads
 
 -- src/read.rt:38:9
 digit-value-requires : tie.Need-digit-value-requires

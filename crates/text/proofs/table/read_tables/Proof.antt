@@ -7,11 +7,11 @@ use Prim.Native.Nat.{ℕ, _+_, _-_, _≤_, _<_}
 use lib.ListN.{length, take, drop, getD}
 use Rattle.text.specs.Form.{tables}
 use Rattle.text.proofs.PartLaws.{part-then, part-stops}
-use Rattle.text.proofs.read.read_tables.Statement.{statement}
-use Rattle.text.proofs.read.read_tables.Tie as tie
-use Rattle.text.proofs.read.read_tables.Reads as reads
-use Rattle.text.proofs.read.read_tables.Lts as lts
-use Rattle.text.proofs.read.read_table.Reads as read-table-reads
+use Rattle.text.proofs.table.read_tables.Statement.{statement}
+use Rattle.text.proofs.table.read_tables.Tie as tie
+use Rattle.text.proofs.table.read_tables.Reads as reads
+use Rattle.text.proofs.table.read_tables.Lts as lts
+use Rattle.text.proofs.table.read_table.Reads as read-table-reads
 
 -- src/read.rt:204:41
 slice-aggregate-read-table : tie.Need-slice-aggregate-read-table

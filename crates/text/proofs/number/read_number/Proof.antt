@@ -8,14 +8,14 @@ use lib.ListN.{length}
 use Rattle.text.specs.Form.{Form, field, digits}
 use Rattle.text.specs.Steps.{Reached}
 use Rattle.text.proofs.StepLaws.{first-taken, first-other, first-missing, digit-taken, end-taken, digit-other, digit-missing, number-refused, false-true}
-use Rattle.text.proofs.read.read_number.Statement.{statement}
-use Rattle.text.proofs.read.read_number.Tie as tie
-use Rattle.text.proofs.read.read_number.Reads as reads
-use Rattle.text.proofs.read.read_number.Lts as lts
-use Rattle.text.proofs.read.digit_value.Reads as digit-value-reads
-use Rattle.text.proofs.read.ending_byte.Reads as ending-byte-reads
-use Rattle.text.proofs.read.extended.Reads as extended-reads
-use Rattle.text.proofs.read.number_refused.Reads as number-refused-reads
+use Rattle.text.proofs.number.read_number.Statement.{statement}
+use Rattle.text.proofs.number.read_number.Tie as tie
+use Rattle.text.proofs.number.read_number.Reads as reads
+use Rattle.text.proofs.number.read_number.Lts as lts
+use Rattle.text.proofs.number.digit_value.Reads as digit-value-reads
+use Rattle.text.proofs.number.ending_byte.Reads as ending-byte-reads
+use Rattle.text.proofs.number.extended.Reads as extended-reads
+use Rattle.text.proofs.number.number_refused.Reads as number-refused-reads
 
 -- digits of this value were read, from `start` up to `at`
 record Run (file : List ℕ) (start : ℕ) (last : Bool) (value at : ℕ) : Type 0 where

@@ -11,14 +11,14 @@ use Rattle.text.specs.Form.{Form, row}
 use Rattle.text.specs.Steps.{At}
 use Rattle.text.proofs.LentLaws.{holds-put}
 use Rattle.text.proofs.PartLaws.{row-open, row-done, row-refused, row-at}
-use Rattle.text.proofs.read.read_row.Statement.{statement}
-use Rattle.text.proofs.read.read_row.Tie as tie
-use Rattle.text.proofs.read.read_row.Reads as reads
-use Rattle.text.proofs.read.read_row.Lts as lts
+use Rattle.text.proofs.table.read_row.Statement.{statement}
+use Rattle.text.proofs.table.read_row.Tie as tie
+use Rattle.text.proofs.table.read_row.Reads as reads
+use Rattle.text.proofs.table.read_row.Lts as lts
 use Rattle.text.proofs.lent.put_word.Reads as put-word-reads
-use Rattle.text.proofs.read.cursor_at.Reads as cursor-at-reads
-use Rattle.text.proofs.read.cursor_refused.Reads as cursor-refused-reads
-use Rattle.text.proofs.read.read_number.Reads as read-number-reads
+use Rattle.text.proofs.table.cursor_at.Reads as cursor-at-reads
+use Rattle.text.proofs.table.cursor_refused.Reads as cursor-refused-reads
+use Rattle.text.proofs.number.read_number.Reads as read-number-reads
 
 -- the first i numbers were read
 record Run (file : List ℕ) (width : ℕ) (words₀ : List ℕ) (at₀ count₀ : ℕ) (words : List ℕ) (at count i : ℕ) : Type 0 where

@@ -9,12 +9,12 @@ use native.Mathlib.Nat.{add-zero, add-assoc}
 use Rattle.text.specs.Form.{Form, literal}
 use Rattle.text.specs.Steps.{Reached}
 use Rattle.text.proofs.PartLaws.{names-done, name-taken, name-other, name-missing, names-refused, names-at}
-use Rattle.text.proofs.read.read_names.Statement.{statement}
-use Rattle.text.proofs.read.read_names.Tie as tie
-use Rattle.text.proofs.read.read_names.Reads as reads
-use Rattle.text.proofs.read.read_names.Lts as lts
-use Rattle.text.proofs.read.cursor_at.Reads as cursor-at-reads
-use Rattle.text.proofs.read.cursor_refused.Reads as cursor-refused-reads
+use Rattle.text.proofs.table.read_names.Statement.{statement}
+use Rattle.text.proofs.table.read_names.Tie as tie
+use Rattle.text.proofs.table.read_names.Reads as reads
+use Rattle.text.proofs.table.read_names.Lts as lts
+use Rattle.text.proofs.table.cursor_at.Reads as cursor-at-reads
+use Rattle.text.proofs.table.cursor_refused.Reads as cursor-refused-reads
 
 -- the first i names were found
 record Run (file names : List ℕ) (start i : ℕ) : Type 0 where
