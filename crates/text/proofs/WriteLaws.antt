@@ -1,12 +1,12 @@
 -- Laws of writing text into a lent buffer.
-use mathlib.Core.Path.{_≡_, refl, sym, ap, subst, _∙_}
-use mathlib.Core.Bool.{Bool, true, false}
+use mathlib.Core.Path.{_≡_, refl, sym, ap, _∙_}
+use mathlib.Core.Bool.{Bool}
 use mathlib.Core.List.{List, [], _∷_, _++_, append-nil, append-assoc}
-use Prim.Native.Nat.{ℕ, zero, suc, _+_, _-_, _*_, _/_, _^_, _≤_, _<_}
+use Prim.Native.Nat.{ℕ, zero, suc, _+_, _-_, _*_, _/_, _≤_, _<_}
 use native.Mathlib.Omega.{arith}
 use native.Mathlib.Nat.{add-zero}
 use native.Mathlib.Numerals.{add-one}
-use lib.Dec.{eqb, leb}
+use lib.Dec.{eqb}
 use borrow.Author.Tests.{le-leb, lt-leb}
 use lib.ListN.{length, take, drop, getD, set, replicate, length-append, length-drop, drop-of-length-le}
 use lib.Seq.{drop-cons, drop-drop}
@@ -56,7 +56,7 @@ unfolding line
 line-open ns i p =
     let m : length (drop (suc i) ns) ≡ length ns - suc i = length-drop (suc i) ns in
     let e : after (drop (suc i) ns) ≡ ending (eqb (i + 1) (length ns)) =
-        after-ending (drop (suc i) ns) ∙ ap (λ (b : Bool). ending b) (last-number (length (drop (suc i) ns)) i (length ns) (omega arith)) in
+    after-ending (drop (suc i) ns) ∙ ap (λ (b : Bool). ending b) (last-number (length (drop (suc i) ns)) i (length ns) (omega arith)) in
     rw (drop-cons ns i 0 p, e, add-one i)
 
 pub line-done : (ns : List ℕ) (i : ℕ) → length ns ≤ i → line (drop i ns) ≡ []

@@ -2,7 +2,7 @@
 ghost use mathlib.Core.Path.{_≡_};
 ghost use lib.ListN.{length};
 ghost use Rattle.text.specs.Form.{rows, table, tables};
-ghost use Rattle.text.specs.Steps.{Near, NamesRead, PartRead, RowRead, FileRead, cursorAt, cursorRefused};
+ghost use Rattle.text.specs.Steps.{Near, NamesRead, PartRead, RowRead, HeadRead, FileRead, cursorAt, cursorRefused};
 use crate::lent::put_word;
 use crate::lent::put_words;
 use crate::number::read_number;
@@ -97,7 +97,14 @@ fn read_rows(file: &[u8], from: Cursor, width: usize, lines: u32, words: &mut [u
 }
 
 // Reads a table: its line of names, then its lines.
-fn read_table(file: &[u8], from: Cursor, names: &[u8], width: usize, lines: u32, words: &mut [u32]) -> Cursor
+fn read_table(
+    file: &[u8],
+    from: Cursor,
+    names: &[u8],
+    width: usize,
+    lines: u32,
+    words: &mut [u32],
+) -> Cursor
     requires { ⌜ Near (now file) from ⌝ }
     ensures { λ r. ⌜ PartRead (now (file .entry)) (table (now (names .entry)) width lines) from (now (words .entry)) r (now (words .exit)) ⌝ }
 {
@@ -114,11 +121,25 @@ fn read_tables(file: &[u8], from: Cursor, head: &[u32], words: &mut [u32]) -> Cu
     requires { ⌜ length (now head) ≡ 6 ⌝ }
     ensures { λ r. ⌜ PartRead (now (file .entry)) (tables (now (head .entry))) from (now (words .entry)) r (now (words .exit)) ⌝ }
 {
-    let blocks = read_table(file, from, b"first count code a b c d e id span\n", 10, head[1], words);
+    let blocks = read_table(
+        file,
+        from,
+        b"first count code a b c d e id span\n",
+        10,
+        head[1],
+        words,
+    );
     if blocks.refused {
         return blocks;
     }
-    let instructions = read_table(file, blocks, b"id lvalue code p q span\n", 6, head[2], words);
+    let instructions = read_table(
+        file,
+        blocks,
+        b"id lvalue code p q span\n",
+        6,
+        head[2],
+        words,
+    );
     if instructions.refused {
         return instructions;
     }
@@ -133,21 +154,33 @@ fn read_tables(file: &[u8], from: Cursor, head: &[u32], words: &mut [u32]) -> Cu
     read_table(file, places, b"named\n", 1, head[5], words)
 }
 
+// Reads the head: its line of names and its row.
+fn read_head(file: &[u8], head: &mut [u32]) -> Cursor
+    requires { ⌜ length (now head) ≡ 6 ⌝ }
+    ensures { λ r. ⌜ HeadRead (now (file .entry)) r (now (head .exit)) ⌝ }
+{
+    let names = read_names(
+        file,
+        cursor_at(0, 0),
+        b"entry blocks instructions cases places identifiers\n",
+    );
+    if names.refused {
+        return names;
+    }
+    read_row(file, names, 6, head)
+}
+
 // Reads the file's words, as far as there are places for them, and counts them.
 pub fn read_file(file: &[u8], words: &mut [u32]) -> Cursor
     ensures { λ r. ⌜ FileRead (now (file .entry)) r (now (words .exit)) ⌝ }
 {
-    let names = read_names(file, cursor_at(0, 0), b"entry blocks instructions cases places identifiers\n");
-    if names.refused {
-        return names;
-    }
     let mut head = [0u32; 6];
-    let row = read_row(file, names, 6, &mut head);
-    if row.refused {
-        return row;
+    let counts = read_head(file, &mut head);
+    if counts.refused {
+        return counts;
     }
     put_words(words, &head);
-    let end = read_tables(file, row, &head, words);
+    let end = read_tables(file, counts, &head, words);
     if end.refused {
         return end;
     }
