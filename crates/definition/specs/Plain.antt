@@ -1,0 +1,108 @@
+-- Paper 01, "Plain tables": the tables that the run law speaks of. Each field of `Plain` stands below the paper's sentence that it states.
+-- A block beyond the table is absent, so that "every block" needs no bound here.
+use mathlib.Core.Path.{_≡_}
+use Prim.Native.Nat.{ℕ}
+use mathlib.Core.List.{List, [], _∷_}
+use mathlib.Core.Option.{Option, none, some}
+use mathlib.Core.Bool.{Bool, true, false, _||_}
+use lib.Dec.{eqb}
+use Rattle.table.specs.Table.{Table, Operation, other, load-local, store-local, Terminal, absent, unreachable, throw, return, goto, if, branch, switch, do-while, while, for, for-of, for-in, logical, ternary, optional, label, sequence, maybe-throw, try, scope, Try, codeOf, terminalAt, instructionAt, instructionRowsAt}
+
+-- "If, While, Label, Scope, PrunedScope, Goto .., Return, Throw or Branch"; 0 is no block
+abbrev pub plainCodes : List ℕ
+plainCodes = 5 ∷ 9 ∷ 16 ∷ 20 ∷ 21 ∷ 4 ∷ 3 ∷ 2 ∷ 6 ∷ 0 ∷ []
+
+abbrev pub among : List ℕ → ℕ → Bool
+among [] n = false
+among (m ∷ ms) n = eqb m n || among ms n
+
+abbrev pub isBranch : Terminal → Bool
+isBranch terminal = eqb (codeOf terminal) 6
+
+-- the fallthrough that a terminal names
+abbrev pub fallthroughOf : Terminal → Option ℕ
+fallthroughOf absent = none
+fallthroughOf unreachable = none
+fallthroughOf (throw value) = none
+fallthroughOf (return value) = none
+fallthroughOf (goto block variant) = none
+fallthroughOf (if test consequent alternate fallthrough) = some fallthrough
+fallthroughOf (branch test consequent alternate) = none
+fallthroughOf (switch test first number fallthrough) = some fallthrough
+fallthroughOf (do-while loop test fallthrough) = some fallthrough
+fallthroughOf (while test loop fallthrough) = some fallthrough
+fallthroughOf (for init test update loop fallthrough) = some fallthrough
+fallthroughOf (for-of init test loop fallthrough) = some fallthrough
+fallthroughOf (for-in init loop fallthrough) = some fallthrough
+fallthroughOf (logical operator test fallthrough) = some fallthrough
+fallthroughOf (ternary test fallthrough) = some fallthrough
+fallthroughOf (optional flag test fallthrough) = some fallthrough
+fallthroughOf (label block fallthrough) = some fallthrough
+fallthroughOf (sequence block fallthrough) = some fallthrough
+fallthroughOf (maybe-throw continuation) = none
+fallthroughOf (try block handler fallthrough binding) = some fallthrough
+fallthroughOf (scope pruned block fallthrough number) = some fallthrough
+
+-- The blocks that a terminal names otherwise than as a Goto's block or a While's test. (For terminals that no plain table has, those are
+-- left out that the first field shuts out anyway.)
+abbrev pub otherNames : Terminal → List ℕ
+otherNames absent = []
+otherNames unreachable = []
+otherNames (throw value) = []
+otherNames (return value) = []
+otherNames (goto block variant) = []
+otherNames (if test consequent alternate fallthrough) = consequent ∷ alternate ∷ fallthrough ∷ []
+otherNames (branch test consequent alternate) = consequent ∷ alternate ∷ []
+otherNames (switch test first number fallthrough) = []
+otherNames (do-while loop test fallthrough) = []
+otherNames (while test loop fallthrough) = loop ∷ fallthrough ∷ []
+otherNames (for init test update loop fallthrough) = []
+otherNames (for-of init test loop fallthrough) = []
+otherNames (for-in init loop fallthrough) = []
+otherNames (logical operator test fallthrough) = []
+otherNames (ternary test fallthrough) = []
+otherNames (optional flag test fallthrough) = []
+otherNames (label block fallthrough) = block ∷ fallthrough ∷ []
+otherNames (sequence block fallthrough) = []
+otherNames (maybe-throw continuation) = []
+otherNames (try block handler fallthrough binding) = []
+otherNames (scope pruned block fallthrough number) = block ∷ fallthrough ∷ []
+
+abbrev pub isStore : Operation → Bool
+isStore other = false
+isStore (load-local place) = false
+isStore (store-local storedTo storedValue) = true
+
+-- whether the last of some instruction rows is a StoreLocal
+abbrev pub endsInStore : Table → List ℕ → Bool
+endsInStore t [] = false
+endsInStore t (row ∷ []) = isStore (instructionAt t row .operation)
+endsInStore t (row ∷ next ∷ rows) = endsInStore t (next ∷ rows)
+
+abbrev pub NotBranch : Table → ℕ → Type 0
+NotBranch t block = isBranch (terminalAt t block) ≡ false
+
+abbrev pub All : (ℕ → Type 0) → List ℕ → Type 0
+All P [] = Unit {0}
+All P (n ∷ ns) = P n × All P ns
+
+pub record Plain (t : Table) : Type 0 where
+  -- "Every present block ends in If, While, Label, Scope, PrunedScope, Goto Break or Continue, Return, Throw or Branch."
+  pub ends : (block : ℕ) → among plainCodes (codeOf (terminalAt t block)) ≡ true
+  pub no-goto-try : (block target : ℕ) → terminalAt t block ≡ goto target Try → ⊥
+  -- "Each While's test is a Branch block." With the ways that the next sentence but one gives it
+  pub tests : (block test loop fallthrough : ℕ) → terminalAt t block ≡ while test loop fallthrough → (place : ℕ) × (terminalAt t test ≡ branch place loop fallthrough)
+  -- "A Branch block is not the entry"
+  pub entry : NotBranch t (t .entry)
+  -- "and is named only by one While as its test, and by Gotos; its consequent is that While's loop, its alternate that While's ft;":
+  -- there is that While; there is one; and nothing else names a Branch block
+  pub branches : (block place consequent alternate : ℕ) → terminalAt t block ≡ branch place consequent alternate → (named-by : ℕ) × (terminalAt t named-by ≡ while block consequent alternate)
+  pub one-while : (block block′ test loop loop′ fallthrough fallthrough′ : ℕ) → terminalAt t block ≡ while test loop fallthrough → terminalAt t block′ ≡ while test loop′ fallthrough′ → block ≡ block′
+  pub names : (block : ℕ) → All (NotBranch t) (otherNames (terminalAt t block))
+  -- "its last instruction is no StoreLocal."
+  pub no-store : (block place consequent alternate : ℕ) → terminalAt t block ≡ branch place consequent alternate → endsInStore t (instructionRowsAt t block) ≡ false
+  -- "No block is the ft of two blocks,"
+  pub one-fallthrough : (block block′ fallthrough : ℕ) → fallthroughOf (terminalAt t block) ≡ some fallthrough → fallthroughOf (terminalAt t block′) ≡ some fallthrough → block ≡ block′
+  -- "and no ft is a loop block or test."
+  pub no-loop : (block fallthrough loop-of test loop fallthrough′ : ℕ) → fallthroughOf (terminalAt t block) ≡ some fallthrough → terminalAt t loop-of ≡ while test loop fallthrough′ → fallthrough ≡ loop → ⊥
+  pub no-test : (block fallthrough loop-of test loop fallthrough′ : ℕ) → fallthroughOf (terminalAt t block) ≡ some fallthrough → terminalAt t loop-of ≡ while test loop fallthrough′ → fallthrough ≡ test → ⊥

@@ -1,0 +1,28 @@
+-- What a step of the build gives: a result, or a refusal with paper 01's code, its place, and the visits begun so far.
+use Prim.Native.Nat.{ℕ}
+use mathlib.Core.Bool.{Bool, true, false}
+
+pub data Result (A : Type 0) : Type 0 where
+  ok : A → Result A
+  refused : (code at visits : ℕ) → Result A
+
+infixl 20 _>>=_
+-- a step and, if it was not refused, the next
+unfoldable pub _>>=_ : {A B : Type 0} → Result A → (A → Result B) → Result B
+_>>=_ (ok a) next = next a
+_>>=_ (refused code at visits) next = refused code at visits
+
+unfoldable pub refuseIf : Bool → (code at visits : ℕ) → Result (Unit {0})
+refuseIf true code at visits = refused code at visits
+refuseIf false code at visits = ok tt
+
+-- Four messages of the Rust never occur. They are refusals of the definition, with numbers of their own, and it is proved that no table
+-- gives them. (The fourth, "Unknown target type", has no counterpart: a target's type is a constructor.)
+abbrev pub already-scheduled : ℕ
+already-scheduled = 90
+
+abbrev pub unschedule-out-of-order : ℕ
+unschedule-out-of-order = 91
+
+abbrev pub maybe-throw-in-value-terminal : ℕ
+maybe-throw-in-value-terminal = 92
