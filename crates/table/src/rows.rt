@@ -2,7 +2,6 @@
 // which limit a rule of the paper is.
 use crate::Checked;
 use crate::words;
-
 ghost use mathlib.Core.Path.{_≡_};
 ghost use mathlib.Core.List.{[], _∷_};
 ghost use Prim.Native.Nat.{suc, _-_, _<_, _≤_};
@@ -17,6 +16,7 @@ ghost use Rattle.table.specs.Promise.{Sized};
 
 // Below this, any row word; only 0 is below that of an unused column.
 const ANY: u32 = 65536;
+
 const UNUSED: u32 = 1;
 
 // The limit of a word that names one of so many rows, or none.
@@ -90,24 +90,24 @@ fn terminal_columns(words: &[u32], row: u32, code: u32) -> u32
         1 => columns(words, row, UNUSED, UNUSED, UNUSED, UNUSED, UNUSED), // Unreachable
         2 => columns(words, row, places, UNUSED, UNUSED, UNUSED, UNUSED), // Throw
         3 => columns(words, row, places, UNUSED, UNUSED, UNUSED, UNUSED), // Return
-        4 => columns(words, row, blocks, 3, UNUSED, UNUSED, UNUSED),      // Goto
+        4 => columns(words, row, blocks, 3, UNUSED, UNUSED, UNUSED), // Goto
         5 => columns(words, row, places, blocks, blocks, blocks, UNUSED), // If
         6 => columns(words, row, places, blocks, blocks, UNUSED, UNUSED), // Branch
-        7 => columns(words, row, places, ANY, cases, blocks, UNUSED),     // Switch
+        7 => columns(words, row, places, ANY, cases, blocks, UNUSED), // Switch
         8 => columns(words, row, blocks, blocks, blocks, UNUSED, UNUSED), // DoWhile
         9 => columns(words, row, blocks, blocks, blocks, UNUSED, UNUSED), // While
         10 => columns(words, row, blocks, blocks, update, blocks, blocks), // For
         11 => columns(words, row, blocks, blocks, blocks, blocks, UNUSED), // ForOf
         12 => columns(words, row, blocks, blocks, blocks, UNUSED, UNUSED), // ForIn
-        13 => columns(words, row, 3, blocks, blocks, UNUSED, UNUSED),     // Logical
+        13 => columns(words, row, 3, blocks, blocks, UNUSED, UNUSED), // Logical
         14 => columns(words, row, blocks, blocks, UNUSED, UNUSED, UNUSED), // Ternary
-        15 => columns(words, row, 2, blocks, blocks, UNUSED, UNUSED),     // Optional
+        15 => columns(words, row, 2, blocks, blocks, UNUSED, UNUSED), // Optional
         16 => columns(words, row, blocks, blocks, UNUSED, UNUSED, UNUSED), // Label
         17 => columns(words, row, blocks, blocks, UNUSED, UNUSED, UNUSED), // Sequence
         18 => columns(words, row, blocks, UNUSED, UNUSED, UNUSED, UNUSED), // MaybeThrow
         19 => columns(words, row, blocks, blocks, blocks, binding, UNUSED), // Try
-        20 => columns(words, row, blocks, blocks, ANY, UNUSED, UNUSED),   // Scope
-        21 => columns(words, row, blocks, blocks, ANY, UNUSED, UNUSED),   // PrunedScope
+        20 => columns(words, row, blocks, blocks, ANY, UNUSED, UNUSED), // Scope
+        21 => columns(words, row, blocks, blocks, ANY, UNUSED, UNUSED), // PrunedScope
         _ => columns(words, row, UNUSED, UNUSED, UNUSED, UNUSED, UNUSED),
     }
 }
@@ -222,14 +222,14 @@ pub fn check_blocks(words: &[u32]) -> Checked
     requires { ⌜ Sized (now words) ⌝ }
     ensures { λ r. ⌜ verdictOf r ≡ rowsVerdict (now (words .entry)) (blockRules (now (words .entry))) blocksBegin 0 (blockCount (now (words .entry))) ⌝ }
 {
-    let rows = words::block_count(words);
-    let mut row = 0;
-    while row < rows {
-        let column = block_row(words, row);
+    let blocks = words::block_count(words);
+    let mut block = 0;
+    while block < blocks {
+        let column = block_row(words, block);
         if column < 10 {
-            return Checked::BadWord(6 + row * 10 + column);
+            return Checked::BadWord(6 + block * 10 + column);
         }
-        row += 1;
+        block += 1;
     }
     Checked::Accepted
 }
@@ -239,14 +239,14 @@ pub fn check_instructions(words: &[u32]) -> Checked
     ensures { λ r. ⌜ verdictOf r ≡ rowsVerdict (now (words .entry)) (instructionRules (now (words .entry))) (instructionsBegin (now (words .entry))) 0 (instructionCount (now (words .entry))) ⌝ }
 {
     let begin = words::instructions_begin(words);
-    let rows = words::instruction_count(words);
-    let mut row = 0;
-    while row < rows {
-        let column = instruction_row(words, row);
+    let instructions = words::instruction_count(words);
+    let mut instruction = 0;
+    while instruction < instructions {
+        let column = instruction_row(words, instruction);
         if column < 6 {
-            return Checked::BadWord(begin + row * 6 + column);
+            return Checked::BadWord(begin + instruction * 6 + column);
         }
-        row += 1;
+        instruction += 1;
     }
     Checked::Accepted
 }
@@ -256,14 +256,14 @@ pub fn check_cases(words: &[u32]) -> Checked
     ensures { λ r. ⌜ verdictOf r ≡ rowsVerdict (now (words .entry)) (caseRules (now (words .entry))) (casesBegin (now (words .entry))) 0 (caseCount (now (words .entry))) ⌝ }
 {
     let begin = words::cases_begin(words);
-    let rows = words::case_count(words);
-    let mut row = 0;
-    while row < rows {
-        let column = case_row(words, row);
+    let cases = words::case_count(words);
+    let mut case = 0;
+    while case < cases {
+        let column = case_row(words, case);
         if column < 2 {
-            return Checked::BadWord(begin + row * 2 + column);
+            return Checked::BadWord(begin + case * 2 + column);
         }
-        row += 1;
+        case += 1;
     }
     Checked::Accepted
 }
@@ -273,14 +273,14 @@ pub fn check_places(words: &[u32]) -> Checked
     ensures { λ r. ⌜ verdictOf r ≡ rowsVerdict (now (words .entry)) (placeRules (now (words .entry))) (placesBegin (now (words .entry))) 0 (placeCount (now (words .entry))) ⌝ }
 {
     let begin = words::places_begin(words);
-    let rows = words::place_count(words);
+    let places = words::place_count(words);
     let identifiers = words::identifier_count(words);
-    let mut row = 0;
-    while row < rows {
-        if words::place_word(words, row) >= identifiers {
-            return Checked::BadWord(begin + row);
+    let mut place = 0;
+    while place < places {
+        if words::place_word(words, place) >= identifiers {
+            return Checked::BadWord(begin + place);
         }
-        row += 1;
+        place += 1;
     }
     Checked::Accepted
 }
@@ -290,13 +290,13 @@ pub fn check_identifiers(words: &[u32]) -> Checked
     ensures { λ r. ⌜ verdictOf r ≡ rowsVerdict (now (words .entry)) (identifierRules (now (words .entry))) (identifiersBegin (now (words .entry))) 0 (identifierCount (now (words .entry))) ⌝ }
 {
     let begin = words::identifiers_begin(words);
-    let rows = words::identifier_count(words);
-    let mut row = 0;
-    while row < rows {
-        if words::identifier_word(words, row) >= 2 {
-            return Checked::BadWord(begin + row);
+    let identifiers = words::identifier_count(words);
+    let mut identifier = 0;
+    while identifier < identifiers {
+        if words::identifier_word(words, identifier) >= 2 {
+            return Checked::BadWord(begin + identifier);
         }
-        row += 1;
+        identifier += 1;
     }
     Checked::Accepted
 }

@@ -49,8 +49,8 @@ unfolding blockWord blocksBegin
 returns c = rows-off _ _ 10 (block-width _) _ _ _ (omega (arith, c .before .before .before .before .block-count .ensures, c .before .before .loop-test .taken)) (c .before .block-row .ensures) (c .if1 .taken) (refl) ∙ sym (c .before .before .before .loop .inv .0)
 
 -- src/rows.rt:232:9
-add-row : tie.Need-add-row Inv-loop μ-loop
-add-row c = omega (arith, c .before .before .before .before .block-count .ensures, c .before .before .loop-test .taken, c .before .before .before .before .before .before .pre .limited)
+add-block : tie.Need-add-block Inv-loop μ-loop
+add-block c = omega (arith, c .before .before .before .before .block-count .ensures, c .before .before .loop-test .taken, c .before .before .before .before .before .before .pre .limited)
 
 -- src/rows.rt:227:5
 loop-less : tie.Need-loop-less Inv-loop μ-loop
@@ -78,7 +78,7 @@ check-blocks-spec =
     add-t7
     add-t8
     returns
-    add-row
+    add-block
     loop-less
     loop-again
     returns-2)

@@ -54,8 +54,8 @@ unfolding caseWord
 returns c = rows-off _ _ 2 (case-width _) _ _ _ (omega (arith, c .before .before .before .before .case-count .ensures, c .before .before .loop-test .taken)) (c .before .case-row .ensures) (c .if1 .taken) (c .before .before .before .before .before .cases-begin .ensures .0) ∙ sym (c .before .before .before .loop .inv .0)
 
 -- src/rows.rt:266:9
-add-row : tie.Need-add-row Inv-loop μ-loop
-add-row c = omega (arith, c .before .before .before .before .case-count .ensures, c .before .before .loop-test .taken, c .before .before .before .before .before .before .before .pre .limited, c .before .before .before .before .before .cases-begin .ensures)
+add-case : tie.Need-add-case Inv-loop μ-loop
+add-case c = omega (arith, c .before .before .before .before .case-count .ensures, c .before .before .loop-test .taken, c .before .before .before .before .before .before .before .pre .limited, c .before .before .before .before .before .cases-begin .ensures)
 
 -- src/rows.rt:261:5
 loop-less : tie.Need-loop-less Inv-loop μ-loop
@@ -84,7 +84,7 @@ check-cases-spec =
     add-t8
     add-t9
     returns
-    add-row
+    add-case
     loop-less
     loop-again
     returns-2)

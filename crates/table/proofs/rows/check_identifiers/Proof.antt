@@ -46,8 +46,8 @@ unfolding identifierWord identifierRules
 returns c = rest-off _ _ _ _ _ (omega (arith, c .before .before .before .before .identifier-count .ensures, c .before .before .loop-test .taken)) (c .before .identifier-word .ensures) refl (c .if1 .taken) (c .before .before .before .before .before .identifiers-begin .ensures .0) ∙ sym (c .before .before .before .loop .inv .0)
 
 -- src/rows.rt:299:9
-add-row : tie.Need-add-row Inv-loop μ-loop
-add-row c = omega (arith, c .before .before .before .before .identifier-count .ensures, c .before .before .loop-test .taken, c .before .before .before .before .before .before .before .pre .limited, c .before .before .before .before .before .identifiers-begin .ensures)
+add-identifier : tie.Need-add-identifier Inv-loop μ-loop
+add-identifier c = omega (arith, c .before .before .before .before .identifier-count .ensures, c .before .before .loop-test .taken, c .before .before .before .before .before .before .before .pre .limited, c .before .before .before .before .before .identifiers-begin .ensures)
 
 -- src/rows.rt:295:5
 loop-less : tie.Need-loop-less Inv-loop μ-loop
@@ -75,7 +75,7 @@ check-identifiers-spec =
     identifier-word-requires
     add-t7
     returns
-    add-row
+    add-identifier
     loop-less
     loop-again
     returns-2)

@@ -54,8 +54,8 @@ unfolding instructionWord
 returns c = rows-off _ _ 6 (instruction-width _) _ _ _ (omega (arith, c .before .before .before .before .instruction-count .ensures, c .before .before .loop-test .taken)) (c .before .instruction-row .ensures) (c .if1 .taken) (c .before .before .before .before .before .instructions-begin .ensures .0) ∙ sym (c .before .before .before .loop .inv .0)
 
 -- src/rows.rt:249:9
-add-row : tie.Need-add-row Inv-loop μ-loop
-add-row c = omega (arith, c .before .before .before .before .instruction-count .ensures, c .before .before .loop-test .taken, c .before .before .before .before .before .before .before .pre .limited, c .before .before .before .before .before .instructions-begin .ensures)
+add-instruction : tie.Need-add-instruction Inv-loop μ-loop
+add-instruction c = omega (arith, c .before .before .before .before .instruction-count .ensures, c .before .before .loop-test .taken, c .before .before .before .before .before .before .before .pre .limited, c .before .before .before .before .before .instructions-begin .ensures)
 
 -- src/rows.rt:244:5
 loop-less : tie.Need-loop-less Inv-loop μ-loop
@@ -84,7 +84,7 @@ check-instructions-spec =
     add-t8
     add-t9
     returns
-    add-row
+    add-instruction
     loop-less
     loop-again
     returns-2)

@@ -51,8 +51,8 @@ unfolding placeWord placeRules
 returns c = rest-off _ _ _ _ _ (omega (arith, c .before .before .before .before .before .place-count .ensures, c .before .before .loop-test .taken)) (c .before .place-word .ensures) (c .before .before .before .before .identifier-count .ensures) (c .if1 .taken) (c .before .before .before .before .before .before .places-begin .ensures .0) ∙ sym (c .before .before .before .loop .inv .0)
 
 -- src/rows.rt:283:9
-add-row : tie.Need-add-row Inv-loop μ-loop
-add-row c = omega (arith, c .before .before .before .before .before .place-count .ensures, c .before .before .loop-test .taken, c .before .before .before .before .before .before .before .before .pre .limited, c .before .before .before .before .before .before .places-begin .ensures)
+add-place : tie.Need-add-place Inv-loop μ-loop
+add-place c = omega (arith, c .before .before .before .before .before .place-count .ensures, c .before .before .loop-test .taken, c .before .before .before .before .before .before .before .before .pre .limited, c .before .before .before .before .before .before .places-begin .ensures)
 
 -- src/rows.rt:279:5
 loop-less : tie.Need-loop-less Inv-loop μ-loop
@@ -81,7 +81,7 @@ check-places-spec =
     place-word-requires
     add-t8
     returns
-    add-row
+    add-place
     loop-less
     loop-again
     returns-2)
