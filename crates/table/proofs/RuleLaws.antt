@@ -1,16 +1,16 @@
 -- The rules of each row, as the code tests them.
-use Prim.Native.Nat.{ℕ, zero, suc, _+_, _*_, _-_, _<_, _≤_}
-use mathlib.Core.Path.{_≡_, refl, sym, ap, _∙_}
+use Prim.Native.Nat.{ℕ, zero, suc, _+_, _-_, _<_, _≤_}
+use mathlib.Core.Path.{_≡_, refl, sym, _∙_}
 use mathlib.Core.List.{List, [], _∷_, _++_}
 use mathlib.Core.Bool.{Bool, true, false, _||_, cond}
 use native.Mathlib.Omega.{arith}
 use types.Run.{OneOf}
-use lib.ListN.{length, getD, replicate, List·getD-eq-default}
-use borrow.Author.Tests.{eq-eqb, ne-eqb, eqb-true, eqb-false, leb-true, leb-false, ltb-true, ltb-false, le-leb, lt-leb, lt-ltb, le-ltb}
-use lib.Dec.{eqb, leb, ltb}
-use Rattle.table.specs.Words.{blockWord, instructionCount, instructionWord, largest}
+use lib.ListN.{length, replicate, List·getD-eq-default}
+use borrow.Author.Tests.{eq-eqb, ne-eqb, eqb-true, eqb-false, leb-true, leb-false, lt-ltb, le-ltb}
+use lib.Dec.{eqb, ltb}
+use Rattle.table.specs.Words.{blockWord, instructionCount, largest}
 use Rattle.table.specs.Check.{Rule, unused, number, row, row-or-none, rows-from, fits, rulesByCode, terminalRules, blockRules, operandsByCode, operandRules, instructionRules, caseRules, placeRules, identifierRules}
-use Rattle.table.specs.Answer.{limit, five, two}
+use Rattle.table.specs.Answer.{limit, five}
 
 -- ---- a rule and its limit
 

@@ -1,5 +1,5 @@
 -- What the code's own answers mean: the whole check's by paper 01's numbers, and those of the functions below it.
-use Prim.Native.Nat.{ℕ, zero, suc, _-_}
+use Prim.Native.Nat.{ℕ, suc, _-_}
 use mathlib.Core.List.{List, [], _∷_}
 use mathlib.Core.Bool.{Bool, true, false, cond}
 use lib.Dec.{leb, ltb, eqb}
