@@ -14,9 +14,10 @@ ghost use Rattle.table.specs.Check.{placeRules, identifierRules, rowsVer
 ghost use Rattle.table.specs.Answer.{verdictOf, limit, five, two, firstBad, firstNotBelow};
 ghost use Rattle.table.specs.Promise.{Sized};
 
-// Below this, any row word; only 0 is below that of an unused column.
+// Any row word may be below this.
 const ANY: u32 = 65536;
 
+// Only 0 is below this.
 const UNUSED: u32 = 1;
 
 // The limit of a word that names one of so many rows, or none.
