@@ -1,72 +1,32 @@
 -- The run law of plain tables: the block run and the tree run both stop, with the same rows, the same answers taken and for the same reason.
-use mathlib.Core.Path.{_≡_, refl, sym, ap, _∙_, subst}
+use mathlib.Core.Path.{_≡_, refl, sym, ap, _∙_}
 use Prim.Native.Nat.{ℕ, zero, suc, _+_}
-use mathlib.Core.List.{List, [], _∷_, _++_}
+use mathlib.Core.List.{List, []}
 use mathlib.Core.Option.{Option, none, some}
-use mathlib.Core.Bool.{Bool, true, false}
 use native.Mathlib.Nat.{zero-add, suc-add}
 use native.Mathlib.Omega.{arith}
-use lib.Dec.{T}
-use Rattle.table.specs.Table.{Table, blockAt, terminalAt, instructionRowsAt}
-use Rattle.definition.specs.Tree.{Statements}
-use Rattle.definition.specs.Result.{Result, ok}
+use Rattle.table.specs.Table.{Table, tableOf, blockAt, terminalAt, instructionRowsAt}
+use Rattle.definition.specs.Tree.{Statements, rows}
+use Rattle.definition.specs.Build.{built}
+use Rattle.definition.specs.Result.{ok}
 use Rattle.definition.specs.Context.{start}
-use Rattle.definition.specs.Statement.{BlockResult, traverseBlock, buildTree}
+use Rattle.definition.specs.Statement.{BlockResult, buildTree}
+use Rattle.definition.specs.Reading.{TreeOf, OneTree}
 use Rattle.definition.specs.Run.{Answers, Reason, Run, unfinished, stopped}
 use Rattle.definition.specs.BlockRun.{Move, go, halt, move, performing, blockRun}
 use Rattle.definition.specs.Completion.{Completion, normal, break, continue, stop}
-use Rattle.definition.specs.TreeRun.{Completed, runStatements, reasonOf, treeRun}
-use Rattle.definition.specs.Plain.{Plain, Ranged}
-use Rattle.definition.proofs.Semantics.{Built, LeadsOn, Stops, proper, runs}
+use Rattle.definition.specs.TreeRun.{runStatements, reasonOf, treeRun}
+use Rattle.definition.specs.Plain.{Plain}
+use Rattle.definition.specs.RunLaw.{Agree, RunLaw}
+use Rattle.definition.proofs.Semantics.{Built, LeadsOn, runs}
 use Rattle.definition.proofs.State.{inv-start}
-use Rattle.definition.proofs.Structure.{WalkOk, walk-ok, Made}
-use Rattle.definition.proofs.Loops.{Taken, takes-statements}
-
--- both runs stop with the same rows performed, the same answers taken and left, and for the same reason: a return, a throw or no answer left
-pub record Agree (t : Table) (root : Statements) (answers : Answers) : Type 0 where
-  pub steps : ℕ
-  pub performed : List ℕ
-  pub taken : Answers
-  pub left : Answers
-  pub reason : Reason
-  pub block-run : blockRun t steps (t .entry) answers ≡ stopped performed left reason
-  pub tree-run : treeRun root answers ≡ stopped performed left reason
-  pub answers-taken : taken ++ left ≡ answers
-  pub good : T (proper reason)
-
-none-some : (y : ℕ) → _≡_ {A = Option ℕ} none (some y) → ⊥
-none-some y e = let z : _≡_ {A = ℕ} 0 1 = cc in omega arith
-
-agree-on : (t : Table) (s : Statements) (ans : Answers) (e : Completion) → runStatements s ans .completion ≡ e
-    → LeadsOn t [] (t .entry) ans (runStatements s ans .rows) e (runStatements s ans .left) → Agree t s ans
-unfolding treeRun reasonOf
-agree-on t s ans normal h (b, k, p) = absurd (none-some b k)
-agree-on t s ans (break none) h (b, k, p) = absurd (none-some b k)
-agree-on t s ans (break (some x)) h (b, k, p) = absurd (none-some b k)
-agree-on t s ans (continue none) h (b, k, p) = absurd (none-some b k)
-agree-on t s ans (continue (some x)) h (b, k, p) = absurd (none-some b k)
-agree-on t s ans (stop r) h p = record {
-  steps = p .steps;
-  performed = runStatements s ans .rows;
-  taken = takes-statements s ans .taken;
-  left = runStatements s ans .left;
-  reason = r;
-  block-run = p .runs;
-  tree-run = ap (λ (e : Completion). stopped (runStatements s ans .rows) (runStatements s ans .left) (reasonOf e)) h;
-  answers-taken = takes-statements s ans .whole;
-  good = p .good;
-}
-
-built-agrees : (t : Table) (s : Statements) → Built t [] (t .entry) s → (ans : Answers) → Agree t s ans
-built-agrees t s b ans = agree-on t s ans (runStatements s ans .completion) refl (runs t b ans)
-
--- what an accepted build of a plain table makes
-pub tree-built : (t : Table) → Plain t → Ranged t → (r : BlockResult) → buildTree t ≡ ok r → Built t [] (t .entry) (r .statements)
-unfolding buildTree WalkOk
-tree-built t pl rg r e = walk-ok t pl rg 128 [] (t .entry) start r (inv-start t) (pl .entry) e .tree
-
-pub run-law : (t : Table) → Plain t → Ranged t → (r : BlockResult) → buildTree t ≡ ok r → (ans : Answers) → Agree t (r .statements) ans
-run-law t pl rg r e = built-agrees t (r .statements) (tree-built t pl rg r e)
+use Rattle.definition.proofs.Structure.{WalkOk, walk-ok}
+use Rattle.definition.proofs.Loops.{takes-statements}
+use Rattle.definition.proofs.Checked.{ranged}
+use Rattle.definition.proofs.Ranged.{Ranged}
+use Rattle.definition.proofs.Accepted.{Accepted, accepted-of, rows-of-buffer, words-rows}
+use Rattle.definition.proofs.Formed.{tree-formed}
+use Rattle.definition.proofs.Readings.{one-reading}
 
 -- ---- more steps change nothing: there is one block run
 
@@ -96,3 +56,71 @@ pub more-steps : (t : Table) (more n b : ℕ) (ans : Answers) (tr : List ℕ) (l
     → blockRun t n b ans ≡ stopped tr left r → blockRun t (more + n) b ans ≡ stopped tr left r
 more-steps t zero n b ans tr left r e = rw zero-add e
 more-steps t (suc more) n b ans tr left r e = rw suc-add (one-more t (more + n) b ans tr left r (more-steps t more n b ans tr left r e))
+
+-- ---- what the build makes of a plain table agrees with it
+
+none-some : (y : ℕ) → _≡_ {A = Option ℕ} none (some y) → ⊥
+none-some y e = let z : _≡_ {A = ℕ} 0 1 = cc in omega arith
+
+agree-on : (t : Table) (s : Statements) (ans : Answers) (e : Completion) → runStatements s ans .completion ≡ e
+    → LeadsOn t [] (t .entry) ans (runStatements s ans .rows) e (runStatements s ans .left) → Agree t s ans
+unfolding treeRun reasonOf
+agree-on t s ans normal h (b, k, p) = absurd (none-some b k)
+agree-on t s ans (break none) h (b, k, p) = absurd (none-some b k)
+agree-on t s ans (break (some x)) h (b, k, p) = absurd (none-some b k)
+agree-on t s ans (continue none) h (b, k, p) = absurd (none-some b k)
+agree-on t s ans (continue (some x)) h (b, k, p) = absurd (none-some b k)
+agree-on t s ans (stop r) h p = record {
+  steps = p .steps;
+  performed = runStatements s ans .rows;
+  taken = takes-statements s ans .taken;
+  left = runStatements s ans .left;
+  reason = r;
+  block-run = λ more. more-steps t more (p .steps) (t .entry) ans (runStatements s ans .rows) (runStatements s ans .left) r (p .runs);
+  tree-run = ap (λ (e : Completion). stopped (runStatements s ans .rows) (runStatements s ans .left) (reasonOf e)) h;
+  answers-taken = takes-statements s ans .whole;
+  good = p .good;
+}
+
+built-agrees : (t : Table) (s : Statements) → Built t [] (t .entry) s → (ans : Answers) → Agree t s ans
+built-agrees t s b ans = agree-on t s ans (runStatements s ans .completion) refl (runs t b ans)
+
+-- what an accepted build of a plain table makes
+pub tree-built : (t : Table) → Plain t → Ranged t → (r : BlockResult) → buildTree t ≡ ok r → Built t [] (t .entry) (r .statements)
+unfolding buildTree WalkOk
+tree-built t pl rg r e = walk-ok t pl rg 128 [] (t .entry) start r (inv-start t) (pl .entry) e .tree
+
+-- ---- the tree in the buffer
+
+-- the build's own tree, and no other: one list of rows is read as one tree
+module _ (words : List ℕ) (lent : ℕ) (a : Accepted words lent) where
+  tree-held : TreeOf (built words lent) (a .root .statements)
+  tree-held = record {
+    well-formed = tree-formed (tableOf words) (ranged words (a .checks)) (a .root) (a .builds);
+    number = sym (a .number);
+    held = sym (rows-of-buffer words lent a);
+  }
+
+  tree-only : (other : Statements) → TreeOf (built words lent) other → other ≡ a .root .statements
+  tree-only other o =
+      one-reading (rows (a .root .statements)) other (a .root .statements)
+      (record { well-formed = o .well-formed; same-rows = words-rows (rows other) (rows (a .root .statements)) (o .held ∙ rows-of-buffer words lent a) })
+      (record { well-formed = tree-held .well-formed; same-rows = refl })
+
+  tree-one : OneTree (built words lent)
+  tree-one = record { tree = a .root .statements; held = tree-held; only = tree-only }
+
+-- whatever table was accepted, plain or not
+pub one-tree : (words : List ℕ) (lent : ℕ) → built words lent .code ≡ 0 → OneTree (built words lent)
+one-tree words lent h = tree-one words lent (accepted-of words lent h)
+
+-- ---- demand 3
+
+pub run-law : (words : List ℕ) (lent : ℕ) → built words lent .code ≡ 0 → Plain (tableOf words) → RunLaw words (built words lent)
+unfolding tree-one
+run-law words lent h pl =
+    let a : Accepted words lent = accepted-of words lent h in
+    record {
+      one = tree-one words lent a;
+      agree = built-agrees (tableOf words) (a .root .statements) (tree-built (tableOf words) pl (ranged words (a .checks)) (a .root) (a .builds));
+    }

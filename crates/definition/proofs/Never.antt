@@ -5,22 +5,27 @@ use native.Mathlib.Omega.{arith}
 use mathlib.Core.Logic.{_⊎_, inl, inr}
 use mathlib.Core.List.{List, [], _∷_, _++_}
 use mathlib.Core.Option.{Option, none, some}
-use mathlib.Core.Bool.{Bool, true, false, not}
+use mathlib.Core.Bool.{Bool, true, false, not, _&&_}
 use lib.ListN.{getD, set}
-use lib.Dec.{T, eqb, ltb, eqb-refl}
+use lib.Dec.{T, eqb, leb, eqb-refl, leb→le}
 use borrow.Author.Tests.{eqb-true, eq-eqb}
 use Rattle.table.specs.Table.{Table, Block, Case, Terminal, absent, unreachable, throw, return, goto, if, branch, switch, do-while, while, for, for-of, for-in, logical, ternary, optional, sequence, maybe-throw, try, scope, Variant, Break, Continue, Try, blockAt, terminalAt, instructionRowsAt, instructionRows, isAbsent, isUnreachable, label}
 use Rattle.definition.specs.Context.{or, Flags, has, add, remove, ControlFlowTarget, target-if, target-switch, target-case, target-loop, targetBlock, Entry, Context, start, isScheduled, emit, withVisits, markScopeFallthrough, scheduleCatchHandler, pushed, schedule, scheduleLoop, unscheduledBy, popped, unscheduleTop, unschedule, breakTargetFrom, Resolution, continueTargetFrom}
-use Rattle.definition.specs.Result.{refused, Result, ok, _>>=_, refuseIf}
+use Rattle.definition.specs.Build.{accepted, rejected, report, reported}
+use Rattle.definition.specs.Result.{refused, Result, ok, _>>=_, refuseIf, already-scheduled, unschedule-out-of-order, maybe-throw-in-value-terminal}
 use Rattle.definition.specs.Statement.{breakToScope, visitBreak, visitContinue, breakResolved, continueResolved, TerminalResult, BlockResult, TraverseBlock, enterBlock, unlessScheduled, unlessUnreachable, scheduleIf, unscheduleIf, markScopeFallthroughIf, traverseUnscheduled, AlternateResult, traverseAlternate, visitGoto, traverseEnclosed, loopIsTaken, traverseLoop, CasesResult, traverseCases, unscheduleAll, scheduleSwitch, scheduleIds, casesLastFirst, OptionalValue, visitUpdate, traverseConsequent, visitValueStatement, visitTerminal, thenNext, visitBlock, traverseBlock, buildTree}
 use Rattle.definition.specs.Tree.{Kind, implicit, labeled, unlabeled, Statement, Statements}
 use Rattle.definition.specs.Value.{visitValueBlock, branchWays, Ways, isThis, beginVisit, ValueBlockResult, ValueTerminalResult, TestBlockResult, VisitValueBlock, extractOrRefuse, testBlockEnded, visitTestBlock, visitValueBlockTerminal, thenFallthrough, branchValue, isEmptyGoto, maybeThrowValue, visitValueBlockAt}
 use Rattle.definition.proofs.Tools.{true-false, has-add, has-remove}
 
+-- "10 missing block .. 31 visits": the refusals that a table can have
+abbrev pub ofPaper : ℕ → Bool
+ofPaper code = leb 10 code && leb code 31
+
 -- an answer has the property, or the refusal is one of the paper's
 abbrev pub Fine : {A : Type 0} → (A → Type 0) → Result A → Type 0
 Fine P (ok a) = P a
-Fine P (refused c p v) = T (ltb c 90)
+Fine P (refused c p v) = T (ofPaper c)
 
 pub fine-bind : {A B : Type 0} (P : A → Type 0) (Q : B → Type 0) (m : Result A) (f : A → Result B) → Fine P m → ((a : A) → P a → Fine Q (f a)) → Fine Q (m >>= f)
 unfolding _>>=_
@@ -28,7 +33,7 @@ fine-bind P Q (ok a) f h k = k a h
 fine-bind P Q (refused c p v) f h k = h
 
 -- a test, and what comes after it
-fine-unless : {B : Type 0} (Q : B → Type 0) (b : Bool) (c p v : ℕ) (f : Unit {0} → Result B) → T (ltb c 90) → (b ≡ false → Fine Q (f tt)) → Fine Q (refuseIf b c p v >>= f)
+fine-unless : {B : Type 0} (Q : B → Type 0) (b : Bool) (c p v : ℕ) (f : Unit {0} → Result B) → T (ofPaper c) → (b ≡ false → Fine Q (f tt)) → Fine Q (refuseIf b c p v >>= f)
 unfolding _>>=_ refuseIf
 fine-unless Q true c p v f h k = h
 fine-unless Q false c p v f h k = k refl
@@ -73,7 +78,7 @@ begin-fine t b v = fine-unless Any _ 31 b v _ tt (λ h. fine-unless Any _ 10 b (
 ValueFine : VisitValueBlock → Type 0
 ValueFine values = (b : ℕ) (ft : Option ℕ) (span v : ℕ) → Fine Any (values b ft span v)
 
-extractOr-fine : (t : Table) (b : ℕ) (rs : List ℕ) (v c at : ℕ) → T (ltb c 90) → Fine Any (extractOrRefuse t b rs v c at)
+extractOr-fine : (t : Table) (b : ℕ) (rs : List ℕ) (v c at : ℕ) → T (ofPaper c) → Fine Any (extractOrRefuse t b rs v c at)
 unfolding extractOrRefuse
 extractOr-fine t b [] v c at h = h
 extractOr-fine t b (r ∷ rs) v c at h = tt
@@ -191,17 +196,17 @@ to-entered c b v = record { same = refl; sub = λ x h. h }
 
 -- ---- targets other than loops
 
-Free : Option ℕ → Context → Type 0
+unfoldable pub Free : Option ℕ → Context → Type 0
 Free g c = (f : ℕ) → g ≡ some f → has (c .scheduled) f ≡ false
 
-or-false : (x y : Bool) → or x y ≡ false → x ≡ false
+pub or-false : (x y : Bool) → or x y ≡ false → x ≡ false
 or-false true y e = e
 or-false false y e = refl
 
 none-some : {y : ℕ} → _≡_ {A = Option ℕ} none (some y) → ⊥
 none-some e = let z : _≡_ {A = ℕ} 0 1 = cc in omega arith
 
-untaken-free : (c : Context) (f : ℕ) → Free (unlessScheduled c f) c
+pub untaken-free : (c : Context) (f : ℕ) → Free (unlessScheduled c f) c
 unfolding unlessScheduled Free isScheduled
 untaken-free c f g e = at (isScheduled c f) refl e
   where
@@ -209,7 +214,7 @@ untaken-free c f g e = at (isScheduled c f) refl e
     at true h q = absurd (none-some q)
     at false h q = ap (has (c .scheduled)) (cc q) ∙ or-false (has (c .scheduled) f) (has (c .catchHandlers) f) h
 
-reached-fine : (t : Table) (c : Context) (f : ℕ) → Fine (λ g. Free g c) (unlessUnreachable t c f)
+pub reached-fine : (t : Table) (c : Context) (f : ℕ) → Fine (λ g. Free g c) (unlessUnreachable t c f)
 unfolding unlessUnreachable
 reached-fine t c f = fine-unless (λ g. Free g c) _ 10 f (c .visits) _ tt (λ h. at (isUnreachable (terminalAt t f)))
   where
@@ -217,7 +222,7 @@ reached-fine t c f = fine-unless (λ g. Free g c) _ 10 f (c .visits) _ tt (λ h.
     at true = unfold Free in (λ g e. absurd (none-some e))
     at false = untaken-free c f
 
-schedule-free : (g : ControlFlowTarget) (c : Context) → has (c .scheduled) (targetBlock g) ≡ false → schedule g c ≡ ok (pushed g (add (c .scheduled) (targetBlock g)) c)
+pub schedule-free : (g : ControlFlowTarget) (c : Context) → has (c .scheduled) (targetBlock g) ≡ false → schedule g c ≡ ok (pushed g (add (c .scheduled) (targetBlock g)) c)
 unfolding schedule refuseIf _>>=_
 schedule-free g c e = ap (λ (y : Bool). refuseIf y 90 (targetBlock g) (c .visits) >>= λ _. ok (pushed g (add (c .scheduled) (targetBlock g)) c)) e
 
@@ -373,7 +378,7 @@ openedSwitch-fine (some f) c h =
 case-fine : (k : ℕ) (c : Context) → has (c .scheduled) k ≡ false → Fine (λ d. On (target-case k) (c .nextId) c d) (schedule (target-case k) c)
 case-fine k c h = subst (λ (r : Result Context). Fine (λ d. On (target-case k) (c .nextId) c d) r) (sym (schedule-free (target-case k) c h)) (on-pushed (target-case k) c)
 
-false-of : (y : Bool) → (y ≡ true → ⊥) → y ≡ false
+pub false-of : (y : Bool) → (y ≡ true → ⊥) → y ≡ false
 false-of true h = absurd (h refl)
 false-of false h = refl
 
@@ -408,7 +413,7 @@ jump-fine Continue b g i c = fine-bind Any (StepAfter c) _ _ (continueStmt-fine 
 jump-fine Try b g i c = after-refl c
 
 module _ (t : Table) (values : VisitValueBlock) (vf : ValueFine values) (inner : TraverseBlock) (wf : WalkFine inner) where
-  fresh-fine : (b code at : ℕ) (c : Context) → T (ltb code 90) → Fine (λ r. After c (r .context)) (traverseUnscheduled inner b code at c)
+  fresh-fine : (b code at : ℕ) (c : Context) → T (ofPaper code) → Fine (λ r. After c (r .context)) (traverseUnscheduled inner b code at c)
   unfolding traverseUnscheduled WalkFine
   fresh-fine b code at c h = fine-unless (λ r. After c (r .context)) _ code at (c .visits) _ h (λ _. wf b c)
 
@@ -418,7 +423,7 @@ module _ (t : Table) (values : VisitValueBlock) (vf : ValueFine values) (inner :
       fine-pick (λ r. After c (r .context)) (eqb a f) _ _ (λ _. after-refl c)
       (λ _. fine-bind (λ r. After c (r .context)) (λ r. After c (r .context)) _ _ (fresh-fine a 13 a c tt) (λ r q. q))
 
-  enclosed-fine : (b code at : ℕ) (g : Option ℕ) (c c₁ d : Context) (make : Statements → Statement) → T (ltb code 90) → Maybe g c d → ((e : Context) → After c₁ e → After d e)
+  enclosed-fine : (b code at : ℕ) (g : Option ℕ) (c c₁ d : Context) (make : Statements → Statement) → T (ofPaper code) → Maybe g c d → ((e : Context) → After c₁ e → After d e)
       → Fine (StepAfter c) (traverseEnclosed inner b code at g c c₁ make)
   unfolding traverseEnclosed
   enclosed-fine b code at g c c₁ d make h p br =
@@ -556,7 +561,38 @@ unfolding traverseBlock WalkFine
 walk-fine t zero b c = tt
 walk-fine t (suc d) b c = chain-fine t (visitValueBlock t d) (value-fine t d) (traverseBlock t d) (walk-fine t d) 8193 b c
 
--- no refusal of any table is one of the messages that never occur
-pub never : (t : Table) (c p v : ℕ) → buildTree t ≡ refused c p v → T (ltb c 90)
+-- every refusal of a table has one of the paper's codes, so none is a message that never occurs
+pub never : (t : Table) (c p v : ℕ) → buildTree t ≡ refused c p v → T (ofPaper c)
 unfolding buildTree WalkFine
 never t c p v e = subst (λ (r : Result BlockResult). Fine (λ r. After start (r .context)) r) e (walk-fine t 128 (t .entry) start)
+
+rejected-is : (y : Result BlockResult) (code at visits : ℕ) → reported y ≡ rejected code at visits → y ≡ refused code at visits
+unfolding reported
+rejected-is (ok r) code at visits e = absurd (let z : _≡_ {A = ℕ} 0 1 = cc in omega arith)
+rejected-is (refused c p v) code at visits e = cc
+
+of-paper : (code : ℕ) → T (ofPaper code) → code ≤ 31
+of-paper code h = leb→le code 31 (second (leb 10 code) h)
+  where
+    second : (y : Bool) → T (y && leb code 31) → T (leb code 31)
+    second true k = k
+    second false k = absurd k
+
+-- whatever refuses a table is one of the paper's refusals
+pub never-above : (t : Table) (code at visits : ℕ) → report t ≡ rejected code at visits → code ≤ 31
+unfolding report
+never-above t code at visits e = of-paper code (never t code at visits (rejected-is (buildTree t) code at visits e))
+
+-- "Four Rust messages never occur and are proved so". The fourth has no counterpart: a target's type is a constructor
+pub never-already-scheduled : (t : Table) (at visits : ℕ) → report t ≡ rejected already-scheduled at visits → ⊥
+never-already-scheduled t at visits e = omega (arith, never-above t already-scheduled at visits e)
+
+pub never-unschedule-out-of-order : (t : Table) (at visits : ℕ) → report t ≡ rejected unschedule-out-of-order at visits → ⊥
+never-unschedule-out-of-order t at visits e = omega (arith, never-above t unschedule-out-of-order at visits e)
+
+pub never-maybe-throw-in-value-terminal : (t : Table) (at visits : ℕ) → report t ≡ rejected maybe-throw-in-value-terminal at visits → ⊥
+never-maybe-throw-in-value-terminal t at visits e = omega (arith, never-above t maybe-throw-in-value-terminal at visits e)
+
+-- 99, the terminal of a block that is not there, is no refusal either: such a block is refused 10 before
+pub never-absent-terminal : (t : Table) (at visits : ℕ) → report t ≡ rejected 99 at visits → ⊥
+never-absent-terminal t at visits e = omega (arith, never-above t 99 at visits e)

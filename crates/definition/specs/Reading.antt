@@ -1,11 +1,14 @@
--- When rows can be read as a tree: the tree is one that rows can tell apart from any other.
+-- The tree that rows are read as. Rows write 65,535 for no label and nothing for an absent alternate, so that the tree has to be well-formed:
+-- then its rows are the rows of no other such tree (proofs/Readings).
 use mathlib.Core.Path.{_≡_}
-use Prim.Native.Nat.{ℕ, _<_}
+use Prim.Native.Nat.{ℕ, _<_, _*_}
 use mathlib.Core.List.{List}
 use mathlib.Core.Option.{Option, none, some}
 use mathlib.Core.Bool.{Bool, true, false}
+use lib.ListN.{length, take}
 use Rattle.table.specs.Words.{largest}
 use Rattle.definition.specs.Tree.{Statement, INSTR, IF, SWITCH, DOWHILE, WHILE, FOR, FOROF, FORIN, LABEL, TRY, SCOPE, RETURN, THROW, BREAK, CONTINUE, Statements, done, _▸_, Cases, no-cases, CASE, Row, rows}
+use Rattle.definition.specs.Build.{Outcome, wordsOf}
 
 -- "Label 65,535 is none", so that no label is 65,535; and no binding
 abbrev pub BelowNone : Option ℕ → Type 0
@@ -44,7 +47,19 @@ unfoldable mutual
   WellFormedCases no-cases = Unit {0}
   WellFormedCases (CASE test body rest) = WellFormed body × WellFormedCases rest
 
--- the tree that rows are read as
+-- rows that are read as this tree
 pub record ReadAs (list : List Row) (root : Statements) : Type 0 where
   pub well-formed : WellFormed root
   pub same-rows : rows root ≡ list
+
+-- the tree whose rows stand in the lent buffer of an outcome
+pub record TreeOf (outcome : Outcome) (root : Statements) : Type 0 where
+  pub well-formed : WellFormed root
+  pub number : length (rows root) ≡ outcome .rows
+  pub held : wordsOf (rows root) ≡ take (outcome .rows * 6) (outcome .buffer)
+
+-- there is such a tree, and no other: what the rows are read as
+pub record OneTree (outcome : Outcome) : Type 0 where
+  pub tree : Statements
+  pub held : TreeOf outcome tree
+  pub only : (other : Statements) → TreeOf outcome other → other ≡ tree

@@ -1,6 +1,7 @@
 -- Paper 01, "Plain tables": what a run is given and what it gives. specs/BlockRun has the block run, specs/TreeRun the tree run.
 use Prim.Native.Nat.{ℕ}
 use mathlib.Core.List.{List}
+use mathlib.Core.Bool.{Bool, true, false}
 
 -- "by one answer": 0 is no, every other number is yes
 abbrev pub Answers : Type 0
@@ -17,6 +18,15 @@ pub data Reason : Type 0 where
   -- a jump with no statement around it to act on
   no-target : Reason
   end-of-tree : Reason
+
+-- a return, a throw, or no answer left
+abbrev pub isGood : Reason → Bool
+isGood (returned value id) = true
+isGood (threw value id) = true
+isGood no-answer-left = true
+isGood not-plain = false
+isGood no-target = false
+isGood end-of-tree = false
 
 -- A run: the instruction rows performed, in order, the answers left, and the reason for stopping;
 -- `unfinished` where the block run is given fewer steps than it needs
