@@ -59,7 +59,7 @@ module _ (ws : List ℕ) (p : Promise ws) where
       by true e = in-range ws p b (ltb-true b (blockCount ws) e)
       by false e =
           subst (λ (k : Block). InRange (blockCount ws) (placeCount ws) (caseCount ws) (k .terminal))
-            (sym (List·getD-eq-default (tableOf ws .blocks) noBlock (omega (arith, ltb-false b (blockCount ws) e, length-blocks ws)))) tt
+          (sym (List·getD-eq-default (tableOf ws .blocks) noBlock (omega (arith, ltb-false b (blockCount ws) e, length-blocks ws)))) tt
 
   promise-ranged : Ranged (tableOf ws)
   promise-ranged = record {
