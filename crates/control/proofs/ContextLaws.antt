@@ -61,8 +61,7 @@ stack-stored entries n entry h =
     let e : n + 1 - 1 ≡ n = omega arith in
     rw (e, add-one, getD-set-same entries n entry noEntry h, stack-above entries n n entry (omega arith))
 
--- the last entry
-stack-last : (entries : List Entry) (n : ℕ) (last : Entry) → 0 < n → last ≡ getD entries (n - 1) noEntry → stackOf entries n ≡ entryOf last ∷ stackOf entries (n - 1)
+pub stack-last : (entries : List Entry) (n : ℕ) (last : Entry) → 0 < n → last ≡ getD entries (n - 1) noEntry → stackOf entries n ≡ entryOf last ∷ stackOf entries (n - 1)
 unfolding stackOf
 stack-last entries (suc n) last h at =
     let e : suc n - 1 ≡ n = omega arith in

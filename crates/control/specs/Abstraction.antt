@@ -48,6 +48,9 @@ kindOf Implicit = implicit
 kindOf Labeled = labeled
 kindOf Unlabeled = unlabeled
 
-abbrev pub resolutionOf : Resolved → Option definition.Resolution
-resolutionOf Nothing = none
-resolutionOf (Found found) = some (record { target = found .target; kind = kindOf (found .kind) })
+abbrev pub resolutionOf : Resolution → definition.Resolution
+resolutionOf resolution = record { target = resolution .target; kind = kindOf (resolution .kind) }
+
+abbrev pub resolvedOf : Resolved → Option definition.Resolution
+resolvedOf Nothing = none
+resolvedOf (Found resolution) = some (resolutionOf resolution)

@@ -6,7 +6,8 @@ use mathlib.Core.Bool.{Bool, not}
 use lib.ListN.{getD, replicate}
 use lib.Dec.{eqb}
 use Rattle.definition.specs.Result.{ok, _>>=_, refuseIf, already-scheduled}
-use Rattle.definition.specs.Context.{Flags, or, has, add, targetBlock, unscheduledBy, start, schedule, scheduleLoop, unschedule}
+use Rattle.definition.specs.Context as definition
+use Rattle.definition.specs.Context.{Flags, or, has, add, targetBlock, isLoop, breakKind, continueKind, unscheduledBy, start, schedule, scheduleLoop, unschedule}
 use Rattle.control.specs.declared.ControlFlowTarget.{ControlFlowTarget}
 use Rattle.control.specs.declared.ControlFlowTarget.the-variants.{If, Switch, Case, Loop}
 use Rattle.control.specs.declared.Entry.{Entry}
@@ -85,3 +86,11 @@ pub record Unscheduled (last : Entry) (self r : Context) : Type 0 where
   pub len : r .len ≡ self .len - 1
   pub id : r .«next_schedule_id» ≡ self .«next_schedule_id»
   pub bounded : Bounded self → Bounded r
+
+-- ---- a jump's entry, once it is found
+
+abbrev pub breakTo : definition.ControlFlowTarget → (top loopAbove : Bool) → definition.Resolution
+breakTo found top loopAbove = record { target = targetBlock found; kind = breakKind (isLoop found) top loopAbove }
+
+abbrev pub continueTo : definition.ControlFlowTarget → (top loopAbove : Bool) → definition.Resolution
+continueTo found top loopAbove = record { target = targetBlock found; kind = continueKind top loopAbove }

@@ -10,8 +10,8 @@ ghost use Prim.Native.Nat.{ℕ, _+_, _-_, _≤_, _<_};
 ghost use lib.ListN.{getD};
 ghost use Rattle.definition.specs.Context.{add, has, targetBlock, isLoop, continuesAt, or, breakKind, continueKind, unscheduledBy, getBreakTarget, getContinueTarget};
 ghost use Rattle.definition.specs.Tree.{kindNumber};
-ghost use Rattle.control.specs.Abstraction.{targetOf, kindOf, contextOf, noEntry};
-ghost use Rattle.control.specs.Contract.{continueScheduled, Named, Room, Last, Created, Scheduled, ScheduledLoop, Unscheduled};
+ghost use Rattle.control.specs.Abstraction.{targetOf, kindOf, resolutionOf, resolvedOf, contextOf};
+ghost use Rattle.control.specs.Contract.{continueScheduled, Named, Room, Last, Created, Scheduled, ScheduledLoop, Unscheduled, breakTo, continueTo};
 
 // What an entry of the control stack stands for. A loop's `block` is its fallthrough. `owns_loop` is whether the loop block was free before.
 pub enum ControlFlowTarget {
@@ -164,6 +164,64 @@ fn remove_target(scheduled: &mut [bool; 1024], target: ControlFlowTarget)
     }
 }
 
+// ---- the search of the stack for a jump's target
+
+// Whether a loop lies above the entry below this one.
+pub fn or_loop(has_preceding_loop: bool, target: ControlFlowTarget) -> bool
+    ensures { λ r. ⌜ r ≡ or «has_preceding_loop» (isLoop (targetOf target)) ⌝ }
+{
+    if has_preceding_loop {
+        return true;
+    }
+    target.is_loop()
+}
+
+// A loop gives Unlabeled, or Labeled if a loop lies above. Another entry gives Implicit at the top, else Labeled.
+fn break_kind(is_loop: bool, top: bool, has_preceding_loop: bool) -> ReactiveTerminalTargetKind
+    ensures { λ r. ⌜ kindOf r ≡ breakKind «is_loop» top «has_preceding_loop» ⌝ }
+{
+    if is_loop {
+        if has_preceding_loop {
+            return ReactiveTerminalTargetKind::Labeled;
+        }
+        return ReactiveTerminalTargetKind::Unlabeled;
+    }
+    if top {
+        return ReactiveTerminalTargetKind::Implicit;
+    }
+    ReactiveTerminalTargetKind::Labeled
+}
+
+// Labeled if a loop lies above, else Implicit at the top, else Unlabeled.
+fn continue_kind(top: bool, has_preceding_loop: bool) -> ReactiveTerminalTargetKind
+    ensures { λ r. ⌜ kindOf r ≡ continueKind top «has_preceding_loop» ⌝ }
+{
+    if has_preceding_loop {
+        return ReactiveTerminalTargetKind::Labeled;
+    }
+    if top {
+        return ReactiveTerminalTargetKind::Implicit;
+    }
+    ReactiveTerminalTargetKind::Unlabeled
+}
+
+// A break to the entry that was found.
+pub fn break_to(found: ControlFlowTarget, top: bool, has_preceding_loop: bool) -> Resolution
+    ensures { λ r. ⌜ resolutionOf r ≡ breakTo (targetOf found) top «has_preceding_loop» ⌝ }
+{
+    let is_loop = found.is_loop();
+    let kind = break_kind(is_loop, top, has_preceding_loop);
+    Resolution { target: found.block(), kind: kind }
+}
+
+// A continue of the loop that was found. Its target is the loop's fallthrough.
+pub fn continue_to(found: ControlFlowTarget, top: bool, has_preceding_loop: bool) -> Resolution
+    ensures { λ r. ⌜ resolutionOf r ≡ continueTo (targetOf found) top «has_preceding_loop» ⌝ }
+{
+    let kind = continue_kind(top, has_preceding_loop);
+    Resolution { target: found.block(), kind: kind }
+}
+
 impl Context {
     pub fn new() -> Context
         ensures { λ r. ⌜ Created r ⌝ }
@@ -229,5 +287,51 @@ impl Context {
         self.scheduled = scheduled;
         self.len = self.len - 1;
         self
+    }
+
+    // The innermost entry whose block is the target: the search goes from the stack's top.
+    pub fn get_break_target(self, block: u16) -> Resolved
+        requires { ⌜ self .len ≤ 1152 ⌝ }
+        ensures { λ r. ⌜ ((visits : ℕ) → resolvedOf r ≡ getBreakTarget (contextOf visits self) block) ⌝ }
+    {
+        let mut at = self.len;
+        let mut top = true;
+        let mut has_preceding_loop = false;
+        loop {
+            if at == 0 {
+                break Resolved::Nothing;
+            }
+            at -= 1;
+            let entry = self.stack[at];
+            let target = entry.target;
+            if target.block() == block {
+                break Resolved::Found(break_to(target, top, has_preceding_loop));
+            }
+            has_preceding_loop = or_loop(has_preceding_loop, target);
+            top = false;
+        }
+    }
+
+    // The innermost loop with that continue block.
+    pub fn get_continue_target(self, block: u16) -> Resolved
+        requires { ⌜ self .len ≤ 1152 ⌝ }
+        ensures { λ r. ⌜ ((visits : ℕ) → resolvedOf r ≡ getContinueTarget (contextOf visits self) block) ⌝ }
+    {
+        let mut at = self.len;
+        let mut top = true;
+        let mut has_preceding_loop = false;
+        loop {
+            if at == 0 {
+                break Resolved::Nothing;
+            }
+            at -= 1;
+            let entry = self.stack[at];
+            let target = entry.target;
+            if target.continues_at(block) {
+                break Resolved::Found(continue_to(target, top, has_preceding_loop));
+            }
+            has_preceding_loop = or_loop(has_preceding_loop, target);
+            top = false;
+        }
     }
 }
