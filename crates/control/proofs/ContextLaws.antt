@@ -14,7 +14,7 @@ use lib.Dec.{eqb}
 use borrow.Author.Tests.{eq-eqb, eqb-true, eqb-false}
 use Rattle.definition.specs.Result.{Result, ok, refused, _>>=_, refuseIf, already-scheduled}
 use Rattle.definition.specs.Context as definition
-use Rattle.definition.specs.Context.{Flags, or, has, add, no-flags, start, targetBlock, pushed, popped, schedule, scheduleLoop, unscheduledBy, unschedule, unscheduleTop}
+use Rattle.definition.specs.Context.{Flags, or, has, add, no-flags, start, isScheduled, emit, markScopeFallthrough, scheduleCatchHandler, targetBlock, pushed, popped, schedule, scheduleLoop, unscheduledBy, unschedule, unscheduleTop}
 use Rattle.definition.specs.Machine.{popTop}
 use Rattle.control.specs.declared.ControlFlowTarget.{ControlFlowTarget}
 use Rattle.control.specs.declared.ControlFlowTarget.the-variants.{If, Switch, Case, Loop}
@@ -67,11 +67,35 @@ stack-last entries (suc n) last h at =
     let e : suc n - 1 ≡ n = omega arith in
     rw e (ap {B = List definition.Entry} (λ (entry : Entry). entryOf entry ∷ stackOf entries n) (sym (rw e at at)))
 
+pub stack-length : (entries : List Entry) (n : ℕ) → length (stackOf entries n) ≡ n
+unfolding stackOf
+stack-length entries zero = refl
+stack-length entries (suc n) = ap suc (stack-length entries n)
+
+-- ---- what the sets' own functions do to a Context
+
+module _ (visits block : ℕ) (cx : Context) where
+  pub emits : contextOf visits (record { emitted = add (cx .emitted) block; «catch_handlers» = cx .«catch_handlers»; «scope_fallthroughs» = cx .«scope_fallthroughs»; len = cx .len; scheduled = cx .scheduled; pushed = cx .pushed; «next_schedule_id» = cx .«next_schedule_id»; stack = cx .stack }) ≡ emit block (contextOf visits cx)
+  unfolding contextOf emit
+  emits = refl
+
+  pub marks-scope-fallthrough : contextOf visits (record { emitted = cx .emitted; «catch_handlers» = cx .«catch_handlers»; «scope_fallthroughs» = add (cx .«scope_fallthroughs») block; len = cx .len; scheduled = cx .scheduled; pushed = cx .pushed; «next_schedule_id» = cx .«next_schedule_id»; stack = cx .stack }) ≡ markScopeFallthrough block (contextOf visits cx)
+  unfolding contextOf markScopeFallthrough
+  marks-scope-fallthrough = refl
+
+  pub schedules-catch-handler : contextOf visits (record { emitted = cx .emitted; «catch_handlers» = add (cx .«catch_handlers») block; «scope_fallthroughs» = cx .«scope_fallthroughs»; len = cx .len; scheduled = cx .scheduled; pushed = cx .pushed; «next_schedule_id» = cx .«next_schedule_id»; stack = cx .stack }) ≡ scheduleCatchHandler block (contextOf visits cx)
+  unfolding contextOf scheduleCatchHandler
+  schedules-catch-handler = refl
+
+  pub is-scheduled : isScheduled (contextOf visits cx) block ≡ or (has (cx .scheduled) block) (has (cx .«catch_handlers») block)
+  unfolding contextOf isScheduled
+  is-scheduled = refl
+
 -- ---- the steps
 
 pub created : Created (record { emitted = replicate 1024 false; «catch_handlers» = replicate 1024 false; «scope_fallthroughs» = replicate 1024 false; len = 0; scheduled = replicate 1024 false; pushed = noEntry; «next_schedule_id» = 0; stack = replicate 1152 noEntry })
 unfolding contextOf start no-flags stackOf
-created = record { context = refl; len = refl; id = refl; stack = refl; bounded = record { len = omega arith; named = λ k below. let absurd-below : ⊥ = omega arith in absurd absurd-below } }
+created = record { context = refl; len = refl; id = refl; stack = refl; bounded = record { most = omega arith; named = λ k below. let absurd-below : ⊥ = omega arith in absurd absurd-below } }
 
 pub stored-pushed : (visits : ℕ) (target : ControlFlowTarget) (flags : Flags) (cx : Context) → cx .len < length (cx .stack) → contextOf visits (stored (withEntry target flags cx)) ≡ pushed (targetOf target) flags (contextOf visits cx)
 unfolding contextOf stored pushed
@@ -84,11 +108,10 @@ named-stored entries n k entry named h below all =
     (λ less. subst (λ (e : Entry). Named (e .target)) (sym (getD-set-other entries n k entry noEntry (omega arith))) (all k less))
     (eq-or-lt-of-le below)
 
-bounded-stored : (target : ControlFlowTarget) (flags : Flags) (cx : Context) → Named target → cx .len < length (cx .stack) → cx .len < 1152 → Bounded cx → Bounded (stored (withEntry target flags cx))
-unfolding stored
-bounded-stored target flags cx named h small bounded =
-    let e : cx .len + 1 - 1 ≡ cx .len = omega arith in
-    record { len = omega arith; named = λ k below. rw e (named-stored (cx .stack) (cx .len) k _ named h (omega arith) (bounded .named)) }
+bounded-stored : (entries : List Entry) (n : ℕ) (entry : Entry) → Named (entry .target) → n < length entries → n < 1152 → Bounded entries n → Bounded (set entries (n + 1 - 1) entry) (n + 1)
+bounded-stored entries n entry named h small bounded =
+    let e : n + 1 - 1 ≡ n = omega arith in
+    record { most = omega arith; named = λ k below. rw e (named-stored entries n k entry named h (omega arith) (bounded .named)) }
 
 module _ (target : ControlFlowTarget) (cx : Context) (named : Named target) (room : Room cx) (inside : cx .len < length (cx .stack)) where
   pub scheduled : Scheduled target cx (withEntry target (add (cx .scheduled) (targetBlock (targetOf target))) cx)
@@ -98,7 +121,7 @@ module _ (target : ControlFlowTarget) (cx : Context) (named : Named target) (roo
     context = λ visits. ap (λ x. refuseIf (has (cx .scheduled) (targetBlock (targetOf target))) already-scheduled (targetBlock (targetOf target)) visits >>= λ _. ok x) (sym (stored-pushed visits target _ cx inside));
     len = refl;
     id = refl;
-    bounded = bounded-stored target _ cx named inside (room .len);
+    bounded = bounded-stored _ _ _ named inside (room .len);
   }
 
 owned : (was : Bool) → not was ≡ elim was [ true ↦ false | false ↦ true ]
@@ -113,7 +136,7 @@ module _ (fallthrough continueBlock loopBlock : ℕ) (cx : Context) (named : (fa
     context = λ visits. rw (← (continue-scheduled (cx .scheduled) fallthrough continueBlock flags), ← (owned (has (add (add (cx .scheduled) fallthrough) continueBlock) loopBlock))) (ap (λ x. refuseIf (has (add (cx .scheduled) fallthrough) continueBlock) 15 continueBlock visits >>= λ _. ok x) (sym (stored-pushed visits (loopTarget (cx .scheduled) fallthrough continueBlock loopBlock) _ cx inside)));
     len = refl;
     id = refl;
-    bounded = bounded-stored _ _ cx named inside (room .len);
+    bounded = bounded-stored _ _ _ named inside (room .len);
   }
 
 -- ---- unschedule
@@ -134,7 +157,7 @@ module _ (cx : Context) (last : Entry) (top : Last cx last) where
     context = λ visits. unschedule-top (contextOf visits cx) (entryOf last) (stackOf (cx .stack) (cx .len - 1)) (stack-last (cx .stack) (cx .len) last (top .some) (top .read));
     len = refl;
     id = refl;
-    bounded = λ bounded. record { len = omega (arith, bounded .len); named = λ k below. bounded .named k (omega arith) };
+    bounded = λ bounded. record { most = omega (arith, bounded .most); named = λ k below. bounded .named k (omega arith) };
   }
 
   -- a machine that takes a switch's cases off whatever their ids

@@ -3,7 +3,8 @@ use Prim.Native.Nat.{ℕ, _+_, _-_, _≤_, _<_}
 use mathlib.Core.Path.{_≡_}
 use mathlib.Core.Option.{some}
 use mathlib.Core.Bool.{Bool, not}
-use lib.ListN.{getD, replicate}
+use mathlib.Core.List.{List}
+use lib.ListN.{getD, set, replicate}
 use lib.Dec.{eqb}
 use Rattle.definition.specs.Result.{ok, _>>=_, refuseIf, already-scheduled}
 use Rattle.definition.specs.Context as definition
@@ -26,9 +27,9 @@ Named (Case block) = block < 1024
 Named (Loop block continueBlock loopBlock ownsLoop) = (block < 1024) × (continueBlock < 1024) × (loopBlock < 1024)
 
 -- what a walk carries along: the stack's bound, and the blocks of its entries
-pub record Bounded (cx : Context) : Type 0 where
-  pub len : cx .len ≤ 1152
-  pub named : (k : ℕ) → k < cx .len → Named (getD (cx .stack) k noEntry .target)
+pub record Bounded (entries : List Entry) (len : ℕ) : Type 0 where
+  pub most : len ≤ 1152
+  pub named : (k : ℕ) → k < len → Named (getD entries k noEntry .target)
 
 -- what the methods ask: room for one entry more and its id; the stack's last entry, as the caller reads it
 pub record Room (cx : Context) : Type 0 where
@@ -64,28 +65,28 @@ pub record Created (r : Context) : Type 0 where
   pub len : r .len ≡ 0
   pub id : r .«next_schedule_id» ≡ 0
   pub stack : r .stack ≡ replicate 1152 noEntry
-  pub bounded : Bounded r
+  pub bounded : Bounded (r .stack) (r .len)
 
 pub record Scheduled (target : ControlFlowTarget) (self r : Context) : Type 0 where
   pub state : r ≡ withEntry target (add (self .scheduled) (targetBlock (targetOf target))) self
   pub context : (visits : ℕ) → schedule (targetOf target) (contextOf visits self) ≡ (refuseIf (has (self .scheduled) (targetBlock (targetOf target))) already-scheduled (targetBlock (targetOf target)) visits >>= λ _. ok (contextOf visits (stored r)))
   pub len : r .len ≡ self .len + 1
   pub id : r .«next_schedule_id» ≡ self .«next_schedule_id» + 1
-  pub bounded : Bounded self → Bounded (stored r)
+  pub bounded : Bounded (self .stack) (self .len) → Bounded (set (r .stack) (r .len - 1) (r .pushed)) (r .len)
 
 pub record ScheduledLoop (fallthrough continueBlock loopBlock : ℕ) (self r : Context) : Type 0 where
   pub state : r ≡ withEntry (loopTarget (self .scheduled) fallthrough continueBlock loopBlock) (loopScheduled (self .scheduled) fallthrough continueBlock loopBlock) self
   pub context : (visits : ℕ) → scheduleLoop fallthrough continueBlock (some loopBlock) (contextOf visits self) ≡ (refuseIf (continueScheduled (self .scheduled) fallthrough continueBlock) 15 continueBlock visits >>= λ _. ok (contextOf visits (stored r)))
   pub len : r .len ≡ self .len + 1
   pub id : r .«next_schedule_id» ≡ self .«next_schedule_id» + 1
-  pub bounded : Bounded self → Bounded (stored r)
+  pub bounded : Bounded (self .stack) (self .len) → Bounded (set (r .stack) (r .len - 1) (r .pushed)) (r .len)
 
 pub record Unscheduled (last : Entry) (self r : Context) : Type 0 where
   pub state : r ≡ withoutLast (unscheduledBy (targetOf (last .target)) (self .scheduled)) self
   pub context : (visits : ℕ) → unschedule (last .id) (contextOf visits self) ≡ ok (contextOf visits r)
   pub len : r .len ≡ self .len - 1
   pub id : r .«next_schedule_id» ≡ self .«next_schedule_id»
-  pub bounded : Bounded self → Bounded r
+  pub bounded : Bounded (self .stack) (self .len) → Bounded (r .stack) (r .len)
 
 -- ---- a jump's entry, once it is found
 

@@ -15,10 +15,21 @@ ghost use Rattle.control.specs.Contract.{continueScheduled, Named, Room,
 
 // What an entry of the control stack stands for. A loop's `block` is its fallthrough. `owns_loop` is whether the loop block was free before.
 pub enum ControlFlowTarget {
-    If { block: u16 },
-    Switch { block: u16 },
-    Case { block: u16 },
-    Loop { block: u16, continue_block: u16, loop_block: u16, owns_loop: bool },
+    If {
+        block: u16,
+    },
+    Switch {
+        block: u16,
+    },
+    Case {
+        block: u16,
+    },
+    Loop {
+        block: u16,
+        continue_block: u16,
+        loop_block: u16,
+        owns_loop: bool,
+    },
 }
 
 pub struct Entry {
@@ -62,7 +73,12 @@ impl ControlFlowTarget {
             ControlFlowTarget::If { block } => block,
             ControlFlowTarget::Switch { block } => block,
             ControlFlowTarget::Case { block } => block,
-            ControlFlowTarget::Loop { block, continue_block: _, loop_block: _, owns_loop: _ } => block,
+            ControlFlowTarget::Loop {
+                block,
+                continue_block: _,
+                loop_block: _,
+                owns_loop: _,
+            } => block,
         }
     }
 
@@ -73,7 +89,12 @@ impl ControlFlowTarget {
             ControlFlowTarget::If { block: _ } => false,
             ControlFlowTarget::Switch { block: _ } => false,
             ControlFlowTarget::Case { block: _ } => false,
-            ControlFlowTarget::Loop { block: _, continue_block: _, loop_block: _, owns_loop: _ } => true,
+            ControlFlowTarget::Loop {
+                block: _,
+                continue_block: _,
+                loop_block: _,
+                owns_loop: _,
+            } => true,
         }
     }
 
@@ -85,7 +106,12 @@ impl ControlFlowTarget {
             ControlFlowTarget::If { block: _ } => false,
             ControlFlowTarget::Switch { block: _ } => false,
             ControlFlowTarget::Case { block: _ } => false,
-            ControlFlowTarget::Loop { block: _, continue_block, loop_block: _, owns_loop: _ } => continue_block == wanted,
+            ControlFlowTarget::Loop {
+                block: _,
+                continue_block,
+                loop_block: _,
+                owns_loop: _,
+            } => continue_block == wanted,
         }
     }
 }
@@ -115,7 +141,11 @@ pub fn insert(set: &mut [bool; 1024], block: u16)
 }
 
 // A catch handler counts as scheduled here, and nowhere else.
-pub fn is_scheduled<'a>(scheduled: &'a [bool; 1024], catch_handlers: &'a [bool; 1024], block: u16) -> bool
+pub fn is_scheduled<'a>(
+    scheduled: &'a [bool; 1024],
+    catch_handlers: &'a [bool; 1024],
+    block: u16,
+) -> bool
     requires { ⌜ block < 1024 ⌝ }
     ensures { λ r. ⌜ r ≡ or (has (now (scheduled .entry)) block) (has (now («catch_handlers» .entry)) block) ⌝ }
 {
@@ -127,7 +157,11 @@ pub fn is_scheduled<'a>(scheduled: &'a [bool; 1024], catch_handlers: &'a [bool; 
 }
 
 // Refusal 15, asked before `schedule_loop`, which inserts the fallthrough without a test and only then tests the continue block.
-pub fn continue_block_is_scheduled(scheduled: &[bool; 1024], fallthrough: u16, continue_block: u16) -> bool
+pub fn continue_block_is_scheduled(
+    scheduled: &[bool; 1024],
+    fallthrough: u16,
+    continue_block: u16,
+) -> bool
     requires { ⌜ «continue_block» < 1024 ⌝ }
     ensures { λ r. ⌜ r ≡ continueScheduled (now (scheduled .entry)) fallthrough «continue_block» ⌝ }
 {
@@ -154,7 +188,12 @@ fn remove_target(scheduled: &mut [bool; 1024], target: ControlFlowTarget)
         ControlFlowTarget::Case { block } => {
             scheduled[block as usize] = false;
         }
-        ControlFlowTarget::Loop { block, continue_block, loop_block, owns_loop } => {
+        ControlFlowTarget::Loop {
+            block,
+            continue_block,
+            loop_block,
+            owns_loop,
+        } => {
             scheduled[block as usize] = false;
             scheduled[continue_block as usize] = false;
             if owns_loop {
@@ -211,7 +250,10 @@ pub fn break_to(found: ControlFlowTarget, top: bool, has_preceding_loop: bool) -
 {
     let is_loop = found.is_loop();
     let kind = break_kind(is_loop, top, has_preceding_loop);
-    Resolution { target: found.block(), kind: kind }
+    Resolution {
+        target: found.block(),
+        kind: kind,
+    }
 }
 
 // A continue of the loop that was found. Its target is the loop's fallthrough.
@@ -219,14 +261,20 @@ pub fn continue_to(found: ControlFlowTarget, top: bool, has_preceding_loop: bool
     ensures { λ r. ⌜ resolutionOf r ≡ continueTo (targetOf found) top «has_preceding_loop» ⌝ }
 {
     let kind = continue_kind(top, has_preceding_loop);
-    Resolution { target: found.block(), kind: kind }
+    Resolution {
+        target: found.block(),
+        kind: kind,
+    }
 }
 
 impl Context {
     pub fn new() -> Context
         ensures { λ r. ⌜ Created r ⌝ }
     {
-        let entry = Entry { id: 0, target: ControlFlowTarget::If { block: 0 } };
+        let entry = Entry {
+            id: 0,
+            target: ControlFlowTarget::If { block: 0 },
+        };
         Context {
             emitted: [false; 1024],
             catch_handlers: [false; 1024],
@@ -249,7 +297,10 @@ impl Context {
         let mut scheduled = self.scheduled;
         scheduled[at] = true;
         self.scheduled = scheduled;
-        let entry = Entry { id: self.next_schedule_id, target: target };
+        let entry = Entry {
+            id: self.next_schedule_id,
+            target: target,
+        };
         self.pushed = entry;
         self.next_schedule_id = self.next_schedule_id + 1;
         self.len = self.len + 1;
@@ -257,7 +308,12 @@ impl Context {
     }
 
     // A loop whose continue block is not scheduled. The caller stores `pushed` at `len - 1`.
-    pub fn schedule_loop(mut self, fallthrough: u16, continue_block: u16, loop_block: u16) -> Context
+    pub fn schedule_loop(
+        mut self,
+        fallthrough: u16,
+        continue_block: u16,
+        loop_block: u16,
+    ) -> Context
         requires { ⌜ (fallthrough < 1024) × («continue_block» < 1024) × («loop_block» < 1024) ⌝ }
         requires { ⌜ Room self ⌝ }
         ensures { λ r. ⌜ ScheduledLoop fallthrough «continue_block» «loop_block» self r ⌝ }
@@ -268,8 +324,16 @@ impl Context {
         let owns_loop = !scheduled[loop_block as usize];
         scheduled[loop_block as usize] = true;
         self.scheduled = scheduled;
-        let target = ControlFlowTarget::Loop { block: fallthrough, continue_block: continue_block, loop_block: loop_block, owns_loop: owns_loop };
-        let entry = Entry { id: self.next_schedule_id, target: target };
+        let target = ControlFlowTarget::Loop {
+            block: fallthrough,
+            continue_block: continue_block,
+            loop_block: loop_block,
+            owns_loop: owns_loop,
+        };
+        let entry = Entry {
+            id: self.next_schedule_id,
+            target: target,
+        };
         self.pushed = entry;
         self.next_schedule_id = self.next_schedule_id + 1;
         self.len = self.len + 1;
