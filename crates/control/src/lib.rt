@@ -103,15 +103,13 @@ impl ControlFlowTarget {
         ensures { λ r. ⌜ r ≡ continuesAt (targetOf self) wanted ⌝ }
     {
         match self {
-            ControlFlowTarget::If { block: _ } => false,
-            ControlFlowTarget::Switch { block: _ } => false,
-            ControlFlowTarget::Case { block: _ } => false,
             ControlFlowTarget::Loop {
                 block: _,
                 continue_block,
                 loop_block: _,
                 owns_loop: _,
             } => continue_block == wanted,
+            _ => false,
         }
     }
 }
@@ -166,7 +164,7 @@ pub fn continue_block_is_scheduled(
     ensures { λ r. ⌜ r ≡ continueScheduled (now (scheduled .entry)) fallthrough «continue_block» ⌝ }
 {
     if continue_block == fallthrough {
-        return true;
+        return true; // it has just been inserted
     }
     let at = continue_block as usize;
     scheduled[at]
@@ -358,7 +356,7 @@ impl Context {
         requires { ⌜ self .len ≤ 1152 ⌝ }
         ensures { λ r. ⌜ ((visits : ℕ) → resolvedOf r ≡ getBreakTarget (contextOf visits self) block) ⌝ }
     {
-        let mut at = self.len;
+        let mut at = self.len; // the innermost entry first
         let mut top = true;
         let mut has_preceding_loop = false;
         loop {

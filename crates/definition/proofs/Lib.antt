@@ -17,3 +17,9 @@ pub mod Paid
 pub mod Most
 pub mod Loop
 pub mod Flatten
+pub mod PlainTest
+pub mod Readings
+pub mod Samples
+pub mod Checked
+pub mod Accepted
+pub mod Example

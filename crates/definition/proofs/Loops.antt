@@ -1,104 +1,146 @@
--- A WHILE runs as the paper writes it: its test, then by one answer its body and itself again, or its end. The count in `rounds` never shows.
+-- What a tree run takes of the answers, and the paper's own equation for WHILE, with no count in it.
 use mathlib.Core.Path.{_≡_, refl, sym, ap, _∙_, subst}
 use Prim.Native.Nat.{ℕ, zero, suc, _≤_}
 use native.Mathlib.Nat.{le-refl, le-trans, le-of-suc-le-suc, not-suc-le-zero, le-step}
-use mathlib.Core.List.{List, [], _∷_, _++_, append-nil}
+use mathlib.Core.List.{List, [], _∷_, _++_, append-nil, append-assoc}
 use mathlib.Core.Option.{Option, none, some}
 use mathlib.Core.Bool.{Bool, true, false}
 use lib.ListN.{length}
-use Rattle.definition.specs.Run.{Answers, wanted, Ending, normal, jumps, stops, Completed, completed, performed, prefix, nextOn, next, scheduleCatchHandler, labelled, Round, again, leaves, round, afterOn, afterRound, choose, rounds, runStmt, runStmts}
 use Rattle.definition.specs.Tree.{Value, Statement, INSTR, IF, SWITCH, DOWHILE, WHILE, FOR, FOROF, FORIN, LABEL, TRY, SCOPE, RETURN, THROW, BREAK, CONTINUE, Statements, done, _▸_}
+use Rattle.definition.specs.Run.{Answers, no-answer-left}
+use Rattle.definition.specs.Completion.{Completion, normal, break, continue, stop, labelSet, loopContinues, breakable, labelled}
+use Rattle.definition.specs.TreeRun.{Completed, completed, completing, prefix, thenOn, then, choose, performs, afterBody, whileRounds, loop, runStatement, runStatements}
 
-abbrev Short : (Answers → Completed) → Type 0
-Short k = (a : Answers) → length (k a .left) ≤ length a
+-- ---- answers are taken from the front, and none is given back
 
-choose-short : (y n : Answers → Completed) → Short y → Short n → Short (choose y n)
+-- `left` is what is left of the answers once some are taken
+pub record Taken (answers left : Answers) : Type 0 where
+  pub taken : Answers
+  pub whole : taken ++ left ≡ answers
+
+taken-none : (a : Answers) → Taken a a
+taken-none a = record { taken = []; whole = refl }
+
+taken-one : (x : ℕ) {a b : Answers} → Taken a b → Taken (x ∷ a) b
+taken-one x p = record { taken = x ∷ p .taken; whole = ap (λ (z : Answers). x ∷ z) (p .whole) }
+
+taken-both : {a b c : Answers} → Taken a b → Taken b c → Taken a c
+taken-both p q = record { taken = p .taken ++ q .taken; whole = rw append-assoc (ap (λ (z : Answers). p .taken ++ z) (q .whole) ∙ p .whole) }
+
+shorter : (taken left : Answers) → length left ≤ length (taken ++ left)
+shorter [] left = le-refl (length left)
+shorter (x ∷ taken) left = le-step (shorter taken left)
+
+taken-shorter : {a b : Answers} → Taken a b → length b ≤ length a
+taken-shorter {a} {b} p = subst (λ (z : Answers). length b ≤ length z) (p .whole) (shorter (p .taken) b)
+
+abbrev Takes : (Answers → Completed) → Type 0
+Takes k = (a : Answers) → Taken a (k a .left)
+
+choose-takes : (y n : Answers → Completed) → Takes y → Takes n → Takes (choose y n)
 unfolding choose completed
-choose-short y n p q [] = le-refl 0
-choose-short y n p q (true ∷ a) = le-step (p a)
-choose-short y n p q (false ∷ a) = le-step (q a)
+choose-takes y n p q [] = taken-none []
+choose-takes y n p q (zero ∷ a) = taken-one zero (q a)
+choose-takes y n p q (suc m ∷ a) = taken-one (suc m) (p a)
 
-next-on-short : (e : Ending) (o : Completed) (k : Answers → Completed) → Short k → length (nextOn e o k .left) ≤ length (o .left)
-unfolding nextOn prefix completed
-next-on-short normal o k p = p (o .left)
-next-on-short (jumps j) o k p = le-refl (length (o .left))
-next-on-short (stops r) o k p = le-refl (length (o .left))
+then-on-takes : (e : Completion) (o : Completed) (k : Answers → Completed) → Takes k → Taken (o .left) (thenOn e o k .left)
+unfolding thenOn prefix completed
+then-on-takes normal o k p = p (o .left)
+then-on-takes (break x) o k p = taken-none (o .left)
+then-on-takes (continue x) o k p = taken-none (o .left)
+then-on-takes (stop r) o k p = taken-none (o .left)
 
-next-short : (a : Answers) (o : Completed) (k : Answers → Completed) → length (o .left) ≤ length a → Short k → length (next o k .left) ≤ length a
-unfolding next
-next-short a o k h p = le-trans (next-on-short (o .ending) o k p) h
+then-takes : (a : Answers) (o : Completed) (k : Answers → Completed) → Taken a (o .left) → Takes k → Taken a (then o k .left)
+unfolding then
+then-takes a o k h p = taken-both h (then-on-takes (o .completion) o k p)
 
-after-short : (m : Round) (o : Completed) (k : Answers → Completed) → Short k → length (afterOn m o k .left) ≤ length (o .left)
-unfolding afterOn prefix completed
-after-short again o k p = p (o .left)
-after-short (leaves e) o k p = le-refl (length (o .left))
+-- what `afterBody` does where the loop continues, and where it does not
+abbrev afterOn : Bool → Completed → (Answers → Completed) → Completed
+afterOn m o k = elim m [ true ↦ prefix (o .rows) (k (o .left)) | false ↦ o ]
 
-rounds-short : (l : Option ℕ) (test : List ℕ) (body : Answers → Completed) → Short body → (n : ℕ) → Short (rounds l test body n)
-unfolding rounds choose prefix completed afterRound
-rounds-short l test body p zero a = le-refl (length a)
-rounds-short l test body p (suc n) [] = le-refl 0
-rounds-short l test body p (suc n) (true ∷ a) =
-    le-step (le-trans (after-short (round l (body a .ending)) (body a) (λ a′. rounds l test body n a′) (rounds-short l test body p n)) (p a))
-rounds-short l test body p (suc n) (false ∷ a) = le-step (le-refl (length a))
+after-takes : (m : Bool) (o : Completed) (k : Answers → Completed) → Takes k → Taken (o .left) (afterOn m o k .left)
+unfolding prefix completed
+after-takes true o k p = p (o .left)
+after-takes false o k p = taken-none (o .left)
 
--- no part gives answers back
+rounds-takes : (l test : List ℕ) (body : Answers → Completed) → Takes body → (n : ℕ) → Takes (whileRounds l test body n)
+unfolding whileRounds choose prefix completed afterBody
+rounds-takes l test body p zero a = taken-none a
+rounds-takes l test body p (suc n) [] = taken-none []
+rounds-takes l test body p (suc n) (zero ∷ a) = taken-one zero (taken-none a)
+rounds-takes l test body p (suc n) (suc m ∷ a) =
+    taken-one (suc m) (taken-both (p a)
+    (after-takes (loopContinues (body a .completion) l) (body a) (λ a′. whileRounds l test body n a′) (rounds-takes l test body p n)))
+
 mutual
-  unfolding runStmt completed labelled
+  unfolding runStatement completed completing loop
 
-  short-stmt : (s : Statement) (a : Answers) → length (runStmt s a .left) ≤ length a
-  short-stmt (INSTR i l s v) a = le-refl (length a)
-  short-stmt (IF t i l c p x) a = choose-short (λ a′. runStmts c a′) (λ a′. runStmts x a′) (λ a′. short-stmts c a′) (λ a′. short-stmts x a′) a
-  short-stmt (SWITCH t i l cs) a = le-refl (length a)
-  short-stmt (DOWHILE i l b t) a = le-refl (length a)
-  short-stmt (WHILE i l t b) a = rounds-short l (performed t) (λ a′. runStmts b a′) (λ a′. short-stmts b a′) (length a) a
-  short-stmt (FOR i l n t u b) a = le-refl (length a)
-  short-stmt (FOROF i l s n t b) a = le-refl (length a)
-  short-stmt (FORIN i l s n b) a = le-refl (length a)
-  short-stmt (LABEL i l b) a = short-stmts b a
-  short-stmt (TRY i l n b h) a = le-refl (length a)
-  short-stmt (SCOPE p s b) a = short-stmts b a
-  short-stmt (RETURN v i) a = le-refl (length a)
-  short-stmt (THROW v i) a = le-refl (length a)
-  short-stmt (BREAK t i k) a = le-refl (length a)
-  short-stmt (CONTINUE t i k) a = le-refl (length a)
+  takes-statement : (s : Statement) (a : Answers) → Taken a (runStatement s a .left)
+  takes-statement (INSTR i l s v) a = taken-none a
+  takes-statement (IF t i l c p x) a =
+      choose-takes (λ a′. runStatements c a′) (λ a′. runStatements x a′) (λ a′. takes-statements c a′) (λ a′. takes-statements x a′) a
+  takes-statement (SWITCH t i l cs) a = taken-none a
+  takes-statement (DOWHILE i l b t) a = taken-none a
+  takes-statement (WHILE i l t b) a = rounds-takes (labelSet l) (performs t) (λ a′. runStatements b a′) (λ a′. takes-statements b a′) (length a) a
+  takes-statement (FOR i l n t u b) a = taken-none a
+  takes-statement (FOROF i l s n t b) a = taken-none a
+  takes-statement (FORIN i l s n b) a = taken-none a
+  takes-statement (LABEL i l b) a = takes-statements b a
+  takes-statement (TRY i l n b h) a = taken-none a
+  takes-statement (SCOPE p s b) a = takes-statements b a
+  takes-statement (RETURN v i) a = taken-none a
+  takes-statement (THROW v i) a = taken-none a
+  takes-statement (BREAK t i k) a = taken-none a
+  takes-statement (CONTINUE t i k) a = taken-none a
 
-  short-stmts : (s : Statements) (a : Answers) → length (runStmts s a .left) ≤ length a
-  short-stmts done a = le-refl (length a)
-  short-stmts (s ▸ r) a = next-short a (runStmt s a) (λ a′. runStmts r a′) (short-stmt s a) (λ a′. short-stmts r a′)
+  pub takes-statements : (s : Statements) (a : Answers) → Taken a (runStatements s a .left)
+  takes-statements done a = taken-none a
+  takes-statements (s ▸ r) a = then-takes a (runStatement s a) (λ a′. runStatements r a′) (takes-statement s a) (λ a′. takes-statements r a′)
 
-after-same : (m : Round) (o : Completed) (k k′ : Answers → Completed) → k (o .left) ≡ k′ (o .left) → afterOn m o k ≡ afterOn m o k′
-unfolding afterOn
-after-same again o k k′ e = ap (λ (z : Completed). prefix (o .trace) z) e
-after-same (leaves x) o k k′ e = refl
+-- ---- the rounds of a WHILE
 
-module _ (l : Option ℕ) (test : List ℕ) (body : Answers → Completed) (p : Short body) where
+after-same : (m : Bool) (o : Completed) (k k′ : Answers → Completed) → k (o .left) ≡ k′ (o .left) → afterOn m o k ≡ afterOn m o k′
+after-same true o k k′ e = ap (λ (z : Completed). prefix (o .rows) z) e
+after-same false o k k′ e = refl
+
+-- the rounds, as many as there are answers
+unfoldable pub whileLoop : (labelSet test : List ℕ) → (body : Answers → Completed) → Answers → Completed
+whileLoop labels test body answers = whileRounds labels test body (length answers) answers
+
+module _ (l test : List ℕ) (body : Answers → Completed) (p : Takes body) where
   -- any count that is not below the number of the answers gives the same
-  rounds-same : (n m : ℕ) (a : Answers) → length a ≤ n → length a ≤ m → rounds l test body n a ≡ rounds l test body m a
-  unfolding rounds choose prefix completed afterRound
+  rounds-same : (n m : ℕ) (a : Answers) → length a ≤ n → length a ≤ m → whileRounds l test body n a ≡ whileRounds l test body m a
+  unfolding whileRounds choose prefix completed afterBody
   rounds-same zero zero a h k = refl
-  rounds-same zero (suc m) [] h k = ap (λ (z : List ℕ). completed z (stops wanted) []) (sym (append-nil test))
+  rounds-same zero (suc m) [] h k = ap (λ (z : List ℕ). completed z (stop no-answer-left) []) (sym (append-nil test))
   rounds-same zero (suc m) (x ∷ a) h k = absurd (not-suc-le-zero h)
-  rounds-same (suc n) zero [] h k = ap (λ (z : List ℕ). completed z (stops wanted) []) (append-nil test)
+  rounds-same (suc n) zero [] h k = ap (λ (z : List ℕ). completed z (stop no-answer-left) []) (append-nil test)
   rounds-same (suc n) zero (x ∷ a) h k = absurd (not-suc-le-zero k)
   rounds-same (suc n) (suc m) [] h k = refl
-  rounds-same (suc n) (suc m) (true ∷ a) h k =
+  rounds-same (suc n) (suc m) (zero ∷ a) h k = refl
+  rounds-same (suc n) (suc m) (suc y ∷ a) h k =
       ap (λ (z : Completed). prefix test z)
-      (after-same (round l (body a .ending)) (body a) (λ a′. rounds l test body n a′) (λ a′. rounds l test body m a′)
-      (rounds-same n m (body a .left) (le-trans (p a) (le-of-suc-le-suc h)) (le-trans (p a) (le-of-suc-le-suc k))))
-  rounds-same (suc n) (suc m) (false ∷ a) h k = refl
+      (after-same (loopContinues (body a .completion) l) (body a) (λ a′. whileRounds l test body n a′) (λ a′. whileRounds l test body m a′)
+      (rounds-same n m (body a .left) (le-trans (taken-shorter (p a)) (le-of-suc-le-suc h)) (le-trans (taken-shorter (p a)) (le-of-suc-le-suc k))))
 
-  rounds-again : (a : Answers) → rounds l test body (length a) a
-      ≡ prefix test (choose (λ a′. afterRound l (body a′) (λ a″. rounds l test body (length a″) a″)) (λ a′. completed [] normal a′) a)
-  unfolding rounds choose prefix completed afterRound
-  rounds-again [] = ap (λ (z : List ℕ). completed z (stops wanted) []) (sym (append-nil test))
-  rounds-again (true ∷ a) =
+  -- "its test, then by one answer its body and itself again (yes) or ends (no)"
+  loop-again : (a : Answers) → whileLoop l test body a
+      ≡ prefix test (choose (λ a′. afterBody l (body a′) (λ a″. whileLoop l test body a″)) (λ a′. completed [] normal a′) a)
+  unfolding whileLoop whileRounds choose prefix completed afterBody
+  loop-again [] = ap (λ (z : List ℕ). completed z (stop no-answer-left) []) (sym (append-nil test))
+  loop-again (zero ∷ a) = refl
+  loop-again (suc y ∷ a) =
       ap (λ (z : Completed). prefix test z)
-      (after-same (round l (body a .ending)) (body a) (λ a′. rounds l test body (length a) a′) (λ a″. rounds l test body (length a″) a″)
-      (rounds-same (length a) (length (body a .left)) (body a .left) (p a) (le-refl (length (body a .left)))))
-  rounds-again (false ∷ a) = refl
+      (after-same (loopContinues (body a .completion) l) (body a) (λ a′. whileRounds l test body (length a) a′) (λ a″. whileRounds l test body (length a″) a″)
+      (rounds-same (length a) (length (body a .left)) (body a .left) (taken-shorter (p a)) (le-refl (length (body a .left)))))
 
--- the paper's WHILE
-pub while-again : (i : ℕ) (l : Option ℕ) (t : Value) (b : Statements) (a : Answers) → runStmt (WHILE i l t b) a
-    ≡ prefix (performed t) (choose (λ a′. afterRound l (runStmts b a′) (λ a″. runStmt (WHILE i l t b) a″)) (λ a′. completed [] normal a′) a)
-unfolding runStmt
-while-again i l t b a = rounds-again l (performed t) (λ a′. runStmts b a′) (λ a′. short-stmts b a′) a
+-- WHILE is its loop within the label, and the loop satisfies WhileLoopEvaluation's equation
+pub while-runs : (i : ℕ) (l : Option ℕ) (t : Value) (b : Statements) (a : Answers)
+    → runStatement (WHILE i l t b) a ≡ loop l (whileLoop (labelSet l) (performs t) (λ a′. runStatements b a′) a)
+unfolding runStatement whileLoop
+while-runs i l t b a = refl
+
+pub while-again : (l : List ℕ) (t : Value) (b : Statements) (a : Answers)
+    → whileLoop l (performs t) (λ a′. runStatements b a′) a
+    ≡ prefix (performs t) (choose (λ a′. afterBody l (runStatements b a′) (λ a″. whileLoop l (performs t) (λ z. runStatements b z) a″)) (λ a′. completed [] normal a′) a)
+while-again l t b a = loop-again l (performs t) (λ a′. runStatements b a′) (λ a′. takes-statements b a′) a

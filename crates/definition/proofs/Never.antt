@@ -5,9 +5,9 @@ use native.Mathlib.Omega.{arith}
 use mathlib.Core.Logic.{_⊎_, inl, inr}
 use mathlib.Core.List.{List, [], _∷_, _++_}
 use mathlib.Core.Option.{Option, none, some}
-use mathlib.Core.Bool.{Bool, true, false, not}
+use mathlib.Core.Bool.{Bool, true, false, not, _&&_}
 use lib.ListN.{getD, set}
-use lib.Dec.{T, eqb, ltb, eqb-refl}
+use lib.Dec.{T, eqb, leb, eqb-refl}
 use borrow.Author.Tests.{eqb-true, eq-eqb}
 use Rattle.table.specs.Table.{Table, Block, Case, Terminal, absent, unreachable, throw, return, goto, if, branch, switch, do-while, while, for, for-of, for-in, logical, ternary, optional, sequence, maybe-throw, try, scope, Variant, Break, Continue, Try, blockAt, terminalAt, instructionRowsAt, instructionRows, isAbsent, isUnreachable, label}
 use Rattle.definition.specs.Context.{or, Flags, has, add, remove, ControlFlowTarget, target-if, target-switch, target-case, target-loop, targetBlock, Entry, Context, start, isScheduled, emit, withVisits, markScopeFallthrough, scheduleCatchHandler, pushed, schedule, scheduleLoop, unscheduledBy, popped, unscheduleTop, unschedule, breakTargetFrom, Resolution, continueTargetFrom}
@@ -17,10 +17,14 @@ use Rattle.definition.specs.Tree.{Kind, implicit, labeled, unlabeled, St
 use Rattle.definition.specs.Value.{visitValueBlock, branchWays, Ways, isThis, beginVisit, ValueBlockResult, ValueTerminalResult, TestBlockResult, VisitValueBlock, extractOrRefuse, testBlockEnded, visitTestBlock, visitValueBlockTerminal, thenFallthrough, branchValue, isEmptyGoto, maybeThrowValue, visitValueBlockAt}
 use Rattle.definition.proofs.Tools.{true-false, has-add, has-remove}
 
+-- "10 missing block .. 31 visits": the refusals that a table can have
+abbrev pub ofPaper : ℕ → Bool
+ofPaper code = leb 10 code && leb code 31
+
 -- an answer has the property, or the refusal is one of the paper's
 abbrev pub Fine : {A : Type 0} → (A → Type 0) → Result A → Type 0
 Fine P (ok a) = P a
-Fine P (refused c p v) = T (ltb c 90)
+Fine P (refused c p v) = T (ofPaper c)
 
 pub fine-bind : {A B : Type 0} (P : A → Type 0) (Q : B → Type 0) (m : Result A) (f : A → Result B) → Fine P m → ((a : A) → P a → Fine Q (f a)) → Fine Q (m >>= f)
 unfolding _>>=_
@@ -28,7 +32,7 @@ fine-bind P Q (ok a) f h k = k a h
 fine-bind P Q (refused c p v) f h k = h
 
 -- a test, and what comes after it
-fine-unless : {B : Type 0} (Q : B → Type 0) (b : Bool) (c p v : ℕ) (f : Unit {0} → Result B) → T (ltb c 90) → (b ≡ false → Fine Q (f tt)) → Fine Q (refuseIf b c p v >>= f)
+fine-unless : {B : Type 0} (Q : B → Type 0) (b : Bool) (c p v : ℕ) (f : Unit {0} → Result B) → T (ofPaper c) → (b ≡ false → Fine Q (f tt)) → Fine Q (refuseIf b c p v >>= f)
 unfolding _>>=_ refuseIf
 fine-unless Q true c p v f h k = h
 fine-unless Q false c p v f h k = k refl
@@ -73,7 +77,7 @@ begin-fine t b v = fine-unless Any _ 31 b v _ tt (λ h. fine-unless Any _ 10 b (
 ValueFine : VisitValueBlock → Type 0
 ValueFine values = (b : ℕ) (ft : Option ℕ) (span v : ℕ) → Fine Any (values b ft span v)
 
-extractOr-fine : (t : Table) (b : ℕ) (rs : List ℕ) (v c at : ℕ) → T (ltb c 90) → Fine Any (extractOrRefuse t b rs v c at)
+extractOr-fine : (t : Table) (b : ℕ) (rs : List ℕ) (v c at : ℕ) → T (ofPaper c) → Fine Any (extractOrRefuse t b rs v c at)
 unfolding extractOrRefuse
 extractOr-fine t b [] v c at h = h
 extractOr-fine t b (r ∷ rs) v c at h = tt
@@ -408,7 +412,7 @@ jump-fine Continue b g i c = fine-bind Any (StepAfter c) _ _ (continueStmt-fine 
 jump-fine Try b g i c = after-refl c
 
 module _ (t : Table) (values : VisitValueBlock) (vf : ValueFine values) (inner : TraverseBlock) (wf : WalkFine inner) where
-  fresh-fine : (b code at : ℕ) (c : Context) → T (ltb code 90) → Fine (λ r. After c (r .context)) (traverseUnscheduled inner b code at c)
+  fresh-fine : (b code at : ℕ) (c : Context) → T (ofPaper code) → Fine (λ r. After c (r .context)) (traverseUnscheduled inner b code at c)
   unfolding traverseUnscheduled WalkFine
   fresh-fine b code at c h = fine-unless (λ r. After c (r .context)) _ code at (c .visits) _ h (λ _. wf b c)
 
@@ -418,7 +422,7 @@ module _ (t : Table) (values : VisitValueBlock) (vf : ValueFine values) (inner :
       fine-pick (λ r. After c (r .context)) (eqb a f) _ _ (λ _. after-refl c)
       (λ _. fine-bind (λ r. After c (r .context)) (λ r. After c (r .context)) _ _ (fresh-fine a 13 a c tt) (λ r q. q))
 
-  enclosed-fine : (b code at : ℕ) (g : Option ℕ) (c c₁ d : Context) (make : Statements → Statement) → T (ltb code 90) → Maybe g c d → ((e : Context) → After c₁ e → After d e)
+  enclosed-fine : (b code at : ℕ) (g : Option ℕ) (c c₁ d : Context) (make : Statements → Statement) → T (ofPaper code) → Maybe g c d → ((e : Context) → After c₁ e → After d e)
       → Fine (StepAfter c) (traverseEnclosed inner b code at g c c₁ make)
   unfolding traverseEnclosed
   enclosed-fine b code at g c c₁ d make h p br =
@@ -556,7 +560,7 @@ unfolding traverseBlock WalkFine
 walk-fine t zero b c = tt
 walk-fine t (suc d) b c = chain-fine t (visitValueBlock t d) (value-fine t d) (traverseBlock t d) (walk-fine t d) 8193 b c
 
--- no refusal of any table is one of the messages that never occur
-pub never : (t : Table) (c p v : ℕ) → buildTree t ≡ refused c p v → T (ltb c 90)
+-- every refusal of a table has one of the paper's codes, so none is a message that never occurs
+pub never : (t : Table) (c p v : ℕ) → buildTree t ≡ refused c p v → T (ofPaper c)
 unfolding buildTree WalkFine
 never t c p v e = subst (λ (r : Result BlockResult). Fine (λ r. After start (r .context)) r) e (walk-fine t 128 (t .entry) start)

@@ -10,8 +10,9 @@ use lib.Dec.{eqb}
 use borrow.Author.Tests.{eqb-true, eqb-false, eq-eqb}
 use Rattle.table.specs.Table.{Table, Terminal, while, terminalAt}
 use Rattle.definition.specs.Context.{Flags, has, or, ControlFlowTarget, target-if, target-loop, Entry, targetBlock, isLoop, continuesAt, breakKind, breakTargetFrom, Resolution, continueKind, continueTargetFrom}
-use Rattle.definition.specs.Plain.{Plain, ftOf}
-use Rattle.definition.specs.Run.{Ending, normal, jumps, breakTo, breakNearest, continueTo, continueNearest, breaks, continues}
+use Rattle.definition.specs.Plain.{Plain, fallthroughOf}
+use Rattle.definition.specs.Completion.{break, continue}
+use Rattle.definition.specs.TreeRun.{jumpCompletion}
 use Rattle.definition.specs.Tree.{Kind, implicit, labeled, unlabeled}
 use Rattle.definition.proofs.Semantics.{Frame, fLabel, fScope, fLoop, exit, breakOut, breakAt, continueOut, continueAt, target, provided}
 use Rattle.definition.proofs.Tools.{true-false}
@@ -152,8 +153,8 @@ module _ (t : Table) where
 
   -- the break's row goes to its block
   pub break-target : {sc : Flags} {F : List Frame} {S : List Entry} → Framed sc F S → (g : ℕ) (c : Resolution) → breakTargetFrom S g true false ≡ some c
-      → has sc g ≡ false → (k : Kind) → c .kind ≡ k → target F (breaks k g) ≡ some g
-  unfolding breaks
+      → has sc g ≡ false → (k : Kind) → c .kind ≡ k → target F (jumpCompletion k g break) ≡ some g
+  unfolding jumpCompletion
   break-target p g c e n implicit k = break-exit p g true false c e k
   break-target p g c e n labeled k = break-at p g true false c n e
   break-target p g c e n unlabeled k = break-out p g true c e k
@@ -226,14 +227,14 @@ module _ (t : Table) where
   while-test : {x l f x′ l′ f′ : ℕ} → while x l f ≡ while x′ l′ f′ → x ≡ x′
   while-test e = cc
 
-  while-ft : (w x l f : ℕ) → terminalAt t w ≡ while x l f → ftOf (terminalAt t w) ≡ some f
-  while-ft w x l f e = ap ftOf e
+  while-ft : (w x l f : ℕ) → terminalAt t w ≡ while x l f → fallthroughOf (terminalAt t w) ≡ some f
+  while-ft w x l f e = ap fallthroughOf e
 
   module _ (pl : Plain t) where
     -- two Whiles with one fallthrough have one test
     same-test : (w x l f w′ x′ l′ : ℕ) → terminalAt t w ≡ while x l f → terminalAt t w′ ≡ while x′ l′ f → x ≡ x′
     same-test w x l f w′ x′ l′ e e′ =
-        while-test (sym e ∙ ap (terminalAt t) (pl .one-ft w w′ f (while-ft w x l f e) (while-ft w′ x′ l′ f e′)) ∙ e′)
+        while-test (sym e ∙ ap (terminalAt t) (pl .one-fallthrough w w′ f (while-ft w x l f e) (while-ft w′ x′ l′ f e′)) ∙ e′)
 
     at-loop : (x g f f′ w l : ℕ) (y : Bool) (r : Option ℕ) → eqb f f′ ≡ y → terminalAt t w ≡ while x l f → Of g f′ → (((f ≡ f′) → ⊥) → r ≡ some g) → provided y (some x) r ≡ some g
     at-loop x g f f′ w l true r h s (w′, l′, s′) k =
@@ -252,8 +253,8 @@ module _ (t : Table) where
         (λ h. absurd (z (ap (λ (y : Resolution). y .target) h))) (λ h. continue-at p g false (or above true) c h n))
 
     pub continue-target : {sc : Flags} {F : List Frame} {S : List Entry} → Framed sc F S → (g : ℕ) (f : ℕ) (k : Kind)
-        → continueTargetFrom S g true false ≡ some (record { target = f; kind = k }) → target F (continues k f) ≡ some g
-    unfolding continues
+        → continueTargetFrom S g true false ≡ some (record { target = f; kind = k }) → target F (jumpCompletion k f continue) ≡ some g
+    unfolding jumpCompletion
     continue-target p g f implicit e = continue-exit p g true false (record { target = f; kind = implicit }) e refl
     continue-target p g f labeled e =
         continue-at p g true false (record { target = f; kind = labeled }) e (continue-of p g true false (record { target = f; kind = labeled }) e)

@@ -11,7 +11,7 @@ use lib.ListN.{length}
 use lib.Dec.{eqb}
 use Rattle.table.specs.Table.{Table, Terminal, while, terminalAt, isAbsent}
 use Rattle.definition.specs.Context.{Flags, has, add, remove, or, no-flags, ControlFlowTarget, target-if, target-switch, target-case, target-loop, Entry, Context, start, isScheduled, emit, withVisits, markScopeFallthrough, pushed, schedule, scheduleLoop, unscheduledBy, popped, unscheduleTop, unschedule}
-use Rattle.definition.specs.Plain.{Plain, Ranged, ftOf}
+use Rattle.definition.specs.Plain.{Plain, Ranged, fallthroughOf}
 use Rattle.definition.specs.Result.{refused, Result, ok, _>>=_, refuseIf}
 use Rattle.definition.specs.Statement.{enterBlock, unlessScheduled}
 use Rattle.definition.specs.Value.{beginVisit}
@@ -22,7 +22,7 @@ use Rattle.definition.proofs.Resolve.{Framed, fnone, flabel, fscope, fl
 module _ (t : Table) where
   -- x is the fallthrough of an emitted block, or a loop block or test
   pub data Known (em : Flags) (x : ℕ) : Type 0 where
-    ft-of : (b : ℕ) → has em b ≡ true → ftOf (terminalAt t b) ≡ some x → Known em x
+    ft-of : (b : ℕ) → has em b ≡ true → fallthroughOf (terminalAt t b) ≡ some x → Known em x
     loop-of : (w y g : ℕ) → terminalAt t w ≡ while y x g → Known em x
     test-of : (w l g : ℕ) → terminalAt t w ≡ while x l g → Known em x
 
@@ -100,8 +100,8 @@ module _ (t : Table) where
 
   -- ---- the fallthrough of an entered block is not scheduled
 
-  not-known : (pl : Plain t) (em : Flags) (b f : ℕ) → has em b ≡ false → ftOf (terminalAt t b) ≡ some f → Known em f → ⊥
-  not-known pl em b f o e (ft-of d h e′) = true-false (sym h ∙ ap (has em) (pl .one-ft d b f e′ e) ∙ o)
+  not-known : (pl : Plain t) (em : Flags) (b f : ℕ) → has em b ≡ false → fallthroughOf (terminalAt t b) ≡ some f → Known em f → ⊥
+  not-known pl em b f o e (ft-of d h e′) = true-false (sym h ∙ ap (has em) (pl .one-fallthrough d b f e′ e) ∙ o)
   not-known pl em b f o e (loop-of w y g e′) = pl .no-loop b f w y f g e e′ refl
   not-known pl em b f o e (test-of w l g e′) = pl .no-test b f w f l g e e′ refl
 
@@ -109,7 +109,7 @@ module _ (t : Table) where
   both-false true y n h = absurd (n refl)
   both-false false y n h = h
 
-  pub ft-free : (pl : Plain t) {F : List Frame} {c c₁ : Context} (b f : ℕ) → Entered b F c c₁ → ftOf (terminalAt t b) ≡ some f → isScheduled c₁ f ≡ false
+  pub ft-free : (pl : Plain t) {F : List Frame} {c c₁ : Context} (b f : ℕ) → Entered b F c c₁ → fallthroughOf (terminalAt t b) ≡ some f → isScheduled c₁ f ≡ false
   unfolding isScheduled
   ft-free pl {F} {c} {c₁} b f p e =
       both-false (has (c₁ .scheduled) f) (has (c₁ .catchHandlers) f) (λ h. not-known pl (c .emitted) b f (p .old) e (p .before f h)) (p .inv .no-catch f)

@@ -9,11 +9,14 @@ use mathlib.Core.Bool.{Bool, true, false}
 use lib.ListN.{length}
 use lib.Dec.{T, eqb}
 use borrow.Author.Tests.{eqb-true}
-use Rattle.table.specs.Table.{Table, Block, Instruction, Operation, other, load-local, store-local, Terminal, absent, unreachable, throw, return, goto, if, branch, switch, do-while, while, for, for-of, for-in, logical, ternary, optional, sequence, maybe-throw, try, scope, Variant, Break, Continue, Try, blockAt, terminalAt, instructionAt, instructionRowsAt, instructionRows, isAbsent, isUnreachable, label}
+use Rattle.table.specs.Table.{codeOf, Table, Block, Instruction, Operation, other, load-local, store-local, Terminal, absent, unreachable, throw, return, goto, if, branch, switch, do-while, while, for, for-of, for-in, logical, ternary, optional, sequence, maybe-throw, try, scope, Variant, Break, Continue, Try, blockAt, terminalAt, instructionAt, instructionRowsAt, instructionRows, isAbsent, isUnreachable, label}
 use Rattle.definition.specs.Context.{getBreakTarget, getContinueTarget, Resolution, has, add, Entry, target-if, target-loop, Context, start, isScheduled, withVisits, markScopeFallthrough, pushed, schedule, scheduleLoop, unschedule, breakTargetFrom, continueTargetFrom}
-use Rattle.definition.specs.Plain.{Plain, Ranged, ftOf, plainEnd, isJump, isStore, noStore, NotBranch, partsOf, All}
+use Rattle.definition.specs.Plain.{Plain, Ranged, fallthroughOf, plainCodes, among, isBranch, isStore, endsInStore, NotBranch, otherNames, All}
 use Rattle.definition.specs.Result.{refused, Result, ok, _>>=_, refuseIf}
-use Rattle.definition.specs.Run.{Answers, Ending, normal, jumps, breakTo, breaks, continues, performed, performedAll, runStmts, completed, prefix, next, nextOn}
+use Rattle.definition.specs.Reading.{WellFormed}
+use Rattle.definition.specs.Run.{Answers}
+use Rattle.definition.specs.Completion.{Completion, break, continue}
+use Rattle.definition.specs.TreeRun.{performs, performsAll, runStatements, completed, prefix, then, thenOn, jumpCompletion}
 use Rattle.definition.specs.Statement.{breakToScope, visitBreak, visitContinue, TerminalResult, BlockResult, TraverseBlock, enterBlock, unlessScheduled, unlessUnreachable, scheduleIf, unscheduleIf, markScopeFallthroughIf, traverseUnscheduled, AlternateResult, traverseAlternate, breakResolved, continueResolved, visitGoto, traverseEnclosed, loopIsTaken, traverseLoop, visitTerminal, instructionStatements, followedBy, thenNext, visitBlock, traverseBlock, buildTree}
 use Rattle.definition.specs.Tree.{Kind, implicit, labeled, unlabeled, Value, PLAIN, LOAD, SEQ, Instructions, no-instructions, instruction, Statement, IF, WHILE, LABEL, SCOPE, RETURN, THROW, BREAK, CONTINUE, Statements, done, _▸_}
 use Rattle.definition.specs.Value.{visitValueBlock, branchWays, beginVisit, ValueBlockResult, VisitValueBlock, isThis, instructionsOf, wrapWithSequence, finalValue, finalPlace, storedToNamed, allButLast, last, extractValueBlockResult, branchValue, visitValueBlockAt, Ways}
@@ -25,15 +28,15 @@ use Rattle.definition.proofs.State.{Known, ft-of, Inv, inv-start, inv-v
 -- ---- the value of a test
 
 module _ (t : Table) where
-  performed-instrs : (rs : List ℕ) → performedAll (instructionsOf t rs no-instructions) ≡ rs
+  performs-instrs : (rs : List ℕ) → performsAll (instructionsOf t rs no-instructions) ≡ rs
   unfolding instructionsOf
-  performed-instrs [] = refl
-  performed-instrs (r ∷ rs) = ap (λ (z : List ℕ). r ∷ z) (performed-instrs rs)
+  performs-instrs [] = refl
+  performs-instrs (r ∷ rs) = ap (λ (z : List ℕ). r ∷ z) (performs-instrs rs)
 
-  performed-wrapped : (rs : List ℕ) (i n : ℕ) → performed (wrapWithSequence t rs i (PLAIN n)) ≡ rs ++ (n ∷ [])
+  performs-wrapped : (rs : List ℕ) (i n : ℕ) → performs (wrapWithSequence t rs i (PLAIN n)) ≡ rs ++ (n ∷ [])
   unfolding wrapWithSequence
-  performed-wrapped [] i n = refl
-  performed-wrapped (r ∷ rs) i n = ap (λ (z : List ℕ). z ++ (n ∷ [])) (performed-instrs (r ∷ rs))
+  performs-wrapped [] i n = refl
+  performs-wrapped (r ∷ rs) i n = ap (λ (z : List ℕ). z ++ (n ∷ [])) (performs-instrs (r ∷ rs))
 
   front-final : (r : ℕ) (rs : List ℕ) → allButLast r rs ++ (last r rs ∷ []) ≡ r ∷ rs
   unfolding allButLast last
@@ -46,19 +49,24 @@ module _ (t : Table) where
   last-plain n k (load-local p) e = refl
   last-plain n k (store-local p q) e = absurd (true-false e)
 
-  extract-performs : (b r : ℕ) (rs : List ℕ) (v : ℕ) → noStore t (r ∷ rs) → performed (extractValueBlockResult t b r rs v .value) ≡ r ∷ rs
+  last-no-store : (r : ℕ) (rs : List ℕ) → endsInStore t (r ∷ rs) ≡ false → isStore (instructionAt t (last r rs) .operation) ≡ false
+  unfolding last
+  last-no-store r [] h = h
+  last-no-store r (q ∷ rs) h = last-no-store q rs h
+
+  extract-performs : (b r : ℕ) (rs : List ℕ) (v : ℕ) → endsInStore t (r ∷ rs) ≡ false → performs (extractValueBlockResult t b r rs v .value) ≡ r ∷ rs
   unfolding extractValueBlockResult
   extract-performs b r rs v h =
-      ap (λ (z : Value). performed (wrapWithSequence t (allButLast r rs) (instructionAt t (last r rs) .id) z)) (last-plain (last r rs) (storedToNamed t (instructionAt t (last r rs) .operation)) (instructionAt t (last r rs) .operation) h)
-      ∙ performed-wrapped (allButLast r rs) (instructionAt t (last r rs) .id) (last r rs) ∙ front-final r rs
+      ap (λ (z : Value). performs (wrapWithSequence t (allButLast r rs) (instructionAt t (last r rs) .id) z)) (last-plain (last r rs) (storedToNamed t (instructionAt t (last r rs) .operation)) (instructionAt t (last r rs) .operation) (last-no-store r rs h))
+      ∙ performs-wrapped (allButLast r rs) (instructionAt t (last r rs) .id) (last r rs) ∙ front-final r rs
 
-  branch-performs : (b x i v : ℕ) (rs : List ℕ) (r : ValueBlockResult) → noStore t rs → branchValue t b x i rs v ≡ ok r → performed (r .value) ≡ rs
+  branch-performs : (b x i v : ℕ) (rs : List ℕ) (r : ValueBlockResult) → endsInStore t rs ≡ false → branchValue t b x i rs v ≡ ok r → performs (r .value) ≡ rs
   unfolding branchValue
-  branch-performs b x i v [] r h e = ap (λ (z : ValueBlockResult). performed (z .value)) (sym (ok-eq e))
-  branch-performs b x i v (q ∷ rs) r h e = ap (λ (z : ValueBlockResult). performed (z .value)) (sym (ok-eq e)) ∙ extract-performs b q rs v h
+  branch-performs b x i v [] r h e = ap (λ (z : ValueBlockResult). performs (z .value)) (sym (ok-eq e))
+  branch-performs b x i v (q ∷ rs) r h e = ap (λ (z : ValueBlockResult). performs (z .value)) (sym (ok-eq e)) ∙ extract-performs b q rs v h
 
   unfoldable pub TestOk : VisitValueBlock → Type 0
-  TestOk values = (x y c a span v : ℕ) (r : ValueBlockResult) → terminalAt t x ≡ branch y c a → noStore t (instructionRowsAt t x) → values x none span v ≡ ok r → performed (r .value) ≡ instructionRowsAt t x
+  TestOk values = (x y c a span v : ℕ) (r : ValueBlockResult) → terminalAt t x ≡ branch y c a → endsInStore t (instructionRowsAt t x) ≡ false → values x none span v ≡ ok r → performs (r .value) ≡ instructionRowsAt t x
 
   pub value-ok : (d : ℕ) → TestOk (visitValueBlock t d)
   unfolding TestOk visitValueBlock visitValueBlockAt
@@ -126,9 +134,9 @@ module _ (t : Table) where
       let (u, h, e₁) = bind-ok (refuseIf (isScheduled c b) code at (c .visits)) _ r e in w F b c r p n e₁
 
   -- the fallthrough of an entered block of a plain table is taken
-  plain-reachable : (m : Terminal) → T (plainEnd m) → isUnreachable m ≡ false
+  plain-reachable : (m : Terminal) → among plainCodes (codeOf m) ≡ true → isUnreachable m ≡ false
   plain-reachable absent h = refl
-  plain-reachable unreachable h = absurd h
+  plain-reachable unreachable h = absurd (true-false (sym h))
   plain-reachable (throw v) h = refl
   plain-reachable (return v) h = refl
   plain-reachable (goto g v) h = refl
@@ -163,18 +171,18 @@ module _ (t : Table) where
   -- ---- If
 
   data AltOk (F : List Frame) (a f : ℕ) (S : List Entry) (s : AlternateResult) : Type 0 where
-    no-alt : a ≡ f → s .statements ≡ done → Closed t F S (s .context) → AltOk F a f S s
-    an-alt : Built t F a (s .statements) → Closed t F S (s .context) → AltOk F a f S s
+    no-alt : a ≡ f → s .present ≡ false → s .statements ≡ done → Closed t F S (s .context) → AltOk F a f S s
+    an-alt : s .present ≡ true → Built t F a (s .statements) → Closed t F S (s .context) → AltOk F a f S s
 
   alternate-at : (inner : TraverseBlock) → WalkOk inner → (F : List Frame) (a f : ℕ) (c : Context) (s : AlternateResult) (y : Bool) → eqb a f ≡ y → Inv t F c → NotBranch t a
       → elim y [ true ↦ ok (record { present = false; statements = done; context = c }) | false ↦ traverseUnscheduled inner a 13 a c >>= λ r. ok (record { present = true; statements = r .statements; context = r .context }) ] ≡ ok s
       → AltOk F a f (c .stack) s
   alternate-at inner w F a f c s true h p n e =
-      subst (λ (z : AlternateResult). AltOk F a f (c .stack) z) (ok-eq e) (no-alt (eqb-true a f h) refl (record { inv = p; same = refl }))
+      subst (λ (z : AlternateResult). AltOk F a f (c .stack) z) (ok-eq e) (no-alt (eqb-true a f h) refl refl (record { inv = p; same = refl }))
   alternate-at inner w F a f c s false h p n e =
       let (r, h₁, e₁) = bind-ok (traverseUnscheduled inner a 13 a c) _ s e in
       let m : Made F a (c .stack) r = fresh-ok inner w F a 13 a c r p n h₁ in
-      subst (λ (z : AlternateResult). AltOk F a f (c .stack) z) (ok-eq e₁) (an-alt (m .tree) (m .left))
+      subst (λ (z : AlternateResult). AltOk F a f (c .stack) z) (ok-eq e₁) (an-alt refl (m .tree) (m .left))
 
   alternate-ok : (inner : TraverseBlock) → WalkOk inner → (F : List Frame) (a f : ℕ) (c : Context) (s : AlternateResult) → Inv t F c → NotBranch t a
       → traverseAlternate inner a f c ≡ ok s → AltOk F a f (c .stack) s
@@ -184,14 +192,12 @@ module _ (t : Table) where
   if-built : (F : List Frame) (b x y a f i : ℕ) (S : List Entry) (s₁ : Statements) (s : AlternateResult) → terminalAt t b ≡ if x y a f
       → Built t (fLabel f ∷ F) y s₁ → AltOk (fLabel f ∷ F) a f S s
       → (r : Statements) → Built t F f r → Built t F b (instructionStatements t (instructionRowsAt t b) (IF x i (some f) s₁ (s .present) (s .statements) ▸ r))
-  if-built F b x y a f i S s₁ s e p (no-alt h q k) r m =
-      subst (λ (z : Statements). Built t F b (instructionStatements t (instructionRowsAt t b) (IF x i (some f) s₁ (s .present) z ▸ r))) (sym q)
-      (bIfOnly x y f i (s .present) (e ∙ ap (λ (z : ℕ). if x y z f) h) p m)
-  if-built F b x y a f i S s₁ s e p (an-alt q k) r m = bIf x y a f i (s .present) e p q m
+  if-built F b x y a f i S s₁ s e p (no-alt h n q k) r m = rw (n, q) (bIfOnly x y f i (e ∙ ap (λ (z : ℕ). if x y z f) h) p m)
+  if-built F b x y a f i S s₁ s e p (an-alt n q k) r m = rw n (bIf x y a f i e p q m)
 
   alt-left : {F : List Frame} {a f : ℕ} {S : List Entry} {s : AlternateResult} → AltOk F a f S s → Closed t F S (s .context)
-  alt-left (no-alt h q k) = k
-  alt-left (an-alt q k) = k
+  alt-left (no-alt h n q k) = k
+  alt-left (an-alt n q k) = k
 
   and-then : {F : List Frame} {S S′ : List Entry} {c : Context} → Closed t F S c → S ≡ S′ → Closed t F S′ c
   and-then p h = record { inv = p .inv; same = p .same ∙ h }
@@ -206,16 +212,16 @@ module _ (t : Table) where
         let (r, h₃, k₃) = bind-ok (traverseUnscheduled inner y 12 y c₁) _ s k₂ in
         let (w, h₄, k₄) = bind-ok (traverseAlternate inner a f (r .context)) _ s k₃ in
         let (c₂, h₅, k₅) = bind-ok (unscheduleIf g (c .nextId) (w .context)) _ s k₄ in
-        finish g c₁ r w c₂ (reached-ok pl c f g (ft-free t pl b f p (ap ftOf e)) h₁) h₂ h₃ h₄ h₅ k₅
+        finish g c₁ r w c₂ (reached-ok pl c f g (ft-free t pl b f p (ap fallthroughOf e)) h₁) h₂ h₃ h₄ h₅ k₅
       where
-        parts : All (NotBranch t) (partsOf (if x y a f))
-        parts = subst (λ (m : Terminal). All (NotBranch t) (partsOf m)) e (pl .parts b)
+        parts : All (NotBranch t) (otherNames (if x y a f))
+        parts = subst (λ (m : Terminal). All (NotBranch t) (otherNames m)) e (pl .names b)
 
         finish : (g : Option ℕ) (c₁ : Context) (r : BlockResult) (w : AlternateResult) (c₂ : Context) → g ≡ some f → scheduleIf g c ≡ ok c₁ → traverseUnscheduled inner y 12 y c₁ ≡ ok r
             → traverseAlternate inner a f (r .context) ≡ ok w → unscheduleIf g (c .nextId) (w .context) ≡ ok c₂
             → ok (record { statement = some (IF x (k .id) g (r .statements) (w .present) (w .statements)); next = g; context = c₂ }) ≡ ok s → StepOk F b (c .stack) s
         finish g c₁ r w c₂ q h₂ h₃ h₄ h₅ k₅ =
-            let o : Opened (fLabel f) F c c₁ = opened-label f (p .inv) (ft-of b (p .new) (ap ftOf e)) (rw q at h₂) in
+            let o : Opened (fLabel f) F c c₁ = opened-label f (p .inv) (ft-of b (p .new) (ap fallthroughOf e)) (rw q at h₂) in
             let m : Made (fLabel f ∷ F) y (c₁ .stack) r = fresh-ok inner wo (fLabel f ∷ F) y 12 y c₁ r (o .inv) (parts .0) h₃ in
             let z : AltOk (fLabel f ∷ F) a f (r .context .stack) w = alternate-ok inner wo (fLabel f ∷ F) a f (r .context) w (m .left .inv) (parts .1 .0) h₄ in
             let u : Closed t F (c .stack) c₂ = closed-ok f o (and-then (alt-left z) (m .left .same)) (rw q at h₅) in
@@ -240,15 +246,15 @@ module _ (t : Table) where
     unfolding visitTerminal
     label-ok {F} {c₀} {c} b x f k s p e h =
         let (g, h₁, k₁) = bind-ok (unlessUnreachable t c f) _ s h in
-        finish g (reached-ok pl c f g (ft-free t pl b f p (ap ftOf e)) h₁) k₁
+        finish g (reached-ok pl c f g (ft-free t pl b f p (ap fallthroughOf e)) h₁) k₁
       where
-        parts : All (NotBranch t) (partsOf (label x f))
-        parts = subst (λ (m : Terminal). All (NotBranch t) (partsOf m)) e (pl .parts b)
+        parts : All (NotBranch t) (otherNames (label x f))
+        parts = subst (λ (m : Terminal). All (NotBranch t) (otherNames m)) e (pl .names b)
 
         taken : (scheduleIf (some f) c >>= λ c₁. traverseEnclosed inner x 17 b (some f) c c₁ (LABEL (k .id) (some f))) ≡ ok s → StepOk F b (c .stack) s
         taken h₁ =
             let (c₁, h₂, k₂) = bind-ok (scheduleIf (some f) c) _ s h₁ in
-            enclosed-ok b x 17 b f (LABEL (k .id) (some f)) s (opened-label f (p .inv) (ft-of b (p .new) (ap ftOf e)) h₂) (parts .0) (parts .1 .0)
+            enclosed-ok b x 17 b f (LABEL (k .id) (some f)) s (opened-label f (p .inv) (ft-of b (p .new) (ap fallthroughOf e)) h₂) (parts .0) (parts .1 .0)
             (λ s₁ r p₁ p₂. bLabel x f (k .id) e p₁ p₂) k₂
 
         finish : (g : Option ℕ) → g ≡ some f → (scheduleIf g c >>= λ c₁. traverseEnclosed inner x 17 b g c c₁ (LABEL (k .id) g)) ≡ ok s → StepOk F b (c .stack) s
@@ -257,16 +263,16 @@ module _ (t : Table) where
     scope-ok : {F : List Frame} {c₀ c : Context} (b : ℕ) (pr : Bool) (x f n : ℕ) (k : Block) (s : TerminalResult) → Entered t b F c₀ c → terminalAt t b ≡ scope pr x f n
         → visitTerminal t values inner (scope pr x f n) b k c ≡ ok s → StepOk F b (c .stack) s
     unfolding visitTerminal
-    scope-ok {F} {c₀} {c} b pr x f n k s p e h = finish (unlessScheduled c f) (untaken-free t c f (ft-free t pl b f p (ap ftOf e))) h
+    scope-ok {F} {c₀} {c} b pr x f n k s p e h = finish (unlessScheduled c f) (untaken-free t c f (ft-free t pl b f p (ap fallthroughOf e))) h
       where
-        parts : All (NotBranch t) (partsOf (scope pr x f n))
-        parts = subst (λ (m : Terminal). All (NotBranch t) (partsOf m)) e (pl .parts b)
+        parts : All (NotBranch t) (otherNames (scope pr x f n))
+        parts = subst (λ (m : Terminal). All (NotBranch t) (otherNames m)) e (pl .names b)
 
         taken : (scheduleIf (some f) c >>= λ c₁. traverseEnclosed inner x 18 b (some f) c (markScopeFallthroughIf (some f) c₁) (SCOPE pr n)) ≡ ok s → StepOk F b (c .stack) s
         taken h₁ =
             let (c₁, h₂, k₂) = bind-ok (scheduleIf (some f) c) _ s h₁ in
             enclosed-ok b x 18 b f (SCOPE pr n) s
-            (opened-scope f (omega (arith, rg .fts b f (ap ftOf e), rg .few)) (p .inv) (ft-of b (p .new) (ap ftOf e)) h₂) (parts .0) (parts .1 .0)
+            (opened-scope f (omega (arith, rg .fallthroughs b f (ap fallthroughOf e), rg .few)) (p .inv) (ft-of b (p .new) (ap fallthroughOf e)) h₂) (parts .0) (parts .1 .0)
             (λ s₁ r p₁ p₂. bScope pr x f n e p₁ p₂) k₂
 
         finish : (g : Option ℕ) → g ≡ some f → (scheduleIf g c >>= λ c₁. traverseEnclosed inner x 18 b g c (markScopeFallthroughIf g c₁) (SCOPE pr n)) ≡ ok s → StepOk F b (c .stack) s
@@ -284,52 +290,53 @@ module _ (t : Table) where
         let (u, h₄, k₄) = bind-ok (refuseIf (loopIsTaken c l f) 16 b (v .visits)) _ s k₃ in
         let (r, h₅, k₅) = bind-ok (inner l (withVisits (v .visits) c₁)) _ s k₄ in
         let (c₂, h₆, k₆) = bind-ok (unschedule (c .nextId) (r .context)) _ s k₅ in
-        finish g c₁ v r c₂ (reached-ok pl c f g (ft-free t pl b f p (ap ftOf e)) h₁) h₂ h₃ h₅ h₆ k₆
+        finish g c₁ v r c₂ (reached-ok pl c f g (ft-free t pl b f p (ap fallthroughOf e)) h₁) h₂ h₃ h₅ h₆ k₆
       where
-        parts : All (NotBranch t) (partsOf (while x l f))
-        parts = subst (λ (m : Terminal). All (NotBranch t) (partsOf m)) e (pl .parts b)
+        parts : All (NotBranch t) (otherNames (while x l f))
+        parts = subst (λ (m : Terminal). All (NotBranch t) (otherNames m)) e (pl .names b)
 
         finish : (g : Option ℕ) (c₁ : Context) (v : ValueBlockResult) (r : BlockResult) (c₂ : Context) → g ≡ some f → scheduleLoop f x (some l) c ≡ ok c₁
             → values x none (k .span) (c₁ .visits) ≡ ok v → inner l (withVisits (v .visits) c₁) ≡ ok r → unschedule (c .nextId) (r .context) ≡ ok c₂
             → ok (record { statement = some (WHILE (k .id) g (v .value) (r .statements)); next = g; context = c₂ }) ≡ ok s → StepOk F b (c .stack) s
         finish g c₁ v r c₂ q h₂ h₃ h₅ h₆ k₆ =
-            let o : Opened (fLoop f x) F c c₁ = opened-loop b x l f (p .inv) e (ft-of b (p .new) (ap ftOf e)) h₂ in
+            let o : Opened (fLoop f x) F c c₁ = opened-loop b x l f (p .inv) e (ft-of b (p .new) (ap fallthroughOf e)) h₂ in
             let m : Made (fLoop f x ∷ F) l (c₁ .stack) r = wo (fLoop f x ∷ F) l (withVisits (v .visits) c₁) r (inv-visited t (v .visits) (o .inv)) (parts .0) h₅ in
             let (y, e₁) = pl .tests b x l f e in
             subst (λ (z : TerminalResult). StepOk F b (c .stack) z) (ok-eq k₆)
             (rw q (goes-on f refl (parts .1 .0)
-            (λ r′ p′. bWhile x l f y (k .id) (v .value) e e₁ (vo x y l f (k .span) (c₁ .visits) v e₁ (pl .stores x y l f e₁) h₃) (m .tree) p′)
+            (λ r′ p′. bWhile x l f y (k .id) (v .value) e e₁ (vo x y l f (k .span) (c₁ .visits) v e₁ (pl .no-store x y l f e₁) h₃) (m .tree) p′)
             (unschedule-ok t (c .nextId) (o .top) (c .stack) (r .context) c₂ (m .left .inv) (m .left .same ∙ o .stack) h₆)))
 
     -- ---- Goto
 
     -- a jump's rows end as it goes
     pub data JumpOk (F : List Frame) (g : ℕ) (s : Option Statement) : Type 0 where
-      goes-as : (e : Ending) → target F e ≡ some g → ((ans : Answers) → runStmts (followedBy s done) ans ≡ completed [] e ans) → JumpOk F g s
+      goes-as : (e : Completion) → target F e ≡ some g → WellFormed (followedBy s done) → ((ans : Answers) → runStatements (followedBy s done) ans ≡ completed [] e ans) → JumpOk F g s
 
-    run-break : (g i : ℕ) (k : Kind) (ans : Answers) → runStmts (BREAK g i k ▸ done) ans ≡ completed [] (breaks k g) ans
-    unfolding runStmts next nextOn prefix completed breaks
+    run-break : (g i : ℕ) (k : Kind) (ans : Answers) → runStatements (BREAK g i k ▸ done) ans ≡ completed [] (jumpCompletion k g break) ans
+    unfolding runStatements then thenOn prefix completed jumpCompletion
     run-break g i implicit ans = refl
     run-break g i labeled ans = refl
     run-break g i unlabeled ans = refl
 
-    run-done : (g : ℕ) (ans : Answers) → runStmts done ans ≡ completed [] (breaks implicit g) ans
-    unfolding runStmts breaks
+    run-done : (g : ℕ) (ans : Answers) → runStatements done ans ≡ completed [] (jumpCompletion implicit g break) ans
+    unfolding runStatements jumpCompletion
     run-done g ans = refl
 
     broke : {F : List Frame} {c : Context} (g i : ℕ) (r : Resolution) (s : Option Statement) (y : Bool) (x : Result (Option Statement)) → Inv t F c
         → breakTargetFrom (c .stack) g true false ≡ some r → r .target ≡ g → has (c .scopeFallthroughs) g ≡ y → elim y [ true ↦ x | false ↦ ok (some (BREAK g i (r .kind))) ] ≡ ok s
         → (x ≡ ok s → JumpOk F g s) → JumpOk F g s
+    unfolding WellFormed
     broke g i r s true x p e q n h z = z h
     broke {F} g i r s false x p e q n h z =
-        subst (λ (w : Option Statement). JumpOk F g w) (ok-eq h) (goes-as (breaks (r .kind) g) (break-target t (p .framed) g r e n (r .kind) refl) (run-break g i (r .kind)))
+        subst (λ (w : Option Statement). JumpOk F g w) (ok-eq h) (goes-as (jumpCompletion (r .kind) g break) (break-target t (p .framed) g r e n (r .kind) refl) (tt, tt) (run-break g i (r .kind)))
 
     -- to a scope: no row, as good as an Implicit one
     to-scope : {F : List Frame} (c : Context) (b g : ℕ) (r : Resolution) (s : Option Statement) (k : Kind) → Inv t F c → breakTargetFrom (c .stack) g true false ≡ some r → r .kind ≡ k
         → breakToScope k b (c .visits) ≡ ok s → JumpOk F g s
-    unfolding breakToScope breaks
+    unfolding breakToScope jumpCompletion WellFormed
     to-scope {F} c b g r s implicit p e k h =
-        subst (λ (w : Option Statement). JumpOk F g w) (ok-eq h) (goes-as (breaks implicit g) (break-exit t (p .framed) g true false r e k) (run-done g))
+        subst (λ (w : Option Statement). JumpOk F g w) (ok-eq h) (goes-as (jumpCompletion implicit g break) (break-exit t (p .framed) g true false r e k) tt (run-done g))
     to-scope c b g r s labeled p e k h = absurd (refused-ok h)
     to-scope c b g r s unlabeled p e k h = absurd (refused-ok h)
 
@@ -345,67 +352,68 @@ module _ (t : Table) where
             → elim (has (c .scopeFallthroughs) g) [ true ↦ breakToScope (r .kind) b (c .visits) | false ↦ ok (some (BREAK g i (r .kind))) ] ≡ ok s
         named z k = subst (λ (n : ℕ). elim (has (c .scopeFallthroughs) n) [ true ↦ breakToScope (r .kind) b (c .visits) | false ↦ ok (some (BREAK n i (r .kind))) ] ≡ ok s) z k
 
-    run-continue : (f i : ℕ) (k : Kind) (ans : Answers) → runStmts (CONTINUE f i k ▸ done) ans ≡ completed [] (continues k f) ans
-    unfolding runStmts next nextOn prefix completed continues
+    run-continue : (f i : ℕ) (k : Kind) (ans : Answers) → runStatements (CONTINUE f i k ▸ done) ans ≡ completed [] (jumpCompletion k f continue) ans
+    unfolding runStatements then thenOn prefix completed jumpCompletion
     run-continue f i implicit ans = refl
     run-continue f i labeled ans = refl
     run-continue f i unlabeled ans = refl
 
     continue-ok : {F : List Frame} (c : Context) (g i : ℕ) (k : Option Resolution) (s : Statement) → Inv t F c → continueTargetFrom (c .stack) g true false ≡ k
         → continueResolved g i c k ≡ ok s → JumpOk F g (some s)
-    unfolding continueResolved
+    unfolding continueResolved WellFormed
     continue-ok c g i none s p e h = absurd (refused-ok h)
     continue-ok {F} c g i (some k) s p e h =
         subst (λ (z : Statement). JumpOk F g (some z)) (ok-eq h)
-        (goes-as (continues (k .kind) (k .target)) (continue-target t pl (p .framed) g (k .target) (k .kind) e) (run-continue (k .target) i (k .kind)))
+        (goes-as (jumpCompletion (k .kind) (k .target) continue) (continue-target t pl (p .framed) g (k .target) (k .kind) e) (tt, tt) (run-continue (k .target) i (k .kind)))
 
     jump-built : {F : List Frame} (b g : ℕ) (v : Variant) (s : Option Statement) → terminalAt t b ≡ goto g v → JumpOk F g s → Built t F b (instructionStatements t (instructionRowsAt t b) (followedBy s done))
-    jump-built b g v s e (goes-as z q r) = bJump g v z (followedBy s done) e q r
+    jump-built b g v s e (goes-as z q w r) = bJump g v z (followedBy s done) e q w r
 
-    jump-ok : {F : List Frame} {c₀ c : Context} (b g i : ℕ) (v : Variant) (s : TerminalResult) → T (isJump v) → Entered t b F c₀ c → terminalAt t b ≡ goto g v
+    jump-ok : {F : List Frame} {c₀ c : Context} (b g i : ℕ) (v : Variant) (s : TerminalResult) → Entered t b F c₀ c → terminalAt t b ≡ goto g v
         → visitGoto v b g i c ≡ ok s → StepOk F b (c .stack) s
     unfolding visitGoto visitBreak visitContinue getBreakTarget getContinueTarget
-    jump-ok {F} {c₀} {c} b g i Break s n p e h =
+    jump-ok {F} {c₀} {c} b g i Break s p e h =
         let (o, h₁, k₁) = bind-ok (breakResolved b g i c (breakTargetFrom (c .stack) g true false)) _ s h in
         subst (λ (z : TerminalResult). StepOk F b (c .stack) z) (ok-eq k₁)
         (ends-here refl (jump-built b g Break o e (break-ok c b g i (breakTargetFrom (c .stack) g true false) o (p .inv) refl h₁)) (record { inv = p .inv; same = refl }))
-    jump-ok {F} {c₀} {c} b g i Continue s n p e h =
+    jump-ok {F} {c₀} {c} b g i Continue s p e h =
         let (o, h₁, k₁) = bind-ok (continueResolved g i c (continueTargetFrom (c .stack) g true false)) _ s h in
         subst (λ (z : TerminalResult). StepOk F b (c .stack) z) (ok-eq k₁)
         (ends-here refl (jump-built b g Continue (some o) e (continue-ok c g i (continueTargetFrom (c .stack) g true false) o (p .inv) refl h₁)) (record { inv = p .inv; same = refl }))
-    jump-ok b g i Try s n p e h = absurd n
+    jump-ok b g i Try s p e h = absurd (pl .no-goto-try b g e)
 
     -- ---- every end
 
-    some-none : {w : Ways} → some w ≡ none → ⊥
-    some-none e = let z : _≡_ {A = ℕ} 0 1 = cc in omega arith
+    -- a terminal that no plain table has
+    not-plain : {m : Terminal} (b : ℕ) → terminalAt t b ≡ m → among plainCodes (codeOf m) ≡ false → ⊥
+    not-plain b e h = true-false (sym (pl .ends b) ∙ ap (λ (m : Terminal). among plainCodes (codeOf m)) e ∙ h)
 
-    terminal-ok : {F : List Frame} {c₀ c : Context} (b : ℕ) (m : Terminal) (k : Block) (s : TerminalResult) → Entered t b F c₀ c → NotBranch t b → terminalAt t b ≡ m
-        → visitTerminal t values inner m b k c ≡ ok s → StepOk F b (c .stack) s
+    terminal-ok : {F : List Frame} {c₀ c : Context} (b : ℕ) (m : Terminal) (s : TerminalResult) → Entered t b F c₀ c → NotBranch t b → terminalAt t b ≡ m
+        → visitTerminal t values inner m b (blockAt t b) c ≡ ok s → StepOk F b (c .stack) s
     unfolding visitTerminal
-    terminal-ok b absent k s p nb e h = absurd (refused-ok h)
-    terminal-ok b unreachable k s p nb e h = absurd (subst (λ (m : Terminal). T (plainEnd m)) e (pl .ends b))
-    terminal-ok {F} {c₀} {c} b (throw v) k s p nb e h =
-        subst (λ (z : TerminalResult). StepOk F b (c .stack) z) (ok-eq h) (ends-here refl (bThrow v (k .id) e) (record { inv = p .inv; same = refl }))
-    terminal-ok {F} {c₀} {c} b (return v) k s p nb e h =
-        subst (λ (z : TerminalResult). StepOk F b (c .stack) z) (ok-eq h) (ends-here refl (bReturn v (k .id) e) (record { inv = p .inv; same = refl }))
-    terminal-ok b (goto g v) k s p nb e h = jump-ok b g (k .id) v s (subst (λ (m : Terminal). T (plainEnd m)) e (pl .ends b)) p e h
-    terminal-ok b (if x y a f) k s p nb e h = if-ok b x y a f k s p e h
-    terminal-ok b (branch x y a) k s p nb e h = absurd (some-none (sym (ap branchWays e) ∙ nb))
-    terminal-ok b (switch x i n f) k s p nb e h = absurd (subst (λ (m : Terminal). T (plainEnd m)) e (pl .ends b))
-    terminal-ok b (do-while l x f) k s p nb e h = absurd (subst (λ (m : Terminal). T (plainEnd m)) e (pl .ends b))
-    terminal-ok b (while x l f) k s p nb e h = while-ok b x l f k s p e h
-    terminal-ok b (for i x u l f) k s p nb e h = absurd (subst (λ (m : Terminal). T (plainEnd m)) e (pl .ends b))
-    terminal-ok b (for-of i x l f) k s p nb e h = absurd (subst (λ (m : Terminal). T (plainEnd m)) e (pl .ends b))
-    terminal-ok b (for-in i l f) k s p nb e h = absurd (subst (λ (m : Terminal). T (plainEnd m)) e (pl .ends b))
-    terminal-ok b (logical o x f) k s p nb e h = absurd (subst (λ (m : Terminal). T (plainEnd m)) e (pl .ends b))
-    terminal-ok b (ternary x f) k s p nb e h = absurd (subst (λ (m : Terminal). T (plainEnd m)) e (pl .ends b))
-    terminal-ok b (optional g x f) k s p nb e h = absurd (subst (λ (m : Terminal). T (plainEnd m)) e (pl .ends b))
-    terminal-ok b (label x f) k s p nb e h = label-ok b x f k s p e h
-    terminal-ok b (sequence x f) k s p nb e h = absurd (subst (λ (m : Terminal). T (plainEnd m)) e (pl .ends b))
-    terminal-ok b (maybe-throw n) k s p nb e h = absurd (subst (λ (m : Terminal). T (plainEnd m)) e (pl .ends b))
-    terminal-ok b (try x h′ f n) k s p nb e h = absurd (subst (λ (m : Terminal). T (plainEnd m)) e (pl .ends b))
-    terminal-ok b (scope pr x f n) k s p nb e h = scope-ok b pr x f n k s p e h
+    terminal-ok b absent s p nb e h = absurd (refused-ok h)
+    terminal-ok b unreachable s p nb e h = absurd (not-plain b e refl)
+    terminal-ok {F} {c₀} {c} b (throw v) s p nb e h =
+        subst (λ (z : TerminalResult). StepOk F b (c .stack) z) (ok-eq h) (ends-here refl (bThrow v e) (record { inv = p .inv; same = refl }))
+    terminal-ok {F} {c₀} {c} b (return v) s p nb e h =
+        subst (λ (z : TerminalResult). StepOk F b (c .stack) z) (ok-eq h) (ends-here refl (bReturn v e) (record { inv = p .inv; same = refl }))
+    terminal-ok b (goto g v) s p nb e h = jump-ok b g (blockAt t b .id) v s p e h
+    terminal-ok b (if x y a f) s p nb e h = if-ok b x y a f (blockAt t b) s p e h
+    terminal-ok b (branch x y a) s p nb e h = absurd (true-false (sym (ap isBranch e) ∙ nb))
+    terminal-ok b (switch x i n f) s p nb e h = absurd (not-plain b e refl)
+    terminal-ok b (do-while l x f) s p nb e h = absurd (not-plain b e refl)
+    terminal-ok b (while x l f) s p nb e h = while-ok b x l f (blockAt t b) s p e h
+    terminal-ok b (for i x u l f) s p nb e h = absurd (not-plain b e refl)
+    terminal-ok b (for-of i x l f) s p nb e h = absurd (not-plain b e refl)
+    terminal-ok b (for-in i l f) s p nb e h = absurd (not-plain b e refl)
+    terminal-ok b (logical o x f) s p nb e h = absurd (not-plain b e refl)
+    terminal-ok b (ternary x f) s p nb e h = absurd (not-plain b e refl)
+    terminal-ok b (optional g x f) s p nb e h = absurd (not-plain b e refl)
+    terminal-ok b (label x f) s p nb e h = label-ok b x f (blockAt t b) s p e h
+    terminal-ok b (sequence x f) s p nb e h = absurd (not-plain b e refl)
+    terminal-ok b (maybe-throw n) s p nb e h = absurd (not-plain b e refl)
+    terminal-ok b (try x h′ f n) s p nb e h = absurd (not-plain b e refl)
+    terminal-ok b (scope pr x f n) s p nb e h = scope-ok b pr x f n (blockAt t b) s p e h
 
     chain-ok : (n : ℕ) → WalkOk (visitBlock t values inner n)
     unfolding WalkOk visitBlock
@@ -414,7 +422,7 @@ module _ (t : Table) where
         let (c₁, h₁, k₁) = bind-ok (enterBlock t b c) _ r e in
         let (s, h₂, k₂) = bind-ok (visitTerminal t values inner (terminalAt t b) b (blockAt t b) c₁) _ r k₁ in
         let q : Entered t b F c c₁ = enter-ok t rg b c₁ p h₁ in
-        let m : Made F b (c₁ .stack) r = go-on-ok F b (c₁ .stack) (visitBlock t values inner n) s r (chain-ok n) (terminal-ok b (terminalAt t b) (blockAt t b) s q nb refl h₂) k₂ in
+        let m : Made F b (c₁ .stack) r = go-on-ok F b (c₁ .stack) (visitBlock t values inner n) s r (chain-ok n) (terminal-ok b (terminalAt t b) s q nb refl h₂) k₂ in
         record { tree = m .tree; left = and-then (m .left) (q .same) }
 
   module _ (pl : Plain t) (rg : Ranged t) where

@@ -1,10 +1,15 @@
 pub mod Tree
+pub mod Reading
 pub mod Result
 pub mod Context
 pub mod Value
 pub mod Statement
 pub mod Build
 pub mod Run
+pub mod BlockRun
+pub mod Completion
+pub mod TreeRun
 pub mod Plain
 pub mod Machine
 pub mod Slot
+pub mod RunLaw

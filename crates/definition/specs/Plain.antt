@@ -1,124 +1,114 @@
--- Plain tables, as the paper writes them, and the run law's statement.
-use mathlib.Core.Path.{_≡_, refl}
-use Prim.Native.Nat.{ℕ, zero, suc, _≤_, _<_}
+-- Paper 01, "Plain tables": the tables that the run law speaks of. Each field of `Plain` stands below the paper's sentence that it states.
+-- A block beyond the table is absent, so that "every block" needs no bound here.
+use mathlib.Core.Path.{_≡_}
+use Prim.Native.Nat.{ℕ, _≤_, _<_}
 use mathlib.Core.List.{List, [], _∷_}
 use mathlib.Core.Option.{Option, none, some}
-use mathlib.Core.Bool.{Bool, true, false}
+use mathlib.Core.Bool.{Bool, true, false, _||_}
 use lib.ListN.{length}
-use lib.Dec.{T}
-use Rattle.table.specs.Table.{Table, Block, Instruction, Operation, other, load-local, store-local, Terminal, absent, unreachable, throw, return, goto, if, branch, switch, do-while, while, for, for-of, for-in, logical, ternary, optional, sequence, maybe-throw, try, scope, Variant, Break, Continue, Try, blockAt, terminalAt, instructionAt, instructionRowsAt, label}
-use Rattle.definition.specs.Value.{branchWays, last}
+use lib.Dec.{eqb}
+use Rattle.table.specs.Table.{Table, Operation, other, load-local, store-local, Terminal, absent, unreachable, throw, return, goto, if, branch, switch, do-while, while, for, for-of, for-in, logical, ternary, optional, label, sequence, maybe-throw, try, scope, Try, codeOf, terminalAt, instructionAt, instructionRowsAt}
 
-abbrev pub isJump : Variant → Bool
-isJump Break = true
-isJump Continue = true
-isJump Try = false
+-- "If, While, Label, Scope, PrunedScope, Goto .., Return, Throw or Branch"; 0 is no block
+abbrev pub plainCodes : List ℕ
+plainCodes = 5 ∷ 9 ∷ 16 ∷ 20 ∷ 21 ∷ 4 ∷ 3 ∷ 2 ∷ 6 ∷ 0 ∷ []
 
--- the ends of a plain table's blocks
-abbrev pub plainEnd : Terminal → Bool
-plainEnd absent = true
-plainEnd unreachable = false
-plainEnd (throw v) = true
-plainEnd (return v) = true
-plainEnd (goto g v) = isJump v
-plainEnd (if x c a f) = true
-plainEnd (branch x c a) = true
-plainEnd (switch x i n f) = false
-plainEnd (do-while l x f) = false
-plainEnd (while x l f) = true
-plainEnd (for i x u l f) = false
-plainEnd (for-of i x l f) = false
-plainEnd (for-in i l f) = false
-plainEnd (logical o x f) = false
-plainEnd (ternary x f) = false
-plainEnd (optional g x f) = false
-plainEnd (label b f) = true
-plainEnd (sequence b f) = false
-plainEnd (maybe-throw k) = false
-plainEnd (try b h f n) = false
-plainEnd (scope p b f s) = true
+abbrev pub among : List ℕ → ℕ → Bool
+among [] n = false
+among (m ∷ ms) n = eqb m n || among ms n
 
--- the fallthrough of an end
-abbrev pub ftOf : Terminal → Option ℕ
-ftOf absent = none
-ftOf unreachable = none
-ftOf (throw v) = none
-ftOf (return v) = none
-ftOf (goto g v) = none
-ftOf (if x c a f) = some f
-ftOf (branch x c a) = none
-ftOf (switch x i n f) = some f
-ftOf (do-while l x f) = some f
-ftOf (while x l f) = some f
-ftOf (for i x u l f) = some f
-ftOf (for-of i x l f) = some f
-ftOf (for-in i l f) = some f
-ftOf (logical o x f) = some f
-ftOf (ternary x f) = some f
-ftOf (optional g x f) = some f
-ftOf (label b f) = some f
-ftOf (sequence b f) = some f
-ftOf (maybe-throw k) = none
-ftOf (try b h f n) = some f
-ftOf (scope p b f s) = some f
+abbrev pub isBranch : Terminal → Bool
+isBranch terminal = eqb (codeOf terminal) 6
 
--- the blocks that an end names, but for a Goto's block and a While's test
-abbrev pub partsOf : Terminal → List ℕ
-partsOf absent = []
-partsOf unreachable = []
-partsOf (throw v) = []
-partsOf (return v) = []
-partsOf (goto g v) = []
-partsOf (if x c a f) = c ∷ a ∷ f ∷ []
-partsOf (branch x c a) = c ∷ a ∷ []
-partsOf (switch x i n f) = []
-partsOf (do-while l x f) = []
-partsOf (while x l f) = l ∷ f ∷ []
-partsOf (for i x u l f) = []
-partsOf (for-of i x l f) = []
-partsOf (for-in i l f) = []
-partsOf (logical o x f) = []
-partsOf (ternary x f) = []
-partsOf (optional g x f) = []
-partsOf (label b f) = b ∷ f ∷ []
-partsOf (sequence b f) = []
-partsOf (maybe-throw k) = []
-partsOf (try b h f n) = []
-partsOf (scope p b f s) = b ∷ f ∷ []
+-- the fallthrough that a terminal names
+abbrev pub fallthroughOf : Terminal → Option ℕ
+fallthroughOf absent = none
+fallthroughOf unreachable = none
+fallthroughOf (throw value) = none
+fallthroughOf (return value) = none
+fallthroughOf (goto block variant) = none
+fallthroughOf (if test consequent alternate fallthrough) = some fallthrough
+fallthroughOf (branch test consequent alternate) = none
+fallthroughOf (switch test first number fallthrough) = some fallthrough
+fallthroughOf (do-while loop test fallthrough) = some fallthrough
+fallthroughOf (while test loop fallthrough) = some fallthrough
+fallthroughOf (for init test update loop fallthrough) = some fallthrough
+fallthroughOf (for-of init test loop fallthrough) = some fallthrough
+fallthroughOf (for-in init loop fallthrough) = some fallthrough
+fallthroughOf (logical operator test fallthrough) = some fallthrough
+fallthroughOf (ternary test fallthrough) = some fallthrough
+fallthroughOf (optional flag test fallthrough) = some fallthrough
+fallthroughOf (label block fallthrough) = some fallthrough
+fallthroughOf (sequence block fallthrough) = some fallthrough
+fallthroughOf (maybe-throw continuation) = none
+fallthroughOf (try block handler fallthrough binding) = some fallthrough
+fallthroughOf (scope pruned block fallthrough number) = some fallthrough
 
-abbrev pub All : (ℕ → Type 0) → List ℕ → Type 0
-All P [] = Unit {0}
-All P (x ∷ xs) = P x × All P xs
+-- The blocks that a terminal names otherwise than as a Goto's block or a While's test. (For terminals that no plain table has, those are
+-- left out that the first field shuts out anyway.)
+abbrev pub otherNames : Terminal → List ℕ
+otherNames absent = []
+otherNames unreachable = []
+otherNames (throw value) = []
+otherNames (return value) = []
+otherNames (goto block variant) = []
+otherNames (if test consequent alternate fallthrough) = consequent ∷ alternate ∷ fallthrough ∷ []
+otherNames (branch test consequent alternate) = consequent ∷ alternate ∷ []
+otherNames (switch test first number fallthrough) = []
+otherNames (do-while loop test fallthrough) = []
+otherNames (while test loop fallthrough) = loop ∷ fallthrough ∷ []
+otherNames (for init test update loop fallthrough) = []
+otherNames (for-of init test loop fallthrough) = []
+otherNames (for-in init loop fallthrough) = []
+otherNames (logical operator test fallthrough) = []
+otherNames (ternary test fallthrough) = []
+otherNames (optional flag test fallthrough) = []
+otherNames (label block fallthrough) = block ∷ fallthrough ∷ []
+otherNames (sequence block fallthrough) = []
+otherNames (maybe-throw continuation) = []
+otherNames (try block handler fallthrough binding) = []
+otherNames (scope pruned block fallthrough number) = block ∷ fallthrough ∷ []
 
 abbrev pub isStore : Operation → Bool
 isStore other = false
-isStore (load-local p) = false
-isStore (store-local p q) = true
+isStore (load-local place) = false
+isStore (store-local storedTo storedValue) = true
 
--- the last of some rows is no StoreLocal
-abbrev pub noStore : Table → List ℕ → Type 0
-noStore t [] = Unit {0}
-noStore t (r ∷ rs) = isStore (instructionAt t (last r rs) .operation) ≡ false
+-- whether the last of some instruction rows is a StoreLocal
+abbrev pub endsInStore : Table → List ℕ → Bool
+endsInStore t [] = false
+endsInStore t (row ∷ []) = isStore (instructionAt t row .operation)
+endsInStore t (row ∷ next ∷ rows) = endsInStore t (next ∷ rows)
 
 abbrev pub NotBranch : Table → ℕ → Type 0
-NotBranch t b = branchWays (terminalAt t b) ≡ none
+NotBranch t block = isBranch (terminalAt t block) ≡ false
+
+abbrev pub All : (ℕ → Type 0) → List ℕ → Type 0
+All P [] = Unit {0}
+All P (n ∷ ns) = P n × All P ns
 
 pub record Plain (t : Table) : Type 0 where
-  pub ends : (b : ℕ) → T (plainEnd (terminalAt t b))
-  -- a While's test is a Branch, whose ways are the While's loop and fallthrough
-  pub tests : (b x l f : ℕ) → terminalAt t b ≡ while x l f → (y : ℕ) × (terminalAt t x ≡ branch y l f)
-  -- a Branch is the test of one While, and nothing else names it but a Goto
-  pub branches : (x y c a : ℕ) → terminalAt t x ≡ branch y c a → (b : ℕ) × (terminalAt t b ≡ while x c a)
-  pub one-while : (b b′ x l f l′ f′ : ℕ) → terminalAt t b ≡ while x l f → terminalAt t b′ ≡ while x l′ f′ → b ≡ b′
+  -- "Every present block ends in If, While, Label, Scope, PrunedScope, Goto Break or Continue, Return, Throw or Branch."
+  pub ends : (block : ℕ) → among plainCodes (codeOf (terminalAt t block)) ≡ true
+  pub no-goto-try : (block target : ℕ) → terminalAt t block ≡ goto target Try → ⊥
+  -- "Each While's test is a Branch block." With the ways that the next sentence but one gives it
+  pub tests : (block test loop fallthrough : ℕ) → terminalAt t block ≡ while test loop fallthrough → (place : ℕ) × (terminalAt t test ≡ branch place loop fallthrough)
+  -- "A Branch block is not the entry"
   pub entry : NotBranch t (t .entry)
-  pub parts : (b : ℕ) → All (NotBranch t) (partsOf (terminalAt t b))
-  pub stores : (x y c a : ℕ) → terminalAt t x ≡ branch y c a → noStore t (instructionRowsAt t x)
-  -- no block is the fallthrough of two, and no fallthrough is a loop block or a test
-  pub one-ft : (b b′ f : ℕ) → ftOf (terminalAt t b) ≡ some f → ftOf (terminalAt t b′) ≡ some f → b ≡ b′
-  pub no-loop : (b f w x l g : ℕ) → ftOf (terminalAt t b) ≡ some f → terminalAt t w ≡ while x l g → f ≡ l → ⊥
-  pub no-test : (b f w x l g : ℕ) → ftOf (terminalAt t b) ≡ some f → terminalAt t w ≡ while x l g → f ≡ x → ⊥
+  -- "and is named only by one While as its test, and by Gotos; its consequent is that While's loop, its alternate that While's ft;":
+  -- there is that While; there is one; and nothing else names a Branch block
+  pub branches : (block place consequent alternate : ℕ) → terminalAt t block ≡ branch place consequent alternate → (named-by : ℕ) × (terminalAt t named-by ≡ while block consequent alternate)
+  pub one-while : (block block′ test loop loop′ fallthrough fallthrough′ : ℕ) → terminalAt t block ≡ while test loop fallthrough → terminalAt t block′ ≡ while test loop′ fallthrough′ → block ≡ block′
+  pub names : (block : ℕ) → All (NotBranch t) (otherNames (terminalAt t block))
+  -- "its last instruction is no StoreLocal."
+  pub no-store : (block place consequent alternate : ℕ) → terminalAt t block ≡ branch place consequent alternate → endsInStore t (instructionRowsAt t block) ≡ false
+  -- "No block is the ft of two blocks,"
+  pub one-fallthrough : (block block′ fallthrough : ℕ) → fallthroughOf (terminalAt t block) ≡ some fallthrough → fallthroughOf (terminalAt t block′) ≡ some fallthrough → block ≡ block′
+  -- "and no ft is a loop block or test."
+  pub no-loop : (block fallthrough loop-of test loop fallthrough′ : ℕ) → fallthroughOf (terminalAt t block) ≡ some fallthrough → terminalAt t loop-of ≡ while test loop fallthrough′ → fallthrough ≡ loop → ⊥
+  pub no-test : (block fallthrough loop-of test loop fallthrough′ : ℕ) → fallthroughOf (terminalAt t block) ≡ some fallthrough → terminalAt t loop-of ≡ while test loop fallthrough′ → fallthrough ≡ test → ⊥
 
 -- what the check of the words promises of the blocks
 pub record Ranged (t : Table) : Type 0 where
   pub few : length (t .blocks) ≤ 1024
-  pub fts : (b f : ℕ) → ftOf (terminalAt t b) ≡ some f → f < length (t .blocks)
+  pub fallthroughs : (block fallthrough : ℕ) → fallthroughOf (terminalAt t block) ≡ some fallthrough → fallthrough < length (t .blocks)

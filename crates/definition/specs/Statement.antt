@@ -201,7 +201,8 @@ visitValueStatement t visit terminal at block fallthrough cx =
     unscheduleIf taken (cx .nextId) (withVisits (result .visits) inside) >>= λ after.
     ok (record { statement = some (INSTR (result .id) (result .place) (block .span) (result .value)); next = taken; context = after })
 
--- the terminal of the block `at`, which has been entered. `visit` and `traverse` are the walks one level deeper; the label is the fallthrough taken
+-- the terminal of the block `at`, which has been entered (so it is present, and 99 is never given). `visit` and `traverse` are the walks one
+-- level deeper; the label is the fallthrough taken
 unfoldable pub visitTerminal : Table → VisitValueBlock → TraverseBlock → Terminal → (at : ℕ) → Block → Context → Result TerminalResult
 visitTerminal t visit traverse absent at block cx = refused 99 at (cx .visits)
 visitTerminal t visit traverse unreachable at block cx = ok (record { statement = none; next = none; context = cx })

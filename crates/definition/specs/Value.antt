@@ -239,31 +239,37 @@ maybeThrowValue t visit number continuation rows fallthrough span visits false =
     visit continuation fallthrough span visits >>= λ final.
     ok (record { block = final .block; place = final .place; value = wrapWithSequence t rows (final .id) (final .value); id = final .id; visits = final .visits })
 
--- by the terminal of the block `number`, which is present and not the fallthrough. "24 empty Goto value block (named)"
-unfoldable pub visitValueBlockAt : Table → VisitValueBlock → Terminal → ℕ → Block → Option ℕ → (span visits : ℕ) → Result ValueBlockResult
-visitValueBlockAt t visit absent number block ft span visits = thenFallthrough t visit number block span (visitValueBlockTerminal t visit absent (block .id) (block .span) visits number)
-visitValueBlockAt t visit unreachable number block ft span visits = thenFallthrough t visit number block span (visitValueBlockTerminal t visit unreachable (block .id) (block .span) visits number)
-visitValueBlockAt t visit (throw x) number block ft span visits = thenFallthrough t visit number block span (visitValueBlockTerminal t visit (throw x) (block .id) (block .span) visits number)
-visitValueBlockAt t visit (return x) number block ft span visits = thenFallthrough t visit number block span (visitValueBlockTerminal t visit (return x) (block .id) (block .span) visits number)
-visitValueBlockAt t visit (goto target variant) number block ft span visits = extractOrRefuse t number (instructionRows block) visits 24 number
-visitValueBlockAt t visit (if x y a f) number block ft span visits = thenFallthrough t visit number block span (visitValueBlockTerminal t visit (if x y a f) (block .id) (block .span) visits number)
-visitValueBlockAt t visit (branch test y a) number block ft span visits = branchValue t number test (block .id) (instructionRows block) visits
-visitValueBlockAt t visit (switch x i n f) number block ft span visits = thenFallthrough t visit number block span (visitValueBlockTerminal t visit (switch x i n f) (block .id) (block .span) visits number)
-visitValueBlockAt t visit (do-while l x f) number block ft span visits = thenFallthrough t visit number block span (visitValueBlockTerminal t visit (do-while l x f) (block .id) (block .span) visits number)
-visitValueBlockAt t visit (while x l f) number block ft span visits = thenFallthrough t visit number block span (visitValueBlockTerminal t visit (while x l f) (block .id) (block .span) visits number)
-visitValueBlockAt t visit (for i x u l f) number block ft span visits = thenFallthrough t visit number block span (visitValueBlockTerminal t visit (for i x u l f) (block .id) (block .span) visits number)
-visitValueBlockAt t visit (for-of i x l f) number block ft span visits = thenFallthrough t visit number block span (visitValueBlockTerminal t visit (for-of i x l f) (block .id) (block .span) visits number)
-visitValueBlockAt t visit (for-in i l f) number block ft span visits = thenFallthrough t visit number block span (visitValueBlockTerminal t visit (for-in i l f) (block .id) (block .span) visits number)
-visitValueBlockAt t visit (logical o x f) number block ft span visits = thenFallthrough t visit number block span (visitValueBlockTerminal t visit (logical o x f) (block .id) (block .span) visits number)
-visitValueBlockAt t visit (ternary x f) number block ft span visits = thenFallthrough t visit number block span (visitValueBlockTerminal t visit (ternary x f) (block .id) (block .span) visits number)
-visitValueBlockAt t visit (optional g x f) number block ft span visits = thenFallthrough t visit number block span (visitValueBlockTerminal t visit (optional g x f) (block .id) (block .span) visits number)
-visitValueBlockAt t visit (label x f) number block ft span visits = thenFallthrough t visit number block span (visitValueBlockTerminal t visit (label x f) (block .id) (block .span) visits number)
-visitValueBlockAt t visit (sequence x f) number block ft span visits = thenFallthrough t visit number block span (visitValueBlockTerminal t visit (sequence x f) (block .id) (block .span) visits number)
-visitValueBlockAt t visit (maybe-throw continuation) number block ft span visits =
+-- a block that ends in a value terminal, or in one that a value block must not have
+abbrev pub visitValueTerminal : Table → VisitValueBlock → Terminal → ℕ → Block → (span visits : ℕ) → Result ValueBlockResult
+visitValueTerminal t visit terminal number block span visits =
+    thenFallthrough t visit number block span (visitValueBlockTerminal t visit terminal (block .id) (block .span) visits number)
+
+-- by the terminal of the block `number`, which is present and not `outer`, the fallthrough that must not be reached.
+-- "24 empty Goto value block (named)". "That continuation is looked up first, before any visit: 10 if missing."
+unfoldable pub visitValueBlockAt : Table → VisitValueBlock → Terminal → ℕ → Block → (outer : Option ℕ) → (span visits : ℕ) → Result ValueBlockResult
+visitValueBlockAt t visit absent number block outer span visits = visitValueTerminal t visit absent number block span visits
+visitValueBlockAt t visit unreachable number block outer span visits = visitValueTerminal t visit unreachable number block span visits
+visitValueBlockAt t visit (throw value) number block outer span visits = visitValueTerminal t visit (throw value) number block span visits
+visitValueBlockAt t visit (return value) number block outer span visits = visitValueTerminal t visit (return value) number block span visits
+visitValueBlockAt t visit (goto target variant) number block outer span visits = extractOrRefuse t number (instructionRows block) visits 24 number
+visitValueBlockAt t visit (if test consequent alternate fallthrough) number block outer span visits = visitValueTerminal t visit (if test consequent alternate fallthrough) number block span visits
+visitValueBlockAt t visit (branch test consequent alternate) number block outer span visits = branchValue t number test (block .id) (instructionRows block) visits
+visitValueBlockAt t visit (switch test first cases fallthrough) number block outer span visits = visitValueTerminal t visit (switch test first cases fallthrough) number block span visits
+visitValueBlockAt t visit (do-while loop test fallthrough) number block outer span visits = visitValueTerminal t visit (do-while loop test fallthrough) number block span visits
+visitValueBlockAt t visit (while test loop fallthrough) number block outer span visits = visitValueTerminal t visit (while test loop fallthrough) number block span visits
+visitValueBlockAt t visit (for init test update loop fallthrough) number block outer span visits = visitValueTerminal t visit (for init test update loop fallthrough) number block span visits
+visitValueBlockAt t visit (for-of init test loop fallthrough) number block outer span visits = visitValueTerminal t visit (for-of init test loop fallthrough) number block span visits
+visitValueBlockAt t visit (for-in init loop fallthrough) number block outer span visits = visitValueTerminal t visit (for-in init loop fallthrough) number block span visits
+visitValueBlockAt t visit (logical operator test fallthrough) number block outer span visits = visitValueTerminal t visit (logical operator test fallthrough) number block span visits
+visitValueBlockAt t visit (ternary test fallthrough) number block outer span visits = visitValueTerminal t visit (ternary test fallthrough) number block span visits
+visitValueBlockAt t visit (optional flag test fallthrough) number block outer span visits = visitValueTerminal t visit (optional flag test fallthrough) number block span visits
+visitValueBlockAt t visit (label body fallthrough) number block outer span visits = visitValueTerminal t visit (label body fallthrough) number block span visits
+visitValueBlockAt t visit (sequence body fallthrough) number block outer span visits = visitValueTerminal t visit (sequence body fallthrough) number block span visits
+visitValueBlockAt t visit (maybe-throw continuation) number block outer span visits =
     refuseIf (isAbsent (terminalAt t continuation)) 10 continuation visits >>= λ _.
-    maybeThrowValue t visit number continuation (instructionRows block) ft span visits (isEmptyGoto (blockAt t continuation))
-visitValueBlockAt t visit (try x h f n) number block ft span visits = thenFallthrough t visit number block span (visitValueBlockTerminal t visit (try x h f n) (block .id) (block .span) visits number)
-visitValueBlockAt t visit (scope p x f s) number block ft span visits = thenFallthrough t visit number block span (visitValueBlockTerminal t visit (scope p x f s) (block .id) (block .span) visits number)
+    maybeThrowValue t visit number continuation (instructionRows block) outer span visits (isEmptyGoto (blockAt t continuation))
+visitValueBlockAt t visit (try body handler fallthrough binding) number block outer span visits = visitValueTerminal t visit (try body handler fallthrough binding) number block span visits
+visitValueBlockAt t visit (scope pruned body fallthrough scoped) number block outer span visits = visitValueTerminal t visit (scope pruned body fallthrough scoped) number block span visits
 
 abbrev pub isThis : Option ℕ → ℕ → Bool
 isThis none block = false

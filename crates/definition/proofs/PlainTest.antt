@@ -1,0 +1,425 @@
+-- A Boolean test of plainness, and that it holds exactly of the plain tables: a table is shown plain by computation.
+use mathlib.Core.Path.{_≡_, refl, sym, ap, _∙_, subst}
+use mathlib.Core.Logic.{_↔_}
+use Prim.Native.Nat.{ℕ, zero, suc}
+use mathlib.Core.List.{List, [], _∷_}
+use mathlib.Core.Option.{Option, none, some}
+use mathlib.Core.Bool.{Bool, true, false, not, _&&_, _||_}
+use native.Mathlib.Omega.{arith}
+use lib.ListN.{getD}
+use lib.Dec.{eqb}
+use borrow.Author.Tests.{eqb-true, eq-eqb, ne-eqb}
+use Rattle.table.specs.Table.{Table, Block, noBlock, Terminal, absent, unreachable, throw, return, goto, if, branch, switch, do-while, while, for, for-of, for-in, logical, ternary, optional, label, sequence, maybe-throw, try, scope, Break, Continue, Try, codeOf, terminalAt, instructionRowsAt}
+use Rattle.definition.specs.Plain.{Plain, plainCodes, among, isBranch, fallthroughOf, otherNames, endsInStore, NotBranch, All}
+use Rattle.definition.proofs.Tools.{true-false}
+
+-- ---- the test
+
+-- of every block, and of some block: its number and its terminal
+abbrev pub everyOf : List Block → (ℕ → Terminal → Bool) → Bool
+everyOf [] test = true
+everyOf (block ∷ blocks) test = test 0 (block .terminal) && everyOf blocks (λ n. test (suc n))
+
+abbrev pub someOf : List Block → (ℕ → Terminal → Bool) → Bool
+someOf [] test = false
+someOf (block ∷ blocks) test = test 0 (block .terminal) || someOf blocks (λ n. test (suc n))
+
+-- the terminals that the conditions speak of
+pub data Shape : Type 0 where
+  a-while : (test loop fallthrough : ℕ) → Shape
+  a-branch : (place consequent alternate : ℕ) → Shape
+  a-goto-try : Shape
+  another : Shape
+
+abbrev pub shapeOf : Terminal → Shape
+shapeOf absent = another
+shapeOf unreachable = another
+shapeOf (throw v) = another
+shapeOf (return v) = another
+shapeOf (goto g Break) = another
+shapeOf (goto g Continue) = another
+shapeOf (goto g Try) = a-goto-try
+shapeOf (if x y z f) = another
+shapeOf (branch x y z) = a-branch x y z
+shapeOf (switch x i n f) = another
+shapeOf (do-while l x f) = another
+shapeOf (while x l f) = a-while x l f
+shapeOf (for i x u l f) = another
+shapeOf (for-of i x l f) = another
+shapeOf (for-in i l f) = another
+shapeOf (logical o x f) = another
+shapeOf (ternary x f) = another
+shapeOf (optional o x f) = another
+shapeOf (label x f) = another
+shapeOf (sequence x f) = another
+shapeOf (maybe-throw n) = another
+shapeOf (try x k f n) = another
+shapeOf (scope p x f n) = another
+
+abbrev pub isWhile : (test loop fallthrough : ℕ) → Shape → Bool
+isWhile x l f (a-while x′ l′ f′) = eqb x′ x && eqb l′ l && eqb f′ f
+isWhile x l f (a-branch p c a) = false
+isWhile x l f a-goto-try = false
+isWhile x l f another = false
+
+abbrev pub isBranchTo : (consequent alternate : ℕ) → Shape → Bool
+isBranchTo c a (a-while x l f) = false
+isBranchTo c a (a-branch p c′ a′) = eqb c′ c && eqb a′ a
+isBranchTo c a a-goto-try = false
+isBranchTo c a another = false
+
+abbrev pub notOfLoop : ℕ → Shape → Bool
+notOfLoop f (a-while x l g) = not (eqb f l) && not (eqb f x)
+notOfLoop f (a-branch p c a) = true
+notOfLoop f a-goto-try = true
+notOfLoop f another = true
+
+abbrev pub isThis : ℕ → Option ℕ → Bool
+isThis f none = false
+isThis f (some g) = eqb g f
+
+module _ (t : Table) where
+  abbrev pub noBranches : List ℕ → Bool
+  noBranches [] = true
+  noBranches (n ∷ ns) = not (isBranch (terminalAt t n)) && noBranches ns
+
+  -- a While's test goes to its loop and its fallthrough; a Branch is some While's test, and does not end in a store
+  abbrev pub shapeTest : ℕ → Shape → Bool
+  shapeTest b (a-while x l f) = isBranchTo l f (shapeOf (terminalAt t x))
+  shapeTest b (a-branch p c a) = someOf (t .blocks) (λ w m. isWhile b c a (shapeOf m)) && not (endsInStore t (instructionRowsAt t b))
+  shapeTest b a-goto-try = false
+  shapeTest b another = true
+
+  -- a fallthrough is no other block's, and no loop's
+  abbrev pub fallthroughTest : ℕ → Option ℕ → Bool
+  fallthroughTest b none = true
+  fallthroughTest b (some f) = everyOf (t .blocks) (λ c m. eqb b c || not (isThis f (fallthroughOf m))) && everyOf (t .blocks) (λ w m. notOfLoop f (shapeOf m))
+
+  abbrev pub blockTest : ℕ → Terminal → Bool
+  blockTest b m = among plainCodes (codeOf m) && (noBranches (otherNames m) && (shapeTest b (shapeOf m) && fallthroughTest b (fallthroughOf m)))
+
+  abbrev pub isPlain : Bool
+  isPlain = not (isBranch (terminalAt t (t .entry))) && everyOf (t .blocks) (λ b m. blockTest b m)
+
+-- ---- Booleans
+
+and-left : (a b : Bool) → a && b ≡ true → a ≡ true
+and-left true b h = refl
+and-left false b h = h
+
+and-right : (a b : Bool) → a && b ≡ true → b ≡ true
+and-right true b h = h
+and-right false b h = absurd (true-false (sym h))
+
+and-both : (a b : Bool) → a ≡ true → b ≡ true → a && b ≡ true
+and-both true b h k = k
+and-both false b h k = h
+
+or-else : (a b : Bool) → a || b ≡ true → (a ≡ false → b ≡ true)
+or-else true b h e = absurd (true-false e)
+or-else false b h e = h
+
+or-left : (a b : Bool) → a ≡ true → a || b ≡ true
+or-left true b h = refl
+or-left false b h = absurd (true-false (sym h))
+
+or-right : (a b : Bool) → b ≡ true → a || b ≡ true
+or-right true b h = refl
+or-right false b h = h
+
+not-is : (a : Bool) → not a ≡ true → a ≡ false
+not-is true h = sym h
+not-is false h = refl
+
+is-not : (a : Bool) → a ≡ false → not a ≡ true
+is-not true h = sym h
+is-not false h = refl
+
+is-not-when : (a : Bool) → (a ≡ true → ⊥) → not a ≡ true
+is-not-when true n = absurd (n refl)
+is-not-when false n = refl
+
+by-cases : {P : Type 0} (a : Bool) → (a ≡ true → P) → (a ≡ false → P) → P
+by-cases true f g = f refl
+by-cases false f g = g refl
+
+-- ---- every block and some block
+
+every-at : (bs : List Block) (p : ℕ → Terminal → Bool) → ((c : ℕ) → p c absent ≡ true) → everyOf bs p ≡ true → (c : ℕ) → p c (getD bs c noBlock .terminal) ≡ true
+every-at [] p q h c = q c
+every-at (k ∷ ks) p q h zero = and-left (p 0 (k .terminal)) (everyOf ks (λ n. p (suc n))) h
+every-at (k ∷ ks) p q h (suc c) = every-at ks (λ n. p (suc n)) (λ n. q (suc n)) (and-right (p 0 (k .terminal)) (everyOf ks (λ n. p (suc n))) h) c
+
+every-of : (bs : List Block) (p : ℕ → Terminal → Bool) → ((c : ℕ) → p c (getD bs c noBlock .terminal) ≡ true) → everyOf bs p ≡ true
+every-of [] p h = refl
+every-of (k ∷ ks) p h = and-both (p 0 (k .terminal)) (everyOf ks (λ n. p (suc n))) (h 0) (every-of ks (λ n. p (suc n)) (λ c. h (suc c)))
+
+some-at : (bs : List Block) (p : ℕ → Terminal → Bool) → someOf bs p ≡ true → (c : ℕ) × (p c (getD bs c noBlock .terminal) ≡ true)
+some-at [] p h = absurd (true-false (sym h))
+some-at (k ∷ ks) p h =
+    by-cases (p 0 (k .terminal)) (λ e. (0, e))
+      (λ e. let (c, q) = some-at ks (λ n. p (suc n)) (or-else (p 0 (k .terminal)) (someOf ks (λ n. p (suc n))) h e) in (suc c, q))
+
+some-of : (bs : List Block) (p : ℕ → Terminal → Bool) → ((c : ℕ) → p c absent ≡ false) → (c : ℕ) → p c (getD bs c noBlock .terminal) ≡ true → someOf bs p ≡ true
+some-of [] p q c h = absurd (true-false (sym h ∙ q c))
+some-of (k ∷ ks) p q zero h = or-left (p 0 (k .terminal)) (someOf ks (λ n. p (suc n))) h
+some-of (k ∷ ks) p q (suc c) h = or-right (p 0 (k .terminal)) (someOf ks (λ n. p (suc n))) (some-of ks (λ n. p (suc n)) (λ n. q (suc n)) c h)
+
+-- ---- the shapes
+
+while-of : (x′ l′ f′ : ℕ) (m : Terminal) → isWhile x′ l′ f′ (shapeOf m) ≡ true → m ≡ while x′ l′ f′
+while-of x′ l′ f′ absent h = absurd (true-false (sym h))
+while-of x′ l′ f′ unreachable h = absurd (true-false (sym h))
+while-of x′ l′ f′ (throw v) h = absurd (true-false (sym h))
+while-of x′ l′ f′ (return v) h = absurd (true-false (sym h))
+while-of x′ l′ f′ (goto g Break) h = absurd (true-false (sym h))
+while-of x′ l′ f′ (goto g Continue) h = absurd (true-false (sym h))
+while-of x′ l′ f′ (goto g Try) h = absurd (true-false (sym h))
+while-of x′ l′ f′ (if x y z f) h = absurd (true-false (sym h))
+while-of x′ l′ f′ (branch x y z) h = absurd (true-false (sym h))
+while-of x′ l′ f′ (switch x i n f) h = absurd (true-false (sym h))
+while-of x′ l′ f′ (do-while l x f) h = absurd (true-false (sym h))
+while-of x′ l′ f′ (while x l f) h =
+    cc (eqb-true x x′ (and-left (eqb x x′) (eqb l l′) (and-left (eqb x x′ && eqb l l′) (eqb f f′) h)),
+      eqb-true l l′ (and-right (eqb x x′) (eqb l l′) (and-left (eqb x x′ && eqb l l′) (eqb f f′) h)), eqb-true f f′ (and-right (eqb x x′ && eqb l l′) (eqb f f′) h))
+while-of x′ l′ f′ (for i x u l f) h = absurd (true-false (sym h))
+while-of x′ l′ f′ (for-of i x l f) h = absurd (true-false (sym h))
+while-of x′ l′ f′ (for-in i l f) h = absurd (true-false (sym h))
+while-of x′ l′ f′ (logical o x f) h = absurd (true-false (sym h))
+while-of x′ l′ f′ (ternary x f) h = absurd (true-false (sym h))
+while-of x′ l′ f′ (optional o x f) h = absurd (true-false (sym h))
+while-of x′ l′ f′ (label x f) h = absurd (true-false (sym h))
+while-of x′ l′ f′ (sequence x f) h = absurd (true-false (sym h))
+while-of x′ l′ f′ (maybe-throw n) h = absurd (true-false (sym h))
+while-of x′ l′ f′ (try x k f n) h = absurd (true-false (sym h))
+while-of x′ l′ f′ (scope p x f n) h = absurd (true-false (sym h))
+
+is-while : (x l f : ℕ) (m : Terminal) → m ≡ while x l f → isWhile x l f (shapeOf m) ≡ true
+is-while x l f m e =
+    ap (λ (z : Terminal). isWhile x l f (shapeOf z)) e
+    ∙ and-both (eqb x x && eqb l l) (eqb f f) (and-both (eqb x x) (eqb l l) (eq-eqb x x refl) (eq-eqb l l refl)) (eq-eqb f f refl)
+
+branch-of : (c a : ℕ) (m : Terminal) → isBranchTo c a (shapeOf m) ≡ true → (p : ℕ) × (m ≡ branch p c a)
+branch-of c′ a′ absent h = absurd (true-false (sym h))
+branch-of c′ a′ unreachable h = absurd (true-false (sym h))
+branch-of c′ a′ (throw v) h = absurd (true-false (sym h))
+branch-of c′ a′ (return v) h = absurd (true-false (sym h))
+branch-of c′ a′ (goto g Break) h = absurd (true-false (sym h))
+branch-of c′ a′ (goto g Continue) h = absurd (true-false (sym h))
+branch-of c′ a′ (goto g Try) h = absurd (true-false (sym h))
+branch-of c′ a′ (if x y z f) h = absurd (true-false (sym h))
+branch-of c′ a′ (branch x y z) h = (x, cc (eqb-true y c′ (and-left (eqb y c′) (eqb z a′) h), eqb-true z a′ (and-right (eqb y c′) (eqb z a′) h)))
+branch-of c′ a′ (switch x i n f) h = absurd (true-false (sym h))
+branch-of c′ a′ (do-while l x f) h = absurd (true-false (sym h))
+branch-of c′ a′ (while x l f) h = absurd (true-false (sym h))
+branch-of c′ a′ (for i x u l f) h = absurd (true-false (sym h))
+branch-of c′ a′ (for-of i x l f) h = absurd (true-false (sym h))
+branch-of c′ a′ (for-in i l f) h = absurd (true-false (sym h))
+branch-of c′ a′ (logical o x f) h = absurd (true-false (sym h))
+branch-of c′ a′ (ternary x f) h = absurd (true-false (sym h))
+branch-of c′ a′ (optional o x f) h = absurd (true-false (sym h))
+branch-of c′ a′ (label x f) h = absurd (true-false (sym h))
+branch-of c′ a′ (sequence x f) h = absurd (true-false (sym h))
+branch-of c′ a′ (maybe-throw n) h = absurd (true-false (sym h))
+branch-of c′ a′ (try x k f n) h = absurd (true-false (sym h))
+branch-of c′ a′ (scope p x f n) h = absurd (true-false (sym h))
+
+is-branch-to : (p c a : ℕ) (m : Terminal) → m ≡ branch p c a → isBranchTo c a (shapeOf m) ≡ true
+is-branch-to p c a m e = ap (λ (z : Terminal). isBranchTo c a (shapeOf z)) e ∙ and-both (eqb c c) (eqb a a) (eq-eqb c c refl) (eq-eqb a a refl)
+
+not-of-loop : (g : ℕ) (m : Terminal) → ((x l f : ℕ) → m ≡ while x l f → g ≡ l → ⊥) → ((x l f : ℕ) → m ≡ while x l f → g ≡ x → ⊥) → notOfLoop g (shapeOf m) ≡ true
+not-of-loop g′ absent no-l no-x = refl
+not-of-loop g′ unreachable no-l no-x = refl
+not-of-loop g′ (throw v) no-l no-x = refl
+not-of-loop g′ (return v) no-l no-x = refl
+not-of-loop g′ (goto g Break) no-l no-x = refl
+not-of-loop g′ (goto g Continue) no-l no-x = refl
+not-of-loop g′ (goto g Try) no-l no-x = refl
+not-of-loop g′ (if x y z f) no-l no-x = refl
+not-of-loop g′ (branch x y z) no-l no-x = refl
+not-of-loop g′ (switch x i n f) no-l no-x = refl
+not-of-loop g′ (do-while l x f) no-l no-x = refl
+not-of-loop g′ (while x l f) no-l no-x =
+    and-both (not (eqb g′ l)) (not (eqb g′ x)) (is-not (eqb g′ l) (ne-eqb g′ l (no-l x l f refl))) (is-not (eqb g′ x) (ne-eqb g′ x (no-x x l f refl)))
+not-of-loop g′ (for i x u l f) no-l no-x = refl
+not-of-loop g′ (for-of i x l f) no-l no-x = refl
+not-of-loop g′ (for-in i l f) no-l no-x = refl
+not-of-loop g′ (logical o x f) no-l no-x = refl
+not-of-loop g′ (ternary x f) no-l no-x = refl
+not-of-loop g′ (optional o x f) no-l no-x = refl
+not-of-loop g′ (label x f) no-l no-x = refl
+not-of-loop g′ (sequence x f) no-l no-x = refl
+not-of-loop g′ (maybe-throw n) no-l no-x = refl
+not-of-loop g′ (try x k f n) no-l no-x = refl
+not-of-loop g′ (scope p x f n) no-l no-x = refl
+
+is-this : (f : ℕ) (o : Option ℕ) → isThis f o ≡ true → o ≡ some f
+is-this f none h = absurd (true-false (sym h))
+is-this f (some g) h = ap some (eqb-true g f h)
+
+this-is : (f : ℕ) (o : Option ℕ) → o ≡ some f → isThis f o ≡ true
+this-is f o e = ap (λ (z : Option ℕ). isThis f z) e ∙ eq-eqb f f refl
+
+some-eq : {x y : ℕ} → some x ≡ some y → x ≡ y
+some-eq e = cc
+
+module _ (t : Table) where
+  branches-none : (ns : List ℕ) → noBranches t ns ≡ true → All (NotBranch t) ns
+  branches-none [] h = tt
+  branches-none (n ∷ ns) h =
+      (not-is (isBranch (terminalAt t n)) (and-left (not (isBranch (terminalAt t n))) (noBranches t ns) h),
+        branches-none ns (and-right (not (isBranch (terminalAt t n))) (noBranches t ns) h))
+
+  none-branches : (ns : List ℕ) → All (NotBranch t) ns → noBranches t ns ≡ true
+  none-branches [] h = refl
+  none-branches (n ∷ ns) (h, k) = and-both (not (isBranch (terminalAt t n))) (noBranches t ns) (is-not (isBranch (terminalAt t n)) h) (none-branches ns k)
+
+  -- ---- what passes the test is plain
+
+  record Passed (b : ℕ) (m : Terminal) : Type 0 where
+    code : among plainCodes (codeOf m) ≡ true
+    names : noBranches t (otherNames m) ≡ true
+    shape : shapeTest t b (shapeOf m) ≡ true
+    fallthrough : fallthroughTest t b (fallthroughOf m) ≡ true
+
+  passed-of : (b : ℕ) (m : Terminal) → blockTest t b m ≡ true → Passed b m
+  passed-of b m h =
+      let a : Bool = among plainCodes (codeOf m) in
+      let n : Bool = noBranches t (otherNames m) in
+      let s : Bool = shapeTest t b (shapeOf m) in
+      let f : Bool = fallthroughTest t b (fallthroughOf m) in
+      record {
+        code = and-left a (n && (s && f)) h;
+        names = and-left n (s && f) (and-right a (n && (s && f)) h);
+        shape = and-left s f (and-right n (s && f) (and-right a (n && (s && f)) h));
+        fallthrough = and-right s f (and-right n (s && f) (and-right a (n && (s && f)) h));
+      }
+
+  module _ (h : isPlain t ≡ true) where
+    passed : (b : ℕ) → Passed b (terminalAt t b)
+    passed b =
+        passed-of b (terminalAt t b)
+          (every-at (t .blocks) (λ c m. blockTest t c m) (λ c. refl) (and-right (not (isBranch (terminalAt t (t .entry)))) (everyOf (t .blocks) (λ c m. blockTest t c m)) h) b)
+
+    shape-at : (b : ℕ) (m : Terminal) → terminalAt t b ≡ m → shapeTest t b (shapeOf m) ≡ true
+    shape-at b m e = subst (λ (z : Terminal). shapeTest t b (shapeOf z) ≡ true) e (passed b .shape)
+
+    fallthrough-at : (b f : ℕ) → fallthroughOf (terminalAt t b) ≡ some f → fallthroughTest t b (some f) ≡ true
+    fallthrough-at b f e = subst (λ (z : Option ℕ). fallthroughTest t b z ≡ true) e (passed b .fallthrough)
+
+    branch-at : (b p c a : ℕ) → terminalAt t b ≡ branch p c a → (someOf (t .blocks) (λ w m. isWhile b c a (shapeOf m)) ≡ true) × (not (endsInStore t (instructionRowsAt t b)) ≡ true)
+    branch-at b p c a e =
+        let s : Bool = someOf (t .blocks) (λ w m. isWhile b c a (shapeOf m)) in
+        let n : Bool = not (endsInStore t (instructionRowsAt t b)) in
+        (and-left s n (shape-at b (branch p c a) e), and-right s n (shape-at b (branch p c a) e))
+
+    tests : (b x l f : ℕ) → terminalAt t b ≡ while x l f → (p : ℕ) × (terminalAt t x ≡ branch p l f)
+    tests b x l f e = branch-of l f (terminalAt t x) (shape-at b (while x l f) e)
+
+    branches : (b p c a : ℕ) → terminalAt t b ≡ branch p c a → (w : ℕ) × (terminalAt t w ≡ while b c a)
+    branches b p c a e =
+        let (w, q) = some-at (t .blocks) (λ w m. isWhile b c a (shapeOf m)) (branch-at b p c a e .0) in
+        (w, while-of b c a (terminalAt t w) q)
+
+    one-fallthrough : (b c f : ℕ) → fallthroughOf (terminalAt t b) ≡ some f → fallthroughOf (terminalAt t c) ≡ some f → b ≡ c
+    one-fallthrough b c f e e′ =
+        by-cases (eqb b c) (eqb-true b c)
+          (λ n. absurd (true-false (sym (this-is f (fallthroughOf (terminalAt t c)) e′) ∙ not-is (isThis f (fallthroughOf (terminalAt t c))) (or-else (eqb b c) (not (isThis f (fallthroughOf (terminalAt t c)))) other n))))
+      where
+        other : eqb b c || not (isThis f (fallthroughOf (terminalAt t c))) ≡ true
+        other =
+            every-at (t .blocks) (λ c m. eqb b c || not (isThis f (fallthroughOf m))) (λ c. or-right (eqb b c) true refl)
+              (and-left (everyOf (t .blocks) (λ c m. eqb b c || not (isThis f (fallthroughOf m)))) (everyOf (t .blocks) (λ w m. notOfLoop f (shapeOf m))) (fallthrough-at b f e)) c
+
+    no-loop-at : (b f w x l g : ℕ) → fallthroughOf (terminalAt t b) ≡ some f → terminalAt t w ≡ while x l g → not (eqb f l) && not (eqb f x) ≡ true
+    no-loop-at b f w x l g e e′ =
+        subst (λ (m : Terminal). notOfLoop f (shapeOf m) ≡ true) e′
+          (every-at (t .blocks) (λ w m. notOfLoop f (shapeOf m)) (λ c. refl)
+            (and-right (everyOf (t .blocks) (λ c m. eqb b c || not (isThis f (fallthroughOf m)))) (everyOf (t .blocks) (λ w m. notOfLoop f (shapeOf m))) (fallthrough-at b f e)) w)
+
+    -- two Whiles with one test have one fallthrough, as their test has one alternate; so they are one
+    same-alternate : (p l f p′ l′ f′ : ℕ) → branch p l f ≡ branch p′ l′ f′ → f ≡ f′
+    same-alternate p l f p′ l′ f′ e = cc
+
+    one-while : (b b′ x l l′ f f′ : ℕ) → terminalAt t b ≡ while x l f → terminalAt t b′ ≡ while x l′ f′ → b ≡ b′
+    one-while b b′ x l l′ f f′ e e′ =
+        let (p, q) = tests b x l f e in
+        let (p′, q′) = tests b′ x l′ f′ e′ in
+        one-fallthrough b b′ f (ap fallthroughOf e) (ap fallthroughOf e′ ∙ ap some (sym (same-alternate p l f p′ l′ f′ (sym q ∙ q′))))
+
+    pub is-plain : Plain t
+    is-plain = record {
+      ends = λ b. passed b .code;
+      no-goto-try = λ b g e. true-false (sym (shape-at b (goto g Try) e));
+      tests = tests;
+      entry = not-is (isBranch (terminalAt t (t .entry))) (and-left (not (isBranch (terminalAt t (t .entry)))) (everyOf (t .blocks) (λ c m. blockTest t c m)) h);
+      branches = branches;
+      one-while = one-while;
+      names = λ b. branches-none (otherNames (terminalAt t b)) (passed b .names);
+      no-store = λ b p c a e. not-is (endsInStore t (instructionRowsAt t b)) (branch-at b p c a e .1);
+      one-fallthrough = one-fallthrough;
+      no-loop = λ b f w x l g e e′ q. true-false (sym (eq-eqb f l q) ∙ not-is (eqb f l) (and-left (not (eqb f l)) (not (eqb f x)) (no-loop-at b f w x l g e e′)));
+      no-test = λ b f w x l g e e′ q. true-false (sym (eq-eqb f x q) ∙ not-is (eqb f x) (and-right (not (eqb f l)) (not (eqb f x)) (no-loop-at b f w x l g e e′)));
+    }
+
+  -- ---- what is plain passes the test
+
+  module _ (pl : Plain t) where
+    shape-passes : (b : ℕ) (m : Terminal) → terminalAt t b ≡ m → shapeTest t b (shapeOf m) ≡ true
+    shape-passes b absent e = refl
+    shape-passes b unreachable e = refl
+    shape-passes b (throw v) e = refl
+    shape-passes b (return v) e = refl
+    shape-passes b (goto g Break) e = refl
+    shape-passes b (goto g Continue) e = refl
+    shape-passes b (goto g Try) e = absurd (pl .no-goto-try b g e)
+    shape-passes b (if x y z f) e = refl
+    shape-passes b (branch x y z) e =
+        let (w, q) = pl .branches b x y z e in
+        and-both (someOf (t .blocks) (λ w m. isWhile b y z (shapeOf m))) (not (endsInStore t (instructionRowsAt t b)))
+          (some-of (t .blocks) (λ w m. isWhile b y z (shapeOf m)) (λ c. refl) w (is-while b y z (terminalAt t w) q))
+          (is-not (endsInStore t (instructionRowsAt t b)) (pl .no-store b x y z e))
+    shape-passes b (switch x i n f) e = refl
+    shape-passes b (do-while l x f) e = refl
+    shape-passes b (while x l f) e = let (p, q) = pl .tests b x l f e in is-branch-to p l f (terminalAt t x) q
+    shape-passes b (for i x u l f) e = refl
+    shape-passes b (for-of i x l f) e = refl
+    shape-passes b (for-in i l f) e = refl
+    shape-passes b (logical o x f) e = refl
+    shape-passes b (ternary x f) e = refl
+    shape-passes b (optional o x f) e = refl
+    shape-passes b (label x f) e = refl
+    shape-passes b (sequence x f) e = refl
+    shape-passes b (maybe-throw n) e = refl
+    shape-passes b (try x k f n) e = refl
+    shape-passes b (scope p x f n) e = refl
+
+    fallthrough-passes : (b : ℕ) (o : Option ℕ) → fallthroughOf (terminalAt t b) ≡ o → fallthroughTest t b o ≡ true
+    fallthrough-passes b none e = refl
+    fallthrough-passes b (some f) e =
+        and-both (everyOf (t .blocks) (λ c m. eqb b c || not (isThis f (fallthroughOf m)))) (everyOf (t .blocks) (λ w m. notOfLoop f (shapeOf m)))
+          (every-of (t .blocks) (λ c m. eqb b c || not (isThis f (fallthroughOf m))) only)
+          (every-of (t .blocks) (λ w m. notOfLoop f (shapeOf m))
+            (λ w. not-of-loop f (terminalAt t w) (λ x l g q. pl .no-loop b f w x l g e q) (λ x l g q. pl .no-test b f w x l g e q)))
+      where
+        only : (c : ℕ) → eqb b c || not (isThis f (fallthroughOf (terminalAt t c))) ≡ true
+        only c =
+            by-cases (isThis f (fallthroughOf (terminalAt t c)))
+              (λ h. or-left (eqb b c) (not (isThis f (fallthroughOf (terminalAt t c)))) (eq-eqb b c (pl .one-fallthrough b c f e (is-this f (fallthroughOf (terminalAt t c)) h))))
+              (λ h. or-right (eqb b c) (not (isThis f (fallthroughOf (terminalAt t c)))) (is-not (isThis f (fallthroughOf (terminalAt t c))) h))
+
+    block-passes : (b : ℕ) → blockTest t b (terminalAt t b) ≡ true
+    block-passes b =
+        let m : Terminal = terminalAt t b in
+        and-both (among plainCodes (codeOf m)) (noBranches t (otherNames m) && (shapeTest t b (shapeOf m) && fallthroughTest t b (fallthroughOf m))) (pl .ends b)
+          (and-both (noBranches t (otherNames m)) (shapeTest t b (shapeOf m) && fallthroughTest t b (fallthroughOf m)) (none-branches (otherNames m) (pl .names b))
+            (and-both (shapeTest t b (shapeOf m)) (fallthroughTest t b (fallthroughOf m)) (shape-passes b m refl) (fallthrough-passes b (fallthroughOf m) refl)))
+
+    pub plain-is : isPlain t ≡ true
+    plain-is =
+        and-both (not (isBranch (terminalAt t (t .entry)))) (everyOf (t .blocks) (λ b m. blockTest t b m)) (is-not (isBranch (terminalAt t (t .entry))) (pl .entry))
+          (every-of (t .blocks) (λ b m. blockTest t b m) block-passes)
+
+-- the test holds exactly of the plain tables
+pub plain-test : (t : Table) → (isPlain t ≡ true) ↔ Plain t
+plain-test t = (λ h. is-plain t h, λ pl. plain-is t pl)

@@ -1,0 +1,136 @@
+-- The ★ samples of paper 01, from their words and a lent buffer: one tabulated claim over `built`, by computation.
+use mathlib.Core.Path.{_≡_, refl}
+use Prim.Native.Nat.{ℕ, _+_, _*_}
+use mathlib.Core.List.{List, [], _∷_, _++_, map}
+use lib.ListN.{replicate}
+use Rattle.table.specs.Words.{word, entryWord, blockCount, instructionCount, caseCount, placeCount, identifierCount, blocksBegin, instructionsBegin, casesBegin, placesBegin, identifiersBegin, wordsNeeded, blockWord, instructionWord, caseWord, placeWord, identifierWord}
+use Rattle.table.specs.Table.{unlessNone, variantOf, terminalOf, blockOf, operationOf, instructionOf, caseOf, tabulate, tableOf}
+use Rattle.table.specs.Check.{fits, block, block-or-none, place, place-or-none, terminalRules, blockRules, operandRules, instructionRules, caseRules, placeRules, identifierRules, andThen, rowVerdict, rowsVerdict, wordsVerdict, countsVerdict, checked}
+use Rattle.definition.specs.Result.{_>>=_, refuseIf}
+use Rattle.definition.specs.Context.{no-flags, has, add, remove, start, isScheduled, emit, withVisits, markScopeFallthrough, scheduleCatchHandler, pushed, schedule, scheduleLoop, unscheduledBy, popped, unscheduleTop, unschedule, breakKind, breakTargetFrom, getBreakTarget, continueKind, continueTargetFrom, getContinueTarget}
+use Rattle.definition.specs.Value.{beginVisit, instructionsOf, wrapWithSequence, finalValue, finalPlace, storedToNamed, allButLast, last, extractValueBlockResult, extractOrRefuse, testBlockEnded, visitTestBlock, visitValueBlockTerminal, thenFallthrough, branchValue, isEmptyGoto, maybeThrowValue, visitValueBlockAt, visitValueBlock, appended, sameIdentifier, unlessSame, valueBlockResultToSequence}
+use Rattle.definition.specs.Statement.{enterBlock, unlessScheduled, unlessUnreachable, scheduleIf, scheduleSwitch, unscheduleIf, markScopeFallthroughIf, breakToScope, breakResolved, visitBreak, continueResolved, visitContinue, visitGoto, traverseUnscheduled, traverseAlternate, traverseConsequent, traverseEnclosed, loopIsTaken, traverseLoop, visitUpdate, casesLastFirst, traverseCases, unscheduleAll, visitValueStatement, visitTerminal, instructionStatements, thenNext, visitBlock, traverseBlock, buildTree}
+use Rattle.definition.specs.Build.{Outcome, reported, report, refusal, wordsOf, placed, outcomeOf, afterCheck, built}
+
+-- ---- the words of a table
+
+-- a terminal's code and columns a to e, as the paper writes it: While(1,2,3)
+abbrev Return : (value : ℕ) → List ℕ
+Return value = 3 ∷ value ∷ 0 ∷ 0 ∷ 0 ∷ 0 ∷ []
+
+abbrev GotoBreak : (target : ℕ) → List ℕ
+GotoBreak target = 4 ∷ target ∷ 0 ∷ 0 ∷ 0 ∷ 0 ∷ []
+
+abbrev GotoContinue : (target : ℕ) → List ℕ
+GotoContinue target = 4 ∷ target ∷ 1 ∷ 0 ∷ 0 ∷ 0 ∷ []
+
+abbrev If : (test consequent alternate fallthrough : ℕ) → List ℕ
+If test consequent alternate fallthrough = 5 ∷ test ∷ consequent ∷ alternate ∷ fallthrough ∷ 0 ∷ []
+
+abbrev Branch : (test consequent alternate : ℕ) → List ℕ
+Branch test consequent alternate = 6 ∷ test ∷ consequent ∷ alternate ∷ 0 ∷ 0 ∷ []
+
+abbrev While : (test loop fallthrough : ℕ) → List ℕ
+While test loop fallthrough = 9 ∷ test ∷ loop ∷ fallthrough ∷ 0 ∷ 0 ∷ []
+
+abbrev MaybeThrow : (continuation : ℕ) → List ℕ
+MaybeThrow continuation = 18 ∷ continuation ∷ 0 ∷ 0 ∷ 0 ∷ 0 ∷ []
+
+abbrev Scope : (body fallthrough scope : ℕ) → List ℕ
+Scope body fallthrough scope = 20 ∷ body ∷ fallthrough ∷ scope ∷ 0 ∷ 0 ∷ []
+
+-- a block with no instructions: first, count, its terminal, id, span
+abbrev emptyBlock : (terminal : List ℕ) → (id : ℕ) → List ℕ
+emptyBlock terminal id = 0 ∷ 0 ∷ (terminal ++ (id ∷ 0 ∷ []))
+
+-- the six head words, the blocks, and then one place and its identifier, which is named. The entry is block 0
+abbrev tableOfBlocks : (number : ℕ) → (blocks : List ℕ) → List ℕ
+tableOfBlocks number blocks = 0 ∷ number ∷ 0 ∷ 0 ∷ 1 ∷ 1 ∷ (blocks ++ (0 ∷ 1 ∷ []))
+
+abbrev oneReturn : List ℕ
+oneReturn = tableOfBlocks 1 (emptyBlock (Return 0) 7)
+
+-- four blocks, the last of which is 3 Return(0) id 4
+abbrev fourBlocks : (block0 block1 block2 : List ℕ) → List ℕ
+fourBlocks block0 block1 block2 = tableOfBlocks 4 (block0 ++ (block1 ++ (block2 ++ emptyBlock (Return 0) 4)))
+
+abbrev threeBlocks : (block0 block1 : List ℕ) → List ℕ
+threeBlocks block0 block1 = tableOfBlocks 3 (block0 ++ (block1 ++ emptyBlock (Return 0) 4))
+
+abbrev W : List ℕ
+W = fourBlocks (emptyBlock (While 1 2 3) 1) (emptyBlock (Branch 0 2 3) 2) (emptyBlock (GotoContinue 1) 3)
+
+abbrev W-break : List ℕ
+W-break = fourBlocks (emptyBlock (While 1 2 3) 1) (emptyBlock (Branch 0 2 3) 2) (emptyBlock (GotoBreak 3) 3)
+
+abbrev W-own-test : List ℕ
+W-own-test = fourBlocks (emptyBlock (While 1 2 1) 1) (emptyBlock (Branch 0 2 3) 2) (emptyBlock (GotoContinue 1) 3)
+
+abbrev W-endless-test : List ℕ
+W-endless-test = fourBlocks (emptyBlock (While 1 2 3) 1) (emptyBlock (MaybeThrow 1) 2) (emptyBlock (GotoContinue 1) 3)
+
+abbrev scoped : List ℕ
+scoped = threeBlocks (emptyBlock (Scope 1 2 5) 1) (emptyBlock (GotoBreak 2) 2)
+
+abbrev sameWays : List ℕ
+sameWays = threeBlocks (emptyBlock (If 0 1 1 2) 1) (emptyBlock (Return 0) 2)
+
+-- ---- the words of rows
+
+abbrev LOAD : (place : ℕ) → List ℕ
+LOAD place = 2 ∷ place ∷ 0 ∷ 0 ∷ 0 ∷ 0 ∷ []
+
+abbrev BLOCK : (statements : ℕ) → List ℕ
+BLOCK statements = 9 ∷ statements ∷ 0 ∷ 0 ∷ 0 ∷ 0 ∷ []
+
+abbrev WHILE : (id label : ℕ) → List ℕ
+WHILE id label = 14 ∷ id ∷ label ∷ 0 ∷ 0 ∷ 0 ∷ []
+
+abbrev SCOPE : (scope : ℕ) → List ℕ
+SCOPE scope = 20 ∷ scope ∷ 0 ∷ 0 ∷ 0 ∷ 0 ∷ []
+
+abbrev RETURN : (value id : ℕ) → List ℕ
+RETURN value id = 22 ∷ value ∷ id ∷ 0 ∷ 0 ∷ 0 ∷ []
+
+abbrev BREAK : (target id kind : ℕ) → List ℕ
+BREAK target id kind = 24 ∷ target ∷ id ∷ kind ∷ 0 ∷ 0 ∷ []
+
+abbrev CONTINUE : (target id kind : ℕ) → List ℕ
+CONTINUE target id kind = 25 ∷ target ∷ id ∷ kind ∷ 0 ∷ 0 ∷ []
+
+-- ---- the samples
+
+pub record Sample : Type 0 where
+  pub words : List ℕ
+  pub lent : ℕ
+  pub outcome : Outcome
+
+-- accepted, with so many words left over: the rows, then zeros
+abbrev accepts : (words : List ℕ) → (rows left visits : ℕ) → (rowWords : List ℕ) → Sample
+accepts words rows left visits rowWords =
+    record { words = words; lent = rows * 6 + left; outcome = record { code = 0; at = 0; rows = rows; visits = visits; buffer = rowWords ++ replicate left 0 } }
+
+-- refused: every word lent is zero
+abbrev refuses : (words : List ℕ) → (lent code at rows visits : ℕ) → Sample
+refuses words lent code at rows visits =
+    record { words = words; lent = lent; outcome = record { code = code; at = at; rows = rows; visits = visits; buffer = replicate lent 0 } }
+
+abbrev pub samples : List Sample
+samples =
+    accepts oneReturn 2 0 1 (RETURN 0 7 ++ BLOCK 1)
+    ∷ accepts oneReturn 2 5 1 (RETURN 0 7 ++ BLOCK 1)
+    ∷ refuses oneReturn 11 40 0 2 1
+    ∷ accepts W 6 9 4 (LOAD 0 ++ (CONTINUE 3 3 0 ++ (BLOCK 1 ++ (WHILE 1 3 ++ (RETURN 0 4 ++ BLOCK 2)))))
+    ∷ accepts W-break 6 9 4 (LOAD 0 ++ (BREAK 3 3 2 ++ (BLOCK 1 ++ (WHILE 1 3 ++ (RETURN 0 4 ++ BLOCK 2)))))
+    ∷ refuses W-own-test 36 15 1 0 1
+    ∷ refuses W-endless-test 36 30 1 0 128
+    ∷ accepts scoped 4 3 3 (BLOCK 0 ++ (SCOPE 5 ++ (RETURN 0 4 ++ BLOCK 2)))
+    ∷ refuses sameWays 24 11 1 0 3
+    ∷ []
+
+abbrev pub builtFor : Sample → Outcome
+builtFor sample = built (sample .words) (sample .lent)
+
+pub the-samples : map builtFor samples ≡ map (λ sample. sample .outcome) samples
+unfolding word entryWord blockCount instructionCount caseCount placeCount identifierCount blocksBegin instructionsBegin casesBegin placesBegin identifiersBegin wordsNeeded blockWord instructionWord caseWord placeWord identifierWord unlessNone variantOf terminalOf blockOf operationOf instructionOf caseOf tabulate tableOf fits block block-or-none place place-or-none terminalRules blockRules operandRules instructionRules caseRules placeRules identifierRules andThen rowVerdict rowsVerdict wordsVerdict countsVerdict checked _>>=_ refuseIf no-flags has add remove start isScheduled emit withVisits markScopeFallthrough scheduleCatchHandler pushed schedule scheduleLoop unscheduledBy popped unscheduleTop unschedule breakKind breakTargetFrom getBreakTarget continueKind continueTargetFrom getContinueTarget beginVisit instructionsOf wrapWithSequence finalValue finalPlace storedToNamed allButLast last extractValueBlockResult extractOrRefuse testBlockEnded visitTestBlock visitValueBlockTerminal thenFallthrough branchValue isEmptyGoto maybeThrowValue visitValueBlockAt visitValueBlock appended sameIdentifier unlessSame valueBlockResultToSequence enterBlock unlessScheduled unlessUnreachable scheduleIf scheduleSwitch unscheduleIf markScopeFallthroughIf breakToScope breakResolved visitBreak continueResolved visitContinue visitGoto traverseUnscheduled traverseAlternate traverseConsequent traverseEnclosed loopIsTaken traverseLoop visitUpdate casesLastFirst traverseCases unscheduleAll visitValueStatement visitTerminal instructionStatements thenNext visitBlock traverseBlock buildTree reported report refusal wordsOf placed outcomeOf afterCheck built
+the-samples = refl

@@ -1,0 +1,59 @@
+-- The tree that rows are read as. Rows write 65,535 for no label and nothing for an absent alternate, so that the tree has to be well-formed:
+-- then its rows are the rows of no other such tree (proofs/Readings).
+use mathlib.Core.Path.{_≡_}
+use Prim.Native.Nat.{ℕ, _<_, _*_}
+use mathlib.Core.List.{List}
+use mathlib.Core.Option.{Option, none, some}
+use mathlib.Core.Bool.{Bool, true, false}
+use lib.ListN.{length, take}
+use Rattle.table.specs.Words.{largest}
+use Rattle.definition.specs.Tree.{Statement, INSTR, IF, SWITCH, DOWHILE, WHILE, FOR, FOROF, FORIN, LABEL, TRY, SCOPE, RETURN, THROW, BREAK, CONTINUE, Statements, done, _▸_, Cases, no-cases, CASE, Row, rows}
+use Rattle.definition.specs.Build.{Outcome, wordsOf}
+
+-- "Label 65,535 is none", so that no label is 65,535; and no binding
+abbrev pub BelowNone : Option ℕ → Type 0
+BelowNone none = Unit {0}
+BelowNone (some n) = n < largest
+
+-- an IF with no alternate has an empty one
+abbrev pub EmptyUnless : (present : Bool) → (alternate : Statements) → Type 0
+EmptyUnless true alternate = Unit {0}
+EmptyUnless false done = Unit {0}
+EmptyUnless false (statement ▸ rest) = ⊥
+
+unfoldable mutual
+  pub WellFormedStatement : Statement → Type 0
+  WellFormedStatement (INSTR id lvalue span value) = Unit {0}
+  WellFormedStatement (IF test id label consequent present alternate) = BelowNone label × WellFormed consequent × WellFormed alternate × EmptyUnless present alternate
+  WellFormedStatement (SWITCH test id label cases) = BelowNone label × WellFormedCases cases
+  WellFormedStatement (DOWHILE id label body test) = BelowNone label × WellFormed body
+  WellFormedStatement (WHILE id label test body) = BelowNone label × WellFormed body
+  WellFormedStatement (FOR id label init test update body) = BelowNone label × WellFormed body
+  WellFormedStatement (FOROF id label span init test body) = BelowNone label × WellFormed body
+  WellFormedStatement (FORIN id label span init body) = BelowNone label × WellFormed body
+  WellFormedStatement (LABEL id label body) = BelowNone label × WellFormed body
+  WellFormedStatement (TRY id label binding body handler) = BelowNone label × BelowNone binding × WellFormed body × WellFormed handler
+  WellFormedStatement (SCOPE pruned scope body) = WellFormed body
+  WellFormedStatement (RETURN value id) = Unit {0}
+  WellFormedStatement (THROW value id) = Unit {0}
+  WellFormedStatement (BREAK target id kind) = Unit {0}
+  WellFormedStatement (CONTINUE target id kind) = Unit {0}
+
+  pub WellFormed : Statements → Type 0
+  WellFormed done = Unit {0}
+  WellFormed (statement ▸ rest) = WellFormedStatement statement × WellFormed rest
+
+  pub WellFormedCases : Cases → Type 0
+  WellFormedCases no-cases = Unit {0}
+  WellFormedCases (CASE test body rest) = WellFormed body × WellFormedCases rest
+
+-- rows that are read as this tree
+pub record ReadAs (list : List Row) (root : Statements) : Type 0 where
+  pub well-formed : WellFormed root
+  pub same-rows : rows root ≡ list
+
+-- the tree whose rows stand in the lent buffer of an outcome
+pub record TreeOf (outcome : Outcome) (root : Statements) : Type 0 where
+  pub well-formed : WellFormed root
+  pub number : length (rows root) ≡ outcome .rows
+  pub held : wordsOf (rows root) ≡ take (outcome .rows * 6) (outcome .buffer)

@@ -1,0 +1,8 @@
+-- The laws that the proofs of the functions cite.
+pub mod DecimalLaws
+pub mod LentLaws
+pub mod StepLaws
+pub mod FormLaws
+pub mod PartLaws
+pub mod AnswerLaws
+pub mod WriteLaws

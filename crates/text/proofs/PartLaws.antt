@@ -1,0 +1,163 @@
+-- Laws of reading a part of the file.
+use mathlib.Core.Path.{_≡_, refl, sym, ap, subst, _∙_}
+use mathlib.Core.Bool.{Bool, true, false}
+use mathlib.Core.List.{List, [], _∷_, _++_, append-nil, append-assoc}
+use Prim.Native.Nat.{ℕ, zero, suc, _+_, _-_, _≤_, _<_}
+use native.Mathlib.Omega.{arith}
+use native.Mathlib.Numerals.{add-one}
+use lib.Dec.{eqb}
+use lib.ListN.{length, take, drop, getD, drop-of-length-le}
+use lib.Seq.{drop-cons, take-all}
+use borrow.Author.Tests.{eq-eqb, ne-eqb}
+use Rattle.text.specs.Lent.{Holds}
+use Rattle.text.specs.File.{headNames}
+use Rattle.text.specs.Form.{Form, byte, field, literal, row, rows, tables, whole, finished, isZero}
+use Rattle.text.specs.Steps.{Reached, Stopped, Near, At, NamesRead, PartRead, RowEnd, RowRead, cursorAt, cursorRefused}
+use Rattle.text.specs.declared.read.Cursor.{Cursor}
+use Rattle.text.proofs.StepLaws.{reached-none, byte-taken, byte-other, byte-missing, true-false, false-true}
+
+-- ---- a line of names
+
+names-open : (names : List ℕ) (i : ℕ) (next : Form) → i < length names → literal (drop i names) next ≡ byte (getD names i 0) (literal (drop (i + 1) names) next)
+unfolding literal
+names-open names i next p = rw (add-one i, drop-cons names i 0 p)
+
+pub names-done : (names : List ℕ) (i : ℕ) (next : Form) → length names ≤ i → literal (drop i names) next ≡ next
+unfolding literal
+names-done names i next p = rw (drop-of-length-le names p)
+
+module _ (file : List ℕ) (at : ℕ) (words names : List ℕ) (i : ℕ) (next : Form) (p : i < length names) (h : Reached file at words (literal (drop i names) next)) where
+  open-here : Reached file at words (byte (getD names i 0) (literal (drop (i + 1) names) next))
+  open-here = rw (names-open names i next p) at h
+
+  pub name-taken : at < length file → getD file at 0 ≡ getD names i 0 → Reached file (at + 1) words (literal (drop (i + 1) names) next)
+  name-taken = byte-taken file at words (getD names i 0) (literal (drop (i + 1) names) next) open-here
+
+  pub name-other : at < length file → (getD file at 0 ≡ getD names i 0 → ⊥) → Stopped file at
+  name-other = byte-other file at words (getD names i 0) (literal (drop (i + 1) names) next) open-here
+
+  pub name-missing : at ≡ length file → Stopped file at
+  name-missing = byte-missing file at words (getD names i 0) (literal (drop (i + 1) names) next) open-here
+
+-- ---- a row
+
+pub last-number : (more i width : ℕ) → width ≡ i + 1 + more → isZero more ≡ eqb (i + 1) width
+last-number zero i width e = sym (eq-eqb (i + 1) width (omega arith))
+last-number (suc more) i width e = sym (ne-eqb (i + 1) width (omega arith))
+
+pub row-open : (width i : ℕ) (before : List ℕ) (next : List ℕ → Form) → i < width
+    → row (width - i) before next ≡ field (eqb (i + 1) width) (λ n. row (width - (i + 1)) (before ++ (n ∷ [])) next)
+unfolding row
+row-open width i before next p =
+    let e : width - i ≡ suc (width - (i + 1)) = omega arith in
+    rw (e, last-number (width - (i + 1)) i width (omega arith))
+
+pub row-done : (width i : ℕ) (before : List ℕ) (next : List ℕ → Form) → width ≤ i → row (width - i) before next ≡ next before
+unfolding row
+row-done width i before next p = let e : width - i ≡ 0 = omega arith in rw e
+
+-- ---- the lines of a table
+
+pub rows-open : (width count i : ℕ) (next : Form) → i < count → rows width (count - i) next ≡ row width [] (λ _. rows width (count - (i + 1)) next)
+unfolding rows
+rows-open width count i next p = let e : count - i ≡ suc (count - (i + 1)) = omega arith in rw e
+
+pub rows-done : (width count i : ℕ) (next : Form) → count ≤ i → rows width (count - i) next ≡ next
+unfolding rows
+rows-done width count i next p = let e : count - i ≡ 0 = omega arith in rw e
+
+-- ---- answers
+
+pub names-refused : {file names : List ℕ} {c r : Cursor} {at : ℕ} → r ≡ cursorRefused at → at ≤ length file
+    → ((words : List ℕ) (next : Form) → Reached file (c .at) words (literal names next) → Stopped file at) → NamesRead file names c r
+names-refused e p f = rw e (record {
+  near = record { within = p; few = omega arith };
+  stopped = λ words next h g. f words next h;
+  reached = λ words next h g. absurd (true-false g);
+  count = λ g. absurd (true-false g);
+})
+
+pub names-at : {file names : List ℕ} {c r : Cursor} {at : ℕ} → r ≡ cursorAt at (c .count) → at ≤ length file → c .count ≤ at
+    → ((words : List ℕ) (next : Form) → Reached file (c .at) words (literal names next) → Reached file at words next) → NamesRead file names c r
+names-at e p q f = rw e (record {
+  near = record { within = p; few = q };
+  stopped = λ words next h g. absurd (false-true g);
+  reached = λ words next h g. f words next h;
+  count = λ g. refl;
+})
+
+-- a line of names is a part that has no words
+pub names-part : {file names : List ℕ} {c r : Cursor} (b : List ℕ) → NamesRead file names c r → PartRead file (literal names) c b r b
+names-part b h = record {
+  near = h .near;
+  stopped = λ words next a g. h .stopped words next (a .reached) g;
+  reached = λ words next a g. ([], rw (append-nil words) (record { reached = h .reached words next (a .reached) g; holds = rw (h .count g) (a .holds) }));
+}
+
+module _ {file : List ℕ} {part : Form → Form} {c r : Cursor} {b b′ : List ℕ} where
+  pub part-at : {at count : ℕ} → r ≡ cursorAt at count → at ≤ length file → count ≤ at
+      → ((words : List ℕ) (next : Form) → At file b (c .at) (c .count) words (part next) → (new : List ℕ) × At file b′ at count (words ++ new) next) → PartRead file part c b r b′
+  part-at e p q f = rw e (record {
+    near = record { within = p; few = q };
+    stopped = λ words next h g. absurd (false-true g);
+    reached = λ words next h g. f words next h;
+  })
+
+pub row-refused : {file : List ℕ} {c r : Cursor} {b b′ : List ℕ} {width at : ℕ} → r ≡ cursorRefused at → at ≤ length file
+    → ((words : List ℕ) (next : List ℕ → Form) → At file b (c .at) (c .count) words (row width [] next) → Stopped file at) → RowRead file width c b r b′
+row-refused e p f = rw e (record {
+  near = record { within = p; few = omega arith };
+  stopped = λ words next h g. f words next h;
+  reached = λ words next h g. absurd (true-false g);
+})
+
+pub row-at : {file : List ℕ} {c r : Cursor} {b b′ : List ℕ} {width at count : ℕ} → r ≡ cursorAt at count → at ≤ length file → count ≤ at
+    → ((words : List ℕ) (next : List ℕ → Form) → At file b (c .at) (c .count) words (row width [] next) → RowEnd file width words next (cursorAt at count) b′) → RowRead file width c b r b′
+row-at e p q f = rw e (record {
+  near = record { within = p; few = q };
+  stopped = λ words next h g. absurd (false-true g);
+  reached = λ words next h g. f words next h;
+})
+
+-- two parts, the second where the first ended
+module _ {file : List ℕ} {first second : Form → Form} {c r : Cursor} {b b′ b″ : List ℕ} where
+  pub part-then : {s : Cursor} → PartRead file first c b r b′ → r .refused ≡ false → PartRead file second r b′ s b″ → PartRead file (λ next. first (second next)) c b s b″
+  part-then h g k = record {
+    near = k .near;
+    stopped = λ words next a. let (new, a′) = h .reached words (second next) a g in k .stopped (words ++ new) next a′;
+    reached = λ words next a e.
+      let (new, a′) = h .reached words (second next) a g in
+      let (more, a″) = k .reached (words ++ new) next a′ e in
+      (new ++ more, rw (append-assoc words new more) at a″);
+  }
+
+  -- the first was refused
+  pub part-stops : PartRead file first c b r b′ → r .refused ≡ true → PartRead file (λ next. first (second next)) c b r b″
+  part-stops h g = record {
+    near = h .near;
+    stopped = λ words next a e. h .stopped words (second next) a e;
+    reached = λ words next a e. absurd (true-false (sym g ∙ e));
+  }
+
+-- ---- the file
+
+-- what comes after the head's names
+abbrev pub headed : Form
+headed = row 6 [] λ head. tables head finished
+
+pub begun : (file : List ℕ) → Reached file 0 [] (literal headNames headed)
+unfolding whole
+begun file = reached-none file
+
+-- the head was read into six words, which were then stored in the buffer
+pub head-stored : {file : List ℕ} {r : Cursor} {next : List ℕ → Form} {head buffer : List ℕ} → RowEnd file 6 [] next r head → length head ≡ 6 → Holds buffer (length head) head
+    → At file buffer (r .at) (r .count) head (next head)
+head-stored {file} {r} {next} {head} {buffer} e p h =
+    let H = e .at .holds in
+    let six : r .count ≡ 6 = omega (arith, H .counted, e .long) in
+    let same : head ≡ e .numbers =
+        sym (take-all 6 head (omega arith)) ∙ rw six at (H .held) ∙ take-all (length head) (e .numbers) (omega (arith, e .long)) in
+    record {
+      reached = subst (λ (l : List ℕ). Reached file (r .at) l (next l)) (sym same) (e .at .reached);
+      holds = subst (λ (k : ℕ). Holds buffer k head) (p ∙ sym six) h;
+    }

@@ -1,0 +1,47 @@
+use borrow.Author.Needs.{needs}
+use native.Mathlib.Omega.{arith}
+use mathlib.Core.Path.{_≡_, refl, sym, ap, subst, _∙_}
+use mathlib.Core.Bool.{Bool}
+use mathlib.Core.List.{List, [], _∷_, _++_, append-nil, append-assoc}
+use Prim.Native.Nat.{ℕ, _+_, _-_, _≤_, _<_}
+use lib.ListN.{length, take, drop, getD}
+use Rattle.text.specs.Form.{table}
+use Rattle.text.proofs.PartLaws.{names-part, part-then, part-stops}
+use Rattle.text.proofs.read.read_table.Statement.{statement}
+use Rattle.text.proofs.read.read_table.Tie as tie
+use Rattle.text.proofs.read.read_table.Reads as reads
+use Rattle.text.proofs.read.read_table.Lts as lts
+use Rattle.text.proofs.read.read_names.Reads as read-names-reads
+use Rattle.text.proofs.read.read_rows.Reads as read-rows-reads
+
+-- src/read.rt:191:9
+read-names-requires : tie.Need-read-names-requires
+read-names-requires c κs = search needs
+
+-- src/read.rt:193:9
+returns : tie.Need-returns
+unfolding table
+returns c =
+    let at-read-names = c .before in
+    part-stops (names-part _ (at-read-names .read-names .ensures)) (c .if1 .taken)
+
+-- src/read.rt:195:5
+read-rows-requires : tie.Need-read-rows-requires
+read-rows-requires c κs = c .before .before .read-names .ensures .near
+
+-- src/read.rt:187:1
+same-length : tie.Need-same-length
+same-length c = search needs
+
+-- src/read.rt:187:1
+returns-2 : tie.Need-returns-2
+unfolding table
+returns-2 c =
+    let at-read-rows = c .before .before in
+    let at-if1 = at-read-rows .before .before in
+    let at-read-names = at-if1 .before in
+    part-then (names-part _ (at-read-names .read-names .ensures)) (at-if1 .if1 .left) (at-read-rows .read-rows .ensures)
+
+pub read-table-spec : {M : Type 1} → statement M
+read-table-spec =
+    tie.close (tie.spec read-names-requires returns read-rows-requires same-length returns-2)

@@ -1,0 +1,11 @@
+-- The definitions that the contracts of `text` cite.
+-- File says what a good file is, Answer what reading gives, Printed what is written. Form and Steps are for the functions below `read`.
+pub mod Ascii
+pub mod Decimal
+pub mod Line
+pub mod File
+pub mod Lent
+pub mod Form
+pub mod Steps
+pub mod Answer
+pub mod Printed

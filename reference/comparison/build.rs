@@ -1,0 +1,9 @@
+//! Where the candidate's archive is, if it is to be linked.
+
+fn main() {
+    println!("cargo::rerun-if-env-changed=CANDIDATE_DIR");
+    if std::env::var_os("CARGO_FEATURE_CANDIDATE").is_some() {
+        let folder = std::env::var("CANDIDATE_DIR").expect("CANDIDATE_DIR: the archive's folder");
+        println!("cargo::rustc-link-search=native={folder}");
+    }
+}

@@ -1,0 +1,82 @@
+//! `vectors make FILE` writes the fixed list of tables and answers; `vectors check FILE` makes it
+//! again and compares byte for byte, and replays it on the model and the candidate.
+
+use std::collections::BTreeSet;
+use std::fs;
+use std::process::ExitCode;
+use std::slice;
+
+use comparison::candidate::CANDIDATE;
+use comparison::generate::{corners, limits, words};
+use comparison::model;
+use comparison::reference;
+use comparison::select::choose;
+use comparison::vector::{Vector, from_bytes, to_bytes};
+
+/// Vectors that take more are left to the comparison.
+const MOST_BYTES: usize = 18_000;
+
+fn main() -> ExitCode {
+    reference::install_panic_hook();
+    let mut arguments = std::env::args().skip(1);
+    let (verb, file) = (arguments.next(), arguments.next());
+    let file = file.expect("make FILE, or check FILE");
+    let bytes = reference::on_large_stack(|| to_bytes(&make()));
+    match verb.as_deref() {
+        Some("make") => {
+            fs::write(&file, &bytes).expect("written");
+            println!("{file}: {} vectors, {} bytes", from_bytes(&bytes).len(), bytes.len());
+            ExitCode::SUCCESS
+        }
+        Some("check") => check(&file, &bytes),
+        _ => panic!("make FILE, or check FILE"),
+    }
+}
+
+/// The corners by hand, those at the limits, the word lists, and tables chosen for what they show.
+fn make() -> Vec<Vector> {
+    let chosen = choose();
+    let corners = corners::corners().into_iter().map(|(_, words)| words);
+    let limits = (0..limits::COUNT).map(limits::limit);
+    let tables = corners.chain(limits).chain(words::word_lists());
+    let tables = tables.chain(chosen.singles).chain(chosen.pairs);
+    let mut known = BTreeSet::new();
+    let tables = tables.filter(|words| known.insert(words.clone()));
+    let vectors = tables.enumerate().map(|(turn, words)| {
+        Vector::answer(words, |needed| match turn % 12 {
+            3 => needed + 5,
+            5 => needed.saturating_sub(1),
+            7 => needed + 13,
+            9 => needed + 6,
+            11 => needed.saturating_sub(6),
+            _ => needed,
+        })
+    });
+    vectors.filter(|vector| to_bytes(slice::from_ref(vector)).len() < MOST_BYTES).collect()
+}
+
+fn check(file: &str, made: &[u8]) -> ExitCode {
+    let stored = fs::read(file).expect("the stored vectors");
+    let vectors = from_bytes(&stored);
+    let same = stored == made;
+    let replays = [Some(model::build as fn(&[u32], &mut [u32]) -> _), CANDIDATE];
+    let differences: usize = replays
+        .into_iter()
+        .flatten()
+        .map(|build| vectors.iter().filter(|vector| !replays_on(build, vector)).count())
+        .sum();
+    println!(
+        "vectors: {}, {} bytes, made again {}, {differences} differences",
+        vectors.len(),
+        stored.len(),
+        if same { "the same" } else { "NOT THE SAME" }
+    );
+    if same && differences == 0 { ExitCode::SUCCESS } else { ExitCode::FAILURE }
+}
+
+fn replays_on(build: fn(&[u32], &mut [u32]) -> model::Outcome, vector: &Vector) -> bool {
+    let mut buffer = vec![7; vector.length];
+    let outcome = build(&vector.words, &mut buffer);
+    let (rows, after) = buffer.split_at(vector.rows.len());
+    outcome == vector.outcome && rows == vector.rows && after.iter().all(|word| *word == 0)
+}

@@ -1,0 +1,109 @@
+//! Plain tables (paper 01, "Plain tables"): If, While, Label, scopes, jumps and ends only.
+
+use super::draft::Draft;
+use super::program::{BREAK, CONTINUE};
+use crate::rng::Rng;
+
+struct Plain<'r> {
+    draft: Draft,
+    rng: &'r mut Rng,
+    budget: i32,
+    /// Jumps that may be made: a block and a variant.
+    jumps: Vec<(u32, u32)>,
+}
+
+pub fn plain(rng: &mut Rng) -> Draft {
+    let draft = Draft::with_places(rng);
+    let budget = rng.from_to(1, 60) as i32;
+    let mut plain = Plain { draft, rng, budget, jumps: Vec::new() };
+    let entry = plain.fresh();
+    plain.statements(entry, None);
+    plain.draft
+}
+
+impl Plain<'_> {
+    fn fresh(&mut self) -> u32 {
+        self.budget -= 1;
+        self.draft.fresh()
+    }
+
+    fn end(&mut self, block: u32, code: u32, operands: &[u32]) {
+        self.draft.end(block, code, operands, self.rng);
+    }
+
+    fn statements(&mut self, block: u32, after: Option<(u32, u32)>) {
+        let count = self.rng.below(3);
+        self.draft.fill(block, count, self.rng);
+        if self.budget <= 0 || self.rng.percent(10) {
+            return self.leave(block, after);
+        }
+        match self.rng.below(6) {
+            0 => self.if_statement(block, after),
+            1 | 2 => self.while_statement(block, after),
+            3 => self.body_statement(block, 16, after),
+            4 => self.body_statement(block, 20, after),
+            _ => self.body_statement(block, 21, after),
+        }
+    }
+
+    fn leave(&mut self, block: u32, after: Option<(u32, u32)>) {
+        let chance = self.rng.below(100);
+        let value = self.draft.any_place(self.rng);
+        match after {
+            Some((next, variant)) if chance < 55 => self.end(block, 4, &[next, variant]),
+            _ if chance < 90 && !self.jumps.is_empty() => {
+                let (target, variant) = self.rng.pick(&self.jumps);
+                self.end(block, 4, &[target, variant]);
+            }
+            _ => {
+                let code = self.rng.from_to(2, 3);
+                self.end(block, code, &[value]);
+            }
+        }
+    }
+
+    fn body(&mut self, block: u32, after: (u32, u32), jumps: &[(u32, u32)]) {
+        let open = self.jumps.len();
+        self.jumps.extend(jumps);
+        self.statements(block, Some(after));
+        self.jumps.truncate(open);
+    }
+
+    fn if_statement(&mut self, block: u32, after: Option<(u32, u32)>) {
+        let test = self.draft.any_place(self.rng);
+        let (consequent, fallthrough) = (self.fresh(), self.fresh());
+        let alternate = if self.rng.percent(40) { fallthrough } else { self.fresh() };
+        self.end(block, 5, &[test, consequent, alternate, fallthrough]);
+        let out = (fallthrough, BREAK);
+        self.body(consequent, out, &[out]);
+        if alternate != fallthrough {
+            self.body(alternate, out, &[out]);
+        }
+        self.statements(fallthrough, after);
+    }
+
+    fn while_statement(&mut self, block: u32, after: Option<(u32, u32)>) {
+        let (test, loop_block, fallthrough) = (self.fresh(), self.fresh(), self.fresh());
+        self.end(block, 9, &[test, loop_block, fallthrough]);
+        let place = self.draft.any_place(self.rng);
+        let count = self.rng.below(3);
+        self.draft.fill(test, count, self.rng);
+        let [first, count, ..] = self.draft.blocks[test as usize];
+        if count > 0 && self.draft.instructions[(first + count - 1) as usize][2] == 2 {
+            self.draft.blocks[test as usize][1] = 0;
+        }
+        self.end(test, 6, &[place, loop_block, fallthrough]);
+        let again = (test, CONTINUE);
+        self.body(loop_block, again, &[(fallthrough, BREAK), again]);
+        self.statements(fallthrough, after);
+    }
+
+    fn body_statement(&mut self, block: u32, code: u32, after: Option<(u32, u32)>) {
+        let (body, fallthrough) = (self.fresh(), self.fresh());
+        let operands = [body, fallthrough, self.rng.below(9)];
+        self.end(block, code, if code == 16 { &operands[..2] } else { &operands });
+        let out = (fallthrough, BREAK);
+        self.body(body, out, &[out]);
+        self.statements(fallthrough, after);
+    }
+}

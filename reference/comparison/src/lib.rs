@@ -1,0 +1,11 @@
+//! The reference beside a model of paper 01.
+
+pub mod candidate;
+pub mod coverage;
+pub mod features;
+pub mod generate;
+pub mod model;
+pub mod reference;
+pub mod rng;
+pub mod select;
+pub mod vector;

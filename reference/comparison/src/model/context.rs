@@ -1,0 +1,143 @@
+//! The sets of blocks and the control stack.
+
+use super::Refusal;
+
+/// An open statement that a jump may mean.
+#[derive(Clone, Copy)]
+pub enum Target {
+    /// If, Switch or Case: only its end counts.
+    Plain { block: u32 },
+    Loop { block: u32, continue_block: u32, loop_block: u32, owns_loop: bool },
+}
+
+impl Target {
+    fn block(self) -> u32 {
+        match self {
+            Target::Plain { block } | Target::Loop { block, .. } => block,
+        }
+    }
+
+    fn is_loop(self) -> bool {
+        matches!(self, Target::Loop { .. })
+    }
+}
+
+pub const IMPLICIT: u32 = 0;
+pub const LABELED: u32 = 1;
+pub const UNLABELED: u32 = 2;
+
+pub struct Context {
+    emitted: Vec<bool>,
+    scheduled: Vec<bool>,
+    catch_handlers: Vec<bool>,
+    scope_fallthroughs: Vec<bool>,
+    stack: Vec<Target>,
+}
+
+impl Context {
+    pub fn new(blocks: usize) -> Self {
+        let none = || vec![false; blocks];
+        Self {
+            emitted: none(),
+            scheduled: none(),
+            catch_handlers: none(),
+            scope_fallthroughs: none(),
+            stack: Vec::new(),
+        }
+    }
+
+    /// Puts the block into the emitted set: 11 if it is there.
+    pub fn emit(&mut self, block: u32) -> Result<(), Refusal> {
+        if std::mem::replace(&mut self.emitted[block as usize], true) {
+            return Err(Refusal { code: 11, at: block });
+        }
+        Ok(())
+    }
+
+    pub fn is_scheduled(&self, block: u32) -> bool {
+        self.scheduled[block as usize] || self.catch_handlers[block as usize]
+    }
+
+    pub fn schedule_catch_handler(&mut self, handler: u32) {
+        self.catch_handlers[handler as usize] = true;
+    }
+
+    pub fn remember_scope_fallthrough(&mut self, block: u32) {
+        self.scope_fallthroughs[block as usize] = true;
+    }
+
+    pub fn is_scope_fallthrough(&self, block: u32) -> bool {
+        self.scope_fallthroughs[block as usize]
+    }
+
+    pub fn schedule(&mut self, block: u32) {
+        assert!(!self.scheduled[block as usize], "a break block is never scheduled twice");
+        self.scheduled[block as usize] = true;
+        self.stack.push(Target::Plain { block });
+        assert!(self.stack.len() <= 1_152, "the stack holds at most 1,152 entries");
+    }
+
+    /// The fallthrough goes in without a test; then the continue block is tested.
+    pub fn schedule_loop(
+        &mut self,
+        block: u32,
+        continue_block: u32,
+        loop_block: u32,
+    ) -> Result<(), Refusal> {
+        self.scheduled[block as usize] = true;
+        if self.scheduled[continue_block as usize] {
+            return Err(Refusal { code: 15, at: continue_block });
+        }
+        self.scheduled[continue_block as usize] = true;
+        let owns_loop = !self.scheduled[loop_block as usize];
+        self.scheduled[loop_block as usize] = true;
+        self.stack.push(Target::Loop { block, continue_block, loop_block, owns_loop });
+        Ok(())
+    }
+
+    pub fn unschedule(&mut self) {
+        match self.stack.pop().expect("what was scheduled last is on the stack") {
+            Target::Plain { block } => self.scheduled[block as usize] = false,
+            Target::Loop { block, continue_block, loop_block, owns_loop } => {
+                self.scheduled[block as usize] = false;
+                self.scheduled[continue_block as usize] = false;
+                if owns_loop {
+                    self.scheduled[loop_block as usize] = false;
+                }
+            }
+        }
+    }
+
+    /// The kind of a break to this block, or nothing if no entry has it.
+    pub fn break_kind(&self, block: u32) -> Option<u32> {
+        let above = self.stack.iter().rev().position(|target| target.block() == block)?;
+        let found = self.stack.len() - 1 - above;
+        let loop_above = self.stack[found + 1..].iter().any(|target| target.is_loop());
+        Some(match (self.stack[found].is_loop(), above) {
+            (true, _) if loop_above => LABELED,
+            (true, _) => UNLABELED,
+            (false, 0) => IMPLICIT,
+            (false, _) => LABELED,
+        })
+    }
+
+    /// The end of the innermost loop with this continue block, and the kind of a continue to it.
+    pub fn continue_target(&self, block: u32) -> Option<(u32, u32)> {
+        for (above, target) in self.stack.iter().rev().enumerate() {
+            if let Target::Loop { block: end, continue_block, .. } = *target
+                && continue_block == block
+            {
+                let inner = &self.stack[self.stack.len() - above..];
+                let kind = if inner.iter().any(|target| target.is_loop()) {
+                    LABELED
+                } else if above == 0 {
+                    IMPLICIT
+                } else {
+                    UNLABELED
+                };
+                return Some((end, kind));
+            }
+        }
+        None
+    }
+}

@@ -1,0 +1,139 @@
+//! Paper 01 in plain Rust: vectors, recursion, nothing clever. It is written from the paper and
+//! not from the reference, so that each can be held against the other.
+
+pub mod check;
+pub mod columns;
+mod context;
+mod statements;
+pub mod table;
+pub mod text;
+mod values;
+
+use table::Table;
+
+/// Code (0 accepted), at, rows and visits.
+#[derive(Clone, Copy, Debug, PartialEq, Eq)]
+pub struct Outcome {
+    pub code: u32,
+    pub at: u32,
+    pub rows: u32,
+    pub visits: u32,
+}
+
+/// A refusal and its place.
+#[derive(Clone, Copy, Debug, PartialEq, Eq)]
+pub struct Refusal {
+    pub code: u32,
+    pub at: u32,
+}
+
+pub const ROW_WORDS: usize = 6;
+pub type Row = [u32; ROW_WORDS];
+
+pub const MAX_DEPTH: u32 = 128;
+pub const MAX_VISITS: u32 = 8_192;
+
+/// What a whole walk gives: the rows or the refusal, and the visits begun.
+pub struct Walked {
+    pub result: Result<Vec<Row>, Refusal>,
+    pub visits: u32,
+    pub deepest: u32,
+}
+
+/// The public call: words in, rows out.
+pub fn build(words: &[u32], buffer: &mut [u32]) -> Outcome {
+    buffer.fill(0);
+    let walked = match check::check(words) {
+        Ok(table) => walk(&table),
+        Err(refusal) => Walked { result: Err(refusal), visits: 0, deepest: 0 },
+    };
+    finish(&walked, buffer)
+}
+
+/// Puts the rows into a buffer of zeros, if they fit.
+pub fn finish(walked: &Walked, buffer: &mut [u32]) -> Outcome {
+    let visits = walked.visits;
+    match &walked.result {
+        Err(Refusal { code, at }) => Outcome { code: *code, at: *at, rows: 0, visits },
+        Ok(rows) if rows.len() > buffer.len() / ROW_WORDS => {
+            Outcome { code: 40, at: 0, rows: rows.len() as u32, visits }
+        }
+        Ok(rows) => {
+            for (place, row) in buffer.chunks_exact_mut(ROW_WORDS).zip(rows) {
+                place.copy_from_slice(row);
+            }
+            Outcome { code: 0, at: 0, rows: rows.len() as u32, visits }
+        }
+    }
+}
+
+/// The statement walk from the entry, closed by the root BLOCK.
+pub fn walk(table: &Table) -> Walked {
+    let mut walk = Walk::new(*table);
+    let result = walk.block_row(table.entry(), 1);
+    Walked { result: result.map(|()| walk.rows), visits: walk.visits, deepest: walk.deepest }
+}
+
+/// The state of a walk.
+struct Walk<'w> {
+    table: Table<'w>,
+    rows: Vec<Row>,
+    visits: u32,
+    deepest: u32,
+    context: context::Context,
+}
+
+/// The columns of a block's row.
+#[derive(Clone, Copy)]
+struct Block {
+    number: u32,
+    first: u32,
+    count: u32,
+    code: u32,
+    operands: [u32; 5],
+    id: u32,
+    span: u32,
+}
+
+impl<'w> Walk<'w> {
+    fn new(table: Table<'w>) -> Self {
+        let blocks = table.words[1] as usize;
+        let context = context::Context::new(blocks);
+        Self { table, rows: Vec::new(), visits: 0, deepest: 0, context }
+    }
+
+    /// A visit begins: 30, 31, 10 in this order.
+    fn begin_visit(&mut self, number: u32, depth: u32) -> Result<Block, Refusal> {
+        if depth > MAX_DEPTH {
+            return Err(Refusal { code: 30, at: number });
+        }
+        if self.visits == MAX_VISITS {
+            return Err(Refusal { code: 31, at: number });
+        }
+        self.visits += 1;
+        self.deepest = self.deepest.max(depth);
+        self.look_up(number)
+    }
+
+    /// Looks at a block without visiting it: 10 if it is missing.
+    fn look_up(&self, number: u32) -> Result<Block, Refusal> {
+        let [first, count, code, a, b, c, d, e, id, span] = *self.table.block(number);
+        if code == 0 {
+            return Err(Refusal { code: 10, at: number });
+        }
+        Ok(Block { number, first, count, code, operands: [a, b, c, d, e], id, span })
+    }
+
+    fn row(&mut self, row: Row) {
+        self.rows.push(row);
+    }
+
+    /// INSTR rows, each after its PLAIN, for instruction rows from `first`.
+    fn instruction_rows(&mut self, first: u32, count: u32) {
+        for instruction in first..first + count {
+            let [id, lvalue, _, _, _, span] = *self.table.instruction(instruction);
+            self.row([1, instruction, 0, 0, 0, 0]);
+            self.row([4, id, lvalue, span, 0, 0]);
+        }
+    }
+}

@@ -1,0 +1,136 @@
+//! The program `treebuild` (paper 01, "Samples"): the file form, refusals 50 and 51, the output.
+
+use super::table::{BLOCK_WORDS, CASE_WORDS, HEAD_WORDS, INSTRUCTION_WORDS};
+use super::{Outcome, ROW_WORDS, Refusal, build};
+
+pub const MAX_BYTES: usize = 32_768;
+pub const LENT_ROWS: usize = 2_048;
+
+/// Each table's line of names, and how many numbers its lines hold.
+const TABLES: [(&str, usize); 6] = [
+    ("entry blocks instructions cases places identifiers", HEAD_WORDS),
+    ("first count code a b c d e id span", BLOCK_WORDS),
+    ("id lvalue code p q span", INSTRUCTION_WORDS),
+    ("test block", CASE_WORDS),
+    ("identifier", 1),
+    ("named", 1),
+];
+
+/// What the program prints for this input.
+pub fn treebuild(input: &[u8]) -> String {
+    let mut buffer = vec![0; LENT_ROWS * ROW_WORDS];
+    let outcome = match parse(input) {
+        Ok(words) => build(&words, &mut buffer),
+        Err(Refusal { code, at }) => Outcome { code, at, rows: 0, visits: 0 },
+    };
+    print(outcome, &buffer)
+}
+
+/// The words of a file, or 51 or 50.
+pub fn parse(input: &[u8]) -> Result<Vec<u32>, Refusal> {
+    if input.len() > MAX_BYTES {
+        return Err(Refusal { code: 51, at: 0 });
+    }
+    let mut reader = Reader { input, at: 0 };
+    let mut words = Vec::new();
+    for (table, (names, width)) in TABLES.into_iter().enumerate() {
+        let lines = if table == 0 { 1 } else { words[table] };
+        reader.names(names)?;
+        for _ in 0..lines {
+            reader.values(width, &mut words)?;
+        }
+    }
+    if reader.at < input.len() {
+        return Err(reader.refusal());
+    }
+    Ok(words)
+}
+
+/// Reads on as long as what was read could begin a good file.
+struct Reader<'i> {
+    input: &'i [u8],
+    at: usize,
+}
+
+impl Reader<'_> {
+    fn refusal(&self) -> Refusal {
+        Refusal { code: 50, at: self.at as u32 }
+    }
+
+    fn byte(&mut self, byte: u8) -> Result<(), Refusal> {
+        if self.input.get(self.at) != Some(&byte) {
+            return Err(self.refusal());
+        }
+        self.at += 1;
+        Ok(())
+    }
+
+    fn names(&mut self, names: &str) -> Result<(), Refusal> {
+        names.bytes().try_for_each(|byte| self.byte(byte))?;
+        self.byte(b'\n')
+    }
+
+    fn values(&mut self, width: usize, words: &mut Vec<u32>) -> Result<(), Refusal> {
+        for column in 0..width {
+            words.push(self.number()?);
+            self.byte(if column + 1 < width { b' ' } else { b'\n' })?;
+        }
+        Ok(())
+    }
+
+    /// A number of 32 bits with no leading zero. The digit that makes it too large is refused.
+    fn number(&mut self) -> Result<u32, Refusal> {
+        let mut number = self.digit().ok_or(self.refusal())?;
+        self.at += 1;
+        while number > 0
+            && let Some(digit) = self.digit()
+        {
+            let longer = number.checked_mul(10).and_then(|tens| tens.checked_add(digit));
+            number = longer.ok_or(self.refusal())?;
+            self.at += 1;
+        }
+        Ok(number)
+    }
+
+    fn digit(&self) -> Option<u32> {
+        let byte = *self.input.get(self.at)?;
+        byte.is_ascii_digit().then(|| u32::from(byte - b'0'))
+    }
+}
+
+/// The words in the file form. They need not pass the check, but each table has its lines.
+pub fn write_file(words: &[u32]) -> String {
+    let mut file = String::new();
+    let mut rest = words;
+    for (table, (names, width)) in TABLES.into_iter().enumerate() {
+        let lines = if table == 0 { 1 } else { words[table] };
+        file += names;
+        file.push('\n');
+        for _ in 0..lines {
+            let (line, after) = rest.split_at(width);
+            push_line(&mut file, line);
+            rest = after;
+        }
+    }
+    file
+}
+
+/// The lines that the program prints: two for a refusal, the rows as well if accepted.
+pub fn print(outcome: Outcome, buffer: &[u32]) -> String {
+    let Outcome { code, at, rows, visits } = outcome;
+    let mut out = String::from("code at rows visits\n");
+    push_line(&mut out, &[code, at, rows, visits]);
+    if code == 0 {
+        out += "op a b c d e\n";
+        for row in buffer.chunks_exact(ROW_WORDS).take(rows as usize) {
+            push_line(&mut out, row);
+        }
+    }
+    out
+}
+
+fn push_line(text: &mut String, numbers: &[u32]) {
+    let numbers: Vec<String> = numbers.iter().map(u32::to_string).collect();
+    *text += &numbers.join(" ");
+    text.push('\n');
+}

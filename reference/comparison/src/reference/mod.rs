@@ -1,0 +1,127 @@
+//! Runs the reference on checked words and tells its answer in paper 01's terms.
+
+mod hir;
+mod rows;
+
+use std::any::Any;
+use std::panic::{self, AssertUnwindSafe};
+use std::thread;
+
+use oxc_allocator::Allocator;
+use oxc_diagnostics::OxcDiagnostic;
+use oxc_react_compiler::react_compiler_reactive_scopes::build_reactive_function::build_reactive_function;
+use walk_observer::{Bounds, Seen, Stop};
+
+use crate::model::table::Table;
+use crate::model::{MAX_DEPTH, MAX_VISITS, Refusal, Walked};
+
+/// A walk recurses some kilobytes for each of its 128 levels, and so does the tree that it gives.
+pub const STACK_BYTES: usize = 256 << 20;
+
+/// Keeps panics of the reference quiet, and has the observer note where they are raised. To be
+/// called once, before the first walk.
+pub fn install_panic_hook() {
+    let default = panic::take_hook();
+    panic::set_hook(Box::new(move |info| {
+        walk_observer::gives_up();
+        if code_of_panic(info.payload()).is_none() {
+            default(info);
+        }
+    }));
+}
+
+/// Runs this on a thread with stack enough for any walk.
+pub fn on_large_stack<T: Send>(work: impl FnOnce() -> T + Send) -> T {
+    thread::scope(|scope| {
+        let builder = thread::Builder::new().stack_size(STACK_BYTES);
+        builder.spawn_scoped(scope, work).expect("a thread").join().expect("it ends")
+    })
+}
+
+/// The rows or the refusal, the visits and the greatest depth; and the blocks visited.
+pub fn walk(table: &Table) -> (Walked, Seen) {
+    let allocator = Allocator;
+    let lowering = hir::Lowering { table: *table, allocator: &allocator };
+    let environment = lowering.environment();
+    let function = lowering.function();
+    walk_observer::start(Bounds { depth: MAX_DEPTH as usize, visits: MAX_VISITS });
+    let ended = panic::catch_unwind(AssertUnwindSafe(|| {
+        build_reactive_function(&function, &environment)
+    }));
+    let seen = walk_observer::finish();
+    let result = match ended {
+        Ok(Ok(built)) => {
+            let mut rows = rows::Rows::default();
+            rows.block(&built.body);
+            Ok(rows.0)
+        }
+        Ok(Err(diagnostic)) => Err(of_diagnostic(&diagnostic, &seen)),
+        Err(payload) => Err(of_panic(payload, &seen)),
+    };
+    (Walked { result, visits: seen.visits, deepest: seen.deepest as u32 }, seen)
+}
+
+/// Each message, whether it names its block, and its code.
+const MESSAGES: [(&str, bool, u32); 21] = [
+    ("was already emitted", true, 11),
+    ("Unexpected 'if' where consequent is already scheduled", true, 12),
+    ("Unexpected 'if' where the alternate is already scheduled", true, 13),
+    ("Unexpected 'switch' where a case is already scheduled", false, 14),
+    ("Continue block is already scheduled", true, 15),
+    ("Unexpected 'do-while' where the loop is already scheduled", false, 16),
+    ("Unexpected 'while' where the loop is already scheduled", false, 16),
+    ("Unexpected 'for' where the loop is already scheduled", false, 16),
+    ("Unexpected 'for-of' where the loop is already scheduled", false, 16),
+    ("Unexpected 'for-in' where the loop is already scheduled", false, 16),
+    ("Unexpected 'label' where the block is already scheduled", false, 17),
+    ("Unexpected 'scope' where the block is already scheduled", false, 18),
+    ("Unexpected 'branch' where the alternate is already scheduled", false, 19),
+    ("Expected a break target for", true, 20),
+    ("Expected continue target to be scheduled for", true, 21),
+    ("Expected reactive scope to implicitly break to fallthrough", false, 22),
+    ("Did not expect to reach the fallthrough of a value block", true, 23),
+    ("Unexpected empty block with `goto` terminal", true, 24),
+    ("Expected a branch terminal for", false, 25),
+    ("Support labeled statements combined with value blocks is not yet implemented", false, 26),
+    ("Unsupported terminal kind in value block", false, 27),
+];
+
+fn of_diagnostic(diagnostic: &OxcDiagnostic, seen: &Seen) -> Refusal {
+    let text = &diagnostic.message;
+    let known = MESSAGES.iter().find(|(message, ..)| text.contains(message));
+    let Some((_, names_block, code)) = known else {
+        panic!("a message that paper 01 does not know: {text}");
+    };
+    let at = if *names_block {
+        named_block(text).or_else(|| named_block(diagnostic.help.as_deref()?))
+    } else {
+        seen.gave_up_in
+    };
+    Refusal { code: *code, at: at.expect("a message names a block or is made in a visit") }
+}
+
+/// The number after "bb".
+fn named_block(text: &str) -> Option<u32> {
+    let (_, after) = text.rsplit_once("bb")?;
+    let digits = after.find(|c: char| !c.is_ascii_digit()).unwrap_or(after.len());
+    after[..digits].parse().ok()
+}
+
+fn of_panic(payload: Box<dyn Any + Send>, seen: &Seen) -> Refusal {
+    match (payload.downcast_ref::<Stop>(), code_of_panic(&*payload)) {
+        (Some(Stop::Depth { block }), _) => Refusal { code: 30, at: *block },
+        (Some(Stop::Visits { block }), _) => Refusal { code: 31, at: *block },
+        (Some(Stop::Missing { block }), _) => Refusal { code: 10, at: *block },
+        (None, Some(code)) => {
+            Refusal { code, at: seen.gave_up_in.expect("a panic is raised in a visit") }
+        }
+        (None, None) => panic::resume_unwind(payload),
+    }
+}
+
+/// The one panic of the original that paper 01 gives a code.
+fn code_of_panic(payload: &(dyn Any + Send)) -> Option<u32> {
+    let text = payload.downcast_ref::<&str>().copied();
+    let text = text.or_else(|| payload.downcast_ref::<String>().map(String::as_str));
+    text.is_some_and(|text| text.contains("Expected non-empty instructions")).then_some(28)
+}
