@@ -103,13 +103,15 @@ impl ControlFlowTarget {
         ensures { λ r. ⌜ r ≡ continuesAt (targetOf self) wanted ⌝ }
     {
         match self {
+            ControlFlowTarget::If { block: _ } => false,
+            ControlFlowTarget::Switch { block: _ } => false,
+            ControlFlowTarget::Case { block: _ } => false,
             ControlFlowTarget::Loop {
                 block: _,
                 continue_block,
                 loop_block: _,
                 owns_loop: _,
             } => continue_block == wanted,
-            _ => false,
         }
     }
 }
@@ -207,10 +209,11 @@ fn remove_target(scheduled: &mut [bool; 1024], target: ControlFlowTarget)
 pub fn or_loop(has_preceding_loop: bool, target: ControlFlowTarget) -> bool
     ensures { λ r. ⌜ r ≡ or «has_preceding_loop» (isLoop (targetOf target)) ⌝ }
 {
+    let loop_here = target.is_loop();
     if has_preceding_loop {
         return true;
     }
-    target.is_loop()
+    loop_here
 }
 
 // A loop gives Unlabeled, or Labeled if a loop lies above. Another entry gives Implicit at the top, else Labeled.
