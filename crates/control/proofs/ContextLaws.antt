@@ -154,7 +154,7 @@ module _ (cx : Context) (last : Entry) (top : Last cx last) where
   unfolding contextOf popped
   unscheduled = record {
     state = refl;
-    context = λ visits. unschedule-top (contextOf visits cx) (entryOf last) (stackOf (cx .stack) (cx .len - 1)) (stack-last (cx .stack) (cx .len) last (top .some) (top .read));
+    context = λ visits. unschedule-top (contextOf visits cx) (entryOf last) (stackOf (cx .stack) (cx .len - 1)) (stack-last (cx .stack) (cx .len) last (top .nonempty) (top .read));
     len = refl;
     id = refl;
     bounded = λ bounded. record { most = omega (arith, bounded .most); named = λ k below. bounded .named k (omega arith) };
@@ -163,4 +163,4 @@ module _ (cx : Context) (last : Entry) (top : Last cx last) where
   -- a machine that takes a switch's cases off whatever their ids
   pub pops : (visits : ℕ) → popTop (contextOf visits cx .stack) (contextOf visits cx) ≡ ok (contextOf visits (withoutLast (unscheduledBy (targetOf (last .target)) (cx .scheduled)) cx))
   unfolding contextOf popped
-  pops visits = pop-top (contextOf visits cx) (entryOf last) (stackOf (cx .stack) (cx .len - 1)) (stack-last (cx .stack) (cx .len) last (top .some) (top .read))
+  pops visits = pop-top (contextOf visits cx) (entryOf last) (stackOf (cx .stack) (cx .len - 1)) (stack-last (cx .stack) (cx .len) last (top .nonempty) (top .read))

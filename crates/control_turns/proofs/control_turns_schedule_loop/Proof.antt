@@ -1,0 +1,108 @@
+use Rattle.control_turns.proofs.control_turns_schedule_loop.Statement.{statement}
+use Rattle.control_turns.proofs.control_turns_schedule_loop.Tie as tie
+use Rattle.control_turns.proofs.control_turns_schedule_loop.Reads as reads
+use Rattle.control_turns.proofs.control_turns_schedule_loop.Lts as lts
+use Rattle.control.proofs.Context.new.Reads as new-reads
+use Rattle.control.proofs.Context.schedule_loop.Reads as schedule-loop-reads
+use Rattle.control.proofs.Context.unschedule.Reads as unschedule-reads
+use Rattle.control.proofs.is_scheduled.Reads as is-scheduled-reads
+use Rattle.control_turns.proofs.count.Reads as count-reads
+use Rattle.control_turns.proofs.next_block.Reads as next-block-reads
+
+abbrev Inv-loop : tie.InvT-loop
+Inv-loop turns cx₀ block₀ seen₀ turn₀ cx block seen turn = ?
+
+abbrev μ-loop : tie.MeasureT-loop
+μ-loop turns cx₀ block₀ seen₀ turn₀ cx block seen turn = ?
+
+-- src/lib.rt:64:18
+new-requires : tie.Need-new-requires Inv-loop μ-loop
+new-requires c κs = ?
+
+-- src/lib.rt:68:5
+loop-holds : tie.Need-loop-holds Inv-loop μ-loop
+loop-holds c = ?
+
+-- src/lib.rt:69:13
+next-block-requires : tie.Need-next-block-requires Inv-loop μ-loop
+next-block-requires c κs = ?
+
+-- src/lib.rt:70:13
+next-block-requires-2 : tie.Need-next-block-requires-2 Inv-loop μ-loop
+next-block-requires-2 c κs = ?
+
+-- src/lib.rt:71:14
+schedule-loop-requires : tie.Need-schedule-loop-requires Inv-loop μ-loop
+schedule-loop-requires c κs = ?
+
+-- src/lib.rt:72:18
+sub-at : tie.Need-sub-at Inv-loop μ-loop
+sub-at c = ?
+
+-- src/lib.rt:74:9
+mul-entry : tie.Need-mul-entry Inv-loop μ-loop
+mul-entry c = ?
+
+-- src/lib.rt:74:9
+element-set-from-entry : tie.Need-element-set-from-entry Inv-loop μ-loop
+element-set-from-entry c = ?
+
+-- src/lib.rt:75:28
+is-scheduled-requires : tie.Need-is-scheduled-requires Inv-loop μ-loop
+is-scheduled-requires c κs = ?
+
+-- src/lib.rt:75:9
+count-requires : tie.Need-count-requires Inv-loop μ-loop
+count-requires c κs = ?
+
+-- src/lib.rt:76:20
+mul-last : tie.Need-mul-last Inv-loop μ-loop
+mul-last c = ?
+
+-- src/lib.rt:76:20
+element-copy-out-last : tie.Need-element-copy-out-last Inv-loop μ-loop
+element-copy-out-last c = ?
+
+-- src/lib.rt:77:14
+unschedule-requires : tie.Need-unschedule-requires Inv-loop μ-loop
+unschedule-requires c κs = ?
+
+-- src/lib.rt:79:9
+add-turn : tie.Need-add-turn Inv-loop μ-loop
+add-turn c = ?
+
+-- src/lib.rt:68:5
+loop-less : tie.Need-loop-less Inv-loop μ-loop
+loop-less c = ?
+
+-- src/lib.rt:68:5
+loop-again : tie.Need-loop-again Inv-loop μ-loop
+loop-again c = ?
+
+-- src/lib.rt:60:1
+returns : tie.Need-returns Inv-loop μ-loop
+returns c = ?
+
+pub control-turns-schedule-loop-spec : {M : Type 1} → statement M
+control-turns-schedule-loop-spec =
+    tie.close
+    (tie.spec
+    Inv-loop
+    μ-loop
+    new-requires
+    loop-holds
+    next-block-requires
+    next-block-requires-2
+    schedule-loop-requires
+    sub-at
+    mul-entry
+    element-set-from-entry
+    is-scheduled-requires
+    count-requires
+    mul-last
+    element-copy-out-last
+    unschedule-requires
+    add-turn
+    loop-less
+    loop-again
+    returns)
