@@ -1,17 +1,16 @@
 // The control stack's methods in loops, exported for bench/control to time. Each turn puts an entry on the stack and takes it off again.
 ghost use Prim.Native.Nat.{_+_, _≤_, _<_};
-use control::{is_scheduled, Context, ControlFlowTarget, Resolved};
+use control::Context;
+use control::ControlFlowTarget;
+use control::Resolved;
+use control::is_scheduled;
 
 // A walk through the 1,024 blocks.
 fn next_block(block: u16) -> u16
     requires { ⌜ block < 1024 ⌝ }
     ensures { λ r. ⌜ r < 1024 ⌝ }
 {
-    if block < 987 {
-        block + 37
-    } else {
-        block - 987
-    }
+    if block < 987 { block + 37 } else { block - 987 }
 }
 
 // One more, if so.
@@ -19,11 +18,7 @@ fn count(seen: u16, more: bool) -> u16
     requires { ⌜ seen < 65535 ⌝ }
     ensures { λ r. ⌜ r ≤ seen + 1 ⌝ }
 {
-    if more {
-        seen + 1
-    } else {
-        seen
-    }
+    if more { seen + 1 } else { seen }
 }
 
 fn is_found(resolved: Resolved) -> bool {
@@ -72,7 +67,10 @@ pub extern "C" fn control_turns_schedule_loop(turns: u16) -> u16
         let at = cx.len - 1;
         let entry = cx.pushed;
         cx.stack[at] = entry;
-        seen = count(seen, is_scheduled(&cx.scheduled, &cx.catch_handlers, loop_block));
+        seen = count(
+            seen,
+            is_scheduled(&cx.scheduled, &cx.catch_handlers, loop_block),
+        );
         let last = cx.stack[at];
         cx = cx.unschedule(last);
         block = continue_block;

@@ -6,13 +6,6 @@ use borrow.Author.Needs.{needs, scaled-fits}
 use Rattle.control_turns.proofs.Turn.{Turn}
 use Rattle.control_turns.proofs.control_turns_get_break_target.Statement.{statement}
 use Rattle.control_turns.proofs.control_turns_get_break_target.Tie as tie
-use Rattle.control.proofs.Context.get_break_target.Reads as get-break-target-reads
-use Rattle.control.proofs.Context.new.Reads as new-reads
-use Rattle.control.proofs.Context.schedule.Reads as schedule-reads
-use Rattle.control.proofs.Context.unschedule.Reads as unschedule-reads
-use Rattle.control_turns.proofs.count.Reads as count-reads
-use Rattle.control_turns.proofs.is_found.Reads as is-found-reads
-use Rattle.control_turns.proofs.next_block.Reads as next-block-reads
 
 abbrev Inv-loop : tie.InvT-loop
 Inv-loop turns cx₀ block₀ seen₀ turn₀ cx block seen turn = Turn turns cx block seen turn
@@ -20,72 +13,56 @@ Inv-loop turns cx₀ block₀ seen₀ turn₀ cx block seen turn = Turn turns cx
 abbrev μ-loop : tie.MeasureT-loop
 μ-loop turns cx₀ block₀ seen₀ turn₀ cx block seen turn = turns - turn
 
--- src/lib.rt:89:18
 new-requires : tie.Need-new-requires Inv-loop μ-loop
 new-requires c κs = search needs
 
--- src/lib.rt:93:5
 loop-holds : tie.Need-loop-holds Inv-loop μ-loop
 loop-holds c = record { named = omega arith; few = omega arith; most = omega arith; empty = c .new .ensures .len; ids = omega (arith, c .new .ensures .id); bounded = c .new .ensures .bounded }
 
--- src/lib.rt:94:9
 next-block-requires : tie.Need-next-block-requires Inv-loop μ-loop
 next-block-requires c κs = c .before .loop .inv .named
 
--- src/lib.rt:95:14
 schedule-requires : tie.Need-schedule-requires Inv-loop μ-loop
 schedule-requires c κs = (c .next-block .ensures, record { len = omega (arith, c .before .before .loop .inv .empty); id = omega (arith, c .before .before .loop .inv .ids, c .before .loop-test .taken, c .before .before .before .before .fits .turns) })
 
--- src/lib.rt:96:18
 sub-at : tie.Need-sub-at Inv-loop μ-loop
 sub-at c = omega (arith, c .schedule .ensures .len, c .before .before .before .loop .inv .empty)
 
--- src/lib.rt:98:9
 mul-entry : tie.Need-mul-entry Inv-loop μ-loop
 mul-entry c = scaled-fits _ 1152 _ (omega (arith, c .before .schedule .ensures .len, c .before .before .before .before .loop .inv .empty)) (lit< tt)
 
--- src/lib.rt:98:9
 element-set-from-entry : tie.Need-element-set-from-entry Inv-loop μ-loop
 element-set-from-entry c = omega (arith, c .before .schedule .ensures .len, c .before .before .before .before .loop .inv .empty)
 
--- src/lib.rt:99:37
 get-break-target-requires : tie.Need-get-break-target-requires Inv-loop μ-loop
 get-break-target-requires c κs = omega (arith, c .before .schedule .ensures .len, c .before .before .before .before .loop .inv .empty)
 
--- src/lib.rt:99:28
 is-found-requires : tie.Need-is-found-requires Inv-loop μ-loop
 is-found-requires c κs = search needs
 
--- src/lib.rt:99:9
 count-requires : tie.Need-count-requires Inv-loop μ-loop
 count-requires c κs = omega (arith, c .before .before .before .before .before .before .loop .inv .few, c .before .before .before .before .before .loop-test .taken, c .before .before .before .before .before .before .before .before .fits .turns)
 
--- src/lib.rt:100:20
 mul-last : tie.Need-mul-last Inv-loop μ-loop
 mul-last c = scaled-fits _ 1152 _ (omega (arith, c .before .before .before .before .schedule .ensures .len, c .before .before .before .before .before .before .before .loop .inv .empty)) (lit< tt)
 
--- src/lib.rt:100:20
 element-copy-out-last : tie.Need-element-copy-out-last Inv-loop μ-loop
 element-copy-out-last c = omega (arith, c .before .before .before .before .schedule .ensures .len, c .before .before .before .before .before .before .before .loop .inv .empty)
 
--- src/lib.rt:101:14
 unschedule-requires : tie.Need-unschedule-requires Inv-loop μ-loop
 unschedule-requires c κs =
     let stored = c .before .before .before .before .before .schedule .ensures .bounded (c .before .before .before .before .before .before .before .before .loop .inv .bounded) in
     let some : 0 < c .before .before .before .before .before .schedule .result .len = omega (arith, c .before .before .before .before .before .schedule .ensures .len) in
     record { nonempty = some; read = refl; named = stored .named (c .before .before .before .before .before .schedule .result .len - 1) (omega arith) }
 
--- src/lib.rt:102:9
 add-turn : tie.Need-add-turn Inv-loop μ-loop
 add-turn c = omega (arith, c .before .before .before .before .before .before .before .before .loop-test .taken, c .before .before .before .before .before .before .before .before .before .before .before .fits .turns)
 
--- src/lib.rt:93:5
 loop-less : tie.Need-loop-less Inv-loop μ-loop
 loop-less c = omega (arith, c .before .before .before .before .before .before .before .before .loop-test .taken)
 
--- src/lib.rt:93:5
 loop-again : tie.Need-loop-again Inv-loop μ-loop
-loop-again c = 
+loop-again c =
     let inv = c .before .before .before .before .before .before .before .before .before .loop .inv in
     let done = c .before .before .before .before .before .before .schedule .ensures in
     record {
@@ -97,7 +74,6 @@ loop-again c =
       bounded = c .unschedule .ensures .bounded (done .bounded (inv .bounded));
     }
 
--- src/lib.rt:85:1
 returns : tie.Need-returns Inv-loop μ-loop
 returns c = omega (arith, c .before .loop .inv .few, c .before .loop .inv .most)
 

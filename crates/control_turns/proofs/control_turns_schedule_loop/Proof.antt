@@ -6,12 +6,6 @@ use borrow.Author.Needs.{needs, scaled-fits}
 use Rattle.control_turns.proofs.Turn.{Turn}
 use Rattle.control_turns.proofs.control_turns_schedule_loop.Statement.{statement}
 use Rattle.control_turns.proofs.control_turns_schedule_loop.Tie as tie
-use Rattle.control.proofs.Context.new.Reads as new-reads
-use Rattle.control.proofs.Context.schedule_loop.Reads as schedule-loop-reads
-use Rattle.control.proofs.Context.unschedule.Reads as unschedule-reads
-use Rattle.control.proofs.is_scheduled.Reads as is-scheduled-reads
-use Rattle.control_turns.proofs.count.Reads as count-reads
-use Rattle.control_turns.proofs.next_block.Reads as next-block-reads
 
 abbrev Inv-loop : tie.InvT-loop
 Inv-loop turns cx₀ block₀ seen₀ turn₀ cx block seen turn = Turn turns cx block seen turn
@@ -19,72 +13,56 @@ Inv-loop turns cx₀ block₀ seen₀ turn₀ cx block seen turn = Turn turns cx
 abbrev μ-loop : tie.MeasureT-loop
 μ-loop turns cx₀ block₀ seen₀ turn₀ cx block seen turn = turns - turn
 
--- src/lib.rt:64:18
 new-requires : tie.Need-new-requires Inv-loop μ-loop
 new-requires c κs = search needs
 
--- src/lib.rt:68:5
 loop-holds : tie.Need-loop-holds Inv-loop μ-loop
 loop-holds c = record { named = omega arith; few = omega arith; most = omega arith; empty = c .new .ensures .len; ids = omega (arith, c .new .ensures .id); bounded = c .new .ensures .bounded }
 
--- src/lib.rt:69:13
 next-block-requires : tie.Need-next-block-requires Inv-loop μ-loop
 next-block-requires c κs = c .before .loop .inv .named
 
--- src/lib.rt:70:13
 next-block-requires-2 : tie.Need-next-block-requires-2 Inv-loop μ-loop
 next-block-requires-2 c κs = c .next-block .ensures
 
--- src/lib.rt:71:14
 schedule-loop-requires : tie.Need-schedule-loop-requires Inv-loop μ-loop
 schedule-loop-requires c κs = ((c .before .before .before .loop .inv .named, c .before .next-block .ensures, c .next-block2 .ensures), record { len = omega (arith, c .before .before .before .loop .inv .empty); id = omega (arith, c .before .before .before .loop .inv .ids, c .before .before .loop-test .taken, c .before .before .before .before .before .fits .turns) })
 
--- src/lib.rt:72:18
 sub-at : tie.Need-sub-at Inv-loop μ-loop
 sub-at c = omega (arith, c .schedule-loop .ensures .len, c .before .before .before .before .loop .inv .empty)
 
--- src/lib.rt:74:9
 mul-entry : tie.Need-mul-entry Inv-loop μ-loop
 mul-entry c = scaled-fits _ 1152 _ (omega (arith, c .before .schedule-loop .ensures .len, c .before .before .before .before .before .loop .inv .empty)) (lit< tt)
 
--- src/lib.rt:74:9
 element-set-from-entry : tie.Need-element-set-from-entry Inv-loop μ-loop
 element-set-from-entry c = omega (arith, c .before .schedule-loop .ensures .len, c .before .before .before .before .before .loop .inv .empty)
 
--- src/lib.rt:75:28
 is-scheduled-requires : tie.Need-is-scheduled-requires Inv-loop μ-loop
 is-scheduled-requires c κs = c .before .before .before .before .before .next-block2 .ensures
 
--- src/lib.rt:75:9
 count-requires : tie.Need-count-requires Inv-loop μ-loop
 count-requires c κs = omega (arith, c .before .before .before .before .before .before .before .before .before .loop .inv .few, c .before .before .before .before .before .before .before .before .loop-test .taken, c .before .before .before .before .before .before .before .before .before .before .before .fits .turns)
 
--- src/lib.rt:76:20
 mul-last : tie.Need-mul-last Inv-loop μ-loop
 mul-last c = scaled-fits _ 1152 _ (omega (arith, c .before .before .before .before .before .before .schedule-loop .ensures .len, c .before .before .before .before .before .before .before .before .before .before .loop .inv .empty)) (lit< tt)
 
--- src/lib.rt:76:20
 element-copy-out-last : tie.Need-element-copy-out-last Inv-loop μ-loop
 element-copy-out-last c = omega (arith, c .before .before .before .before .before .before .schedule-loop .ensures .len, c .before .before .before .before .before .before .before .before .before .before .loop .inv .empty)
 
--- src/lib.rt:77:14
 unschedule-requires : tie.Need-unschedule-requires Inv-loop μ-loop
-unschedule-requires c κs = 
+unschedule-requires c κs =
     let stored = c .before .before .before .before .before .before .before .schedule-loop .ensures .bounded (c .before .before .before .before .before .before .before .before .before .before .before .loop .inv .bounded) in
     let some : 0 < c .before .before .before .before .before .before .before .schedule-loop .result .len = omega (arith, c .before .before .before .before .before .before .before .schedule-loop .ensures .len) in
     record { nonempty = some; read = refl; named = stored .named (c .before .before .before .before .before .before .before .schedule-loop .result .len - 1) (omega arith) }
 
--- src/lib.rt:79:9
 add-turn : tie.Need-add-turn Inv-loop μ-loop
 add-turn c = omega (arith, c .before .before .before .before .before .before .before .before .before .before .before .loop-test .taken, c .before .before .before .before .before .before .before .before .before .before .before .before .before .before .fits .turns)
 
--- src/lib.rt:68:5
 loop-less : tie.Need-loop-less Inv-loop μ-loop
 loop-less c = omega (arith, c .before .before .before .before .before .before .before .before .before .before .before .loop-test .taken)
 
--- src/lib.rt:68:5
 loop-again : tie.Need-loop-again Inv-loop μ-loop
-loop-again c = 
+loop-again c =
     let inv = c .before .before .before .before .before .before .before .before .before .before .before .before .loop .inv in
     let done = c .before .before .before .before .before .before .before .before .schedule-loop .ensures in
     record {
@@ -96,7 +74,6 @@ loop-again c =
       bounded = c .unschedule .ensures .bounded (done .bounded (inv .bounded));
     }
 
--- src/lib.rt:60:1
 returns : tie.Need-returns Inv-loop μ-loop
 returns c = omega (arith, c .before .loop .inv .few, c .before .loop .inv .most)
 
