@@ -10,7 +10,6 @@ use lib.Dec.{eqb, leb}
 use borrow.Author.Tests.{leb-false}
 use Rattle.table.specs.Table.{Table, Block, Case, Terminal, absent, unreachable, throw, return, goto, if, branch, switch, do-while, while, for, for-of, for-in, logical, ternary, optional, sequence, maybe-throw, try, scope, Variant, Break, Continue, Try, blockAt, terminalAt, instructionRowsAt, instructionRows, isAbsent, label}
 use Rattle.definition.specs.Context.{or, Flags, has, add, remove, ControlFlowTarget, target-if, target-switch, target-case, target-loop, targetBlock, Entry, Context, start, isScheduled, emit, withVisits, markScopeFallthrough, scheduleCatchHandler, pushed, schedule, scheduleLoop, unscheduledBy, popped, unscheduleTop, unschedule}
-use Rattle.definition.specs.Machine.{popTop, popCases}
 use Rattle.definition.specs.Result.{refused, Result, ok, _>>=_, refuseIf}
 use Rattle.definition.specs.Statement.{TerminalResult, enterBlock, unlessScheduled, unlessUnreachable, scheduleIf, unscheduleIf, markScopeFallthroughIf, scheduleSwitch, OptionalValue, visitUpdate}
 use Rattle.definition.specs.Tree.{Kind, implicit, labeled, unlabeled, Statement, Statements}
@@ -207,17 +206,3 @@ pub scopedIf-kept : (g : Option ℕ) (c : Context) → Kept c (markScopeFallthro
 unfolding markScopeFallthroughIf markScopeFallthrough
 scopedIf-kept none c = refl
 scopedIf-kept (some f) c = refl
-
-popTop-kept : (S : List Entry) (c : Context) → Good (Kept c) (popTop S c)
-unfolding popTop popped
-popTop-kept [] c = tt
-popTop-kept (e ∷ S) c = refl
-
-pub popCases-kept : (n : ℕ) (c : Context) → Good (Kept c) (popCases n c)
-unfolding popCases
-popCases-kept zero c = refl
-popCases-kept (suc n) c = good-bind (Kept c) (Kept c) _ _ (popTop-kept (c .stack) c) (λ d q. from d q (popCases n d) (popCases-kept n d))
-  where
-    from : (d : Context) → Kept c d → (m : Result Context) → Good (Kept d) m → Good (Kept c) m
-    from d q (ok e) h = h ∙ q
-    from d q (refused x p v) h = tt

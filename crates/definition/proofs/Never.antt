@@ -7,11 +7,12 @@ use mathlib.Core.List.{List, [], _∷_, _++_}
 use mathlib.Core.Option.{Option, none, some}
 use mathlib.Core.Bool.{Bool, true, false, not, _&&_}
 use lib.ListN.{getD, set}
-use lib.Dec.{T, eqb, leb, eqb-refl}
+use lib.Dec.{T, eqb, leb, eqb-refl, leb→le}
 use borrow.Author.Tests.{eqb-true, eq-eqb}
 use Rattle.table.specs.Table.{Table, Block, Case, Terminal, absent, unreachable, throw, return, goto, if, branch, switch, do-while, while, for, for-of, for-in, logical, ternary, optional, sequence, maybe-throw, try, scope, Variant, Break, Continue, Try, blockAt, terminalAt, instructionRowsAt, instructionRows, isAbsent, isUnreachable, label}
 use Rattle.definition.specs.Context.{or, Flags, has, add, remove, ControlFlowTarget, target-if, target-switch, target-case, target-loop, targetBlock, Entry, Context, start, isScheduled, emit, withVisits, markScopeFallthrough, scheduleCatchHandler, pushed, schedule, scheduleLoop, unscheduledBy, popped, unscheduleTop, unschedule, breakTargetFrom, Resolution, continueTargetFrom}
-use Rattle.definition.specs.Result.{refused, Result, ok, _>>=_, refuseIf}
+use Rattle.definition.specs.Build.{accepted, rejected, report, reported}
+use Rattle.definition.specs.Result.{refused, Result, ok, _>>=_, refuseIf, already-scheduled, unschedule-out-of-order, maybe-throw-in-value-terminal}
 use Rattle.definition.specs.Statement.{breakToScope, visitBreak, visitContinue, breakResolved, continueResolved, TerminalResult, BlockResult, TraverseBlock, enterBlock, unlessScheduled, unlessUnreachable, scheduleIf, unscheduleIf, markScopeFallthroughIf, traverseUnscheduled, AlternateResult, traverseAlternate, visitGoto, traverseEnclosed, loopIsTaken, traverseLoop, CasesResult, traverseCases, unscheduleAll, scheduleSwitch, scheduleIds, casesLastFirst, OptionalValue, visitUpdate, traverseConsequent, visitValueStatement, visitTerminal, thenNext, visitBlock, traverseBlock, buildTree}
 use Rattle.definition.specs.Tree.{Kind, implicit, labeled, unlabeled, Statement, Statements}
 use Rattle.definition.specs.Value.{visitValueBlock, branchWays, Ways, isThis, beginVisit, ValueBlockResult, ValueTerminalResult, TestBlockResult, VisitValueBlock, extractOrRefuse, testBlockEnded, visitTestBlock, visitValueBlockTerminal, thenFallthrough, branchValue, isEmptyGoto, maybeThrowValue, visitValueBlockAt}
@@ -195,17 +196,17 @@ to-entered c b v = record { same = refl; sub = λ x h. h }
 
 -- ---- targets other than loops
 
-Free : Option ℕ → Context → Type 0
+unfoldable pub Free : Option ℕ → Context → Type 0
 Free g c = (f : ℕ) → g ≡ some f → has (c .scheduled) f ≡ false
 
-or-false : (x y : Bool) → or x y ≡ false → x ≡ false
+pub or-false : (x y : Bool) → or x y ≡ false → x ≡ false
 or-false true y e = e
 or-false false y e = refl
 
 none-some : {y : ℕ} → _≡_ {A = Option ℕ} none (some y) → ⊥
 none-some e = let z : _≡_ {A = ℕ} 0 1 = cc in omega arith
 
-untaken-free : (c : Context) (f : ℕ) → Free (unlessScheduled c f) c
+pub untaken-free : (c : Context) (f : ℕ) → Free (unlessScheduled c f) c
 unfolding unlessScheduled Free isScheduled
 untaken-free c f g e = at (isScheduled c f) refl e
   where
@@ -213,7 +214,7 @@ untaken-free c f g e = at (isScheduled c f) refl e
     at true h q = absurd (none-some q)
     at false h q = ap (has (c .scheduled)) (cc q) ∙ or-false (has (c .scheduled) f) (has (c .catchHandlers) f) h
 
-reached-fine : (t : Table) (c : Context) (f : ℕ) → Fine (λ g. Free g c) (unlessUnreachable t c f)
+pub reached-fine : (t : Table) (c : Context) (f : ℕ) → Fine (λ g. Free g c) (unlessUnreachable t c f)
 unfolding unlessUnreachable
 reached-fine t c f = fine-unless (λ g. Free g c) _ 10 f (c .visits) _ tt (λ h. at (isUnreachable (terminalAt t f)))
   where
@@ -221,7 +222,7 @@ reached-fine t c f = fine-unless (λ g. Free g c) _ 10 f (c .visits) _ tt (λ h.
     at true = unfold Free in (λ g e. absurd (none-some e))
     at false = untaken-free c f
 
-schedule-free : (g : ControlFlowTarget) (c : Context) → has (c .scheduled) (targetBlock g) ≡ false → schedule g c ≡ ok (pushed g (add (c .scheduled) (targetBlock g)) c)
+pub schedule-free : (g : ControlFlowTarget) (c : Context) → has (c .scheduled) (targetBlock g) ≡ false → schedule g c ≡ ok (pushed g (add (c .scheduled) (targetBlock g)) c)
 unfolding schedule refuseIf _>>=_
 schedule-free g c e = ap (λ (y : Bool). refuseIf y 90 (targetBlock g) (c .visits) >>= λ _. ok (pushed g (add (c .scheduled) (targetBlock g)) c)) e
 
@@ -377,7 +378,7 @@ openedSwitch-fine (some f) c h =
 case-fine : (k : ℕ) (c : Context) → has (c .scheduled) k ≡ false → Fine (λ d. On (target-case k) (c .nextId) c d) (schedule (target-case k) c)
 case-fine k c h = subst (λ (r : Result Context). Fine (λ d. On (target-case k) (c .nextId) c d) r) (sym (schedule-free (target-case k) c h)) (on-pushed (target-case k) c)
 
-false-of : (y : Bool) → (y ≡ true → ⊥) → y ≡ false
+pub false-of : (y : Bool) → (y ≡ true → ⊥) → y ≡ false
 false-of true h = absurd (h refl)
 false-of false h = refl
 
@@ -564,3 +565,34 @@ walk-fine t (suc d) b c = chain-fine t (visitValueBlock t d) (value-fine t d) (t
 pub never : (t : Table) (c p v : ℕ) → buildTree t ≡ refused c p v → T (ofPaper c)
 unfolding buildTree WalkFine
 never t c p v e = subst (λ (r : Result BlockResult). Fine (λ r. After start (r .context)) r) e (walk-fine t 128 (t .entry) start)
+
+rejected-is : (y : Result BlockResult) (code at visits : ℕ) → reported y ≡ rejected code at visits → y ≡ refused code at visits
+unfolding reported
+rejected-is (ok r) code at visits e = absurd (let z : _≡_ {A = ℕ} 0 1 = cc in omega arith)
+rejected-is (refused c p v) code at visits e = cc
+
+of-paper : (code : ℕ) → T (ofPaper code) → code ≤ 31
+of-paper code h = leb→le code 31 (second (leb 10 code) h)
+  where
+    second : (y : Bool) → T (y && leb code 31) → T (leb code 31)
+    second true k = k
+    second false k = absurd k
+
+-- whatever refuses a table is one of the paper's refusals
+pub never-above : (t : Table) (code at visits : ℕ) → report t ≡ rejected code at visits → code ≤ 31
+unfolding report
+never-above t code at visits e = of-paper code (never t code at visits (rejected-is (buildTree t) code at visits e))
+
+-- "Four Rust messages never occur and are proved so". The fourth has no counterpart: a target's type is a constructor
+pub never-already-scheduled : (t : Table) (at visits : ℕ) → report t ≡ rejected already-scheduled at visits → ⊥
+never-already-scheduled t at visits e = omega (arith, never-above t already-scheduled at visits e)
+
+pub never-unschedule-out-of-order : (t : Table) (at visits : ℕ) → report t ≡ rejected unschedule-out-of-order at visits → ⊥
+never-unschedule-out-of-order t at visits e = omega (arith, never-above t unschedule-out-of-order at visits e)
+
+pub never-maybe-throw-in-value-terminal : (t : Table) (at visits : ℕ) → report t ≡ rejected maybe-throw-in-value-terminal at visits → ⊥
+never-maybe-throw-in-value-terminal t at visits e = omega (arith, never-above t maybe-throw-in-value-terminal at visits e)
+
+-- 99, the terminal of a block that is not there, is no refusal either: such a block is refused 10 before
+pub never-absent-terminal : (t : Table) (at visits : ℕ) → report t ≡ rejected 99 at visits → ⊥
+never-absent-terminal t at visits e = omega (arith, never-above t 99 at visits e)

@@ -3,427 +3,593 @@ use mathlib.Core.Path.{_≡_, refl, sym, ap, _∙_, subst, subst₂}
 use Prim.Native.Nat.{ℕ, zero, suc, _+_, _*_, _-_, _≤_, _<_}
 use native.Mathlib.Nat.{zero-add, suc-add, add-zero, add-suc, add-assoc, le-refl, le-trans}
 use native.Mathlib.Omega.{arith}
-use mathlib.Core.List.{List, [], _∷_, _++_, append-assoc, append-nil}
+use mathlib.Core.List.{List, [], _∷_, _++_, append-assoc, append-nil, reverse, reverse-append}
 use mathlib.Core.Option.{Option, none, some}
 use mathlib.Core.Bool.{Bool, true, false, not}
-use lib.ListN.{length}
+use lib.ListN.{length, getD, take, drop, length-drop, length-reverse}
+use lib.Seq.{take-suc, getD-drop}
 use lib.Dec.{eqb, leb}
 use borrow.Author.Tests.{lt-leb, le-leb, eq-eqb}
 use Rattle.table.specs.Table.{Table, Block, Case, Terminal, absent, unreachable, throw, return, goto, if, branch, switch, do-while, while, for, for-of, for-in, logical, ternary, optional, sequence, maybe-throw, try, scope, Variant, Break, Continue, Try, blockAt, terminalAt, instructionRowsAt, instructionRows, isAbsent, label}
 use Rattle.definition.specs.Build.{accepted, Report, rejected, reported, report}
-use Rattle.definition.specs.Context.{getBreakTarget, getContinueTarget, Flags, has, ControlFlowTarget, targetBlock, target-case, Entry, Context, start, isScheduled, emit, withVisits, scheduleCatchHandler, markScopeFallthrough, pushed, schedule, scheduleLoop, unscheduledBy, popped, unscheduleTop, unschedule, breakTargetFrom, continueTargetFrom}
-use Rattle.definition.specs.Machine.{Frame, fThen, fWays, fCase, fDo, fTry, fBody, fLoop, State, visiting, ended, Turn, going, halt, turn, leave, blockRow, valueOut, updateOut, stmtOut, jumpOut, added, instrOut, ifRow, scopeRow, into, intoLoop, close, closeLoop, orElse, otherWay, popTop, popCases, nextCase, resume, firstWay, valueStep, dispatch, left, visit, step, run, machine}
+use Rattle.definition.specs.Context.{Flags, has, add, ControlFlowTarget, targetBlock, target-case, Entry, Context, start, isScheduled, emit, withVisits, scheduleCatchHandler, markScopeFallthrough, pushed, schedule, scheduleLoop, unscheduledBy, popped, unscheduleTop, unschedule}
+use Rattle.definition.specs.Machine.{Frame, State, visiting, ended, choosing, popping, Turn, going, halt, turn, leave, blockRow, valueOut, updateOut, stmtOut, jumpOut, added, instrOut, scopeRow, hasUpdate, closingRowOf, closingRow, scheduled, scheduledIf, scheduledSwitch, unscheduledTop, unscheduled, unscheduledIf, opens, frameOf, secondPart, withEntries, withLeft, caseBuilt, into, intoLoop, complete, closeBy, close, no-case, caseAt, numberOfCases, chooseCase, firstCase, afterCases, resumeAt, resume, branchTurn, valueTurn, terminalTurn, depthLeft, visitTurn, step, begin, Gives, halts, goes, run}
 use Rattle.definition.specs.Result.{refused, Result, ok, _>>=_, refuseIf}
 use Rattle.definition.specs.Statement.{visitBreak, visitContinue, breakResolved, continueResolved, OptionalValue, visitUpdate, continueBlockOf, TerminalResult, BlockResult, TraverseBlock, enterBlock, unlessScheduled, unlessUnreachable, scheduleIf, unscheduleIf, markScopeFallthroughIf, traverseUnscheduled, AlternateResult, traverseAlternate, visitGoto, traverseEnclosed, loopIsTaken, traverseLoop, CasesResult, traverseCases, unscheduleAll, scheduleSwitch, scheduleIds, casesLastFirst, singleStatement, traverseConsequent, visitValueStatement, visitTerminal, instructionStatements, followedBy, thenNext, visitBlock, traverseBlock, buildTree}
-use Rattle.definition.specs.Tree.{Value, Statement, Statements, done, Cases, no-cases, CASE, Row, row, orNone, present, countStatements, countCases, IF, INSTR, SWITCH, WHILE, FOR, FOROF, FORIN, DOWHILE, LABEL, TRY, SCOPE, rows, blockRows}
+use Rattle.definition.specs.Tree.{Value, Statement, Statements, done, Cases, no-cases, CASE, Row, row, orNone, flag, present, countStatements, countCases, IF, INSTR, SWITCH, WHILE, FOR, FOROF, FORIN, DOWHILE, LABEL, TRY, SCOPE, rows, blockRows}
 use Rattle.definition.specs.Value.{visitValueBlock, mostDepth, mostVisits, beginVisit, ValueBlockResult, ValueTerminalResult, VisitValueBlock, visitValueBlockTerminal, valueBlockResultToSequence}
 use Rattle.definition.proofs.Rows.{stmtsOut, casesOut, bodyOut, body-out, performing-out, count-performing, followed-out, count-followed, rows-if, rows-else, rows-do, rows-while, rows-for, rows-forof, rows-forin, rows-label, rows-try, rows-scope, rows-value, rows-single, rows-case, rows-switch, rows-chain, count-chain}
-use Rattle.definition.proofs.Grow.{Good, good-bind, Any, any, Grows, value-grows, terminal-grows, update-grows, Kept, enter-grows, schedule-kept, loop-kept, unschedule-kept, opened-kept, openedSwitch-kept, closed-kept, scopedIf-kept, popCases-kept}
-use Rattle.definition.proofs.Never.{Fine, After, WalkFine, walk-fine}
+use Rattle.definition.proofs.Grow.{Good, good-bind, Any, any, Grows, value-grows, terminal-grows, update-grows, Kept, enter-grows, loop-kept, scopedIf-kept}
+use Rattle.definition.proofs.Never.{Fine, After, WalkFine, walk-fine, Free, untaken-free, reached-fine, schedule-free, or-false, false-of}
+use Rattle.definition.proofs.Tools.{true-false}
 
--- two for each visit left, one for each frame, and one at the end of a list
-abbrev pub potential : State → ℕ
-potential (visiting b F R m c) = 2 * (8192 - c .visits) + length F
-potential (ended F R m c) = suc (2 * (8192 - c .visits) + length F)
+-- what the rest of a turn comes to leads to a
+abbrev pub Under : Table → Result State → Report → Type 0
+Under t (ok s) a = Gives t s a
+Under t (refused c q v) a = rejected c q v ≡ a
 
--- from s the machine gives the answer a, in at most 1 + potential s steps
-pub Runs : Table → State → Report → Type 0
-Runs t s a = (n : ℕ) → potential s < n → run t n s ≡ a
-
--- what a step from a state of potential p comes to leads to a
-abbrev pub Under : Table → ℕ → Result State → Report → Type 0
-Under t p (ok s) a = (potential s < p) × Runs t s a
-Under t p (refused c q v) a = rejected c q v ≡ a
-
-runs-turn : (t : Table) (s : State) (x : Result State) (a : Report) → step t s ≡ turn x → Under t (potential s) x a → Runs t s a
-unfolding Runs run turn
-runs-turn t s (ok s′) a e (lt, h) zero q = absurd (omega arith)
-runs-turn t s (ok s′) a e (lt, h) (suc n) q = ap (λ (z : Turn). elim z [ going s₁ ↦ run t n s₁ | halt a₁ ↦ a₁ ]) e ∙ h n (omega arith)
-runs-turn t s (refused c p v) a e h zero q = absurd (omega arith)
-runs-turn t s (refused c p v) a e h (suc n) q = ap (λ (z : Turn). elim z [ going s₁ ↦ run t n s₁ | halt a₁ ↦ a₁ ]) e ∙ h
-
-leave-low : (g : Option ℕ) (F : List Frame) (R : List Row) (m : ℕ) (c : Context) → potential (leave g F R m c) ≤ suc (2 * (8192 - c .visits) + length F)
-leave-low none F R m c = le-refl _
-leave-low (some n) F R m c = omega arith
+gives-turn : (t : Table) (s : State) (x : Result State) (a : Report) → step t s ≡ turn x → Under t x a → Gives t s a
+unfolding turn
+gives-turn t s (ok s′) a e h = goes e h
+gives-turn t s (refused c p v) a e h = halts (e ∙ ap halt h)
 
 bind-assoc : {A B C : Type 0} (m : Result A) (f : A → Result B) (g : B → Result C) → (m >>= f) >>= g ≡ m >>= (λ a. f a >>= g)
 unfolding _>>=_
 bind-assoc (ok a) f g = refl
 bind-assoc (refused c p v) f g = refl
 
--- a state's rest of a step, x, beside the same of the definition, y: the statement's rows are put out and its fallthrough is taken next
-abbrev Beside : Table → (p v : ℕ) → List Frame → List Row → ℕ → Result State → Result TerminalResult → Type 0
-Beside t p v F R m x (ok s) = (v ≤ s .context .visits) × ((a : Report) → Runs t (leave (s .next) F (R ++ jumpOut (s .statement)) (added (s .statement) m) (s .context)) a → Under t p x a)
-Beside t p v F R m x (refused c q w) = Under t p x (rejected c q w)
+-- the rest of a turn, x, beside the same of the definition, y: the statement's rows are put out and its fallthrough is taken next
+abbrev Beside : Table → (v : ℕ) → List Frame → List Row → ℕ → Result State → Result TerminalResult → Type 0
+Beside t v F R m x (ok s) = (v ≤ s .context .visits) × ((a : Report) → Gives t (leave (s .next) F (R ++ jumpOut (s .statement)) (added (s .statement) m) (s .context)) a → Under t x a)
+Beside t v F R m x (refused c q w) = Under t x (rejected c q w)
 
 -- the same as a record, so that its arguments are found
-record Sim (t : Table) (p v : ℕ) (F : List Frame) (R : List Row) (n : ℕ) (x : Result State) (y : Result TerminalResult) : Type 0 where
-  raw : Beside t p v F R n x y
+record Sim (t : Table) (v : ℕ) (F : List Frame) (R : List Row) (n : ℕ) (x : Result State) (y : Result TerminalResult) : Type 0 where
+  raw : Beside t v F R n x y
 
 -- a list of statements is walked from the state s
 abbrev Along : Table → State → ℕ → List Frame → List Row → ℕ → Result BlockResult → Type 0
-Along t s v F R m (ok r) = (v < r .context .visits) × ((a : Report) → Runs t (ended F (R ++ stmtsOut (r .statements)) (m + countStatements (r .statements)) (r .context)) a → Runs t s a)
-Along t s v F R m (refused c q w) = Runs t s (rejected c q w)
+Along t s v F R m (ok r) = (v < r .context .visits) × ((a : Report) → Gives t (ended F (R ++ stmtsOut (r .statements)) (m + countStatements (r .statements)) (r .context)) a → Gives t s a)
+Along t s v F R m (refused c q w) = Gives t s (rejected c q w)
 
 unfoldable pub Walks : Table → ℕ → TraverseBlock → Type 0
 Walks t d inner = (b : ℕ) (F : List Frame) (R : List Row) (m : ℕ) (c : Context) → length F + d ≡ 128 → Along t (visiting b F R m c) (c .visits) F R m (inner b c)
 
-sim-bind : {A : Type 0} {t : Table} {p v : ℕ} {F : List Frame} {R : List Row} {n : ℕ} (P : A → Type 0) (m : Result A) (f : A → Result State) (g : A → Result TerminalResult)
-    → Good P m → ((a : A) → P a → Sim t p v F R n (f a) (g a)) → Sim t p v F R n (m >>= f) (m >>= g)
-unfolding _>>=_
-sim-bind P (ok a) f g h k = k a h
-sim-bind P (refused c q w) f g h k = record { raw = refl }
+module _ {t : Table} {v : ℕ} {F : List Frame} {R : List Row} {n : ℕ} where
+  sim-bind : {A : Type 0} (P : A → Type 0) (m : Result A) (f : A → Result State) (g : A → Result TerminalResult)
+      → Good P m → ((a : A) → P a → Sim t v F R n (f a) (g a)) → Sim t v F R n (m >>= f) (m >>= g)
+  unfolding _>>=_
+  sim-bind P (ok a) f g h k = k a h
+  sim-bind P (refused c q w) f g h k = record { raw = refl }
 
--- a statement is complete
-sim-leave : {t : Table} {p v : ℕ} {F : List Frame} {R R₁ : List Row} {n : ℕ} {g : Option ℕ} (s : Statement) {c : Context}
-    → R₁ ≡ R ++ stmtOut s → suc (2 * (8192 - c .visits) + length F) < p → v ≤ c .visits
-    → Sim t p v F R n (ok (leave g F R₁ (suc n) c)) (ok (record { statement = some s; next = g; context = c }))
-sim-leave {t} {p} {v} {F} {R} {R₁} {n} {g} s {c} e lt h =
-    record { raw = (h, λ a q. (omega (arith, leave-low g F R₁ (suc n) c), subst (λ (z : List Row). Runs t (leave g F z (suc n) c) a) (sym e) q)) }
+  sim-go : {A : Type 0} (m : Result A) (f : A → Result State) (g : A → Result TerminalResult) → ((a : A) → Sim t v F R n (f a) (g a)) → Sim t v F R n (m >>= f) (m >>= g)
+  sim-go m f g k = sim-bind Any m f g (any m) (λ a _. k a)
 
-sim-close : {t : Table} {p v : ℕ} {F : List Frame} {R : List Row} {n : ℕ} (R₁ : List Row) (r : Row) (g : Option ℕ) (i : ℕ) (s : Statement) (c : Context)
-    → R₁ ++ (r ∷ []) ≡ R ++ stmtOut s → suc (2 * (8192 - c .visits) + length F) < p → v ≤ c .visits
-    → Sim t p v F R n (close r g i n F R₁ c) (unscheduleIf g i c >>= λ c1. ok (record { statement = some s; next = g; context = c1 }))
-unfolding close
-sim-close R₁ r g i s c e lt h =
-    sim-bind (Kept c) _ _ _ (closed-kept g i c) (λ c1 q. sim-leave s e (rw q lt) (rw q h))
+  sim-assoc : {A B : Type 0} {x : Result State} (m : Result A) (f : A → Result B) (g : B → Result TerminalResult) → Sim t v F R n x (m >>= (λ a. f a >>= g)) → Sim t v F R n x ((m >>= f) >>= g)
+  sim-assoc {x = x} m f g h = subst (λ (y : Result TerminalResult). Sim t v F R n x y) (sym (bind-assoc m f g)) h
 
-sim-close-loop : {t : Table} {p v : ℕ} {F : List Frame} {R : List Row} {n : ℕ} (R₁ : List Row) (r : Row) (g : Option ℕ) (i : ℕ) (s : Statement) (c : Context)
-    → R₁ ++ (r ∷ []) ≡ R ++ stmtOut s → suc (2 * (8192 - c .visits) + length F) < p → v ≤ c .visits
-    → Sim t p v F R n (closeLoop r g i n F R₁ c) (unschedule i c >>= λ c1. ok (record { statement = some s; next = g; context = c1 }))
-unfolding closeLoop
-sim-close-loop R₁ r g i s c e lt h =
-    sim-bind (Kept c) _ _ _ (unschedule-kept i c) (λ c1 q. sim-leave s e (rw q lt) (rw q h))
+  sim-ok : {A : Type 0} {x : Result State} (a : A) (g : A → Result TerminalResult) → Sim t v F R n x (g a) → Sim t v F R n x (ok a >>= g)
+  unfolding _>>=_
+  sim-ok a g h = h
 
-sim-go : {A : Type 0} {t : Table} {p v : ℕ} {F : List Frame} {R : List Row} {n : ℕ} (m : Result A) (f : A → Result State) (g : A → Result TerminalResult)
-    → ((a : A) → Sim t p v F R n (f a) (g a)) → Sim t p v F R n (m >>= f) (m >>= g)
-sim-go m f g k = sim-bind Any m f g (any m) (λ a _. k a)
+  sim-bound : {A : Type 0} {x : Result State} (a : A) (g : A → Result TerminalResult) → Sim t v F R n x (ok a >>= g) → Sim t v F R n x (g a)
+  unfolding _>>=_
+  sim-bound a g h = h
 
-sim-assoc : {A B : Type 0} {t : Table} {p v : ℕ} {F : List Frame} {R : List Row} {n : ℕ} {x : Result State} (m : Result A) (f : A → Result B) (g : B → Result TerminalResult)
-    → Sim t p v F R n x (m >>= (λ a. f a >>= g)) → Sim t p v F R n x ((m >>= f) >>= g)
-sim-assoc {t = t} {p} {v} {F} {R} {n} {x} m f g h = subst (λ (y : Result TerminalResult). Sim t p v F R n x y) (sym (bind-assoc m f g)) h
+  -- the definition's next step is known
+  sim-by : {A : Type 0} {x : Result State} {m : Result A} {a : A} (g : A → Result TerminalResult) → m ≡ ok a → Sim t v F R n x (g a) → Sim t v F R n x (m >>= g)
+  sim-by {A} {x} {m} {a} g e h = subst (λ (z : Result A). Sim t v F R n x (z >>= g)) (sym e) (sim-ok a g h)
 
--- the potential at the end of a nested list, at v visits
-abbrev Fallen : ℕ → List Frame → ℕ
-Fallen v F = suc (2 * (8192 - v) + suc (length F))
+  sim-map : {A B : Type 0} {x : Result State} (m : Result A) (f : A → B) (g : B → Result TerminalResult) → Sim t v F R n x (m >>= (λ a. g (f a))) → Sim t v F R n x ((m >>= (λ a. ok (f a))) >>= g)
+  unfolding _>>=_
+  sim-map (ok a) f g h = h
+  sim-map (refused e q w) f g h = h
 
-sim-ok : {A : Type 0} {t : Table} {p v : ℕ} {F : List Frame} {R : List Row} {n : ℕ} {x : Result State} (a : A) (g : A → Result TerminalResult) → Sim t p v F R n x (g a) → Sim t p v F R n x (ok a >>= g)
-unfolding _>>=_
-sim-ok a g h = h
+  -- a statement is complete
+  sim-leave : {R₁ : List Row} {g : Option ℕ} (s : Statement) {c : Context} → R₁ ≡ R ++ stmtOut s → v ≤ c .visits
+      → Sim t v F R n (ok (leave g F R₁ (suc n) c)) (ok (record { statement = some s; next = g; context = c }))
+  sim-leave {R₁} {g} s {c} e h = record { raw = (h, λ a q. subst (λ (z : List Row). Gives t (leave g F z (suc n) c) a) (sym e) q) }
 
-sim-map : {A B : Type 0} {t : Table} {p v : ℕ} {F : List Frame} {R : List Row} {n : ℕ} {x : Result State} (m : Result A) (f : A → B) (g : B → Result TerminalResult)
-    → Sim t p v F R n x (m >>= (λ a. g (f a))) → Sim t p v F R n x ((m >>= (λ a. ok (f a))) >>= g)
-unfolding _>>=_
-sim-map (ok a) f g h = h
-sim-map (refused e q w) f g h = h
+  -- one turn more
+  sim-turn : (s : State) (x : Result State) (y : Result TerminalResult) → step t s ≡ turn x → Sim t v F R n x y → Sim t v F R n (ok s) y
+  sim-turn s x (ok r) e h = record { raw = (h .raw .0, λ a q. gives-turn t s x a e (h .raw .1 a q)) }
+  sim-turn s x (refused c q w) e h = record { raw = gives-turn t s x (rejected c q w) e (h .raw) }
 
--- ---- the cases' entries on the stack
+-- ---- entries on the stack
 
+-- the stack begins with entries that have these ids
 abbrev Tops : List ℕ → List Entry → Type 0
 Tops [] S = Unit {0}
 Tops (i ∷ is) [] = ⊥
 Tops (i ∷ is) (e ∷ S) = (e .id ≡ i) × Tops is S
 
-pop-all : (cs rest : List ℕ) (c : Context) → Tops cs (c .stack) → unscheduleAll (cs ++ rest) c ≡ popCases (length cs) c >>= λ c1. unscheduleAll rest c1
-unfolding unscheduleAll popCases _>>=_ unschedule unscheduleTop
-pop-all [] rest c h = refl
-pop-all (i ∷ is) rest c h = at (c .stack) h (λ e q. pop-all is rest e q)
-  where
-    at : (S : List Entry) → Tops (i ∷ is) S → ((e : Context) → Tops is (e .stack) → unscheduleAll (is ++ rest) e ≡ popCases (length is) e >>= λ c1. unscheduleAll rest c1)
-        → (unscheduleTop S i c >>= λ c1. unscheduleAll (is ++ rest) c1) ≡ (popTop S c >>= λ c1. popCases (length is) c1) >>= λ c1. unscheduleAll rest c1
-    at [] q again = absurd q
-    at (e ∷ S) (q, u) again =
-        unfold unscheduleTop popTop popped in
-        (ap (λ (y : Bool). elim y [ true ↦ ok (popped S (unscheduledBy (e .target) (c .scheduled)) c) | false ↦ refused 91 0 (c .visits) ] >>= λ c1. unscheduleAll (is ++ rest) c1) (eq-eqb (e .id) i q)
-        ∙ again (popped S (unscheduledBy (e .target) (c .scheduled)) c) u)
+tops-same : (ids : List ℕ) (c d : Context) → d .stack ≡ c .stack → Tops ids (c .stack) → Tops ids (d .stack)
+tops-same ids c d e h = subst (λ (S : List Entry). Tops ids S) (sym e) h
 
-pop-label : (g : Option ℕ) (i : ℕ) (c : Context) → unscheduleAll (scheduleIds g i) c ≡ unscheduleIf g i c
-unfolding unscheduleAll unscheduleIf _>>=_
-pop-label none i c = refl
-pop-label (some f) i c = same (unschedule i c)
+abbrev popAll : ℕ → Context → Context
+popAll zero c = c
+popAll (suc n) c = popAll n (unscheduled c)
+
+unscheduled-kept : (c : Context) → unscheduled c .visits ≡ c .visits
+unfolding unscheduled
+unscheduled-kept c = from (c .stack)
   where
-    same : (m : Result Context) → (m >>= λ c1. ok c1) ≡ m
+    from : (S : List Entry) → unscheduledTop S c .visits ≡ c .visits
+    from [] = unfold unscheduledTop in refl
+    from (e ∷ S) = unfold unscheduledTop popped in refl
+
+popAll-kept : (n : ℕ) (c : Context) → popAll n c .visits ≡ c .visits
+popAll-kept zero c = refl
+popAll-kept (suc n) c = popAll-kept n (unscheduled c) ∙ unscheduled-kept c
+
+pop-all : (ids : List ℕ) (c : Context) → Tops ids (c .stack) → unscheduleAll ids c ≡ ok (popAll (length ids) c)
+unfolding unscheduleAll
+pop-all [] c h = refl
+pop-all (i ∷ is) c h = at (c .stack) refl h (λ e q. pop-all is e q)
+  where
+    at : (S : List Entry) → c .stack ≡ S → Tops (i ∷ is) S → ((e : Context) → Tops is (e .stack) → unscheduleAll is e ≡ ok (popAll (length is) e))
+        → (unschedule i c >>= λ c1. unscheduleAll is c1) ≡ ok (popAll (length is) (unscheduled c))
+    at [] s q again = absurd q
+    at (e ∷ S) s (q, u) again =
+        unfold unschedule unscheduled _>>=_ unscheduleTop unscheduledTop popped in
+        (ap (λ (z : List Entry). unscheduleTop z i c >>= λ c1. unscheduleAll is c1) s
+        ∙ ap (λ (y : Bool). elim y [ true ↦ ok (popped S (unscheduledBy (e .target) (c .scheduled)) c) | false ↦ refused 91 0 (c .visits) ] >>= λ c1. unscheduleAll is c1) (eq-eqb (e .id) i q)
+        ∙ again (popped S (unscheduledBy (e .target) (c .scheduled)) c) u
+        ∙ ap (λ (z : List Entry). ok (popAll (length is) (unscheduledTop z c))) (sym s))
+
+off-if : (g : Option ℕ) (i : ℕ) (c : Context) → unscheduleIf g i c ≡ unscheduleAll (scheduleIds g i) c
+unfolding unscheduleAll unscheduleIf _>>=_
+off-if none i c = refl
+off-if (some f) i c = same (unschedule i c)
+  where
+    same : (m : Result Context) → m ≡ (m >>= λ c1. ok c1)
     same (ok c1) = refl
     same (refused e p v) = refl
 
-case-kept : (g : ControlFlowTarget) (c : Context) → Good (λ e. Kept c e × (e .stack ≡ record { id = c .nextId; target = g } ∷ c .stack)) (schedule g c)
-unfolding schedule pushed
-case-kept g c = good-bind Any (λ e. Kept c e × (e .stack ≡ record { id = c .nextId; target = g } ∷ c .stack)) _ _ (any (refuseIf (has (c .scheduled) (targetBlock g)) 90 (targetBlock g) (c .visits))) (λ _ _. (refl, refl))
+off-loop : (i : ℕ) (c : Context) → unschedule i c ≡ unscheduleAll (i ∷ []) c
+off-loop i c = unfold unscheduleIf in off-if (some 0) i c
+
+ids-if : (g : Option ℕ) (i : ℕ) → opens g ≡ length (scheduleIds g i)
+ids-if none i = refl
+ids-if (some f) i = refl
+
+tops-if : (g : Option ℕ) (c : Context) → Tops (scheduleIds g (c .nextId)) (scheduledIf g c .stack)
+unfolding scheduled pushed
+tops-if none c = tt
+tops-if (some f) c = (refl, tt)
+
+tops-switch : (g : Option ℕ) (c : Context) → Tops (scheduleIds g (c .nextId)) (scheduledSwitch g c .stack)
+unfolding scheduled pushed
+tops-switch none c = tt
+tops-switch (some f) c = (refl, tt)
+
+kept-if : (g : Option ℕ) (c : Context) → scheduledIf g c .visits ≡ c .visits
+unfolding scheduled pushed
+kept-if none c = refl
+kept-if (some f) c = refl
+
+kept-switch : (g : Option ℕ) (c : Context) → scheduledSwitch g c .visits ≡ c .visits
+unfolding scheduled pushed
+kept-switch none c = refl
+kept-switch (some f) c = refl
+
+opened-if : (g : Option ℕ) (c : Context) → Free g c → scheduleIf g c ≡ ok (scheduledIf g c)
+unfolding scheduleIf scheduled Free
+opened-if none c h = refl
+opened-if (some f) c h = schedule-free _ c (h f refl)
+
+opened-switch : (g : Option ℕ) (c : Context) → Free g c → scheduleSwitch g c ≡ ok (scheduledSwitch g c)
+unfolding scheduleSwitch scheduled Free
+opened-switch none c h = refl
+opened-switch (some f) c h = schedule-free _ c (h f refl)
+
+abbrev InLoop : Context → Context → Type 0
+InLoop c d = Kept c d × Tops (c .nextId ∷ []) (d .stack)
+
+loop-pushed : (f k l : ℕ) (c : Context) → Good (InLoop c) (scheduleLoop f k (some l) c)
+unfolding scheduleLoop pushed
+loop-pushed f k l c = good-bind Any (InLoop c) _ _ (any (refuseIf (has (add (c .scheduled) f) k) 15 k (c .visits))) (λ _ _. (refl, (refl, tt)))
+
+fine-good : {A : Type 0} (P : A → Type 0) (m : Result A) → Fine P m → Good P m
+fine-good P (ok a) h = h
+fine-good P (refused c p v) h = tt
+
+-- ---- closing a statement
+
+closes : (t : Table) (n : ℕ) (fr : Frame) (F : List Frame) (R : List Row) (c : Context) (a : Report) → Gives t (complete t fr F R (popAll n c)) a → Gives t (closeBy n t fr F R c) a
+unfolding step close
+closes t zero fr F R c a h = h
+closes t (suc zero) fr F R c a h = h
+closes t (suc (suc n)) fr F R c a h = goes refl (closes t (suc n) (withEntries (suc n) fr) F R (unscheduled c) a h)
+
+sim-close : {t : Table} {v : ℕ} {F : List Frame} {R : List Row} (fr : Frame) (ids : List ℕ) (e : Terminal) (R₁ : List Row) (m : Result Context) (s : Statement) (c : Context)
+    → terminalAt t (fr .block) ≡ e → m ≡ unscheduleAll ids c → fr .entries ≡ length ids → Tops ids (c .stack)
+    → R₁ ++ (closingRowOf e (blockAt t (fr .block)) (fr .second) (fr .label) (fr .built) ∷ []) ≡ R ++ stmtOut s → v ≤ c .visits
+    → Sim t v F R (fr .count) (ok (close t fr F R₁ c)) (m >>= λ c1. ok (record { statement = some s; next = fr .label; context = c1 }))
+unfolding close
+sim-close {t} {v} {F} {R} fr ids e R₁ m s c q o k u r h =
+    sim-by (λ c1. ok (record { statement = some s; next = fr .label; context = c1 })) (o ∙ pop-all ids c u)
+    (record { raw = (rw (popAll-kept (length ids) c) h, λ a g. closing (fr .entries) k a g) })
+  where
+    row-is : R₁ ++ (closingRow t (fr .block) (fr .second) (fr .label) (fr .built) ∷ []) ≡ R ++ stmtOut s
+    row-is = ap (λ (z : Terminal). R₁ ++ (closingRowOf z (blockAt t (fr .block)) (fr .second) (fr .label) (fr .built) ∷ [])) q ∙ r
+
+    closing : (z : ℕ) → z ≡ length ids → (a : Report) → Gives t (leave (fr .label) F (R ++ stmtOut s) (suc (fr .count)) (popAll (length ids) c)) a → Gives t (closeBy z t fr F R₁ c) a
+    closing z k a g = closes t z fr F R₁ c a
+        (subst₂ (λ (y : List Row) (i : ℕ). Gives t (leave (fr .label) F y (suc (fr .count)) (popAll i c)) a) (sym row-is) (sym k) g)
 
 -- what a nested walk leaves of the state
 abbrev Past : Context → Context → Type 0
-Past c d = (c .visits < d .visits) × (d .stack ≡ c .stack)
+Past c d = (c .visits < d .visits) × After c d
+
+-- ---- cases
+
+-- the cases from the last on
+cases-next : (t : Table) (i j : ℕ) → i + j < length (t .cases) → casesLastFirst t i (suc j) ≡ caseAt t (i + j) ∷ casesLastFirst t i j
+unfolding casesLastFirst
+cases-next t i j h =
+    ap (λ (l : List Case). reverse l) (take-suc (drop i (t .cases)) j no-case (omega (arith, length-drop i (t .cases))))
+    ∙ reverse-append (take j (drop i (t .cases))) (getD (drop i (t .cases)) j no-case ∷ [])
+    ∙ ap (λ (k : Case). k ∷ reverse (take j (drop i (t .cases)))) (getD-drop i (t .cases) j no-case)
+
+cases-none : (t : Table) (i : ℕ) → casesLastFirst t i 0 ≡ []
+unfolding casesLastFirst
+cases-none t i = refl
+
+cases-number : (t : Table) (i n : ℕ) → casesLastFirst t i n ≡ casesLastFirst t i (numberOfCases t i n)
+unfolding casesLastFirst numberOfCases
+cases-number t i n = ap (λ (l : List Case). reverse l) (whole (drop i (t .cases)) n ∙ ap (λ (k : ℕ). take k (drop i (t .cases))) (sym (length-reverse (take n (drop i (t .cases))))))
+  where
+    whole : (l : List Case) (n : ℕ) → take n l ≡ take (length (take n l)) l
+    whole [] zero = refl
+    whole [] (suc n) = refl
+    whole (x ∷ l) zero = refl
+    whole (x ∷ l) (suc n) = ap (λ (z : List Case). x ∷ z) (whole l n)
+
+pub number-below : (t : Table) (i n : ℕ) → numberOfCases t i n ≤ length (t .cases) - i
+unfolding casesLastFirst numberOfCases
+number-below t i n = omega (arith, length-reverse (take n (drop i (t .cases))), shorter n (drop i (t .cases)), length-drop i (t .cases))
+  where
+    shorter : (n : ℕ) (l : List Case) → length (take n l) ≤ length l
+    shorter zero l = omega arith
+    shorter (suc n) [] = omega arith
+    shorter (suc n) (x ∷ l) = omega (arith, shorter n l)
 
 module _ (t : Table) (d : ℕ) (inner : TraverseBlock) (ws : Walks t d inner) (wf : WalkFine inner) where
+  -- ---- nested lists
+
+  abbrev visit : VisitValueBlock
+  visit = visitValueBlock t d
+
   -- a nested list ended, the machine resumes its frame
   resumes : (fr : Frame) (F : List Frame) (R : List Row) (n : ℕ) (c : Context) (a : Report) → length F + suc d ≡ 128
-      → Under t (Fallen (c .visits) F) (resume (visitValueBlock t d) fr F (R ++ (blockRow n ∷ [])) c) a → Runs t (ended (fr ∷ F) R (0 + n) c) a
+      → Under t (resume t visit fr F (R ++ (blockRow n ∷ [])) c) a → Gives t (ended (fr ∷ F) R (0 + n) c) a
   unfolding step
   resumes fr F R n c a size h =
-      let e : left F ≡ d = omega arith in
-      runs-turn t (ended (fr ∷ F) R (0 + n) c) (resume (visitValueBlock t d) fr F (R ++ (blockRow n ∷ [])) c) a
-      (ap (λ (z : ℕ). turn (resume (visitValueBlock t z) fr F (R ++ (blockRow (0 + n) ∷ [])) c)) e
-      ∙ ap (λ (z : ℕ). turn (resume (visitValueBlock t d) fr F (R ++ (blockRow z ∷ [])) c)) (zero-add n)) h
+      let e : depthLeft F ≡ d = omega arith in
+      gives-turn t (ended (fr ∷ F) R (0 + n) c) (resume t visit fr F (R ++ (blockRow n ∷ [])) c) a
+      (ap (λ (z : ℕ). turn (resume t (visitValueBlock t z) fr F (R ++ (blockRow (0 + n) ∷ [])) c)) e
+      ∙ ap (λ (z : ℕ). turn (resume t visit fr F (R ++ (blockRow z ∷ [])) c)) (zero-add n)) h
 
-  -- open, visit inside, close
-  sim-inner : {p v : ℕ} {F : List Frame} {R : List Row} {n : ℕ} (fr : Frame) (b : ℕ) (R₁ : List Row) (c : Context) (rest : BlockResult → Result TerminalResult)
-      → length F + suc d ≡ 128 → 2 * (8192 - c .visits) + suc (length F) < p
-      → ((r : BlockResult) → Past c (r .context) → Sim t (Fallen (r .context .visits) F) v F R n (resume (visitValueBlock t d) fr F (bodyOut R₁ (r .statements)) (r .context)) (rest r))
-      → Sim t p v F R n (ok (visiting b (fr ∷ F) R₁ 0 c)) (inner b c >>= rest)
+  -- the frame awaits a list of a statement with the terminal e: open, visit inside, close
+  sim-inner : {v : ℕ} {F : List Frame} {R : List Row} {n : ℕ} (fr : Frame) (e : Terminal) (b : ℕ) (R₁ : List Row) (c : Context) (rest : BlockResult → Result TerminalResult)
+      → terminalAt t (fr .block) ≡ e → length F + suc d ≡ 128
+      → ((r : BlockResult) → Past c (r .context) → Sim t v F R n (resumeAt t visit e (blockAt t (fr .block)) fr F (bodyOut R₁ (r .statements)) (r .context)) (rest r))
+      → Sim t v F R n (ok (visiting b (fr ∷ F) R₁ 0 c)) (inner b c >>= rest)
   unfolding _>>=_ Walks WalkFine
-  sim-inner {p} {v} {F} {R} {n} fr b R₁ c rest size lt k = at (inner b c) (ws b (fr ∷ F) R₁ 0 c (omega arith)) (wf b c)
+  sim-inner {v} {F} {R} {n} fr e b R₁ c rest q size k = at (inner b c) (ws b (fr ∷ F) R₁ 0 c (omega arith)) (wf b c)
     where
+      under : (r : BlockResult) (a : Report) → Under t (resumeAt t visit e (blockAt t (fr .block)) fr F (bodyOut R₁ (r .statements)) (r .context)) a
+          → Under t (resume t visit fr F (bodyOut R₁ (r .statements)) (r .context)) a
+      under r a h = subst (λ (z : Terminal). Under t (resumeAt t visit z (blockAt t (fr .block)) fr F (bodyOut R₁ (r .statements)) (r .context)) a) (sym q) h
+
       after : (r : BlockResult) (z : Result TerminalResult)
-          → ((a : Report) → Runs t (ended (fr ∷ F) (R₁ ++ stmtsOut (r .statements)) (0 + countStatements (r .statements)) (r .context)) a → Runs t (visiting b (fr ∷ F) R₁ 0 c) a)
-          → Beside t (Fallen (r .context .visits) F) v F R n (resume (visitValueBlock t d) fr F (bodyOut R₁ (r .statements)) (r .context)) z
-          → Beside t p v F R n (ok (visiting b (fr ∷ F) R₁ 0 c)) z
-      after r (refused e q w) go u = (lt, go (rejected e q w) (resumes fr F _ _ (r .context) (rejected e q w) size u))
-      after r (ok s) go (g, u) = (g, λ a h. (lt, go a (resumes fr F _ _ (r .context) a size (u a h))))
+          → ((a : Report) → Gives t (ended (fr ∷ F) (R₁ ++ stmtsOut (r .statements)) (0 + countStatements (r .statements)) (r .context)) a → Gives t (visiting b (fr ∷ F) R₁ 0 c) a)
+          → Beside t v F R n (resumeAt t visit e (blockAt t (fr .block)) fr F (bodyOut R₁ (r .statements)) (r .context)) z
+          → Beside t v F R n (ok (visiting b (fr ∷ F) R₁ 0 c)) z
+      after r (refused x y w) go u = go (rejected x y w) (resumes fr F _ _ (r .context) (rejected x y w) size (under r _ u))
+      after r (ok s) go (g, u) = (g, λ a h. go a (resumes fr F _ _ (r .context) a size (under r a (u a h))))
 
-      at : (y : Result BlockResult) → Along t (visiting b (fr ∷ F) R₁ 0 c) (c .visits) (fr ∷ F) R₁ 0 y → Fine (λ r. After c (r .context)) y → Sim t p v F R n (ok (visiting b (fr ∷ F) R₁ 0 c)) (y >>= rest)
-      at (refused e q w) h _ = record { raw = (lt, h) }
-      at (ok r) (lt₂, go) f = record { raw = after r (rest r) go (k r (lt₂, f .same) .raw) }
+      at : (y : Result BlockResult) → Along t (visiting b (fr ∷ F) R₁ 0 c) (c .visits) (fr ∷ F) R₁ 0 y → Fine (λ r. After c (r .context)) y → Sim t v F R n (ok (visiting b (fr ∷ F) R₁ 0 c)) (y >>= rest)
+      at (refused x y w) h _ = record { raw = h }
+      at (ok r) (lt, go) f = record { raw = after r (rest r) go (k r (lt, f) .raw) }
 
-  sim-into : {p v : ℕ} {F : List Frame} {R : List Row} {n : ℕ} (fr : Frame) (b code at : ℕ) (R₁ : List Row) (c : Context) (rest : BlockResult → Result TerminalResult)
-      → length F + suc d ≡ 128 → 2 * (8192 - c .visits) + suc (length F) < p
-      → ((r : BlockResult) → Past c (r .context) → Sim t (Fallen (r .context .visits) F) v F R n (resume (visitValueBlock t d) fr F (bodyOut R₁ (r .statements)) (r .context)) (rest r))
-      → Sim t p v F R n (into b code at fr F R₁ c) (traverseUnscheduled inner b code at c >>= rest)
+  sim-into : {v : ℕ} {F : List Frame} {R : List Row} {n : ℕ} (fr : Frame) (e : Terminal) (b code at : ℕ) (R₁ : List Row) (c : Context) (rest : BlockResult → Result TerminalResult)
+      → terminalAt t (fr .block) ≡ e → length F + suc d ≡ 128
+      → ((r : BlockResult) → Past c (r .context) → Sim t v F R n (resumeAt t visit e (blockAt t (fr .block)) fr F (bodyOut R₁ (r .statements)) (r .context)) (rest r))
+      → Sim t v F R n (into b code at fr F R₁ c) (traverseUnscheduled inner b code at c >>= rest)
   unfolding into traverseUnscheduled
-  sim-into fr b code at R₁ c rest size lt k =
-      sim-assoc (refuseIf (isScheduled c b) code at (c .visits)) (λ _. inner b c) rest (sim-go _ _ _ (λ _. sim-inner fr b R₁ c rest size lt k))
-
-  sim-into-loop : {p v : ℕ} {F : List Frame} {R : List Row} {n : ℕ} (fr : Frame) (b l : ℕ) (bad : Bool) (w : ℕ) (R₁ : List Row) (c : Context) (rest : BlockResult → Result TerminalResult)
-      → length F + suc d ≡ 128 → 2 * (8192 - w) + suc (length F) < p
-      → ((r : BlockResult) → w < r .context .visits → Sim t (Fallen (r .context .visits) F) v F R n (resume (visitValueBlock t d) fr F (bodyOut R₁ (r .statements)) (r .context)) (rest r))
-      → Sim t p v F R n (intoLoop b l bad w fr F R₁ c) (refuseIf bad 16 b w >>= λ _. inner l (withVisits w c) >>= rest)
-  unfolding intoLoop withVisits
-  sim-into-loop fr b l bad w R₁ c rest size lt k = sim-go _ _ _ (λ _. sim-inner fr l R₁ (withVisits w c) rest size lt (λ r q. k r (q .0)))
+  sim-into fr e b code at R₁ c rest q size k =
+      sim-assoc (refuseIf (isScheduled c b) code at (c .visits)) (λ _. inner b c) rest (sim-go _ _ _ (λ _. sim-inner fr e b R₁ c rest q size k))
 
   -- ---- If and Branch
 
-  if-else : {p v : ℕ} {F : List Frame} {R : List Row} {n : ℕ} (x id : ℕ) (g : Option ℕ) (i a f : ℕ) (c : Context) (th : Statements)
-      → length F + suc d ≡ 128 → 2 * (8192 - c .visits) + suc (length F) < p → v ≤ c .visits
-      → Sim t p v F R n (orElse x id g i a f n F (bodyOut R th) c)
-      (traverseAlternate inner a f c >>= λ s. unscheduleIf g i (s .context) >>= λ c2. ok (record { statement = some (IF x id g th (s .present) (s .statements)); next = g; context = c2 }))
-  unfolding orElse traverseAlternate resume
-  if-else {p} {v} {F} {R} {n} x id g i a f c th size lt h = at (eqb a f)
+  abbrev labelled : (b : ℕ) → Option ℕ → ℕ → Frame
+  labelled b g n = frameOf b g (opens g) n
+
+  if-else : {v : ℕ} {F : List Frame} {R : List Row} {n : ℕ} (x y a f : ℕ) (g : Option ℕ) (i b : ℕ) (c : Context) (th : Statements)
+      → terminalAt t b ≡ if x y a f → length F + suc d ≡ 128 → v ≤ c .visits → Tops (scheduleIds g i) (c .stack)
+      → Sim t v F R n (resumeAt t visit (if x y a f) (blockAt t b) (labelled b g n) F (bodyOut R th) c)
+      (traverseAlternate inner a f c >>= λ s. unscheduleIf g i (s .context) >>= λ c2. ok (record { statement = some (IF x (blockAt t b .id) g th (s .present) (s .statements)); next = g; context = c2 }))
+  unfolding traverseAlternate resumeAt closingRowOf
+  if-else {v} {F} {R} {n} x y a f g i b c th q size h u = at (eqb a f)
     where
       K : AlternateResult → Result TerminalResult
-      K s = unscheduleIf g i (s .context) >>= λ c2. ok (record { statement = some (IF x id g th (s .present) (s .statements)); next = g; context = c2 })
+      K s = unscheduleIf g i (s .context) >>= λ c2. ok (record { statement = some (IF x (blockAt t b .id) g th (s .present) (s .statements)); next = g; context = c2 })
 
-      at : (y : Bool) → Sim t p v F R n
-          (elim y [ true ↦ close (ifRow x 0 id g) g i n F (bodyOut R th) c | false ↦ into a 13 a (fBody (ifRow x 1 id g) g i n) F (bodyOut R th) c ])
+      at : (y : Bool) → Sim t v F R n
+          (elim y [ true ↦ ok (close t (labelled b g n) F (bodyOut R th) c) | false ↦ into a 13 a (secondPart (labelled b g n)) F (bodyOut R th) c ])
           (_>>=_ {A = AlternateResult} (elim y [ true ↦ ok (record { present = false; statements = done; context = c }) | false ↦ traverseUnscheduled inner a 13 a c >>= λ r. ok (record { present = true; statements = r .statements; context = r .context }) ]) K)
-      at true = sim-ok _ K (sim-close _ _ g i _ c (rows-if R x id g th done) (omega arith) h)
+      at true = sim-ok _ K (sim-close (labelled b g n) (scheduleIds g i) _ _ _ _ c q (off-if g i c) (ids-if g i) u (rows-if R x (blockAt t b .id) g th done) h)
       at false =
-          sim-assoc (traverseUnscheduled inner a 13 a c) _ K (sim-into _ a 13 a _ c _ size lt (λ r q.
-          sim-ok _ K (sim-close _ _ g i _ (r .context) (rows-else R x id g th (r .statements)) (omega arith) (omega arith))))
+          sim-assoc (traverseUnscheduled inner a 13 a c) _ K (sim-into (secondPart (labelled b g n)) _ a 13 a _ c _ q size (λ r p.
+          sim-ok _ K (sim-close (secondPart (labelled b g n)) (scheduleIds g i) _ _ _ _ (r .context) q (off-if g i (r .context)) (ids-if g i) (tops-same (scheduleIds g i) c (r .context) (p .1 .same) u)
+          (rows-else R x (blockAt t b .id) g th (r .statements)) (omega arith))))
 
-  other-way : {p v : ℕ} {F : List Frame} {R : List Row} {n : ℕ} (x id a b : ℕ) (R₂ : List Row) (c : Context) (th : Statements)
-      → length F + suc d ≡ 128 → 2 * (8192 - c .visits) + suc (length F) < p → v ≤ c .visits → R₂ ≡ bodyOut R th
-      → Sim t p v F R n (otherWay x id a b n F R₂ c) (traverseUnscheduled inner a 19 b c >>= λ s. ok (record { statement = some (IF x id none th true (s .statements)); next = none; context = s .context }))
-  unfolding otherWay resume close unscheduleIf _>>=_
-  other-way {R = R} x id a b R₂ c th size lt h e =
-      sim-into _ a 19 b _ c _ size lt (λ r q. sim-leave _ (ap (λ (z : List Row). bodyOut z (r .statements) ++ (ifRow x 1 id none ∷ [])) e ∙ rows-else R x id none th (r .statements)) (omega arith) (omega arith))
+  other-way : {v : ℕ} {F : List Frame} {R : List Row} {n : ℕ} (x y a b : ℕ) (R₂ : List Row) (c : Context) (th : Statements)
+      → terminalAt t b ≡ branch x y a → length F + suc d ≡ 128 → v ≤ c .visits → R₂ ≡ bodyOut R th
+      → Sim t v F R n (into a 19 b (secondPart (frameOf b none 0 n)) F R₂ c)
+      (traverseUnscheduled inner a 19 b c >>= λ s. ok (record { statement = some (IF x (blockAt t b .id) none th true (s .statements)); next = none; context = s .context }))
+  unfolding resumeAt closingRowOf
+  other-way {R = R} {n} x y a b R₂ c th q size h e =
+      sim-into (secondPart (frameOf b none 0 n)) _ a 19 b _ c _ q size (λ r p.
+      sim-bound (r .context) _ (sim-close (secondPart (frameOf b none 0 n)) [] _ _ _ _ (r .context) q (unfold unscheduleAll in refl) refl tt
+      (ap (λ (z : List Row). bodyOut z (r .statements) ++ (row 10 x 1 (blockAt t b .id) (orNone none) 0 ∷ [])) e ∙ rows-else R x (blockAt t b .id) none th (r .statements)) (omega arith)))
 
-  branch-sim : {p v : ℕ} {F : List Frame} {R : List Row} {n : ℕ} (x y a id b : ℕ) (c : Context)
-      → length F + suc d ≡ 128 → 2 * (8192 - c .visits) + suc (length F) < p → v ≤ c .visits
-      → Sim t p v F R n (firstWay x y a id b n F R c)
-      (traverseConsequent inner b y id c >>= λ r. traverseUnscheduled inner a 19 b (r .context) >>= λ s. ok (record { statement = some (IF x id none (r .statements) true (s .statements)); next = none; context = s .context }))
-  unfolding firstWay traverseConsequent resume visitBreak getBreakTarget
-  branch-sim {p} {v} {F} {R} {n} x y a id b c size lt h = at (isScheduled c y)
+  branch-sim : {v : ℕ} {F : List Frame} {R : List Row} {n : ℕ} (x y a b : ℕ) (c : Context) → terminalAt t b ≡ branch x y a → length F + suc d ≡ 128 → v ≤ c .visits
+      → Sim t v F R n (branchTurn b y a (blockAt t b .id) F R n c)
+      (traverseConsequent inner b y (blockAt t b .id) c >>= λ r. traverseUnscheduled inner a 19 b (r .context) >>= λ s.
+      ok (record { statement = some (IF x (blockAt t b .id) none (r .statements) true (s .statements)); next = none; context = s .context }))
+  unfolding branchTurn traverseConsequent resumeAt
+  branch-sim {v} {F} {R} {n} x y a b c q size h = at (isScheduled c y)
     where
       K : BlockResult → Result TerminalResult
-      K r = traverseUnscheduled inner a 19 b (r .context) >>= λ s. ok (record { statement = some (IF x id none (r .statements) true (s .statements)); next = none; context = s .context })
+      K r = traverseUnscheduled inner a 19 b (r .context) >>= λ s. ok (record { statement = some (IF x (blockAt t b .id) none (r .statements) true (s .statements)); next = none; context = s .context })
 
-      at : (z : Bool) → Sim t p v F R n
+      at : (z : Bool) → Sim t v F R n
           (elim z [
-            | true ↦ breakResolved b y id c (breakTargetFrom (c .stack) y true false) >>= λ s. otherWay x id a b n F ((R ++ jumpOut s) ++ (blockRow (added s 0) ∷ [])) c
-            | false ↦ ok (visiting y (fWays x id a b n ∷ F) R 0 c)
+            | true ↦ visitBreak b y (blockAt t b .id) c >>= λ s. into a 19 b (secondPart (frameOf b none 0 n)) F ((R ++ jumpOut s) ++ (blockRow (added s 0) ∷ [])) c
+            | false ↦ ok (visiting y (frameOf b none 0 n ∷ F) R 0 c)
           ])
-          (_>>=_ {A = BlockResult} (elim z [ true ↦ breakResolved b y id c (breakTargetFrom (c .stack) y true false) >>= λ s. ok (record { statements = singleStatement s; context = c }) | false ↦ inner y c ]) K)
+          (_>>=_ {A = BlockResult} (elim z [ true ↦ visitBreak b y (blockAt t b .id) c >>= λ s. ok (record { statements = singleStatement s; context = c }) | false ↦ inner y c ]) K)
       at true =
-          sim-assoc (breakResolved b y id c (breakTargetFrom (c .stack) y true false)) _ K (sim-go _ _ _ (λ s. sim-ok _ K (other-way x id a b _ c (singleStatement s) size lt h (rows-single R s))))
-      at false = sim-inner (fWays x id a b n) y R c K size lt (λ r q. other-way x id a b _ (r .context) (r .statements) size (omega arith) (omega arith) refl)
+          sim-assoc (visitBreak b y (blockAt t b .id) c) _ K (sim-go _ _ _ (λ s. sim-ok _ K (other-way x y a b _ c (singleStatement s) q size h (rows-single R s))))
+      at false = sim-inner (frameOf b none 0 n) _ y R c K q size (λ r p. other-way x y a b _ (r .context) (r .statements) q size (omega arith) refl)
 
-  -- ---- Label and scopes, loops
+  -- ---- Label and scopes, loops: the last part closes the statement
 
-  enclosed-sim : {p v : ℕ} {F : List Frame} {R : List Row} {n : ℕ} (cl : Row) (x code at : ℕ) (g : Option ℕ) (c₀ c : Context) (make : Statements → Statement)
-      → length F + suc d ≡ 128 → 2 * (8192 - c .visits) + suc (length F) < p → v ≤ c .visits → ((s : Statements) → bodyOut R s ++ (cl ∷ []) ≡ R ++ stmtOut (make s))
-      → Sim t p v F R n (into x code at (fBody cl g (c₀ .nextId) n) F R c) (traverseEnclosed inner x code at g c₀ c make)
-  unfolding traverseEnclosed resume
-  enclosed-sim cl x code at g c₀ c make size lt h e =
-      sim-into _ x code at _ c _ size lt (λ r q. sim-close _ cl g (c₀ .nextId) (make (r .statements)) (r .context) (e (r .statements)) (omega arith) (omega arith))
+  abbrev Lasts : Terminal → Type 0
+  Lasts e = (k : Block) (fr : Frame) (F : List Frame) (R : List Row) (c : Context) → resumeAt t visit e k fr F R c ≡ ok (close t fr F R c)
 
-  loop-sim : {p v : ℕ} {F : List Frame} {R : List Row} {n : ℕ} (cl : Row) (b l : ℕ) (bad : Bool) (w i : ℕ) (c : Context) (g : Option ℕ) (R₁ : List Row) (make : Statements → Statement)
-      → length F + suc d ≡ 128 → 2 * (8192 - w) + suc (length F) < p → v ≤ w → ((s : Statements) → bodyOut R₁ s ++ (cl ∷ []) ≡ R ++ stmtOut (make s))
-      → Sim t p v F R n (intoLoop b l bad w (fLoop cl g i n) F R₁ c) (traverseLoop inner b l bad w i c g make)
-  unfolding traverseLoop resume
-  loop-sim cl b l bad w i c g R₁ make size lt h e =
-      sim-into-loop _ b l bad w _ c _ size lt (λ r q. sim-close-loop _ cl g i (make (r .statements)) (r .context) (e (r .statements)) (omega arith) (omega arith))
+  enclosed-sim : {v : ℕ} {F : List Frame} {R : List Row} {n : ℕ} (e : Terminal) (b x code at : ℕ) (g : Option ℕ) (c₀ c : Context) (make : Statements → Statement)
+      → terminalAt t b ≡ e → Lasts e → length F + suc d ≡ 128 → v ≤ c .visits → Tops (scheduleIds g (c₀ .nextId)) (c .stack)
+      → ((s : Statements) → bodyOut R s ++ (closingRowOf e (blockAt t b) false g 0 ∷ []) ≡ R ++ stmtOut (make s))
+      → Sim t v F R n (into x code at (labelled b g n) F R c) (traverseEnclosed inner x code at g c₀ c make)
+  unfolding traverseEnclosed
+  enclosed-sim {v} {F} {R} {n} e b x code at g c₀ c make q l size h u o =
+      sim-into (labelled b g n) e x code at _ c _ q size (λ r p.
+      subst (λ (z : Result State). Sim t v F R n z (unscheduleIf g (c₀ .nextId) (r .context) >>= λ c1. ok (record { statement = some (make (r .statements)); next = g; context = c1 }))) (sym (l _ _ _ _ _))
+      (sim-close (labelled b g n) (scheduleIds g (c₀ .nextId)) e _ _ _ (r .context) q (off-if g (c₀ .nextId) (r .context)) (ids-if g (c₀ .nextId)) (tops-same (scheduleIds g (c₀ .nextId)) c (r .context) (p .1 .same) u)
+      (o (r .statements)) (omega arith)))
 
-  -- ---- Switch: what is put out before the cases that are left is R₁, and `make` is given these
+  loop-sim : {v : ℕ} {F : List Frame} {R : List Row} {n : ℕ} (e : Terminal) (b l : ℕ) (bad : Bool) (w i : ℕ) (c : Context) (g : Option ℕ) (R₁ : List Row) (make : Statements → Statement)
+      → terminalAt t b ≡ e → Lasts e → length F + suc d ≡ 128 → v ≤ w → Tops (i ∷ []) (c .stack)
+      → ((s : Statements) → bodyOut R₁ s ++ (closingRowOf e (blockAt t b) false g 0 ∷ []) ≡ R ++ stmtOut (make s))
+      → Sim t v F R n (intoLoop b l bad w (frameOf b g 1 n) F R₁ c) (traverseLoop inner b l bad w i c g make)
+  unfolding traverseLoop intoLoop withVisits
+  loop-sim {v} {F} {R} {n} e b l bad w i c g R₁ make q la size h u o =
+      sim-go _ _ _ (λ _. sim-inner (frameOf b g 1 n) e l R₁ (withVisits w c) _ q size (λ r p.
+      subst (λ (z : Result State). Sim t v F R n z (unschedule i (r .context) >>= λ c1. ok (record { statement = some (make (r .statements)); next = g; context = c1 }))) (sym (la _ _ _ _ _))
+      (sim-close (frameOf b g 1 n) (i ∷ []) e _ _ _ (r .context) q (off-loop i (r .context)) refl (tops-same (i ∷ []) c (r .context) (p .1 .same) u) (o (r .statements)) (omega arith))))
 
-  cases-end : {p v : ℕ} {F : List Frame} {R : List Row} {n : ℕ} (x id : ℕ) (g : Option ℕ) (i : ℕ) (cs : List ℕ) (R₁ : List Row) (c : Context) (make : Cases → Statement)
-      → 2 * (8192 - c .visits) + suc (length F) < p → v ≤ c .visits → Tops cs (c .stack)
-      → ((z : Cases) → (R₁ ++ casesOut z) ++ (row 12 x (length cs + countCases z) id (orNone g) 0 ∷ []) ≡ R ++ stmtOut (make z))
-      → Sim t p v F R n (popCases (length cs) c >>= λ c1. close (row 12 x (length cs) id (orNone g) 0) g i n F R₁ c1)
-      (unscheduleAll (cs ++ scheduleIds g i) c >>= λ c2. ok (record { statement = some (make no-cases); next = g; context = c2 }))
-  cases-end {p} {v} {F} {R} {n} x id g i cs R₁ c make lt h u e =
-      subst (λ (m : Result Context). Sim t p v F R n (popCases (length cs) c >>= λ c1. close (row 12 x (length cs) id (orNone g) 0) g i n F R₁ c1) (m >>= J)) (sym (pop-all cs (scheduleIds g i) c u))
-      (sim-assoc (popCases (length cs) c) (λ c1. unscheduleAll (scheduleIds g i) c1) J (sim-bind (Kept c) _ _ _ (popCases-kept (length cs) c) (λ c1 q₁.
-      subst (λ (m : Result Context). Sim t p v F R n (close (row 12 x (length cs) id (orNone g) 0) g i n F R₁ c1) (m >>= J)) (sym (pop-label g i c1))
-      (sim-close R₁ (row 12 x (length cs) id (orNone g) 0) g i (make no-cases) c1 e₀ (omega arith) (omega arith)))))
+  -- ---- Switch: what is put out before the cases that are left is R₁, and `make` is given these. `ids` are those of the entries so far
+
+  abbrev switched : (b : ℕ) → Option ℕ → (entries left made n : ℕ) → Frame
+  switched b g entries left made n = record { block = b; second = false; label = g; entries = entries; left = left; built = made; count = n }
+
+  cases-sim : {v : ℕ} {F : List Frame} {R : List Row} {n : ℕ} (x i m f b : ℕ) (g : Option ℕ) (j : ℕ) (ids : List ℕ) (entries made : ℕ) (R₁ : List Row) (c : Context) (make : Cases → Statement)
+      → terminalAt t b ≡ switch x i m f → length F + suc d ≡ 128 → j ≤ length (t .cases) - i → v ≤ c .visits → entries ≡ length ids → Tops ids (c .stack)
+      → ((z : Cases) → (R₁ ++ casesOut z) ++ (row 12 x (made + countCases z) (blockAt t b .id) (orNone g) 0 ∷ []) ≡ R ++ stmtOut (make z))
+      → Sim t v F R n (ok (choosing (switched b g entries j made n) F R₁ c))
+      (traverseCases inner b f (casesLastFirst t i j) ids c >>= λ r. unscheduleAll (r .ids) (r .context) >>= λ c2. ok (record { statement = some (make (r .cases)); next = g; context = c2 }))
+  unfolding step chooseCase traverseCases resumeAt closingRowOf
+  cases-sim {v} {F} {R} {n} x i m f b g zero ids entries made R₁ c make q size few h k u e =
+      sim-turn (choosing (switched b g entries 0 made n) F R₁ c) (ok (close t (switched b g entries 0 made n) F R₁ c)) _ refl
+      (subst (λ (l : List Case). Sim t v F R n (ok (close t (switched b g entries 0 made n) F R₁ c)) (traverseCases inner b f l ids c >>= K)) (sym (cases-none t i))
+      (sim-ok _ K (sim-close (switched b g entries 0 made n) ids _ R₁ _ (make no-cases) c q refl k u e₀ h)))
     where
-      J : Context → Result TerminalResult
-      J c2 = ok (record { statement = some (make no-cases); next = g; context = c2 })
+      K : CasesResult → Result TerminalResult
+      K r = unscheduleAll (r .ids) (r .context) >>= λ c2. ok (record { statement = some (make (r .cases)); next = g; context = c2 })
 
-      e₀ : R₁ ++ (row 12 x (length cs) id (orNone g) 0 ∷ []) ≡ R ++ stmtOut (make no-cases)
-      e₀ = unfold casesOut in (rw (append-nil R₁, add-zero (length cs)) at (e no-cases))
-
-  cases-sim : {p v : ℕ} {F : List Frame} {R : List Row} {n : ℕ} (x id : ℕ) (g : Option ℕ) (i b f : ℕ) (ks : List Case) (cs : List ℕ) (R₁ : List Row) (c : Context) (make : Cases → Statement)
-      → length F + suc d ≡ 128 → 2 * (8192 - c .visits) + suc (length F) < p → v ≤ c .visits → Tops cs (c .stack)
-      → ((z : Cases) → (R₁ ++ casesOut z) ++ (row 12 x (length cs + countCases z) id (orNone g) 0 ∷ []) ≡ R ++ stmtOut (make z))
-      → Sim t p v F R n (nextCase x id g i b f n F ks (length cs) R₁ c)
-      (traverseCases inner b f ks (cs ++ scheduleIds g i) c >>= λ r. unscheduleAll (r .ids) (r .context) >>= λ c2. ok (record { statement = some (make (r .cases)); next = g; context = c2 }))
-  unfolding nextCase traverseCases resume
-  cases-sim x id g i b f [] cs R₁ c make size lt h u e = sim-ok _ _ (cases-end x id g i cs R₁ c make lt h u e)
-  cases-sim {p} {v} {F} {R} {n} x id g i b f (k ∷ ks) cs R₁ c make size lt h u e =
-      at (isScheduled c (k .block)) (cases-sim x id g i b f ks cs R₁ c make size lt h u e)
-      (λ cs′ R′ c′ make′ p′ lt′ h′ u′ e′. cases-sim x id g i b f ks cs′ R′ c′ make′ size lt′ h′ u′ e′)
+      e₀ : R₁ ++ (row 12 x made (blockAt t b .id) (orNone g) 0 ∷ []) ≡ R ++ stmtOut (make no-cases)
+      e₀ = unfold casesOut in (rw (append-nil R₁, add-zero made) at (e no-cases))
+  cases-sim {v} {F} {R} {n} x i m f b g (suc j) ids entries made R₁ c make q size few h k u e =
+      sim-turn (choosing (switched b g entries (suc j) made n) F R₁ c) (chooseCase t i f (suc j) (switched b g entries (suc j) made n) F R₁ c) _
+      (ap (λ (z : Terminal). turn (chooseCase t (firstCase z) (afterCases z) (suc j) (switched b g entries (suc j) made n) F R₁ c)) q)
+      (subst (λ (l : List Case). Sim t v F R n (chooseCase t i f (suc j) (switched b g entries (suc j) made n) F R₁ c) (traverseCases inner b f l ids c >>= K make)) (sym (cases-next t i j (omega arith)))
+      (at (isScheduled c blk) refl (λ ids′ entries′ made′ R′ c′ make′ h′ k′ u′ e′. cases-sim x i m f b g j ids′ entries′ made′ R′ c′ make′ q size (omega arith) h′ k′ u′ e′)))
     where
-      tops : (r : BlockResult) (c1 : Context) → r .context .stack ≡ c .stack → c1 .stack ≡ record { id = r .context .nextId; target = target-case (k .block) } ∷ r .context .stack → Tops (r .context .nextId ∷ cs) (c1 .stack)
-      tops r c1 q w = subst (λ (S : List Entry). Tops (r .context .nextId ∷ cs) S) (sym w) (refl, subst (λ (S : List Entry). Tops cs S) (sym q) u)
+      blk : ℕ
+      blk = caseAt t (i + j) .block
 
-      rows-on : (r : BlockResult) (z : Cases)
-          → ((bodyOut R₁ (r .statements) ++ (row 11 (k .test) 0 0 0 0 ∷ [])) ++ casesOut z) ++ (row 12 x (suc (length cs) + countCases z) id (orNone g) 0 ∷ []) ≡ R ++ stmtOut (make (CASE (k .test) (r .statements) z))
-      rows-on r z =
-          let m : suc (length cs) + countCases z ≡ length cs + suc (countCases z) = omega arith in
-          ap (λ (y : ℕ). ((bodyOut R₁ (r .statements) ++ (row 11 (k .test) 0 0 0 0 ∷ [])) ++ casesOut z) ++ (row 12 x y id (orNone g) 0 ∷ [])) m
-          ∙ ap (λ (y : List Row). y ++ (row 12 x (length cs + suc (countCases z)) id (orNone g) 0 ∷ [])) (sym (rows-case R₁ (k .test) (r .statements) z))
-          ∙ e (CASE (k .test) (r .statements) z)
+      tst : ℕ
+      tst = caseAt t (i + j) .test
 
       K : (Cases → Statement) → CasesResult → Result TerminalResult
       K mk r = unscheduleAll (r .ids) (r .context) >>= λ c2. ok (record { statement = some (mk (r .cases)); next = g; context = c2 })
 
-      at : (y : Bool) → Sim t p v F R n (nextCase x id g i b f n F ks (length cs) R₁ c) (traverseCases inner b f ks (cs ++ scheduleIds g i) c >>= K make)
-          → ((cs′ : List ℕ) (R′ : List Row) (c′ : Context) (make′ : Cases → Statement) (p′ : ℕ) → 2 * (8192 - c′ .visits) + suc (length F) < p′ → v ≤ c′ .visits → Tops cs′ (c′ .stack)
-          → ((z : Cases) → (R′ ++ casesOut z) ++ (row 12 x (length cs′ + countCases z) id (orNone g) 0 ∷ []) ≡ R ++ stmtOut (make′ z))
-          → Sim t p′ v F R n (nextCase x id g i b f n F ks (length cs′) R′ c′) (traverseCases inner b f ks (cs′ ++ scheduleIds g i) c′ >>= K make′))
-          → Sim t p v F R n
+      free : (r : BlockResult) → isScheduled c blk ≡ false → Past c (r .context) → has (r .context .scheduled) blk ≡ false
+      free r o p = unfold isScheduled in false-of (has (r .context .scheduled) blk) (λ z. true-false (sym (p .1 .sub blk z) ∙ or-false (has (c .scheduled) blk) (has (c .catchHandlers) blk) o))
+
+      rows-on : (r : BlockResult) (z : Cases)
+          → ((bodyOut R₁ (r .statements) ++ (row 11 tst 0 0 0 0 ∷ [])) ++ casesOut z) ++ (row 12 x (suc made + countCases z) (blockAt t b .id) (orNone g) 0 ∷ []) ≡ R ++ stmtOut (make (CASE tst (r .statements) z))
+      rows-on r z =
+          let m : suc made + countCases z ≡ made + suc (countCases z) = omega arith in
+          ap (λ (y : ℕ). ((bodyOut R₁ (r .statements) ++ (row 11 tst 0 0 0 0 ∷ [])) ++ casesOut z) ++ (row 12 x y (blockAt t b .id) (orNone g) 0 ∷ [])) m
+          ∙ ap (λ (y : List Row). y ++ (row 12 x (made + suc (countCases z)) (blockAt t b .id) (orNone g) 0 ∷ [])) (sym (rows-case R₁ tst (r .statements) z))
+          ∙ e (CASE tst (r .statements) z)
+
+      Again : Type 0
+      Again = (ids′ : List ℕ) (entries′ made′ : ℕ) (R′ : List Row) (c′ : Context) (make′ : Cases → Statement) → v ≤ c′ .visits → entries′ ≡ length ids′ → Tops ids′ (c′ .stack)
+          → ((z : Cases) → (R′ ++ casesOut z) ++ (row 12 x (made′ + countCases z) (blockAt t b .id) (orNone g) 0 ∷ []) ≡ R ++ stmtOut (make′ z))
+          → Sim t v F R n (ok (choosing (switched b g entries′ j made′ n) F R′ c′)) (traverseCases inner b f (casesLastFirst t i j) ids′ c′ >>= K make′)
+
+      at : (y : Bool) → isScheduled c blk ≡ y → Again
+          → Sim t v F R n
           (elim y [
-            | true ↦ refuseIf (not (eqb (k .block) f)) 14 b (c .visits) >>= λ _. nextCase x id g i b f n F ks (length cs) R₁ c
-            | false ↦ ok (visiting (k .block) (fCase x id g i b f k ks (length cs) n ∷ F) R₁ 0 c)
+            | true ↦ refuseIf (not (eqb blk f)) 14 b (c .visits) >>= λ _. ok (choosing (switched b g entries j made n) F R₁ c)
+            | false ↦ ok (visiting blk (switched b g entries j made n ∷ F) R₁ 0 c)
           ])
           (_>>=_ {A = CasesResult} (elim y [
-            | true ↦ refuseIf (not (eqb (k .block) f)) 14 b (c .visits) >>= λ _. traverseCases inner b f ks (cs ++ scheduleIds g i) c
-            | false ↦ inner (k .block) c >>= λ r. schedule (target-case (k .block)) (r .context) >>= λ c1.
-                traverseCases inner b f ks (r .context .nextId ∷ (cs ++ scheduleIds g i)) c1 >>= λ z. ok (record { cases = CASE (k .test) (r .statements) (z .cases); ids = z .ids; context = z .context })
+            | true ↦ refuseIf (not (eqb blk f)) 14 b (c .visits) >>= λ _. traverseCases inner b f (casesLastFirst t i j) ids c
+            | false ↦ inner blk c >>= λ r. schedule (target-case blk) (r .context) >>= λ c1.
+                traverseCases inner b f (casesLastFirst t i j) (r .context .nextId ∷ ids) c1 >>= λ z. ok (record { cases = CASE tst (r .statements) (z .cases); ids = z .ids; context = z .context })
           ]) (K make))
-      at true same more = sim-assoc (refuseIf (not (eqb (k .block) f)) 14 b (c .visits)) _ (K make) (sim-go _ _ _ (λ _. same))
-      at false same more =
-          sim-assoc (inner (k .block) c) _ (K make) (sim-inner (fCase x id g i b f k ks (length cs) n) (k .block) R₁ c _ size lt (λ r q.
-          sim-assoc (schedule (target-case (k .block)) (r .context)) _ (K make) (sim-bind (λ e. Kept (r .context) e × (e .stack ≡ record { id = r .context .nextId; target = target-case (k .block) } ∷ r .context .stack)) _ _ _
-          (case-kept (target-case (k .block)) (r .context)) (λ c1 w.
-          sim-map (traverseCases inner b f ks (r .context .nextId ∷ (cs ++ scheduleIds g i)) c1) _ (K make)
-          (more (r .context .nextId ∷ cs) _ c1 (λ z. make (CASE (k .test) (r .statements) z)) _ (omega arith) (omega arith) (tops r c1 (q .1) (w .1)) (rows-on r))))))
+      at true o again = sim-assoc (refuseIf (not (eqb blk f)) 14 b (c .visits)) _ (K make) (sim-go _ _ _ (λ _. again ids entries made R₁ c make h k u e))
+      at false o again =
+          sim-assoc (inner blk c) _ (K make) (sim-inner (switched b g entries j made n) _ blk R₁ c _ q size (λ r p.
+          sim-assoc (schedule (target-case blk) (r .context)) _ (K make) (sim-by _ (schedule-free (target-case blk) (r .context) (free r o p))
+          (sim-map (traverseCases inner b f (casesLastFirst t i j) (r .context .nextId ∷ ids) _) _ (K make)
+          (unfold scheduled pushed in again (r .context .nextId ∷ ids) (suc entries) (suc made) _ _ (λ z. make (CASE tst (r .statements) z)) (omega arith) (omega arith)
+          (refl, tops-same ids c (r .context) (p .1 .same) u) (rows-on r))))))
 
-  -- ---- ends with no nested list
+  -- ---- terminals with no nested list
 
-  silent : {p v : ℕ} {F : List Frame} {R : List Row} {n : ℕ} (g : Option ℕ) (c : Context) → suc (2 * (8192 - c .visits) + length F) < p → v ≤ c .visits
-      → Sim t p v F R n (ok (leave g F R n c)) (ok (record { statement = none; next = g; context = c }))
-  silent {F = F} {R} {n} g c lt h =
-      record { raw = (h, λ a q. (omega (arith, leave-low g F R n c), subst (λ (z : List Row). Runs t (leave g F z n c) a) (append-nil R) q)) }
+  silent : {v : ℕ} {F : List Frame} {R : List Row} {n : ℕ} (g : Option ℕ) (c : Context) → v ≤ c .visits
+      → Sim t v F R n (ok (leave g F R n c)) (ok (record { statement = none; next = g; context = c }))
+  silent {F = F} {R} {n} g c h = record { raw = (h, λ a q. subst (λ (z : List Row). Gives t (leave g F z n c) a) (append-nil R) q) }
 
-  jumped : {p v : ℕ} {F : List Frame} {R : List Row} {n : ℕ} (c : Context) (m : Result TerminalResult) → suc (2 * (8192 - c .visits) + length F) < p → v ≤ c .visits → Good (λ s. Kept c (s .context)) m
-      → Sim t p v F R n (m >>= λ s. ok (leave (s .next) F (R ++ jumpOut (s .statement)) (added (s .statement) n) (s .context))) m
+  jumped : {v : ℕ} {F : List Frame} {R : List Row} {n : ℕ} (c : Context) (m : Result TerminalResult) → v ≤ c .visits → Good (λ s. Kept c (s .context)) m
+      → Sim t v F R n (m >>= λ s. ok (leave (s .next) F (R ++ jumpOut (s .statement)) (added (s .statement) n) (s .context))) m
   unfolding _>>=_
-  jumped c (refused e q w) lt h k = record { raw = refl }
-  jumped {F = F} {R} {n} c (ok s) lt h k =
-      record { raw = (omega arith, λ a q. (omega (arith, leave-low (s .next) F (R ++ jumpOut (s .statement)) (added (s .statement) n) (s .context)), q)) }
+  jumped c (refused e q w) h k = record { raw = refl }
+  jumped c (ok s) h k = record { raw = (omega arith, λ a q. q) }
 
   jump-kept : (w : Variant) (b g i : ℕ) (c : Context) → Good (λ s. Kept c (s .context)) (visitGoto w b g i c)
-  unfolding visitGoto visitBreak visitContinue getBreakTarget getContinueTarget
-  jump-kept Break b g i c = good-bind Any (λ s. Kept c (s .context)) _ _ (any (breakResolved b g i c (breakTargetFrom (c .stack) g true false))) (λ s _. refl)
-  jump-kept Continue b g i c = good-bind Any (λ s. Kept c (s .context)) _ _ (any (continueResolved g i c (continueTargetFrom (c .stack) g true false))) (λ s _. refl)
+  unfolding visitGoto
+  jump-kept Break b g i c = good-bind Any (λ s. Kept c (s .context)) _ _ (any (visitBreak b g i c)) (λ s _. refl)
+  jump-kept Continue b g i c = good-bind Any (λ s. Kept c (s .context)) _ _ (any (visitContinue g i c)) (λ s _. refl)
   jump-kept Try b g i c = refl
 
-  value-sim : {p v : ℕ} {F : List Frame} {R : List Row} {n : ℕ} (e : Terminal) (b : ℕ) (k : Block) (f : ℕ) (c : Context) → suc (2 * (8192 - c .visits) + length F) < p → v ≤ c .visits
-      → Sim t p v F R n (valueStep t (visitValueBlock t d) e b k f F R n c) (visitValueStatement t (visitValueBlock t d) e b k f c)
-  unfolding valueStep visitValueStatement withVisits
-  value-sim {R = R} e b k f c lt h =
-      sim-bind (Kept c) _ _ _ (opened-kept (unlessScheduled c f) c) (λ c1 q.
-      sim-bind (λ r. c1 .visits ≤ r .visits) _ _ _ (terminal-grows t (visitValueBlock t d) (value-grows t d) e (k .id) (k .span) (c1 .visits) b) (λ r q₁.
-      sim-close _ _ (unlessScheduled c f) (c .nextId) _ (withVisits (r .visits) c1) (rows-value R (r .id) (r .place) (k .span) (r .value)) (omega arith) (omega arith)))
+  value-sim : {v : ℕ} {F : List Frame} {R : List Row} {n : ℕ} (e : Terminal) (b : ℕ) (k : Block) (f : ℕ) (c : Context) → v ≤ c .visits
+      → Sim t v F R n (valueTurn t visit e b k f F R n c) (visitValueStatement t visit e b k f c)
+  unfolding valueTurn visitValueStatement
+  value-sim {v} {F} {R} {n} e b k f c h =
+      sim-by _ (opened-if g c (untaken-free c f))
+      (subst (λ (w : ℕ). Sim t v F R n (visitValueBlockTerminal t visit e (k .id) (k .span) (c .visits) b >>= X) (visitValueBlockTerminal t visit e (k .id) (k .span) w b >>= Y)) (sym (kept-if g c))
+      (sim-bind (λ r. c .visits ≤ r .visits) _ X Y (terminal-grows t visit (value-grows t d) e (k .id) (k .span) (c .visits) b) (λ r q.
+      sim-by _ (off-if g (c .nextId) (withVisits (r .visits) (scheduledIf g c)) ∙ pop-all (scheduleIds g (c .nextId)) (withVisits (r .visits) (scheduledIf g c)) (unfold withVisits in tops-if g c) ∙ one g (withVisits (r .visits) (scheduledIf g c)))
+      (sim-leave (INSTR (r .id) (r .place) (k .span) (r .value)) (rows-value R (r .id) (r .place) (k .span) (r .value)) (seen g r (omega arith))))))
+    where
+      g : Option ℕ
+      g = unlessScheduled c f
 
-  values : (x : ℕ) (ft : Option ℕ) (span v : ℕ) → Good (λ r. v ≤ r .visits) (visitValueBlock t d x ft span v)
+      one : (g : Option ℕ) (z : Context) → ok (popAll (length (scheduleIds g (c .nextId))) z) ≡ ok (unscheduledIf g z)
+      one none z = refl
+      one (some f) z = refl
+
+      seen : (g : Option ℕ) (r : ValueTerminalResult) → v ≤ r .visits → v ≤ unscheduledIf g (withVisits (r .visits) (scheduledIf g c)) .visits
+      seen none r q = unfold withVisits in q
+      seen (some f) r q = unfold withVisits in (rw (unscheduled-kept (withVisits (r .visits) (scheduledIf (some f) c))) q)
+
+      X : ValueTerminalResult → Result State
+      X r = ok (leave g F ((R ++ valueOut (r .value)) ++ (row 4 (r .id) (r .place) (k .span) 0 0 ∷ [])) (suc n) (unscheduledIf g (withVisits (r .visits) (scheduledIf g c))))
+
+      Y : ValueTerminalResult → Result TerminalResult
+      Y r = unscheduleIf g (c .nextId) (withVisits (r .visits) (scheduledIf g c)) >>= λ c2. ok (record { statement = some (INSTR (r .id) (r .place) (k .span) (r .value)); next = g; context = c2 })
+
+  values : (x : ℕ) (ft : Option ℕ) (span v : ℕ) → Good (λ r. v ≤ r .visits) (visit x ft span v)
   unfolding Grows
   values x ft span v = value-grows t d x ft span v
 
-  updates : (u : Option ℕ) (span v : ℕ) → Good (λ r. v ≤ r .visits) (visitUpdate (visitValueBlock t d) u span v)
-  updates u span v = update-grows t (visitValueBlock t d) (value-grows t d) u span v
+  abbrev Updated : Option ℕ → ℕ → OptionalValue → Type 0
+  Updated u v w = (v ≤ w .visits) × (present (w .value) ≡ hasUpdate u)
 
-  -- ---- every end
+  updates : (u : Option ℕ) (span v : ℕ) → Good (Updated u v) (visitUpdate visit u span v)
+  unfolding visitUpdate
+  updates none span v = (le-refl v, refl)
+  updates (some u) span v = good-bind (λ r. v ≤ r .visits) (Updated (some u) v) _ _ (values u none span v) (λ r q. (q, refl))
 
-  terminal-sim : {p v : ℕ} {F : List Frame} {R : List Row} {n : ℕ} (e : Terminal) (b : ℕ) (k : Block) (c : Context) → length F + suc d ≡ 128 → suc (2 * (8192 - c .visits) + length F) < p → v ≤ c .visits
-      → Sim t p v F R n (dispatch t (visitValueBlock t d) e b k F R n c) (visitTerminal t (visitValueBlock t d) inner e b k c)
-  unfolding dispatch visitTerminal
-  terminal-sim absent b k c size lt h = record { raw = refl }
-  terminal-sim unreachable b k c size lt h = silent none c lt h
-  terminal-sim (throw x) b k c size lt h = unfold stmtOut in sim-leave _ refl lt h
-  terminal-sim (return x) b k c size lt h = unfold stmtOut in sim-leave _ refl lt h
-  terminal-sim (goto g w) b k c size lt h = jumped c (visitGoto w b g (k .id) c) lt h (jump-kept w b g (k .id) c)
-  terminal-sim (if x y a f) b k c size lt h =
-      sim-go _ _ _ (λ g. sim-bind (Kept c) _ _ _ (opened-kept g c) (λ c1 q.
-      sim-into _ y 12 y _ c1 _ size (omega arith) (λ r q₁. unfold resume in if-else x (k .id) g (c .nextId) a f (r .context) (r .statements) size (omega arith) (omega arith))))
-  terminal-sim (branch x y a) b k c size lt h = branch-sim x y a (k .id) b c size (omega arith) h
-  terminal-sim {R = R} (switch x i n f) b k c size lt h =
-      sim-go _ _ _ (λ g. sim-bind (Kept c) _ _ _ (openedSwitch-kept g c) (λ c1 q.
-      cases-sim x (k .id) g (c .nextId) b f (casesLastFirst t i n) [] R c1 (SWITCH x (k .id) g) size (omega arith) (omega arith) tt
-      (λ z. ap (λ (m : ℕ). (R ++ casesOut z) ++ (row 12 x m (k .id) (orNone g) 0 ∷ [])) (zero-add (countCases z)) ∙ rows-switch R x (k .id) g z)))
-  terminal-sim {R = R} (do-while l x f) b k c size lt h =
-      sim-bind (Kept c) _ _ _ (loop-kept f x l c) (λ c1 q. sim-go _ _ _ (λ _.
-      sim-inner _ l _ c1 _ size (omega arith) (λ r q₁. unfold resume withVisits in
-      sim-bind (λ w. r .context .visits ≤ w .visits) _ _ _ (values x none (k .span) (r .context .visits)) (λ w q₂.
-      sim-close-loop _ _ (unlessScheduled c f) (c .nextId) _ (withVisits (w .visits) (r .context)) (rows-do R (k .id) (unlessScheduled c f) (r .statements) (w .value)) (omega arith) (omega arith)))))
-  terminal-sim {R = R} (while x l f) b k c size lt h =
-      sim-go _ _ _ (λ g. sim-bind (Kept c) _ _ _ (loop-kept f x l c) (λ c1 q.
-      sim-bind (λ w. c1 .visits ≤ w .visits) _ _ _ (values x none (k .span) (c1 .visits)) (λ w q₁.
-      loop-sim _ b l (loopIsTaken c l f) (w .visits) (c .nextId) c1 g _ _ size (omega arith) (omega arith) (rows-while R (k .id) g (w .value)))))
-  terminal-sim {R = R} (for i x u l f) b k c size lt h =
-      sim-bind (Kept c) _ _ _ (loop-kept f (continueBlockOf u x) l c) (λ c1 q.
-      sim-bind (λ w. c1 .visits ≤ w .visits) _ _ _ (values i none (k .span) (c1 .visits)) (λ n q₁.
-      sim-bind (λ w. n .visits ≤ w .visits) _ _ _ (values x none (k .span) (n .visits)) (λ w q₂.
-      sim-bind (λ z. w .visits ≤ z .visits) _ _ _ (updates u (k .span) (w .visits)) (λ z q₃.
-      loop-sim _ b l (loopIsTaken c l f) (z .visits) (c .nextId) c1 (unlessScheduled c f) _ _ size (omega arith) (omega arith)
-      (rows-for R (k .id) (unlessScheduled c f) (valueBlockResultToSequence t n (k .span)) (w .value) (z .value))))))
-  terminal-sim {R = R} (for-of i x l f) b k c size lt h =
-      sim-bind (Kept c) _ _ _ (loop-kept f i l c) (λ c1 q.
-      sim-bind (λ w. c1 .visits ≤ w .visits) _ _ _ (values i none (k .span) (c1 .visits)) (λ n q₁.
-      sim-bind (λ w. n .visits ≤ w .visits) _ _ _ (values x none (k .span) (n .visits)) (λ w q₂.
-      loop-sim _ b l (loopIsTaken c l f) (w .visits) (c .nextId) c1 (unlessScheduled c f) _ _ size (omega arith) (omega arith)
-      (rows-forof R (k .id) (unlessScheduled c f) (k .span) (valueBlockResultToSequence t n (k .span)) (valueBlockResultToSequence t w (k .span))))))
-  terminal-sim {R = R} (for-in i l f) b k c size lt h =
-      sim-bind (Kept c) _ _ _ (loop-kept f i l c) (λ c1 q.
-      sim-bind (λ w. c1 .visits ≤ w .visits) _ _ _ (values i none (k .span) (c1 .visits)) (λ n q₁.
-      loop-sim _ b l (loopIsTaken c l f) (n .visits) (c .nextId) c1 (unlessScheduled c f) _ _ size (omega arith) (omega arith)
-      (rows-forin R (k .id) (unlessScheduled c f) (k .span) (valueBlockResultToSequence t n (k .span)))))
-  terminal-sim (logical o x f) b k c size lt h = value-sim (logical o x f) b k f c lt h
-  terminal-sim (ternary x f) b k c size lt h = value-sim (ternary x f) b k f c lt h
-  terminal-sim (optional g x f) b k c size lt h = value-sim (optional g x f) b k f c lt h
-  terminal-sim {R = R} (label x f) b k c size lt h =
-      sim-go _ _ _ (λ g. sim-bind (Kept c) _ _ _ (opened-kept g c) (λ c1 q. enclosed-sim _ x 17 b g c c1 _ size (omega arith) (omega arith) (rows-label R (k .id) g)))
-  terminal-sim (sequence x f) b k c size lt h = value-sim (sequence x f) b k f c lt h
-  terminal-sim (maybe-throw n) b k c size lt h = silent (unlessScheduled c n) c lt h
-  terminal-sim {R = R} (try x y f n) b k c size lt h =
-      sim-go _ _ _ (λ g. sim-bind (Kept c) _ _ _ (opened-kept g c) (λ c1 q.
-      unfold scheduleCatchHandler resume in sim-inner _ x _ (scheduleCatchHandler y c1) _ size (omega arith) (λ r q₁.
-      sim-inner _ y _ (r .context) _ size (omega arith) (λ s q₂.
-      sim-close _ _ g (c .nextId) _ (s .context) (rows-try R (k .id) g n (r .statements) (s .statements)) (omega arith) (omega arith)))))
-  terminal-sim {R = R} (scope p x f s) b k c size lt h =
-      sim-bind (Kept c) _ _ _ (opened-kept (unlessScheduled c f) c) (λ c1 q.
-      let e : markScopeFallthroughIf (unlessScheduled c f) c1 .visits ≡ c1 .visits = scopedIf-kept (unlessScheduled c f) c1 in
-      enclosed-sim _ x 18 b (unlessScheduled c f) c (markScopeFallthroughIf (unlessScheduled c f) c1) _ size (omega arith) (omega arith) (rows-scope R p s))
+  reaches : (c : Context) (f : ℕ) → Good (λ g. Free g c) (unlessUnreachable t c f)
+  reaches c f = fine-good (λ g. Free g c) (unlessUnreachable t c f) (reached-fine t c f)
+
+  -- ---- every terminal
+
+  terminal-sim : {v : ℕ} {F : List Frame} {R : List Row} {n : ℕ} (e : Terminal) (b : ℕ) (c : Context) → terminalAt t b ≡ e → length F + suc d ≡ 128 → v ≤ c .visits
+      → Sim t v F R n (terminalTurn t visit e b (blockAt t b) F R n c) (visitTerminal t visit inner e b (blockAt t b) c)
+  unfolding terminalTurn visitTerminal
+  terminal-sim absent b c q size h = record { raw = refl }
+  terminal-sim unreachable b c q size h = silent none c h
+  terminal-sim (throw x) b c q size h = unfold stmtOut in sim-leave _ refl h
+  terminal-sim (return x) b c q size h = unfold stmtOut in sim-leave _ refl h
+  terminal-sim (goto g w) b c q size h = jumped c (visitGoto w b g (blockAt t b .id) c) h (jump-kept w b g (blockAt t b .id) c)
+  terminal-sim {n = n} (if x y a f) b c q size h =
+      sim-bind (λ g. Free g c) _ _ _ (reaches c f) (λ g free. sim-by _ (opened-if g c free)
+      (sim-into (labelled b g n) _ y 12 y _ (scheduledIf g c) _ q size (λ r p.
+      if-else x y a f g (c .nextId) b (r .context) (r .statements) q size (omega (arith, kept-if g c)) (tops-same (scheduleIds g (c .nextId)) (scheduledIf g c) (r .context) (p .1 .same) (tops-if g c)))))
+  terminal-sim (branch x y a) b c q size h = branch-sim x y a b c q size h
+  terminal-sim {v} {F} {R} {n} (switch x i m f) b c q size h =
+      sim-bind (λ g. Free g c) _ _ _ (reaches c f) (λ g free. sim-by _ (opened-switch g c free)
+      (subst (λ (l : List Case). Sim t v F R n (ok (choosing (switched b g (opens g) (numberOfCases t i m) 0 n) F R (scheduledSwitch g c))) (traverseCases inner b f l (scheduleIds g (c .nextId)) (scheduledSwitch g c) >>= K g)) (sym (cases-number t i m))
+      (cases-sim x i m f b g (numberOfCases t i m) (scheduleIds g (c .nextId)) (opens g) 0 R (scheduledSwitch g c) (SWITCH x (blockAt t b .id) g) q size (number-below t i m) (omega (arith, kept-switch g c)) (ids-if g (c .nextId)) (tops-switch g c)
+      (λ z. ap (λ (k : ℕ). (R ++ casesOut z) ++ (row 12 x k (blockAt t b .id) (orNone g) 0 ∷ [])) (zero-add (countCases z)) ∙ rows-switch R x (blockAt t b .id) g z))))
+    where
+      K : Option ℕ → CasesResult → Result TerminalResult
+      K g r = unscheduleAll (r .ids) (r .context) >>= λ c2. ok (record { statement = some (SWITCH x (blockAt t b .id) g (r .cases)); next = g; context = c2 })
+  terminal-sim {v} {F} {R} {n} (do-while l x f) b c q size h =
+      sim-bind (InLoop c) _ _ _ (loop-pushed f x l c) (λ c1 p. unfold intoLoop withVisits resumeAt closingRowOf in sim-go _ _ _ (λ _.
+      sim-inner (frameOf b (unlessScheduled c f) 1 n) _ l _ c1 _ q size (λ r p₁.
+      sim-bind (λ w. r .context .visits ≤ w .visits) _ _ _ (values x none (blockAt t b .span) (r .context .visits)) (λ w p₂.
+      sim-close (frameOf b (unlessScheduled c f) 1 n) (c .nextId ∷ []) _ _ _ _ (withVisits (w .visits) (r .context)) q (off-loop (c .nextId) (withVisits (w .visits) (r .context))) refl
+      (tops-same (c .nextId ∷ []) c1 (r .context) (p₁ .1 .same) (p .1)) (rows-do R (blockAt t b .id) (unlessScheduled c f) (r .statements) (w .value)) (omega arith)))))
+  terminal-sim {R = R} (while x l f) b c q size h =
+      sim-go _ _ _ (λ g. sim-bind (InLoop c) _ _ _ (loop-pushed f x l c) (λ c1 p.
+      sim-bind (λ w. c1 .visits ≤ w .visits) _ _ _ (values x none (blockAt t b .span) (c1 .visits)) (λ w p₁.
+      loop-sim _ b l (loopIsTaken c l f) (w .visits) (c .nextId) c1 g _ _ q (unfold resumeAt in λ _ _ _ _ _. refl) size (omega arith) (p .1) (unfold closingRowOf in rows-while R (blockAt t b .id) g (w .value)))))
+  terminal-sim {R = R} (for i x u l f) b c q size h =
+      sim-bind (InLoop c) _ _ _ (loop-pushed f (continueBlockOf u x) l c) (λ c1 p.
+      sim-bind (λ w. c1 .visits ≤ w .visits) _ _ _ (values i none (blockAt t b .span) (c1 .visits)) (λ n p₁.
+      sim-bind (λ w. n .visits ≤ w .visits) _ _ _ (values x none (blockAt t b .span) (n .visits)) (λ w p₂.
+      sim-bind (Updated u (w .visits)) _ _ _ (updates u (blockAt t b .span) (w .visits)) (λ z p₃.
+      loop-sim _ b l (loopIsTaken c l f) (z .visits) (c .nextId) c1 (unlessScheduled c f) _ _ q (unfold resumeAt in λ _ _ _ _ _. refl) size (omega arith) (p .1)
+      (unfold closingRowOf in λ s. ap (λ (y : ℕ). bodyOut (((R ++ valueOut (valueBlockResultToSequence t n (blockAt t b .span))) ++ valueOut (w .value)) ++ updateOut (z .value)) s ++ (row 15 (blockAt t b .id) (orNone (unlessScheduled c f)) y 0 0 ∷ [])) (sym (p₃ .1))
+      ∙ rows-for R (blockAt t b .id) (unlessScheduled c f) (valueBlockResultToSequence t n (blockAt t b .span)) (w .value) (z .value) s)))))
+  terminal-sim {R = R} (for-of i x l f) b c q size h =
+      sim-bind (InLoop c) _ _ _ (loop-pushed f i l c) (λ c1 p.
+      sim-bind (λ w. c1 .visits ≤ w .visits) _ _ _ (values i none (blockAt t b .span) (c1 .visits)) (λ n p₁.
+      sim-bind (λ w. n .visits ≤ w .visits) _ _ _ (values x none (blockAt t b .span) (n .visits)) (λ w p₂.
+      loop-sim _ b l (loopIsTaken c l f) (w .visits) (c .nextId) c1 (unlessScheduled c f) _ _ q (unfold resumeAt in λ _ _ _ _ _. refl) size (omega arith) (p .1)
+      (unfold closingRowOf in rows-forof R (blockAt t b .id) (unlessScheduled c f) (blockAt t b .span) (valueBlockResultToSequence t n (blockAt t b .span)) (valueBlockResultToSequence t w (blockAt t b .span))))))
+  terminal-sim {R = R} (for-in i l f) b c q size h =
+      sim-bind (InLoop c) _ _ _ (loop-pushed f i l c) (λ c1 p.
+      sim-bind (λ w. c1 .visits ≤ w .visits) _ _ _ (values i none (blockAt t b .span) (c1 .visits)) (λ n p₁.
+      loop-sim _ b l (loopIsTaken c l f) (n .visits) (c .nextId) c1 (unlessScheduled c f) _ _ q (unfold resumeAt in λ _ _ _ _ _. refl) size (omega arith) (p .1)
+      (unfold closingRowOf in rows-forin R (blockAt t b .id) (unlessScheduled c f) (blockAt t b .span) (valueBlockResultToSequence t n (blockAt t b .span)))))
+  terminal-sim (logical o x f) b c q size h = value-sim (logical o x f) b (blockAt t b) f c h
+  terminal-sim (ternary x f) b c q size h = value-sim (ternary x f) b (blockAt t b) f c h
+  terminal-sim (optional g x f) b c q size h = value-sim (optional g x f) b (blockAt t b) f c h
+  terminal-sim {R = R} (label x f) b c q size h =
+      sim-bind (λ g. Free g c) _ _ _ (reaches c f) (λ g free. sim-by _ (opened-if g c free)
+      (enclosed-sim _ b x 17 b g c (scheduledIf g c) _ q (unfold resumeAt in λ _ _ _ _ _. refl) size (omega (arith, kept-if g c)) (tops-if g c) (unfold closingRowOf in rows-label R (blockAt t b .id) g)))
+  terminal-sim (sequence x f) b c q size h = value-sim (sequence x f) b (blockAt t b) f c h
+  terminal-sim (maybe-throw n) b c q size h = silent (unlessScheduled c n) c h
+  terminal-sim {R = R} {n} (try x y f m) b c q size h =
+      sim-bind (λ g. Free g c) _ _ _ (reaches c f) (λ g free. sim-by _ (opened-if g c free)
+      (unfold scheduleCatchHandler resumeAt closingRowOf in sim-inner (labelled b g n) _ x _ (scheduleCatchHandler y (scheduledIf g c)) _ q size (λ r p.
+      sim-inner (secondPart (labelled b g n)) _ y _ (r .context) _ q size (λ s p₁.
+      sim-close (secondPart (labelled b g n)) (scheduleIds g (c .nextId)) _ _ _ _ (s .context) q (off-if g (c .nextId) (s .context)) (ids-if g (c .nextId))
+      (tops-same (scheduleIds g (c .nextId)) (r .context) (s .context) (p₁ .1 .same) (tops-same (scheduleIds g (c .nextId)) (scheduledIf g c) (r .context) (p .1 .same) (tops-if g c)))
+      (rows-try R (blockAt t b .id) g m (r .statements) (s .statements)) (omega (arith, kept-if g c))))))
+  terminal-sim {R = R} (scope p x f s) b c q size h =
+      sim-by _ (opened-if (unlessScheduled c f) c (untaken-free c f))
+      (enclosed-sim _ b x 18 b (unlessScheduled c f) c (markScopeFallthroughIf (unlessScheduled c f) (scheduledIf (unlessScheduled c f) c)) _ q (unfold resumeAt in λ _ _ _ _ _. refl) size
+      (omega (arith, kept-if (unlessScheduled c f) c, scopedIf-kept (unlessScheduled c f) (scheduledIf (unlessScheduled c f) c)))
+      (tops-same (scheduleIds (unlessScheduled c f) (c .nextId)) (scheduledIf (unlessScheduled c f) c) (markScopeFallthroughIf (unlessScheduled c f) (scheduledIf (unlessScheduled c f) c)) (marked (unlessScheduled c f) (scheduledIf (unlessScheduled c f) c)) (tops-if (unlessScheduled c f) c))
+      (unfold closingRowOf in rows-scope R p s))
+    where
+      marked : (g : Option ℕ) (z : Context) → markScopeFallthroughIf g z .stack ≡ z .stack
+      marked none z = unfold markScopeFallthroughIf in refl
+      marked (some f) z = unfold markScopeFallthroughIf markScopeFallthrough in refl
 
   -- ---- the chain
 
@@ -434,11 +600,11 @@ module _ (t : Table) (d : ℕ) (inner : TraverseBlock) (ws : Walks t d inner) (w
   OnCount m b o = added o (m + length (instructionRowsAt t b))
 
   chain-on : (S : State) (v : ℕ) (F : List Frame) (R : List Row) (m b : ℕ) (o : Option Statement) (nx : Option ℕ) (c : Context) (again : TraverseBlock) → v < c .visits
-      → ((a : Report) → Runs t (leave nx F (OnRows R b o) (OnCount m b o) c) a → Runs t S a)
+      → ((a : Report) → Gives t (leave nx F (OnRows R b o) (OnCount m b o) c) a → Gives t S a)
       → ((k : ℕ) → Along t (visiting k F (OnRows R b o) (OnCount m b o) c) (c .visits) F (OnRows R b o) (OnCount m b o) (again k c))
       → Along t S v F R m (thenNext t b again o nx c)
   unfolding thenNext
-  chain-on S v F R m b o none c again lt u ih = (lt, λ a q. u a (subst₂ (λ (z : List Row) (y : ℕ). Runs t (ended F z y c) a) e₁ e₂ q))
+  chain-on S v F R m b o none c again lt u ih = (lt, λ a q. u a (subst₂ (λ (z : List Row) (y : ℕ). Gives t (ended F z y c) a) e₁ e₂ q))
     where
       e₁ : R ++ stmtsOut (instructionStatements t (instructionRowsAt t b) (followedBy o done)) ≡ OnRows R b o
       e₁ = rows-chain R t (instructionRowsAt t b) o done ∙ unfold stmtsOut in append-nil (OnRows R b o)
@@ -453,17 +619,17 @@ module _ (t : Table) (d : ℕ) (inner : TraverseBlock) (ws : Walks t d inner) (w
       at (ok r) (lt₂, h) = unfold _>>=_ in (
         omega arith,
         λ a q. u a (h a
-            (subst₂ (λ (z : List Row) (y : ℕ). Runs t (ended F z y (r .context)) a) (rows-chain R t (instructionRowsAt t b) o (r .statements)) (count-chain m t (instructionRowsAt t b) o (r .statements)) q)),
+            (subst₂ (λ (z : List Row) (y : ℕ). Gives t (ended F z y (r .context)) a) (rows-chain R t (instructionRowsAt t b) o (r .statements)) (count-chain m t (instructionRowsAt t b) o (r .statements)) q)),
       )
 
   visit-deep : (b : ℕ) (F : List Frame) (R : List Row) (m : ℕ) (c : Context) → length F + suc d ≡ 128
-      → visit t b F R m c ≡ enterBlock t b c >>= λ c1. dispatch t (visitValueBlock t d) (terminalAt t b) b (blockAt t b) F (R ++ instrOut t (instructionRowsAt t b)) (m + length (instructionRowsAt t b)) c1
-  unfolding visit refuseIf _>>=_
+      → visitTurn t b F R m c ≡ enterBlock t b c >>= λ c1. terminalTurn t (visitValueBlock t d) (terminalAt t b) b (blockAt t b) F (R ++ instrOut t (instructionRowsAt t b)) (m + length (instructionRowsAt t b)) c1
+  unfolding visitTurn refuseIf _>>=_
   visit-deep b F R m c size =
-      let e : left F ≡ d = omega arith in
+      let e : depthLeft F ≡ d = omega arith in
       ap (λ (y : Bool). refuseIf y 30 b (c .visits) >>= λ _. enterBlock t b c >>= λ c1.
-      dispatch t (visitValueBlock t (left F)) (terminalAt t b) b (blockAt t b) F (R ++ instrOut t (instructionRowsAt t b)) (m + length (instructionRowsAt t b)) c1) (lt-leb 128 (length F) (omega arith))
-      ∙ ap (λ (z : ℕ). enterBlock t b c >>= λ c1. dispatch t (visitValueBlock t z) (terminalAt t b) b (blockAt t b) F (R ++ instrOut t (instructionRowsAt t b)) (m + length (instructionRowsAt t b)) c1) e
+      terminalTurn t (visitValueBlock t (depthLeft F)) (terminalAt t b) b (blockAt t b) F (R ++ instrOut t (instructionRowsAt t b)) (m + length (instructionRowsAt t b)) c1) (lt-leb 128 (length F) (omega arith))
+      ∙ ap (λ (z : ℕ). enterBlock t b c >>= λ c1. terminalTurn t (visitValueBlock t z) (terminalAt t b) b (blockAt t b) F (R ++ instrOut t (instructionRowsAt t b)) (m + length (instructionRowsAt t b)) c1) e
 
   enter-late : (b : ℕ) (c : Context) → 8192 ≤ c .visits → enterBlock t b c ≡ refused 31 b (c .visits)
   unfolding enterBlock beginVisit refuseIf _>>=_
@@ -475,11 +641,11 @@ module _ (t : Table) (d : ℕ) (inner : TraverseBlock) (ws : Walks t d inner) (w
       → Along t (visiting b F R m c) (c .visits) F R m (visitBlock t (visitValueBlock t d) inner n b c)
   unfolding visitBlock step
   chain-sim zero b F R m c size lt =
-      runs-turn t (visiting b F R m c) (refused 31 b (c .visits)) (rejected 31 b (c .visits))
-      (ap turn (visit-deep b F R m c size ∙ ap (λ (z : Result Context). z >>= λ c1. dispatch t (visitValueBlock t d) (terminalAt t b) b (blockAt t b) F (R ++ instrOut t (instructionRowsAt t b)) (m + length (instructionRowsAt t b)) c1) (enter-late b c (omega arith)) ∙ gone))
+      gives-turn t (visiting b F R m c) (refused 31 b (c .visits)) (rejected 31 b (c .visits))
+      (ap turn (visit-deep b F R m c size ∙ ap (λ (z : Result Context). z >>= λ c1. terminalTurn t (visitValueBlock t d) (terminalAt t b) b (blockAt t b) F (R ++ instrOut t (instructionRowsAt t b)) (m + length (instructionRowsAt t b)) c1) (enter-late b c (omega arith)) ∙ gone))
       refl
     where
-      gone : (refused 31 b (c .visits) >>= λ c1. dispatch t (visitValueBlock t d) (terminalAt t b) b (blockAt t b) F (R ++ instrOut t (instructionRowsAt t b)) (m + length (instructionRowsAt t b)) c1) ≡ refused 31 b (c .visits)
+      gone : (refused 31 b (c .visits) >>= λ c1. terminalTurn t (visitValueBlock t d) (terminalAt t b) b (blockAt t b) F (R ++ instrOut t (instructionRowsAt t b)) (m + length (instructionRowsAt t b)) c1) ≡ refused 31 b (c .visits)
       gone = unfold _>>=_ in refl
   chain-sim (suc n) b F R m c size lt =
       at (enterBlock t b c) (enter-grows t b c) (ap turn (visit-deep b F R m c size)) (λ k R′ m′ c′ le. chain-sim n k F R′ m′ c′ size le)
@@ -488,7 +654,7 @@ module _ (t : Table) (d : ℕ) (inner : TraverseBlock) (ws : Walks t d inner) (w
       S = visiting b F R m c
 
       f : Context → Result State
-      f c1 = dispatch t (visitValueBlock t d) (terminalAt t b) b (blockAt t b) F (R ++ instrOut t (instructionRowsAt t b)) (m + length (instructionRowsAt t b)) c1
+      f c1 = terminalTurn t (visitValueBlock t d) (terminalAt t b) b (blockAt t b) F (R ++ instrOut t (instructionRowsAt t b)) (m + length (instructionRowsAt t b)) c1
 
       g : Context → Result BlockResult
       g c1 = visitTerminal t (visitValueBlock t d) inner (terminalAt t b) b (blockAt t b) c1 >>= λ s. thenNext t b (visitBlock t (visitValueBlock t d) inner n) (s .statement) (s .next) (s .context)
@@ -497,55 +663,59 @@ module _ (t : Table) (d : ℕ) (inner : TraverseBlock) (ws : Walks t d inner) (w
       Again = (k : ℕ) (R′ : List Row) (m′ : ℕ) (c′ : Context) → 8193 ≤ n + c′ .visits → Along t (visiting k F R′ m′ c′) (c′ .visits) F R′ m′ (visitBlock t (visitValueBlock t d) inner n k c′)
 
       after : (c1 : Context) (y : Result TerminalResult) → c1 .visits ≡ suc (c .visits) → step t S ≡ turn (f c1) → Again
-          → Beside t (potential S) (c1 .visits) F (R ++ instrOut t (instructionRowsAt t b)) (m + length (instructionRowsAt t b)) (f c1) y
+          → Beside t (c1 .visits) F (R ++ instrOut t (instructionRowsAt t b)) (m + length (instructionRowsAt t b)) (f c1) y
           → Along t S (c .visits) F R m (y >>= λ s. thenNext t b (visitBlock t (visitValueBlock t d) inner n) (s .statement) (s .next) (s .context))
-      after c1 (refused e p w) q st again u = unfold _>>=_ in runs-turn t S (f c1) (rejected e p w) st u
+      after c1 (refused e p w) q st again u = unfold _>>=_ in gives-turn t S (f c1) (rejected e p w) st u
       after c1 (ok s) q st again (le, u) = unfold _>>=_ in
           chain-on S (c .visits) F R m b (s .statement) (s .next) (s .context) (visitBlock t (visitValueBlock t d) inner n) (omega arith)
-          (λ a h. runs-turn t S (f c1) a st (u a h)) (λ k. again k _ _ (s .context) (omega arith))
+          (λ a h. gives-turn t S (f c1) a st (u a h)) (λ k. again k _ _ (s .context) (omega arith))
 
       at : (y : Result Context) → Good (λ e. (c .visits < 8192) × (e .visits ≡ suc (c .visits))) y → step t S ≡ turn (y >>= f) → Again → Along t S (c .visits) F R m (y >>= g)
-      at (refused e p w) h st again = unfold _>>=_ in runs-turn t S (refused e p w) (rejected e p w) st refl
+      at (refused e p w) h st again = unfold _>>=_ in gives-turn t S (refused e p w) (rejected e p w) st refl
       at (ok c1) h st again = unfold _>>=_ in
           after c1 (visitTerminal t (visitValueBlock t d) inner (terminalAt t b) b (blockAt t b) c1) (h .1) st again
-          (terminal-sim (terminalAt t b) b (blockAt t b) c1 size (omega arith) (le-refl (c1 .visits)) .raw)
+          (terminal-sim (terminalAt t b) b c1 refl size (le-refl (c1 .visits)) .raw)
 
 walk-sim : (t : Table) (d : ℕ) → Walks t d (traverseBlock t d)
 unfolding Walks traverseBlock step
-walk-sim t zero b F R m c size = runs-turn t (visiting b F R m c) (refused 30 b (c .visits)) (rejected 30 b (c .visits)) (ap turn full) refl
+walk-sim t zero b F R m c size = gives-turn t (visiting b F R m c) (refused 30 b (c .visits)) (rejected 30 b (c .visits)) (ap turn full) refl
   where
-    full : visit t b F R m c ≡ refused 30 b (c .visits)
-    full = unfold visit refuseIf _>>=_ in
+    full : visitTurn t b F R m c ≡ refused 30 b (c .visits)
+    full = unfold visitTurn refuseIf _>>=_ in
         ap (λ (y : Bool). refuseIf y 30 b (c .visits) >>= λ _. enterBlock t b c >>= λ c1.
-        dispatch t (visitValueBlock t (left F)) (terminalAt t b) b (blockAt t b) F (R ++ instrOut t (instructionRowsAt t b)) (m + length (instructionRowsAt t b)) c1) (le-leb 128 (length F) (omega arith))
+        terminalTurn t (visitValueBlock t (depthLeft F)) (terminalAt t b) b (blockAt t b) F (R ++ instrOut t (instructionRowsAt t b)) (m + length (instructionRowsAt t b)) c1) (le-leb 128 (length F) (omega arith))
 walk-sim t (suc d) b F R m c size = chain-sim t d (traverseBlock t d) (walk-sim t d) (walk-fine t d) 8193 b F R m c size (omega arith)
 
 -- the root list has ended
-runs-end : (t : Table) (r : BlockResult) → Runs t (ended [] ([] ++ stmtsOut (r .statements)) (0 + countStatements (r .statements)) (r .context)) (accepted (rows (r .statements)) (r .context .visits))
-unfolding Runs run step
-runs-end t r zero q = absurd (omega arith)
-runs-end t r (suc n) q =
-    ap (λ (z : ℕ). accepted (stmtsOut (r .statements) ++ (blockRow z ∷ [])) (r .context .visits)) (zero-add (countStatements (r .statements)))
-    ∙ ap (λ (z : List Row). accepted z (r .context .visits)) (sym (body-out (r .statements) []))
+root-ends : (t : Table) (r : BlockResult) → Gives t (ended [] ([] ++ stmtsOut (r .statements)) (0 + countStatements (r .statements)) (r .context)) (accepted (rows (r .statements)) (r .context .visits))
+unfolding step
+root-ends t r =
+    halts (ap (λ (z : ℕ). halt (accepted (stmtsOut (r .statements) ++ (blockRow z ∷ [])) (r .context .visits))) (zero-add (countStatements (r .statements)))
+    ∙ ap (λ (z : List Row). halt (accepted z (r .context .visits))) (sym (body-out (r .statements) [])))
 
--- the machine gives the build's answer, by any number of steps above 16,384
-pub run-built : (t : Table) (n : ℕ) → 16384 < n → run t n (visiting (t .entry) [] [] 0 start) ≡ report t
+-- the machine gives what the definition gives, for every table
+pub machine-builds : (t : Table) → Gives t (begin t) (report t)
 unfolding report buildTree Walks
-run-built t n few = at (traverseBlock t 128 (t .entry) start) (walk-sim t 128 (t .entry) [] [] 0 start refl)
+machine-builds t = at (traverseBlock t 128 (t .entry) start) (walk-sim t 128 (t .entry) [] [] 0 start refl)
   where
-    at : (y : Result BlockResult) → Along t (visiting (t .entry) [] [] 0 start) (start .visits) [] [] 0 y → run t n (visiting (t .entry) [] [] 0 start) ≡ reported y
-    at (refused e p w) h = unfold Runs reported start in h n (omega arith)
-    at (ok r) (lt, h) = unfold Runs reported start in h (accepted (rows (r .statements)) (r .context .visits)) (runs-end t r) n (omega arith)
+    at : (y : Result BlockResult) → Along t (begin t) (start .visits) [] [] 0 y → Gives t (begin t) (reported y)
+    at (refused e p w) h = unfold reported in h
+    at (ok r) (lt, h) = unfold reported in h (accepted (rows (r .statements)) (r .context .visits)) (root-ends t r)
 
-pub machine-built : (t : Table) → machine t ≡ report t
-unfolding machine
-machine-built t = run-built t 16385 (omega arith)
+going-halt : {s : State} {a : Report} → going s ≡ halt a → ⊥
+going-halt e = let z : _≡_ {A = ℕ} 0 1 = cc in omega arith
 
--- a step less, and the state after it: the invariant of the loop
-pub run-step : (t : Table) (n : ℕ) (s s′ : State) → step t s ≡ going s′ → run t (suc n) s ≡ run t n s′
-unfolding run
-run-step t n s s′ e = ap (λ (z : Turn). elim z [ going s₁ ↦ run t n s₁ | halt a₁ ↦ a₁ ]) e
+going-is : {s s′ : State} → going s ≡ going s′ → s ≡ s′
+going-is e = cc
 
-pub run-halt : (t : Table) (n : ℕ) (s : State) (a : Report) → step t s ≡ halt a → run t (suc n) s ≡ a
-unfolding run
-run-halt t n s a e = ap (λ (z : Turn). elim z [ going s₁ ↦ run t n s₁ | halt a₁ ↦ a₁ ]) e
+halt-is : {a a′ : Report} → halt a ≡ halt a′ → a ≡ a′
+halt-is e = cc
+
+-- a turn more, or the end: the machine has one way on
+pub gives-next : (t : Table) (s s′ : State) (a : Report) → Gives t s a → step t s ≡ going s′ → Gives t s′ a
+gives-next t s s′ a (halts e) q = absurd (going-halt (sym q ∙ e))
+gives-next t s s′ a (goes e h) q = subst (λ (z : State). Gives t z a) (going-is (sym e ∙ q)) h
+
+pub gives-halt : (t : Table) (s : State) (a a′ : Report) → Gives t s a → step t s ≡ halt a′ → a ≡ a′
+gives-halt t s a a′ (halts e) q = halt-is (sym e ∙ q)
+gives-halt t s a a′ (goes e h) q = absurd (going-halt (sym e ∙ q))

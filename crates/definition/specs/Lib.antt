@@ -11,5 +11,4 @@ pub mod Completion
 pub mod TreeRun
 pub mod Plain
 pub mod Machine
-pub mod Slot
 pub mod RunLaw

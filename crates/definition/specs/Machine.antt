@@ -1,215 +1,407 @@
--- The build as a machine: one loop, a list of frames in place of the nested calls, and rows put out as they become known.
+-- The build as a machine of turns: one loop, a list of frames in place of the nested calls, and rows put out as they become known.
+-- It is the form that the code has; that it gives what the definition gives is proofs/Simulation.
+use mathlib.Core.Path.{_≡_}
 use Prim.Native.Nat.{ℕ, zero, suc, _+_, _-_}
 use mathlib.Core.List.{List, [], _∷_, _++_}
 use mathlib.Core.Option.{Option, none, some}
 use mathlib.Core.Bool.{Bool, true, false, not}
-use lib.ListN.{length}
+use lib.ListN.{length, getD}
 use lib.Dec.{eqb, leb}
 use Rattle.table.specs.Table.{Table, Block, Case, Terminal, absent, unreachable, throw, return, goto, if, branch, switch, do-while, while, for, for-of, for-in, logical, ternary, optional, sequence, maybe-throw, try, scope, blockAt, terminalAt, instructionAt, instructionRowsAt, label}
 use Rattle.definition.specs.Build.{accepted, Report, rejected}
-use Rattle.definition.specs.Context.{ControlFlowTarget, target-case, Entry, Context, start, isScheduled, withVisits, scheduleCatchHandler, schedule, scheduleLoop, unscheduledBy, popped, unschedule, breakTargetFrom}
+use Rattle.definition.specs.Context.{add, ControlFlowTarget, targetBlock, target-if, target-switch, target-case, Entry, Context, start, isScheduled, withVisits, scheduleCatchHandler, pushed, scheduleLoop, unscheduledBy, popped}
 use Rattle.definition.specs.Result.{refused, Result, ok, _>>=_, refuseIf}
-use Rattle.definition.specs.Statement.{OptionalValue, visitUpdate, continueBlockOf, TerminalResult, enterBlock, unlessScheduled, unlessUnreachable, scheduleIf, unscheduleIf, markScopeFallthroughIf, breakResolved, visitGoto, loopIsTaken, scheduleSwitch, casesLastFirst}
+use Rattle.definition.specs.Statement.{OptionalValue, visitUpdate, continueBlockOf, TerminalResult, enterBlock, unlessScheduled, unlessUnreachable, markScopeFallthroughIf, visitBreak, visitGoto, loopIsTaken, casesLastFirst}
 use Rattle.definition.specs.Tree.{Value, Statement, Row, row, orNone, flag, present, valueRows, statementRows}
 use Rattle.definition.specs.Value.{visitValueBlock, mostDepth, ValueBlockResult, ValueTerminalResult, VisitValueBlock, visitValueBlockTerminal, valueBlockResultToSequence}
 
--- what a nested list is awaited for. g the label, i the schedule id, m the statements so far of the list around.
--- fBody: a last part, after which `closing` is put out (If and Branch alternate, Label, scopes, Try handler); fLoop: the body of While, For, ForOf, ForIn
-pub data Frame : Type 0 where
-  fThen : (x id : ℕ) → (g : Option ℕ) → (i a f m : ℕ) → Frame
-  fWays : (x id a b m : ℕ) → Frame
-  fCase : (x id : ℕ) → (g : Option ℕ) → (i b f : ℕ) → (now : Case) → (rest : List Case) → (report m : ℕ) → Frame
-  fDo : (id : ℕ) → (g : Option ℕ) → (i x span m : ℕ) → Frame
-  fTry : (id : ℕ) → (g : Option ℕ) → (i h : ℕ) → (n : Option ℕ) → (m : ℕ) → Frame
-  fBody : (closing : Row) → (g : Option ℕ) → (i m : ℕ) → Frame
-  fLoop : (closing : Row) → (g : Option ℕ) → (i m : ℕ) → Frame
+-- ---- frames and states
 
--- a block is to be visited next, or the list in hand has ended
+-- a statement of which a nested list is awaited; all else is in the table. `block` is the one that has the terminal. `second`: the later of two parts is
+-- awaited, an alternate or a handler. `label` is the fallthrough, where it is taken. `entries` of the control stack are this statement's.
+-- Of a Switch, `left` cases are still to come and `built` are made. `count` statements stand before it in the list around it
+pub record Frame : Type 0 where
+  pub block : ℕ
+  pub second : Bool
+  pub label : Option ℕ
+  pub entries : ℕ
+  pub left : ℕ
+  pub built : ℕ
+  pub count : ℕ
+
+-- a block is to be visited next; the list in hand has ended; a Switch takes its next case; a statement's entries are taken off the stack.
+-- The frames have the innermost first; `rows` are out, in order; `count` statements of the list in hand are out
 pub data State : Type 0 where
-  visiting : (b : ℕ) → (frames : List Frame) → (rows : List Row) → (count : ℕ) → (ctx : Context) → State
-  ended : (frames : List Frame) → (rows : List Row) → (count : ℕ) → (ctx : Context) → State
+  visiting : (block : ℕ) → (frames : List Frame) → (rows : List Row) → (count : ℕ) → (cx : Context) → State
+  ended : (frames : List Frame) → (rows : List Row) → (count : ℕ) → (cx : Context) → State
+  choosing : (frame : Frame) → (frames : List Frame) → (rows : List Row) → (cx : Context) → State
+  popping : (frame : Frame) → (frames : List Frame) → (rows : List Row) → (cx : Context) → State
 
 pub data Turn : Type 0 where
   going : State → Turn
   halt : Report → Turn
 
 unfoldable pub turn : Result State → Turn
-turn (ok s) = going s
-turn (refused c p v) = halt (rejected c p v)
+turn (ok state) = going state
+turn (refused code at visits) = halt (rejected code at visits)
 
-abbrev pub leave : Option ℕ → List Frame → List Row → ℕ → Context → State
-leave none F R m c = ended F R m c
-leave (some n) F R m c = visiting n F R m c
+-- on to the block at the same depth, if there is one
+abbrev pub leave : Option ℕ → List Frame → List Row → (count : ℕ) → Context → State
+leave none frames rows count cx = ended frames rows count cx
+leave (some next) frames rows count cx = visiting next frames rows count cx
 
 -- ---- rows
 
 abbrev pub blockRow : ℕ → Row
-blockRow m = row 9 m 0 0 0 0
+blockRow count = row 9 count 0 0 0 0
 
 unfoldable pub valueOut : Value → List Row
-valueOut v = valueRows v []
+valueOut value = valueRows value []
 
 unfoldable pub updateOut : Option Value → List Row
 updateOut none = []
-updateOut (some v) = valueOut v
+updateOut (some value) = valueOut value
 
 unfoldable pub stmtOut : Statement → List Row
-stmtOut s = statementRows s []
+stmtOut statement = statementRows statement []
 
 -- a jump's statement, if it has one
 abbrev pub jumpOut : Option Statement → List Row
 jumpOut none = []
-jumpOut (some s) = stmtOut s
+jumpOut (some statement) = stmtOut statement
 
 abbrev pub added : Option Statement → ℕ → ℕ
-added none m = m
-added (some s) m = suc m
+added none count = count
+added (some statement) count = suc count
 
 unfoldable pub instrOut : Table → List ℕ → List Row
 instrOut t [] = []
 instrOut t (r ∷ rs) = row 1 r 0 0 0 0 ∷ row 4 (instructionAt t r .id) (instructionAt t r .lvalue) (instructionAt t r .span) 0 0 ∷ instrOut t rs
 
-abbrev pub ifRow : ℕ → ℕ → ℕ → Option ℕ → Row
-ifRow x p id g = row 10 x p id (orNone g) 0
-
 abbrev pub scopeRow : Bool → ℕ → Row
-scopeRow true s = row 21 s 0 0 0 0
-scopeRow false s = row 20 s 0 0 0 0
+scopeRow true number = row 21 number 0 0 0 0
+scopeRow false number = row 20 number 0 0 0 0
 
--- ---- into a nested block, and out of a statement
+abbrev pub hasUpdate : Option ℕ → ℕ
+hasUpdate none = 0
+hasUpdate (some update) = 1
 
-unfoldable pub into : ℕ → ℕ → ℕ → Frame → List Frame → List Row → Context → Result State
-into b code at f F R c = refuseIf (isScheduled c b) code at (c .visits) >>= λ _. ok (visiting b (f ∷ F) R 0 c)
+-- the closing row of a statement with nested lists. (Another terminal has none, and its clause is there to be total.)
+unfoldable pub closingRowOf : Terminal → Block → (second : Bool) → (label : Option ℕ) → (built : ℕ) → Row
+closingRowOf absent block second taken built = row 0 0 0 0 0 0
+closingRowOf unreachable block second taken built = row 0 0 0 0 0 0
+closingRowOf (throw value) block second taken built = row 0 0 0 0 0 0
+closingRowOf (return value) block second taken built = row 0 0 0 0 0 0
+closingRowOf (goto target variant) block second taken built = row 0 0 0 0 0 0
+closingRowOf (if test consequent alternate fallthrough) block second taken built = row 10 test (flag second) (block .id) (orNone taken) 0
+closingRowOf (branch test consequent alternate) block second taken built = row 10 test (flag second) (block .id) (orNone taken) 0
+closingRowOf (switch test first number fallthrough) block second taken built = row 12 test built (block .id) (orNone taken) 0
+closingRowOf (do-while loop test fallthrough) block second taken built = row 13 (block .id) (orNone taken) 0 0 0
+closingRowOf (while test loop fallthrough) block second taken built = row 14 (block .id) (orNone taken) 0 0 0
+closingRowOf (for init test update loop fallthrough) block second taken built = row 15 (block .id) (orNone taken) (hasUpdate update) 0 0
+closingRowOf (for-of init test loop fallthrough) block second taken built = row 16 (block .id) (orNone taken) (block .span) 0 0
+closingRowOf (for-in init loop fallthrough) block second taken built = row 17 (block .id) (orNone taken) (block .span) 0 0
+closingRowOf (logical operator test fallthrough) block second taken built = row 0 0 0 0 0 0
+closingRowOf (ternary test fallthrough) block second taken built = row 0 0 0 0 0 0
+closingRowOf (optional chain test fallthrough) block second taken built = row 0 0 0 0 0 0
+closingRowOf (label body fallthrough) block second taken built = row 18 (block .id) (orNone taken) 0 0 0
+closingRowOf (sequence body fallthrough) block second taken built = row 0 0 0 0 0 0
+closingRowOf (maybe-throw continuation) block second taken built = row 0 0 0 0 0 0
+closingRowOf (try body handler fallthrough binding) block second taken built = row 19 (block .id) (orNone taken) (orNone binding) 0 0
+closingRowOf (scope pruned body fallthrough number) block second taken built = scopeRow pruned number
 
-unfoldable pub intoLoop : ℕ → ℕ → Bool → ℕ → Frame → List Frame → List Row → Context → Result State
-intoLoop b l bad v f F R c = refuseIf bad 16 b v >>= λ _. ok (visiting l (f ∷ F) R 0 (withVisits v c))
+abbrev pub closingRow : Table → (block : ℕ) → (second : Bool) → (label : Option ℕ) → (built : ℕ) → Row
+closingRow t block second taken built = closingRowOf (terminalAt t block) (blockAt t block) second taken built
 
-unfoldable pub close : Row → Option ℕ → ℕ → ℕ → List Frame → List Row → Context → Result State
-close r g i m F R c = unscheduleIf g i c >>= λ c1. ok (leave g F (R ++ (r ∷ [])) (suc m) c1)
+-- ---- the control stack. The refusals 90 and 91 are not asked: they never occur
 
-unfoldable pub closeLoop : Row → Option ℕ → ℕ → ℕ → List Frame → List Row → Context → Result State
-closeLoop r g i m F R c = unschedule i c >>= λ c1. ok (leave g F (R ++ (r ∷ [])) (suc m) c1)
+unfoldable pub scheduled : ControlFlowTarget → Context → Context
+scheduled target cx = pushed target (add (cx .scheduled) (targetBlock target)) cx
 
--- If, its consequent built
-unfoldable pub orElse : (x id : ℕ) → Option ℕ → (i a f m : ℕ) → List Frame → List Row → Context → Result State
-orElse x id g i a f m F R c =
-    elim (eqb a f) [ true ↦ close (ifRow x 0 id g) g i m F R c | false ↦ into a 13 a (fBody (ifRow x 1 id g) g i m) F R c ]
+abbrev pub scheduledIf : Option ℕ → Context → Context
+scheduledIf none cx = cx
+scheduledIf (some fallthrough) cx = scheduled (target-if fallthrough) cx
 
--- Branch, its consequent built
-unfoldable pub otherWay : (x id a b m : ℕ) → List Frame → List Row → Context → Result State
-otherWay x id a b m F R c = into a 19 b (fBody (ifRow x 1 id none) none 0 m) F R c
+abbrev pub scheduledSwitch : Option ℕ → Context → Context
+scheduledSwitch none cx = cx
+scheduledSwitch (some fallthrough) cx = scheduled (target-switch fallthrough) cx
 
-unfoldable pub popTop : List Entry → Context → Result Context
-popTop [] c = refused 91 0 (c .visits)
-popTop (e ∷ r) c = ok (popped r (unscheduledBy (e .target) (c .scheduled)) c)
+unfoldable pub unscheduledTop : List Entry → Context → Context
+unscheduledTop [] cx = cx
+unscheduledTop (top ∷ below) cx = popped below (unscheduledBy (top .target) (cx .scheduled)) cx
 
--- so many entries off the stack, whatever their ids
-unfoldable pub popCases : ℕ → Context → Result Context
-popCases zero c = ok c
-popCases (suc n) c = popTop (c .stack) c >>= λ c1. popCases n c1
+-- the top entry is taken off, whatever its id
+unfoldable pub unscheduled : Context → Context
+unscheduled cx = unscheduledTop (cx .stack) cx
 
--- Switch: the next case that is not scheduled, or the end
-unfoldable pub nextCase : (x id : ℕ) → Option ℕ → (i b f m : ℕ) → List Frame → List Case → ℕ → List Row → Context → Result State
-nextCase x id g i b f m F [] report R c = popCases report c >>= λ c1. close (row 12 x report id (orNone g) 0) g i m F R c1
-nextCase x id g i b f m F (k ∷ ks) report R c =
-    elim (isScheduled c (k .block)) [
-      | true ↦ refuseIf (not (eqb (k .block) f)) 14 b (c .visits) >>= λ _. nextCase x id g i b f m F ks report R c
-      | false ↦ ok (visiting (k .block) (fCase x id g i b f k ks report m ∷ F) R 0 c)
+abbrev pub unscheduledIf : Option ℕ → Context → Context
+unscheduledIf none cx = cx
+unscheduledIf (some fallthrough) cx = unscheduled cx
+
+-- ---- into a nested list, and out of a statement
+
+-- the entries of a statement other than a loop
+abbrev pub opens : Option ℕ → ℕ
+opens none = 0
+opens (some fallthrough) = 1
+
+abbrev pub frameOf : (block : ℕ) → (label : Option ℕ) → (entries count : ℕ) → Frame
+frameOf block taken entries count = record { block = block; second = false; label = taken; entries = entries; left = 0; built = 0; count = count }
+
+abbrev pub secondPart : Frame → Frame
+secondPart frame = record { block = frame .block; second = true; label = frame .label; entries = frame .entries; left = frame .left; built = frame .built; count = frame .count }
+
+abbrev pub withEntries : ℕ → Frame → Frame
+withEntries entries frame = record { block = frame .block; second = frame .second; label = frame .label; entries = entries; left = frame .left; built = frame .built; count = frame .count }
+
+abbrev pub withLeft : ℕ → Frame → Frame
+withLeft left frame = record { block = frame .block; second = frame .second; label = frame .label; entries = frame .entries; left = left; built = frame .built; count = frame .count }
+
+-- one case more is built, and has an entry
+abbrev pub caseBuilt : Frame → Frame
+caseBuilt frame = record { block = frame .block; second = frame .second; label = frame .label; entries = suc (frame .entries); left = frame .left; built = suc (frame .built); count = frame .count }
+
+-- a nested list that must not be scheduled
+unfoldable pub into : (block code at : ℕ) → Frame → List Frame → List Row → Context → Result State
+into block code at frame frames rows cx = refuseIf (isScheduled cx block) code at (cx .visits) >>= λ _. ok (visiting block (frame ∷ frames) rows 0 cx)
+
+-- the body of a loop whose values are made, at so many visits
+unfoldable pub intoLoop : (at loop : ℕ) → (taken : Bool) → (visits : ℕ) → Frame → List Frame → List Row → Context → Result State
+intoLoop at loop taken visits frame frames rows cx = refuseIf taken 16 at visits >>= λ _. ok (visiting loop (frame ∷ frames) rows 0 (withVisits visits cx))
+
+-- the statement is complete
+abbrev pub complete : Table → Frame → List Frame → List Row → Context → State
+complete t frame frames rows cx =
+    leave (frame .label) frames (rows ++ (closingRow t (frame .block) (frame .second) (frame .label) (frame .built) ∷ [])) (suc (frame .count)) cx
+
+abbrev pub closeBy : (entries : ℕ) → Table → Frame → List Frame → List Row → Context → State
+closeBy zero t frame frames rows cx = complete t frame frames rows cx
+closeBy (suc zero) t frame frames rows cx = complete t frame frames rows (unscheduled cx)
+closeBy (suc (suc more)) t frame frames rows cx = popping (withEntries (suc more) frame) frames rows (unscheduled cx)
+
+-- one entry is taken off the stack; with the last the statement is complete
+unfoldable pub close : Table → Frame → List Frame → List Row → Context → State
+close t frame frames rows cx = closeBy (frame .entries) t frame frames rows cx
+
+-- ---- switches
+
+abbrev pub no-case : Case
+no-case = record { test = 0; block = 0 }
+
+abbrev pub caseAt : Table → ℕ → Case
+caseAt t number = getD (t .cases) number no-case
+
+-- as many cases as the table has
+unfoldable pub numberOfCases : Table → (first number : ℕ) → ℕ
+numberOfCases t first number = length (casesLastFirst t first number)
+
+-- a Switch with the cases from `first` on, `left` of them still to come: the last of these is built, unless it is scheduled
+unfoldable pub chooseCase : Table → (first fallthrough left : ℕ) → Frame → List Frame → List Row → Context → Result State
+chooseCase t first fallthrough zero frame frames rows cx = ok (close t frame frames rows cx)
+chooseCase t first fallthrough (suc left) frame frames rows cx =
+    let block : ℕ = caseAt t (first + left) .block in
+    elim (isScheduled cx block) [
+      | true ↦ refuseIf (not (eqb block fallthrough)) 14 (frame .block) (cx .visits) >>= λ _. ok (choosing (withLeft left frame) frames rows cx)
+      | false ↦ ok (visiting block (withLeft left frame ∷ frames) rows 0 cx)
     ]
 
--- a nested list has ended, and its BLOCK row is out
-unfoldable pub resume : VisitValueBlock → Frame → List Frame → List Row → Context → Result State
-resume values (fThen x id g i a f m) F R c = orElse x id g i a f m F R c
-resume values (fWays x id a b m) F R c = otherWay x id a b m F R c
-resume values (fCase x id g i b f k ks report m) F R c =
-    schedule (target-case (k .block)) c >>= λ c1. nextCase x id g i b f m F ks (suc report) (R ++ (row 11 (k .test) 0 0 0 0 ∷ [])) c1
-resume values (fDo id g i x span m) F R c =
-    values x none span (c .visits) >>= λ v. closeLoop (row 13 id (orNone g) 0 0 0) g i m F (R ++ valueOut (v .value)) (withVisits (v .visits) c)
-resume values (fTry id g i h n m) F R c = ok (visiting h (fBody (row 19 id (orNone g) (orNone n) 0 0) g i m ∷ F) R 0 c)
-resume values (fBody r g i m) F R c = close r g i m F R c
-resume values (fLoop r g i m) F R c = closeLoop r g i m F R c
+abbrev pub firstCase : Terminal → ℕ
+firstCase absent = 0
+firstCase unreachable = 0
+firstCase (throw value) = 0
+firstCase (return value) = 0
+firstCase (goto target variant) = 0
+firstCase (if test consequent alternate fallthrough) = 0
+firstCase (branch test consequent alternate) = 0
+firstCase (switch test first number fallthrough) = first
+firstCase (do-while loop test fallthrough) = 0
+firstCase (while test loop fallthrough) = 0
+firstCase (for init test update loop fallthrough) = 0
+firstCase (for-of init test loop fallthrough) = 0
+firstCase (for-in init loop fallthrough) = 0
+firstCase (logical operator test fallthrough) = 0
+firstCase (ternary test fallthrough) = 0
+firstCase (optional flag test fallthrough) = 0
+firstCase (label body fallthrough) = 0
+firstCase (sequence body fallthrough) = 0
+firstCase (maybe-throw continuation) = 0
+firstCase (try body handler fallthrough binding) = 0
+firstCase (scope pruned body fallthrough number) = 0
 
--- ---- a block that is entered, by its end
+abbrev pub afterCases : Terminal → ℕ
+afterCases absent = 0
+afterCases unreachable = 0
+afterCases (throw value) = 0
+afterCases (return value) = 0
+afterCases (goto target variant) = 0
+afterCases (if test consequent alternate fallthrough) = 0
+afterCases (branch test consequent alternate) = 0
+afterCases (switch test first number fallthrough) = fallthrough
+afterCases (do-while loop test fallthrough) = 0
+afterCases (while test loop fallthrough) = 0
+afterCases (for init test update loop fallthrough) = 0
+afterCases (for-of init test loop fallthrough) = 0
+afterCases (for-in init loop fallthrough) = 0
+afterCases (logical operator test fallthrough) = 0
+afterCases (ternary test fallthrough) = 0
+afterCases (optional flag test fallthrough) = 0
+afterCases (label body fallthrough) = 0
+afterCases (sequence body fallthrough) = 0
+afterCases (maybe-throw continuation) = 0
+afterCases (try body handler fallthrough binding) = 0
+afterCases (scope pruned body fallthrough number) = 0
 
--- a Branch's consequent: a break where it is scheduled
-unfoldable pub firstWay : (x y a id b m : ℕ) → List Frame → List Row → Context → Result State
-firstWay x y a id b m F R c =
-    elim (isScheduled c y) [
-      | true ↦ breakResolved b y id c (breakTargetFrom (c .stack) y true false) >>= λ s. otherWay x id a b m F ((R ++ jumpOut s) ++ (blockRow (added s 0) ∷ [])) c
-      | false ↦ ok (visiting y (fWays x id a b m ∷ F) R 0 c)
+-- ---- a nested list has ended, and its BLOCK row is out
+
+unfoldable pub resumeAt : Table → VisitValueBlock → Terminal → Block → Frame → List Frame → List Row → Context → Result State
+resumeAt t visit absent block frame frames rows cx = ok (close t frame frames rows cx)
+resumeAt t visit unreachable block frame frames rows cx = ok (close t frame frames rows cx)
+resumeAt t visit (throw value) block frame frames rows cx = ok (close t frame frames rows cx)
+resumeAt t visit (return value) block frame frames rows cx = ok (close t frame frames rows cx)
+resumeAt t visit (goto target variant) block frame frames rows cx = ok (close t frame frames rows cx)
+resumeAt t visit (if test consequent alternate fallthrough) block frame frames rows cx =
+    elim (frame .second) [
+      | true ↦ ok (close t frame frames rows cx)
+      | false ↦ elim (eqb alternate fallthrough) [ true ↦ ok (close t frame frames rows cx) | false ↦ into alternate 13 alternate (secondPart frame) frames rows cx ]
+    ]
+resumeAt t visit (branch test consequent alternate) block frame frames rows cx =
+    elim (frame .second) [
+      | true ↦ ok (close t frame frames rows cx)
+      | false ↦ into alternate 19 (frame .block) (secondPart frame) frames rows cx
+    ]
+resumeAt t visit (switch test first number fallthrough) block frame frames rows cx =
+    let case : Case = caseAt t (first + frame .left) in
+    ok (choosing (caseBuilt frame) frames (rows ++ (row 11 (case .test) 0 0 0 0 ∷ [])) (scheduled (target-case (case .block)) cx))
+resumeAt t visit (do-while loop test fallthrough) block frame frames rows cx =
+    visit test none (block .span) (cx .visits) >>= λ tested. ok (close t frame frames (rows ++ valueOut (tested .value)) (withVisits (tested .visits) cx))
+resumeAt t visit (while test loop fallthrough) block frame frames rows cx = ok (close t frame frames rows cx)
+resumeAt t visit (for init test update loop fallthrough) block frame frames rows cx = ok (close t frame frames rows cx)
+resumeAt t visit (for-of init test loop fallthrough) block frame frames rows cx = ok (close t frame frames rows cx)
+resumeAt t visit (for-in init loop fallthrough) block frame frames rows cx = ok (close t frame frames rows cx)
+resumeAt t visit (logical operator test fallthrough) block frame frames rows cx = ok (close t frame frames rows cx)
+resumeAt t visit (ternary test fallthrough) block frame frames rows cx = ok (close t frame frames rows cx)
+resumeAt t visit (optional flag test fallthrough) block frame frames rows cx = ok (close t frame frames rows cx)
+resumeAt t visit (label body fallthrough) block frame frames rows cx = ok (close t frame frames rows cx)
+resumeAt t visit (sequence body fallthrough) block frame frames rows cx = ok (close t frame frames rows cx)
+resumeAt t visit (maybe-throw continuation) block frame frames rows cx = ok (close t frame frames rows cx)
+resumeAt t visit (try body handler fallthrough binding) block frame frames rows cx =
+    elim (frame .second) [
+      | true ↦ ok (close t frame frames rows cx)
+      | false ↦ ok (visiting handler (secondPart frame ∷ frames) rows 0 cx)
+    ]
+resumeAt t visit (scope pruned body fallthrough number) block frame frames rows cx = ok (close t frame frames rows cx)
+
+abbrev pub resume : Table → VisitValueBlock → Frame → List Frame → List Row → Context → Result State
+resume t visit frame frames rows cx = resumeAt t visit (terminalAt t (frame .block)) (blockAt t (frame .block)) frame frames rows cx
+
+-- ---- the terminal of a block that is entered
+
+-- Branch: a break in place of the consequent where that is scheduled
+unfoldable pub branchTurn : (at consequent alternate id : ℕ) → List Frame → List Row → (count : ℕ) → Context → Result State
+branchTurn at consequent alternate id frames rows count cx =
+    elim (isScheduled cx consequent) [
+      | true ↦ visitBreak at consequent id cx >>= λ statement.
+          into alternate 19 at (secondPart (frameOf at none 0 count)) frames ((rows ++ jumpOut statement) ++ (blockRow (added statement 0) ∷ [])) cx
+      | false ↦ ok (visiting consequent (frameOf at none 0 count ∷ frames) rows 0 cx)
     ]
 
-unfoldable pub valueStep : Table → VisitValueBlock → Terminal → ℕ → Block → ℕ → List Frame → List Row → ℕ → Context → Result State
-valueStep t values e b k f F R m c =
-    let g : Option ℕ = unlessScheduled c f in
-    scheduleIf g c >>= λ c1. visitValueBlockTerminal t values e (k .id) (k .span) (c1 .visits) b >>= λ r.
-    close (row 4 (r .id) (r .place) (k .span) 0 0) g (c .nextId) m F (R ++ valueOut (r .value)) (withVisits (r .visits) c1)
+-- Logical, Ternary, Optional, Sequence
+unfoldable pub valueTurn : Table → VisitValueBlock → Terminal → (at : ℕ) → Block → (fallthrough : ℕ) → List Frame → List Row → (count : ℕ) → Context → Result State
+valueTurn t visit terminal at block fallthrough frames rows count cx =
+    let taken : Option ℕ = unlessScheduled cx fallthrough in
+    visitValueBlockTerminal t visit terminal (block .id) (block .span) (cx .visits) at >>= λ result.
+    ok (leave taken frames ((rows ++ valueOut (result .value)) ++ (row 4 (result .id) (result .place) (block .span) 0 0 ∷ [])) (suc count)
+    (unscheduledIf taken (withVisits (result .visits) (scheduledIf taken cx))))
 
-unfoldable pub dispatch : Table → VisitValueBlock → Terminal → ℕ → Block → List Frame → List Row → ℕ → Context → Result State
-dispatch t values absent b k F R m c = refused 99 b (c .visits)
-dispatch t values unreachable b k F R m c = ok (ended F R m c)
-dispatch t values (throw v) b k F R m c = ok (ended F (R ++ (row 23 v (k .id) 0 0 0 ∷ [])) (suc m) c)
-dispatch t values (return v) b k F R m c = ok (ended F (R ++ (row 22 v (k .id) 0 0 0 ∷ [])) (suc m) c)
-dispatch t values (goto g v) b k F R m c = visitGoto v b g (k .id) c >>= λ s. ok (leave (s .next) F (R ++ jumpOut (s .statement)) (added (s .statement) m) (s .context))
-dispatch t values (if x y a f) b k F R m c =
-    unlessUnreachable t c f >>= λ g. scheduleIf g c >>= λ c1. into y 12 y (fThen x (k .id) g (c .nextId) a f m) F R c1
-dispatch t values (branch x y a) b k F R m c = firstWay x y a (k .id) b m F R c
-dispatch t values (switch x i n f) b k F R m c =
-    unlessUnreachable t c f >>= λ g. scheduleSwitch g c >>= λ c1. nextCase x (k .id) g (c .nextId) b f m F (casesLastFirst t i n) 0 R c1
-dispatch t values (do-while l x f) b k F R m c =
-    let g : Option ℕ = unlessScheduled c f in
-    scheduleLoop f x (some l) c >>= λ c1. refuseIf (loopIsTaken c l f) 16 b (c1 .visits) >>= λ _. ok (visiting l (fDo (k .id) g (c .nextId) x (k .span) m ∷ F) R 0 c1)
-dispatch t values (while x l f) b k F R m c =
-    unlessUnreachable t c f >>= λ g. scheduleLoop f x (some l) c >>= λ c1. values x none (k .span) (c1 .visits) >>= λ v.
-    intoLoop b l (loopIsTaken c l f) (v .visits) (fLoop (row 14 (k .id) (orNone g) 0 0 0) g (c .nextId) m) F (R ++ valueOut (v .value)) c1
-dispatch t values (for i x u l f) b k F R m c =
-    let g : Option ℕ = unlessScheduled c f in
-    scheduleLoop f (continueBlockOf u x) (some l) c >>= λ c1.
-    values i none (k .span) (c1 .visits) >>= λ n. values x none (k .span) (n .visits) >>= λ v. visitUpdate values u (k .span) (v .visits) >>= λ w.
-    intoLoop b l (loopIsTaken c l f) (w .visits) (fLoop (row 15 (k .id) (orNone g) (present (w .value)) 0 0) g (c .nextId) m) F
-    (((R ++ valueOut (valueBlockResultToSequence t n (k .span))) ++ valueOut (v .value)) ++ updateOut (w .value)) c1
-dispatch t values (for-of i x l f) b k F R m c =
-    let g : Option ℕ = unlessScheduled c f in
-    scheduleLoop f i (some l) c >>= λ c1. values i none (k .span) (c1 .visits) >>= λ n. values x none (k .span) (n .visits) >>= λ v.
-    intoLoop b l (loopIsTaken c l f) (v .visits) (fLoop (row 16 (k .id) (orNone g) (k .span) 0 0) g (c .nextId) m) F
-    ((R ++ valueOut (valueBlockResultToSequence t n (k .span))) ++ valueOut (valueBlockResultToSequence t v (k .span))) c1
-dispatch t values (for-in i l f) b k F R m c =
-    let g : Option ℕ = unlessScheduled c f in
-    scheduleLoop f i (some l) c >>= λ c1. values i none (k .span) (c1 .visits) >>= λ n.
-    intoLoop b l (loopIsTaken c l f) (n .visits) (fLoop (row 17 (k .id) (orNone g) (k .span) 0 0) g (c .nextId) m) F (R ++ valueOut (valueBlockResultToSequence t n (k .span))) c1
-dispatch t values (logical o x f) b k F R m c = valueStep t values (logical o x f) b k f F R m c
-dispatch t values (ternary x f) b k F R m c = valueStep t values (ternary x f) b k f F R m c
-dispatch t values (optional g x f) b k F R m c = valueStep t values (optional g x f) b k f F R m c
-dispatch t values (label x f) b k F R m c =
-    unlessUnreachable t c f >>= λ g. scheduleIf g c >>= λ c1. into x 17 b (fBody (row 18 (k .id) (orNone g) 0 0 0) g (c .nextId) m) F R c1
-dispatch t values (sequence x f) b k F R m c = valueStep t values (sequence x f) b k f F R m c
-dispatch t values (maybe-throw n) b k F R m c = ok (leave (unlessScheduled c n) F R m c)
-dispatch t values (try x h f n) b k F R m c =
-    unlessUnreachable t c f >>= λ g. scheduleIf g c >>= λ c1. ok (visiting x (fTry (k .id) g (c .nextId) h n m ∷ F) R 0 (scheduleCatchHandler h c1))
-dispatch t values (scope p x f s) b k F R m c =
-    let g : Option ℕ = unlessScheduled c f in
-    scheduleIf g c >>= λ c1. into x 18 b (fBody (scopeRow p s) g (c .nextId) m) F R (markScopeFallthroughIf g c1)
+unfoldable pub terminalTurn : Table → VisitValueBlock → Terminal → (at : ℕ) → Block → List Frame → List Row → (count : ℕ) → Context → Result State
+terminalTurn t visit absent at block frames rows count cx = refused 99 at (cx .visits)
+terminalTurn t visit unreachable at block frames rows count cx = ok (ended frames rows count cx)
+terminalTurn t visit (throw value) at block frames rows count cx = ok (ended frames (rows ++ (row 23 value (block .id) 0 0 0 ∷ [])) (suc count) cx)
+terminalTurn t visit (return value) at block frames rows count cx = ok (ended frames (rows ++ (row 22 value (block .id) 0 0 0 ∷ [])) (suc count) cx)
+terminalTurn t visit (goto target variant) at block frames rows count cx =
+    visitGoto variant at target (block .id) cx >>= λ result.
+    ok (leave (result .next) frames (rows ++ jumpOut (result .statement)) (added (result .statement) count) (result .context))
+terminalTurn t visit (if test consequent alternate fallthrough) at block frames rows count cx =
+    unlessUnreachable t cx fallthrough >>= λ taken.
+    into consequent 12 consequent (frameOf at taken (opens taken) count) frames rows (scheduledIf taken cx)
+terminalTurn t visit (branch test consequent alternate) at block frames rows count cx = branchTurn at consequent alternate (block .id) frames rows count cx
+terminalTurn t visit (switch test first number fallthrough) at block frames rows count cx =
+    unlessUnreachable t cx fallthrough >>= λ taken.
+    ok (choosing (withLeft (numberOfCases t first number) (frameOf at taken (opens taken) count)) frames rows (scheduledSwitch taken cx))
+terminalTurn t visit (do-while loop test fallthrough) at block frames rows count cx =
+    let taken : Option ℕ = unlessScheduled cx fallthrough in
+    scheduleLoop fallthrough test (some loop) cx >>= λ inside.
+    intoLoop at loop (loopIsTaken cx loop fallthrough) (inside .visits) (frameOf at taken 1 count) frames rows inside
+terminalTurn t visit (while test loop fallthrough) at block frames rows count cx =
+    unlessUnreachable t cx fallthrough >>= λ taken.
+    scheduleLoop fallthrough test (some loop) cx >>= λ inside.
+    visit test none (block .span) (inside .visits) >>= λ tested.
+    intoLoop at loop (loopIsTaken cx loop fallthrough) (tested .visits) (frameOf at taken 1 count) frames (rows ++ valueOut (tested .value)) inside
+terminalTurn t visit (for init test update loop fallthrough) at block frames rows count cx =
+    let taken : Option ℕ = unlessScheduled cx fallthrough in
+    scheduleLoop fallthrough (continueBlockOf update test) (some loop) cx >>= λ inside.
+    visit init none (block .span) (inside .visits) >>= λ first.
+    visit test none (block .span) (first .visits) >>= λ tested.
+    visitUpdate visit update (block .span) (tested .visits) >>= λ updated.
+    intoLoop at loop (loopIsTaken cx loop fallthrough) (updated .visits) (frameOf at taken 1 count) frames
+    (((rows ++ valueOut (valueBlockResultToSequence t first (block .span))) ++ valueOut (tested .value)) ++ updateOut (updated .value)) inside
+terminalTurn t visit (for-of init test loop fallthrough) at block frames rows count cx =
+    let taken : Option ℕ = unlessScheduled cx fallthrough in
+    scheduleLoop fallthrough init (some loop) cx >>= λ inside.
+    visit init none (block .span) (inside .visits) >>= λ first.
+    visit test none (block .span) (first .visits) >>= λ tested.
+    intoLoop at loop (loopIsTaken cx loop fallthrough) (tested .visits) (frameOf at taken 1 count) frames
+    ((rows ++ valueOut (valueBlockResultToSequence t first (block .span))) ++ valueOut (valueBlockResultToSequence t tested (block .span))) inside
+terminalTurn t visit (for-in init loop fallthrough) at block frames rows count cx =
+    let taken : Option ℕ = unlessScheduled cx fallthrough in
+    scheduleLoop fallthrough init (some loop) cx >>= λ inside.
+    visit init none (block .span) (inside .visits) >>= λ first.
+    intoLoop at loop (loopIsTaken cx loop fallthrough) (first .visits) (frameOf at taken 1 count) frames (rows ++ valueOut (valueBlockResultToSequence t first (block .span))) inside
+terminalTurn t visit (logical operator test fallthrough) at block frames rows count cx = valueTurn t visit (logical operator test fallthrough) at block fallthrough frames rows count cx
+terminalTurn t visit (ternary test fallthrough) at block frames rows count cx = valueTurn t visit (ternary test fallthrough) at block fallthrough frames rows count cx
+terminalTurn t visit (optional flag test fallthrough) at block frames rows count cx = valueTurn t visit (optional flag test fallthrough) at block fallthrough frames rows count cx
+terminalTurn t visit (label body fallthrough) at block frames rows count cx =
+    unlessUnreachable t cx fallthrough >>= λ taken.
+    into body 17 at (frameOf at taken (opens taken) count) frames rows (scheduledIf taken cx)
+terminalTurn t visit (sequence body fallthrough) at block frames rows count cx = valueTurn t visit (sequence body fallthrough) at block fallthrough frames rows count cx
+terminalTurn t visit (maybe-throw continuation) at block frames rows count cx = ok (leave (unlessScheduled cx continuation) frames rows count cx)
+terminalTurn t visit (try body handler fallthrough binding) at block frames rows count cx =
+    unlessUnreachable t cx fallthrough >>= λ taken.
+    ok (visiting body (frameOf at taken (opens taken) count ∷ frames) rows 0 (scheduleCatchHandler handler (scheduledIf taken cx)))
+terminalTurn t visit (scope pruned body fallthrough number) at block frames rows count cx =
+    let taken : Option ℕ = unlessScheduled cx fallthrough in
+    into body 18 at (frameOf at taken (opens taken) count) frames rows (markScopeFallthroughIf taken (scheduledIf taken cx))
 
--- ---- the loop
+-- ---- turns
 
--- the depth left for the values of the block in hand
-abbrev pub left : List Frame → ℕ
-left F = 127 - length F
+-- the depth left for the values of a block, under so many frames
+abbrev pub depthLeft : List Frame → ℕ
+depthLeft frames = 127 - length frames
 
-unfoldable pub visit : Table → ℕ → List Frame → List Row → ℕ → Context → Result State
-visit t b F R m c =
-    refuseIf (leb mostDepth (length F)) 30 b (c .visits) >>= λ _. enterBlock t b c >>= λ c1.
-    dispatch t (visitValueBlock t (left F)) (terminalAt t b) b (blockAt t b) F (R ++ instrOut t (instructionRowsAt t b)) (m + length (instructionRowsAt t b)) c1
+-- "Order at a visit: 30, 31, 10, then 11". The block's instructions are put out, and then its terminal is looked at
+unfoldable pub visitTurn : Table → (block : ℕ) → List Frame → List Row → (count : ℕ) → Context → Result State
+visitTurn t block frames rows count cx =
+    refuseIf (leb mostDepth (length frames)) 30 block (cx .visits) >>= λ _.
+    enterBlock t block cx >>= λ entered.
+    terminalTurn t (visitValueBlock t (depthLeft frames)) (terminalAt t block) block (blockAt t block) frames
+    (rows ++ instrOut t (instructionRowsAt t block)) (count + length (instructionRowsAt t block)) entered
 
 unfoldable pub step : Table → State → Turn
-step t (visiting b F R m c) = turn (visit t b F R m c)
-step t (ended [] R m c) = halt (accepted (R ++ (blockRow m ∷ [])) (c .visits))
-step t (ended (f ∷ F) R m c) = turn (resume (visitValueBlock t (left F)) f F (R ++ (blockRow m ∷ [])) c)
+step t (visiting block frames rows count cx) = turn (visitTurn t block frames rows count cx)
+step t (ended [] rows count cx) = halt (accepted (rows ++ (blockRow count ∷ [])) (cx .visits))
+step t (ended (frame ∷ frames) rows count cx) = turn (resume t (visitValueBlock t (depthLeft frames)) frame frames (rows ++ (blockRow count ∷ [])) cx)
+step t (choosing frame frames rows cx) = turn (chooseCase t (firstCase (terminalAt t (frame .block))) (afterCases (terminalAt t (frame .block))) (frame .left) frame frames rows cx)
+step t (popping frame frames rows cx) = going (close t frame frames rows cx)
 
--- at most so many steps; 98 where they do not suffice
-unfoldable pub run : Table → ℕ → State → Report
-run t zero s = rejected 98 0 0
-run t (suc n) s = elim (step t s) [ going s′ ↦ run t n s′ | halt a ↦ a ]
+abbrev pub begin : Table → State
+begin t = visiting (t .entry) [] [] 0 start
 
-unfoldable pub machine : Table → Report
-machine t = run t 16385 (visiting (t .entry) [] [] 0 start)
+-- from a state the machine comes to a halt with this report
+pub data Gives (t : Table) : State → Report → Type 0 where
+  halts : {state : State} {report : Report} → step t state ≡ halt report → Gives t state report
+  goes : {state next : State} {report : Report} → step t state ≡ going next → Gives t next report → Gives t state report
+
+-- the same by so many turns at most; 98 where they do not suffice
+unfoldable pub run : Table → (turns : ℕ) → State → Report
+run t zero state = rejected 98 0 0
+run t (suc turns) state = elim (step t state) [ going next ↦ run t turns next | halt report ↦ report ]

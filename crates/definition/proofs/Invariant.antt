@@ -1,0 +1,804 @@
+-- What holds in every state that the machine reaches from a checked table: the numbers that the code's sums and indices need, and a potential that
+-- every turn lowers.
+use mathlib.Core.Path.{_≡_, refl, sym, ap, _∙_, subst}
+use Prim.Native.Nat.{ℕ, zero, suc, _+_, _*_, _-_, _≤_, _<_}
+use native.Mathlib.Nat.{le-refl, zero-lt-suc}
+use native.Mathlib.Omega.{arith}
+use mathlib.Core.List.{List, [], _∷_, _++_, append-assoc, append-nil}
+use mathlib.Core.Option.{Option, none, some}
+use mathlib.Core.Bool.{Bool, true, false, not}
+use lib.ListN.{length, getD, set, length-set, length-append}
+use lib.Dec.{eqb, leb}
+use borrow.Author.Tests.{leb-false}
+use Rattle.table.specs.Table.{Table, Block, Case, Terminal, absent, unreachable, throw, return, goto, if, branch, switch, do-while, while, for, for-of, for-in, logical, ternary, optional, sequence, maybe-throw, try, scope, Variant, Break, Continue, Try, blockAt, terminalAt, instructionRowsAt, isAbsent, isUnreachable, label}
+use Rattle.definition.specs.Build.{Report, report}
+use Rattle.definition.specs.Context.{getBreakTarget, getContinueTarget, Resolution, Flags, has, add, ControlFlowTarget, target-if, target-switch, target-case, targetBlock, Entry, Context, start, no-flags, isScheduled, emit, withVisits, scheduleCatchHandler, markScopeFallthrough, pushed, scheduleLoop, unscheduledBy, popped}
+use Rattle.definition.specs.Machine.{Frame, State, visiting, ended, choosing, popping, Turn, going, halt, turn, leave, blockRow, valueOut, updateOut, stmtOut, jumpOut, added, instrOut, closingRow, scheduled, scheduledIf, scheduledSwitch, unscheduledTop, unscheduled, unscheduledIf, opens, frameOf, secondPart, withEntries, withLeft, caseBuilt, into, intoLoop, complete, closeBy, close, no-case, caseAt, numberOfCases, chooseCase, firstCase, afterCases, resumeAt, resume, branchTurn, valueTurn, terminalTurn, depthLeft, visitTurn, step, begin, Gives, halts, goes, run}
+use Rattle.definition.specs.Result.{refused, Result, ok, _>>=_, refuseIf}
+use Rattle.definition.specs.Statement.{breakToScope, visitBreak, visitContinue, breakResolved, continueResolved, visitUpdate, OptionalValue, continueBlockOf, TerminalResult, enterBlock, unlessScheduled, unlessUnreachable, markScopeFallthroughIf, visitGoto, loopIsTaken, casesLastFirst}
+use Rattle.definition.specs.Tree.{Kind, implicit, labeled, unlabeled, Statement, Row, row, BREAK, CONTINUE}
+use Rattle.definition.specs.Value.{visitValueBlock, beginVisit, ValueBlockResult, ValueTerminalResult, VisitValueBlock, visitValueBlockTerminal, valueBlockResultToSequence}
+use Rattle.definition.proofs.Tools.{length-none, below-blocks, true-false}
+use Rattle.definition.proofs.Grow.{Good, good-bind, good-unless, Any, any, Grows, value-grows, terminal-grows, update-grows}
+use Rattle.definition.proofs.Most.{Few, FewT, Fews, value-few, terminal-few, update-few}
+use Rattle.definition.proofs.Bound.{sizeV, size-out, sequence-size, Cheap, Less, Cheaps, terminal-cheap, update-cheap, value-cheap}
+use Rattle.definition.proofs.Simulation.{machine-builds, gives-next, gives-halt, number-below}
+
+-- ---- what the check of the words promises of a table
+
+abbrev pub Below : ℕ → Option ℕ → Type 0
+Below n none = Unit {0}
+Below n (some block) = block < n
+
+-- every block that a terminal names is in the table
+abbrev pub NamesBelow : ℕ → Terminal → Type 0
+NamesBelow n absent = Unit {0}
+NamesBelow n unreachable = Unit {0}
+NamesBelow n (throw value) = Unit {0}
+NamesBelow n (return value) = Unit {0}
+NamesBelow n (goto block variant) = block < n
+NamesBelow n (if test consequent alternate fallthrough) = (consequent < n) × (alternate < n) × (fallthrough < n)
+NamesBelow n (branch test consequent alternate) = (consequent < n) × (alternate < n)
+NamesBelow n (switch test first number fallthrough) = fallthrough < n
+NamesBelow n (do-while loop test fallthrough) = (loop < n) × (test < n) × (fallthrough < n)
+NamesBelow n (while test loop fallthrough) = (test < n) × (loop < n) × (fallthrough < n)
+NamesBelow n (for init test update loop fallthrough) = (init < n) × (test < n) × Below n update × (loop < n) × (fallthrough < n)
+NamesBelow n (for-of init test loop fallthrough) = (init < n) × (test < n) × (loop < n) × (fallthrough < n)
+NamesBelow n (for-in init loop fallthrough) = (init < n) × (loop < n) × (fallthrough < n)
+NamesBelow n (logical operator test fallthrough) = (test < n) × (fallthrough < n)
+NamesBelow n (ternary test fallthrough) = (test < n) × (fallthrough < n)
+NamesBelow n (optional flag test fallthrough) = (test < n) × (fallthrough < n)
+NamesBelow n (label body fallthrough) = (body < n) × (fallthrough < n)
+NamesBelow n (sequence body fallthrough) = (body < n) × (fallthrough < n)
+NamesBelow n (maybe-throw continuation) = continuation < n
+NamesBelow n (try body handler fallthrough binding) = (body < n) × (handler < n) × (fallthrough < n)
+NamesBelow n (scope pruned body fallthrough number) = (body < n) × (fallthrough < n)
+
+pub record Checked (t : Table) : Type 0 where
+  pub entry : t .entry < length (t .blocks)
+  pub blocks : length (t .blocks) ≤ 1024
+  pub cases : length (t .cases) ≤ 1024
+  pub counts : (block : ℕ) → length (instructionRowsAt t block) ≤ 4096
+  pub names : (block : ℕ) → NamesBelow (length (t .blocks)) (terminalAt t block)
+  pub caseBlocks : (case : ℕ) → case < length (t .cases) → caseAt t case .block < length (t .blocks)
+
+-- ---- sums over the frames
+
+abbrev pub entriesOf : List Frame → ℕ
+entriesOf [] = 0
+entriesOf (frame ∷ frames) = frame .entries + entriesOf frames
+
+abbrev pub builtOf : List Frame → ℕ
+builtOf [] = 0
+builtOf (frame ∷ frames) = frame .built + builtOf frames
+
+abbrev pub countOf : List Frame → ℕ
+countOf [] = 0
+countOf (frame ∷ frames) = frame .count + countOf frames
+
+-- the turns that a frame has before it, without those of its visits
+abbrev pub turnsOf : Frame → ℕ
+turnsOf frame = 3 + (2 * frame .left + frame .entries)
+
+abbrev pub turnsOfAll : List Frame → ℕ
+turnsOfAll [] = 0
+turnsOfAll (frame ∷ frames) = turnsOf frame + turnsOfAll frames
+
+abbrev pub marks : Flags → ℕ
+marks [] = 0
+marks (true ∷ s) = suc (marks s)
+marks (false ∷ s) = marks s
+
+-- so many turns are left at most
+abbrev pub potential : State → ℕ
+potential (visiting block frames rows count cx) = 2053 * (8192 - cx .visits) + turnsOfAll frames
+potential (ended frames rows count cx) = suc (2053 * (8192 - cx .visits) + turnsOfAll frames)
+potential (choosing frame frames rows cx) = 2053 * (8192 - cx .visits) + (2 + (2 * frame .left + frame .entries) + turnsOfAll frames)
+potential (popping frame frames rows cx) = 2053 * (8192 - cx .visits) + (2 + frame .entries + turnsOfAll frames)
+
+-- ---- the invariant
+
+abbrev pub isSwitch : Terminal → Bool
+isSwitch absent = false
+isSwitch unreachable = false
+isSwitch (throw value) = false
+isSwitch (return value) = false
+isSwitch (goto block variant) = false
+isSwitch (if test consequent alternate fallthrough) = false
+isSwitch (branch test consequent alternate) = false
+isSwitch (switch test first number fallthrough) = true
+isSwitch (do-while loop test fallthrough) = false
+isSwitch (while test loop fallthrough) = false
+isSwitch (for init test update loop fallthrough) = false
+isSwitch (for-of init test loop fallthrough) = false
+isSwitch (for-in init loop fallthrough) = false
+isSwitch (logical operator test fallthrough) = false
+isSwitch (ternary test fallthrough) = false
+isSwitch (optional flag test fallthrough) = false
+isSwitch (label body fallthrough) = false
+isSwitch (sequence body fallthrough) = false
+isSwitch (maybe-throw continuation) = false
+isSwitch (try body handler fallthrough binding) = false
+isSwitch (scope pruned body fallthrough number) = false
+
+-- a frame's blocks are in the table, and of a Switch the case that is awaited; with `chosen` 1 the cases that it has still to take
+pub record Framed (t : Table) (chosen : ℕ) (frame : Frame) : Type 0 where
+  pub block : frame .block < length (t .blocks)
+  pub label : Below (length (t .blocks)) (frame .label)
+  pub entries : frame .entries ≤ suc (frame .built)
+  pub case : isSwitch (terminalAt t (frame .block)) ≡ true → frame .left < chosen + (length (t .cases) - firstCase (terminalAt t (frame .block)))
+
+abbrev pub Frames : Table → List Frame → Type 0
+Frames t [] = Unit {0}
+Frames t (frame ∷ frames) = Framed t 0 frame × Frames t frames
+
+-- the numbers. A list that has ended (`over` 1) has one id, one emitted block and two rows to spare. Each frame and each case built has a block of its
+-- own that is emitted; a frame has three rows at most still to put out, but for its values and for cases that are still to come
+pub record Holds (over : ℕ) (frames : List Frame) (rows : List Row) (count : ℕ) (cx : Context) : Type 0 where
+  pub visits : cx .visits ≤ 8192
+  pub ids : cx .nextId + (over + (2 * (8192 - cx .visits) + length frames)) ≤ 16384
+  pub stack : length (cx .stack) ≡ entriesOf frames
+  pub marked : over + (builtOf frames + length frames) ≤ marks (cx .emitted)
+  pub depth : length frames ≤ 128
+  pub flags : length (cx .emitted) ≡ 1024
+  pub tallied : count + countOf frames ≤ length rows
+  pub paid : 2 * over + (length rows + 3 * length frames) ≤ 8208 * cx .visits
+
+abbrev pub Sound : Table → State → Type 0
+Sound t (visiting block frames rows count cx) = (block < length (t .blocks)) × Frames t frames × Holds 0 frames rows count cx
+Sound t (ended frames rows count cx) = Frames t frames × Holds 1 frames rows count cx
+Sound t (choosing frame frames rows cx) = (isSwitch (terminalAt t (frame .block)) ≡ true) × Framed t 1 frame × Frames t frames × Holds 0 (frame ∷ frames) rows 0 cx
+Sound t (popping frame frames rows cx) = Framed t 1 frame × Frames t frames × Holds 0 (frame ∷ frames) rows 0 cx
+
+-- ---- the stack
+
+marks-below : (s : Flags) → marks s ≤ length s
+marks-below [] = le-refl 0
+marks-below (true ∷ s) = omega (arith, marks-below s)
+marks-below (false ∷ s) = omega (arith, marks-below s)
+
+entries-low : (t : Table) (F : List Frame) → Frames t F → entriesOf F ≤ builtOf F + length F
+entries-low t [] h = omega arith
+entries-low t (f ∷ F) (h, k) = omega (arith, h .entries, entries-low t F k)
+
+-- the stack, and where one entry more may be pushed
+stack-most : (t : Table) (k : ℕ) (F : List Frame) (R : List Row) (m : ℕ) (c : Context) → Frames t F → Holds k F R m c → k + length (c .stack) ≤ 1024
+stack-most t k F R m c f h = omega (arith, entries-low t F f, marks-below (c .emitted), h .stack, h .marked, h .flags)
+
+-- ---- the context's steps
+
+-- from c to d the next id rises by at most `up`, and n entries are then on the stack
+record Held (c : Context) (up n : ℕ) (d : Context) : Type 0 where
+  ids : d .nextId ≤ up + c .nextId
+  seen : d .visits ≡ c .visits
+  marked : marks (d .emitted) ≡ marks (c .emitted)
+  flags : length (d .emitted) ≡ length (c .emitted)
+  stack : length (d .stack) ≡ n
+
+held : (c : Context) → Held c 0 (length (c .stack)) c
+held c = record { ids = omega arith; seen = refl; marked = refl; flags = refl; stack = refl }
+
+scheduled-held : (g : ControlFlowTarget) (c : Context) → Held c 1 (suc (length (c .stack))) (scheduled g c)
+unfolding scheduled pushed
+scheduled-held g c = record { ids = omega arith; seen = refl; marked = refl; flags = refl; stack = refl }
+
+loop-held : (f k l : ℕ) (c : Context) → Good (Held c 1 (suc (length (c .stack)))) (scheduleLoop f k (some l) c)
+unfolding scheduleLoop pushed
+loop-held f k l c = good-unless (Held c 1 (suc (length (c .stack)))) _ 15 k (c .visits) _ (λ h. record { ids = omega arith; seen = refl; marked = refl; flags = refl; stack = refl })
+
+if-held : (g : Option ℕ) (c : Context) → Held c 1 (opens g + length (c .stack)) (scheduledIf g c)
+if-held none c = record { ids = omega arith; seen = refl; marked = refl; flags = refl; stack = omega arith }
+if-held (some f) c = let h : Held c 1 (suc (length (c .stack))) (scheduled (target-if f) c) = scheduled-held (target-if f) c in
+    record { ids = h .ids; seen = h .seen; marked = h .marked; flags = h .flags; stack = omega arith }
+
+switch-held : (g : Option ℕ) (c : Context) → Held c 1 (opens g + length (c .stack)) (scheduledSwitch g c)
+switch-held none c = record { ids = omega arith; seen = refl; marked = refl; flags = refl; stack = omega arith }
+switch-held (some f) c = let h : Held c 1 (suc (length (c .stack))) (scheduled (target-switch f) c) = scheduled-held (target-switch f) c in
+    record { ids = h .ids; seen = h .seen; marked = h .marked; flags = h .flags; stack = omega arith }
+
+unscheduled-held : (c : Context) (n : ℕ) → length (c .stack) ≡ suc n → Held c 0 n (unscheduled c)
+unfolding unscheduled
+unscheduled-held c n q = from (c .stack) q
+  where
+    from : (S : List Entry) → length S ≡ suc n → Held c 0 n (unscheduledTop S c)
+    from [] e = absurd (omega arith)
+    from (x ∷ S) e = unfold unscheduledTop popped in (record { ids = omega arith; seen = refl; marked = refl; flags = refl; stack = omega arith })
+
+scoped-held : (g : Option ℕ) (c : Context) → Held c 0 (length (c .stack)) (markScopeFallthroughIf g c)
+unfolding markScopeFallthroughIf markScopeFallthrough
+scoped-held none c = held c
+scoped-held (some f) c = record { ids = omega arith; seen = refl; marked = refl; flags = refl; stack = refl }
+
+caught-held : {c : Context} {k n : ℕ} {d : Context} (y : ℕ) → Held c k n d → Held c k n (scheduleCatchHandler y d)
+unfolding scheduleCatchHandler
+caught-held y h = record { ids = h .ids; seen = h .seen; marked = h .marked; flags = h .flags; stack = h .stack }
+
+-- ---- a block is entered
+
+marks-set : (s : Flags) (y : ℕ) → y < length s → getD s y false ≡ false → marks (set s y true) ≡ suc (marks s)
+marks-set [] y h e = absurd (omega arith)
+marks-set (true ∷ s) zero h e = absurd (let z : _≡_ {A = ℕ} 0 1 = cc in omega arith)
+marks-set (false ∷ s) zero h e = refl
+marks-set (true ∷ s) (suc y) h e = ap suc (marks-set s y (omega arith) e)
+marks-set (false ∷ s) (suc y) h e = marks-set s y (omega arith) e
+
+pub record Entered (c d : Context) : Type 0 where
+  pub ids : d .nextId ≡ c .nextId
+  pub fewer : c .visits < 8192
+  pub seen : d .visits ≡ suc (c .visits)
+  pub marked : marks (d .emitted) ≡ suc (marks (c .emitted))
+  pub flags : length (d .emitted) ≡ 1024
+  pub stack : length (d .stack) ≡ length (c .stack)
+
+pub enter-sound : (t : Table) (b : ℕ) (c : Context) → length (t .blocks) ≤ 1024 → length (c .emitted) ≡ 1024 → Good (Entered c) (enterBlock t b c)
+unfolding enterBlock beginVisit has add emit withVisits
+enter-sound t b c few size =
+    good-bind (λ w. (c .visits < 8192) × (w ≡ suc (c .visits)) × (b < length (t .blocks))) (Entered c) _ _
+    (good-unless (λ w. (c .visits < 8192) × (w ≡ suc (c .visits)) × (b < length (t .blocks))) _ 31 b (c .visits) _
+    (λ h. good-unless (λ w. (c .visits < 8192) × (w ≡ suc (c .visits)) × (b < length (t .blocks))) _ 10 b _ _ (λ h₁. (leb-false 8192 (c .visits) h, refl, below-blocks t b h₁))))
+    (λ w q. good-unless (Entered c) _ 11 b w _ (λ h. record
+    { ids = refl; fewer = q .0; seen = q .1; marked = marks-set (c .emitted) b (omega arith) h; flags = length-set (c .emitted) b true ∙ size; stack = refl }))
+
+-- ---- inside a turn
+
+-- after a turn from a state of potential p
+record Fit (t : Table) (p : ℕ) (s : State) : Type 0 where
+  lower : potential s < p
+  sound : Sound t s
+
+-- what is known inside a turn: s turns may be begun, i ids given out, and r rows put out; e entries are this statement's, and u cases of it are built
+record Inside (p s i e u r : ℕ) (F : List Frame) (R : List Row) (m : ℕ) (c : Context) : Type 0 where
+  visits : c .visits ≤ 8192
+  ids : c .nextId + (i + (2 * (8192 - c .visits) + length F)) ≤ 16384
+  lower : 2053 * (8192 - c .visits) + (s + turnsOfAll F) < p
+  stack : length (c .stack) ≡ e + entriesOf F
+  marked : suc (u + (builtOf F + length F)) ≤ marks (c .emitted)
+  depth : length F < 128
+  flags : length (c .emitted) ≡ 1024
+  tallied : m + countOf F ≤ length R
+  paid : r + (length R + 3 * length F) ≤ 8208 * c .visits
+
+module _ (t : Table) where
+  leave-fit : {p s i u r : ℕ} (g : Option ℕ) {F : List Frame} {R : List Row} {m : ℕ} {c : Context} → Inside p s i 0 u r F R m c → 1 ≤ s → 1 ≤ i → 2 ≤ r
+      → Frames t F → Below (length (t .blocks)) g → Fit t p (leave g F R m c)
+  leave-fit none h a b d f q =
+      record { lower = omega arith; sound = (f, record { visits = h .visits; ids = omega arith; stack = omega arith; marked = omega arith; depth = omega arith; flags = h .flags; tallied = h .tallied; paid = omega arith }) }
+  leave-fit (some n) h a b d f q =
+      record { lower = omega arith; sound = (q, f, record { visits = h .visits; ids = omega arith; stack = omega arith; marked = omega arith; depth = omega arith; flags = h .flags; tallied = h .tallied; paid = omega arith }) }
+
+  push-fit : {p s i e u r : ℕ} (fr : Frame) (b : ℕ) {F : List Frame} {R : List Row} {c : Context} → Inside p s i e u r F R (fr .count) c → turnsOf fr ≤ s → 1 ≤ i → fr .entries ≡ e → fr .built ≤ u → 3 ≤ r
+      → Framed t 0 fr → Frames t F → b < length (t .blocks) → Fit t p (visiting b (fr ∷ F) R 0 c)
+  push-fit fr b h a k e u r o f q = record {
+    lower = omega arith;
+    sound = (q, (o, f), record { visits = h .visits; ids = omega arith; stack = omega arith; marked = omega arith; depth = omega arith; flags = h .flags; tallied = omega arith; paid = omega arith });
+  }
+
+  choose-fit : {p s i e u r : ℕ} (fr : Frame) {F : List Frame} {R : List Row} {c : Context} → Inside p s i e u r F R (fr .count) c → turnsOf fr ≤ suc s → 1 ≤ i → fr .entries ≡ e → fr .built ≤ u → 3 ≤ r
+      → isSwitch (terminalAt t (fr .block)) ≡ true → Framed t 1 fr → Frames t F → Fit t p (choosing fr F R c)
+  choose-fit fr h a k e u r w o f = record {
+    lower = omega arith;
+    sound = (w, o, f, record { visits = h .visits; ids = omega arith; stack = omega arith; marked = omega arith; depth = omega arith; flags = h .flags; tallied = omega arith; paid = omega arith });
+  }
+
+  -- the same after a step of the context, after values, and with rows put out
+  inside-held : {p s i e u r : ℕ} {F : List Frame} {R : List Row} {m : ℕ} (c : Context) {up n e₁ : ℕ} {d : Context} (i₁ : ℕ) → Inside p s i e u r F R m c → Held c up n d → up + i₁ ≤ i → n ≡ e₁ + entriesOf F
+      → Inside p s i₁ e₁ u r F R m d
+  inside-held c i₁ h k a b =
+      record { visits = omega arith; ids = omega arith; lower = omega arith; stack = omega arith; marked = omega arith; depth = h .depth; flags = omega arith; tallied = h .tallied; paid = omega arith }
+
+  inside-out : {p s i e u r : ℕ} {F : List Frame} {R : List Row} {m : ℕ} {c : Context} (S : List Row) (m₁ r₁ : ℕ) → Inside p s i e u r F R m c → length S + r₁ ≤ r → m₁ + countOf F ≤ length S + length R
+      → Inside p s i e u r₁ F (R ++ S) m₁ c
+  inside-out {R = R} S m₁ r₁ h a b =
+      record { visits = h .visits; ids = h .ids; lower = h .lower; stack = h .stack; marked = h .marked; depth = h .depth; flags = h .flags; tallied = omega (arith, length-append R S); paid = omega (arith, length-append R S) }
+
+  inside-visited : {p s i e u r : ℕ} {F : List Frame} {R : List Row} {m : ℕ} {c : Context} (S : List Row) (v r₁ : ℕ) → Inside p s i e u r F R m c → c .visits ≤ v → v ≤ 8192
+      → length S + (r₁ + 8208 * c .visits) ≤ r + 8208 * v → Inside p s i e u r₁ F (R ++ S) m (withVisits v c)
+  unfolding withVisits
+  inside-visited {R = R} S v r₁ h a b k =
+      record { visits = b; ids = omega arith; lower = omega arith; stack = h .stack; marked = h .marked; depth = h .depth; flags = h .flags; tallied = omega (arith, length-append R S, h .tallied); paid = omega (arith, length-append R S, h .paid) }
+
+  close-fit : {p s i u r : ℕ} (fr : Frame) {F : List Frame} (R : List Row) (c : Context) → Inside p s i (fr .entries) u r F R (fr .count) c → suc (fr .entries) ≤ s → 1 ≤ i → fr .built ≤ u → 3 ≤ r
+      → Framed t 1 fr → Frames t F → Fit t p (close t fr F R c)
+  unfolding close
+  close-fit {p} {s} {i} {u} {r} fr {F} R c h a b k q o f = at (fr .entries) refl
+    where
+      row-out : List Row
+      row-out = closingRow t (fr .block) (fr .second) (fr .label) (fr .built) ∷ []
+
+      at : (n : ℕ) → fr .entries ≡ n → Fit t p (closeBy n t fr F R c)
+      at zero e = leave-fit (fr .label) (inside-out row-out (suc (fr .count)) 2 (inside-held c 1 h (held c) b (omega arith)) (omega arith) (omega arith)) (omega arith) (omega arith) (omega arith) f (o .label)
+      at (suc zero) e = leave-fit (fr .label) (inside-out row-out (suc (fr .count)) 2 (inside-held c 1 h (unscheduled-held c (entriesOf F) (omega arith)) b (omega arith)) (omega arith) (omega arith)) (omega arith) (omega arith) (omega arith) f (o .label)
+      at (suc (suc n)) e =
+          let x : Inside p s 1 (suc n) u r F R (fr .count) (unscheduled c) = inside-held c 1 h (unscheduled-held c (suc n + entriesOf F) (omega arith)) b refl in
+          record {
+            lower = omega (arith, x);
+            sound = (
+              record { block = o .block; label = o .label; entries = omega (arith, o .entries); case = o .case },
+              f,
+              record { visits = x .visits; ids = omega (arith, x); stack = x .stack; marked = omega (arith, x); depth = omega (arith, x); flags = x .flags; tallied = omega (arith, x); paid = omega (arith, x) },
+            );
+          }
+
+-- ---- what values take
+
+good-all3 : {A : Type 0} (P Q S : A → Type 0) (m : Result A) → Good P m → Good Q m → Good S m → Good (λ a. P a × Q a × S a) m
+good-all3 P Q S (ok a) h k l = (h, k, l)
+good-all3 P Q S (refused e p v) h k l = tt
+
+abbrev Took : ℕ → ValueBlockResult → Type 0
+Took v w = (v ≤ w .visits) × (w .visits ≤ 8192) × (sizeV (w .value) + 8200 * v ≤ 8200 * w .visits)
+
+-- ---- jumps
+
+abbrev Jump : Option Statement → Type 0
+Jump o = (length (jumpOut o) ≤ 1) × ((n : ℕ) → added o n ≤ length (jumpOut o) + n)
+
+break-jump : (g i : ℕ) (k : Kind) → Jump (some (BREAK g i k))
+unfolding stmtOut
+break-jump g i k = (le-refl 1, λ n. omega arith)
+
+continue-jump : (g i : ℕ) (k : Kind) → Jump (some (CONTINUE g i k))
+unfolding stmtOut
+continue-jump g i k = (le-refl 1, λ n. omega arith)
+
+no-jump : Jump none
+no-jump = (omega arith, λ n. omega arith)
+
+pick : {A : Type 0} (P : A → Type 0) (y : Bool) (a b : Result A) → Good P a → Good P b → Good P (elim y [ true ↦ a | false ↦ b ])
+pick P true a b p q = p
+pick P false a b p q = q
+
+scope-jump : (k : Kind) (at v : ℕ) → Good Jump (breakToScope k at v)
+unfolding breakToScope
+scope-jump implicit at v = no-jump
+scope-jump labeled at v = tt
+scope-jump unlabeled at v = tt
+
+visitBreak-jump : (b g i : ℕ) (c : Context) → Good Jump (visitBreak b g i c)
+unfolding visitBreak
+visitBreak-jump b g i c = at (getBreakTarget c g)
+  where
+    at : (r : Option Resolution) → Good Jump (breakResolved b g i c r)
+    at none = unfold breakResolved in tt
+    at (some r) = unfold breakResolved in pick Jump (has (c .scopeFallthroughs) (r .target)) _ _ (scope-jump (r .kind) b (c .visits)) (break-jump (r .target) i (r .kind))
+
+visitContinue-jump : (g i : ℕ) (c : Context) → Good (λ s. Jump (some s)) (visitContinue g i c)
+unfolding visitContinue
+visitContinue-jump g i c = at (getContinueTarget c g)
+  where
+    at : (r : Option Resolution) → Good (λ s. Jump (some s)) (continueResolved g i c r)
+    at none = unfold continueResolved in tt
+    at (some r) = unfold continueResolved in continue-jump (r .target) i (r .kind)
+
+abbrev Jumped : Context → TerminalResult → Type 0
+Jumped c s = Jump (s .statement) × (s .next ≡ none) × (s .context ≡ c)
+
+goto-jump : (v : Variant) (b g i : ℕ) (c : Context) → Good (Jumped c) (visitGoto v b g i c)
+unfolding visitGoto
+goto-jump Break b g i c = good-bind Jump (Jumped c) _ _ (visitBreak-jump b g i c) (λ s h. (h, refl, refl))
+goto-jump Continue b g i c = good-bind (λ s. Jump (some s)) (Jumped c) _ _ (visitContinue-jump g i c) (λ s h. (h, refl, refl))
+goto-jump Try b g i c = (no-jump, refl, refl)
+
+opens-one : (g : Option ℕ) → opens g ≤ 1
+opens-one none = omega arith
+opens-one (some f) = omega arith
+
+-- ---- turns
+
+module _ (t : Table) (ck : Checked t) (d : ℕ) where
+  abbrev visit : VisitValueBlock
+  visit = visitValueBlock t d
+
+  vals : (x : ℕ) (ft : Option ℕ) (span v : ℕ) → v ≤ 8192 → Good (Took v) (visit x ft span v)
+  unfolding Grows Fews Cheaps
+  vals x ft span v h = good-all3 (λ r. v ≤ r .visits) Few (Cheap v) (visit x ft span v) (value-grows t d x ft span v) (value-few t d x ft span v h) (value-cheap t (ck .counts) d x ft span v)
+
+  abbrev TookT : ℕ → ValueTerminalResult → Type 0
+  TookT v w = (v ≤ w .visits) × (w .visits ≤ 8192) × (sizeV (w .value) + 8200 * v ≤ 3 + 8200 * w .visits)
+
+  terminals : (e : Terminal) (id span v at : ℕ) → v ≤ 8192 → Good (TookT v) (visitValueBlockTerminal t visit e id span v at)
+  terminals e id span v at h =
+      good-all3 (λ r. v ≤ r .visits) FewT (Less v) (visitValueBlockTerminal t visit e id span v at) (terminal-grows t visit (value-grows t d) e id span v at) (terminal-few t visit (value-few t d) e id span v at h)
+      (terminal-cheap t (ck .counts) visit (value-cheap t (ck .counts) d) e id span v at)
+
+  abbrev TookU : ℕ → OptionalValue → Type 0
+  TookU v w = (v ≤ w .visits) × (w .visits ≤ 8192) × (length (updateOut (w .value)) + 8200 * v ≤ 8200 * w .visits)
+
+  updates : (u : Option ℕ) (span v : ℕ) → v ≤ 8192 → Good (TookU v) (visitUpdate visit u span v)
+  updates u span v h =
+      good-all3 (λ r. v ≤ r .visits) (λ z. z .visits ≤ 8192) (λ w. length (updateOut (w .value)) + 8200 * v ≤ 8200 * w .visits) (visitUpdate visit u span v) (update-grows t visit (value-grows t d) u span v) (update-few t visit (value-few t d) u span v h)
+      (update-cheap t (ck .counts) visit (value-cheap t (ck .counts) d) u span v)
+
+  into-fit : {p s i e u r : ℕ} (fr : Frame) (b code at : ℕ) {F : List Frame} {R : List Row} {c : Context} → Inside p s i e u r F R (fr .count) c → turnsOf fr ≤ s → 1 ≤ i → fr .entries ≡ e → fr .built ≤ u → 3 ≤ r
+      → Framed t 0 fr → Frames t F → b < length (t .blocks) → Good (Fit t p) (into b code at fr F R c)
+  unfolding into
+  into-fit {p} fr b code at {c = c} h a k e u r o f q = good-bind Any (Fit t p) _ _ (any (refuseIf (isScheduled c b) code at (c .visits))) (λ _ _. push-fit t fr b h a k e u r o f q)
+
+  framed : (b : ℕ) (g : Option ℕ) (entries count : ℕ) → b < length (t .blocks) → Below (length (t .blocks)) g → entries ≤ 1 → isSwitch (terminalAt t b) ≡ false → Framed t 0 (frameOf b g entries count)
+  framed b g entries count h k l q = record { block = h; label = k; entries = omega arith; case = λ e. absurd (true-false (sym e ∙ q)) }
+
+  later : {fr : Frame} → Framed t 0 fr → Framed t 0 (secondPart fr)
+  later o = record { block = o .block; label = o .label; entries = o .entries; case = o .case }
+
+  any-case : {fr : Frame} → Framed t 0 fr → Framed t 1 fr
+  any-case o = record { block = o .block; label = o .label; entries = o .entries; case = λ e. omega (arith, o .case e) }
+
+  -- ---- a nested list has ended
+
+  resume-fit : {p : ℕ} (e : Terminal) (fr : Frame) (F : List Frame) (R : List Row) (c : Context) → terminalAt t (fr .block) ≡ e → NamesBelow (length (t .blocks)) e
+      → Inside p (turnsOf fr) 2 (fr .entries) (suc (fr .built)) 4 F R (fr .count) c → Framed t 0 fr → Frames t F → Good (Fit t p) (resumeAt t visit e (blockAt t (fr .block)) fr F R c)
+  unfolding resumeAt
+  resume-fit {p} e fr F R c q names h o f = at e q names
+    where
+      closed : (R₁ : List Row) (c₁ : Context) → Inside p (turnsOf fr) 2 (fr .entries) (suc (fr .built)) 4 F R₁ (fr .count) c₁ → Fit t p (close t fr F R₁ c₁)
+      closed R₁ c₁ h₁ = close-fit t fr R₁ c₁ h₁ (omega arith) (omega arith) (omega arith) (omega arith) (any-case o) f
+
+      again : (b : ℕ) → b < length (t .blocks) → Fit t p (visiting b (secondPart fr ∷ F) R 0 c)
+      again b k = push-fit t (secondPart fr) b h (le-refl _) (omega arith) refl (omega arith) (omega arith) (later o) f k
+
+      into-again : (b code at : ℕ) → b < length (t .blocks) → Good (Fit t p) (into b code at (secondPart fr) F R c)
+      into-again b code at k = into-fit (secondPart fr) b code at h (le-refl _) (omega arith) refl (omega arith) (omega arith) (later o) f k
+
+      at : (e : Terminal) → terminalAt t (fr .block) ≡ e → NamesBelow (length (t .blocks)) e → Good (Fit t p) (resumeAt t visit e (blockAt t (fr .block)) fr F R c)
+      at absent q n = closed R c h
+      at unreachable q n = closed R c h
+      at (throw x) q n = closed R c h
+      at (return x) q n = closed R c h
+      at (goto x v) q n = closed R c h
+      at (if x y a g) q n = pick (Fit t p) (fr .second) _ _ (closed R c h) (pick (Fit t p) (eqb a g) _ _ (closed R c h) (into-again a 13 a (n .1)))
+      at (branch x y a) q n = pick (Fit t p) (fr .second) _ _ (closed R c h) (into-again a 19 (fr .block) (n .1))
+      at (switch x i m g) q n =
+          choose-fit t (caseBuilt fr)
+          (inside-held t c 1 (inside-out t (row 11 (caseAt t (i + fr .left) .test) 0 0 0 0 ∷ []) (fr .count) 3 h (omega arith) (omega (arith, h .tallied))) (scheduled-held (target-case (caseAt t (i + fr .left) .block)) c) (omega arith) (omega (arith, h .stack)))
+          (omega arith) (omega arith) refl (le-refl _) (omega arith) (ap isSwitch q) (record { block = o .block; label = o .label; entries = omega (arith, o .entries); case = λ z. omega (arith, o .case z) }) f
+      at (do-while l x g) q n = good-bind (Took (c .visits)) (Fit t p) _ _ (vals x none (blockAt t (fr .block) .span) (c .visits) (h .visits)) (λ w k.
+          closed _ _ (inside-visited t (valueOut (w .value)) (w .visits) 4 h (k .0) (k .1) (omega (arith, size-out (w .value), k .0, k .2))))
+      at (while x l g) q n = closed R c h
+      at (for i x v l g) q n = closed R c h
+      at (for-of i x l g) q n = closed R c h
+      at (for-in i l g) q n = closed R c h
+      at (logical x y g) q n = closed R c h
+      at (ternary x g) q n = closed R c h
+      at (optional x y g) q n = closed R c h
+      at (label x g) q n = closed R c h
+      at (sequence x g) q n = closed R c h
+      at (maybe-throw x) q n = closed R c h
+      at (try x y g m) q n = pick (Fit t p) (fr .second) _ _ (closed R c h) (again y (n .1))
+      at (scope x y g m) q n = closed R c h
+
+  -- ---- a Switch takes its next case
+
+  case-fit : {p : ℕ} (j : ℕ) (fr : Frame) (F : List Frame) (R : List Row) (c : Context) → fr .left ≡ j → isSwitch (terminalAt t (fr .block)) ≡ true
+      → Inside p (suc (2 * fr .left + fr .entries)) 1 (fr .entries) (fr .built) 3 F R (fr .count) c → Framed t 1 fr → Frames t F
+      → Good (Fit t p) (chooseCase t (firstCase (terminalAt t (fr .block))) (afterCases (terminalAt t (fr .block))) j fr F R c)
+  unfolding chooseCase
+  case-fit zero fr F R c e q h o f = close-fit t fr R c h (omega arith) (omega arith) (omega arith) (omega arith) o f
+  case-fit {p} (suc j) fr F R c e q h o f =
+      let x : ℕ = firstCase (terminalAt t (fr .block)) in
+      let b : ℕ = caseAt t (x + j) .block in
+      pick (Fit t p) (isScheduled c b) _ _
+      (good-bind Any (Fit t p) _ _ (any (refuseIf (not (eqb b (afterCases (terminalAt t (fr .block))))) 14 (fr .block) (c .visits))) (λ _ _.
+      choose-fit t (withLeft j fr) h (omega arith) (omega arith) refl (omega arith) (omega arith) q (record { block = o .block; label = o .label; entries = o .entries; case = λ z. omega (arith, o .case z) }) f))
+      (push-fit t (withLeft j fr) b h (omega arith) (omega arith) refl (omega arith) (omega arith)
+      (record { block = o .block; label = o .label; entries = o .entries; case = λ z. omega (arith, o .case z) }) f (ck .caseBlocks (x + j) (omega (arith, o .case q))))
+
+  -- ---- a block that is entered
+
+  reach-below : (c : Context) (g : ℕ) → g < length (t .blocks) → Good (Below (length (t .blocks))) (unlessUnreachable t c g)
+  unfolding unlessUnreachable unlessScheduled
+  reach-below c g h = good-unless (Below (length (t .blocks))) _ 10 g (c .visits) _ (λ _. at (isUnreachable (terminalAt t g)) (isScheduled c g))
+    where
+      at : (x y : Bool) → Below (length (t .blocks)) (elim x [ true ↦ none | false ↦ elim y [ true ↦ none | false ↦ some g ] ])
+      at true y = tt
+      at false true = tt
+      at false false = h
+
+  taken-below : (c : Context) (g : ℕ) → g < length (t .blocks) → Below (length (t .blocks)) (unlessScheduled c g)
+  unfolding unlessScheduled
+  taken-below c g h = at (isScheduled c g)
+    where
+      at : (y : Bool) → Below (length (t .blocks)) (elim y [ true ↦ none | false ↦ some g ])
+      at true = tt
+      at false = h
+
+  module _ {p : ℕ} (b : ℕ) (F : List Frame) (R : List Row) (m : ℕ) (c : Context) (below : b < length (t .blocks)) (f : Frames t F) (h : Inside p 2052 2 0 0 16 F R m c) where
+    leaves : (g : Option ℕ) (S : List Row) (n : ℕ) → Below (length (t .blocks)) g → length S ≤ 1 → n + countOf F ≤ length S + length R → Fit t p (leave g F (R ++ S) n c)
+    leaves g S n k l q = leave-fit t g (inside-out t S n 2 h (omega arith) q) (omega arith) (omega arith) (omega arith) f k
+
+    -- a statement's first list, its context entered
+    nested : (fr : Frame) (x : ℕ) (c₁ : Context) → Held c 1 (fr .entries + length (c .stack)) c₁ → fr .count ≡ m → fr .left ≡ 0 → fr .built ≡ 0 → fr .entries ≤ 1 → Framed t 0 fr → x < length (t .blocks)
+        → Inside p 2052 1 (fr .entries) 0 16 F R (fr .count) c₁
+    nested fr x c₁ k e l u w o q = inside-held t c 1 (counted e) k (omega arith) (omega (arith, h .stack))
+      where
+        counted : fr .count ≡ m → Inside p 2052 2 0 0 16 F R (fr .count) c
+        counted e = subst (λ (z : ℕ). Inside p 2052 2 0 0 16 F R z c) (sym e) h
+
+    enclosed-fit : (g : Option ℕ) (x code at : ℕ) (c₁ : Context) → Held c 1 (opens g + length (c .stack)) c₁ → Below (length (t .blocks)) g → isSwitch (terminalAt t b) ≡ false → x < length (t .blocks)
+        → Good (Fit t p) (into x code at (frameOf b g (opens g) m) F R c₁)
+    enclosed-fit g x code at c₁ k q z y =
+        let o : Framed t 0 (frameOf b g (opens g) m) = framed b g (opens g) m below q (opens-one g) z in
+        into-fit (frameOf b g (opens g) m) x code at (nested (frameOf b g (opens g) m) x c₁ k refl refl refl (opens-one g) o y) (omega (arith, opens-one g)) (omega arith) refl (omega arith) (omega arith) o f y
+
+    loop-fit : (g : Option ℕ) (l : ℕ) (bad : Bool) (v : ℕ) (S : List Row) (c₁ : Context) → Held c 1 (suc (length (c .stack))) c₁ → Below (length (t .blocks)) g → isSwitch (terminalAt t b) ≡ false → l < length (t .blocks)
+        → c₁ .visits ≤ v → v ≤ 8192 → length S + 8208 * c₁ .visits ≤ 13 + 8208 * v → Good (Fit t p) (intoLoop b l bad v (frameOf b g 1 m) F (R ++ S) c₁)
+    unfolding intoLoop
+    loop-fit g l bad v S c₁ k q z y a w u =
+        let o : Framed t 0 (frameOf b g 1 m) = framed b g 1 m below q (omega arith) z in
+        good-bind Any (Fit t p) _ _ (any (refuseIf bad 16 b v)) (λ _ _.
+        push-fit t (frameOf b g 1 m) l (inside-visited t S v 3 (inside-held t c {e₁ = 1} 1 h k (omega arith) (omega (arith, h .stack))) a w (omega arith)) (omega arith) (omega arith) refl (omega arith) (omega arith) o f y)
+
+    value-fit : (e : Terminal) (g : ℕ) → g < length (t .blocks) → Good (Fit t p) (valueTurn t visit e b (blockAt t b) g F R m c)
+    unfolding valueTurn
+    value-fit e g k = good-bind (TookT (c .visits)) (Fit t p) _ _ (terminals e (blockAt t b .id) (blockAt t b .span) (c .visits) b (h .visits)) (λ w q.
+        at (unlessScheduled c g) (taken-below c g k) w q)
+      where
+        leaving : (g : Option ℕ) (w : ValueTerminalResult) (c₁ : Context) → TookT (c .visits) w → Below (length (t .blocks)) g → Inside p 2052 1 0 0 5 F (R ++ valueOut (w .value)) m c₁
+            → Fit t p (leave g F ((R ++ valueOut (w .value)) ++ (row 4 (w .id) (w .place) (blockAt t b .span) 0 0 ∷ [])) (suc m) c₁)
+        leaving g w c₁ q k x = leave-fit t g (inside-out t (row 4 (w .id) (w .place) (blockAt t b .span) 0 0 ∷ []) (suc m) 2 x (omega arith) (omega (arith, x .tallied))) (omega arith) (omega arith) (omega arith) f k
+
+        at : (g : Option ℕ) → Below (length (t .blocks)) g → (w : ValueTerminalResult) → TookT (c .visits) w
+            → Fit t p (leave g F ((R ++ valueOut (w .value)) ++ (row 4 (w .id) (w .place) (blockAt t b .span) 0 0 ∷ [])) (suc m) (unscheduledIf g (withVisits (w .visits) (scheduledIf g c))))
+        at none k w q = leaving none w (withVisits (w .visits) c) q k (inside-visited t (valueOut (w .value)) (w .visits) 5 (inside-held t c 1 h (held c) (omega arith) (omega (arith, h .stack))) (q .0) (q .1) (omega (arith, size-out (w .value), q .0, q .2)))
+        at (some x) k w q =
+            let s : Held c 1 (suc (length (c .stack))) (scheduled (target-if x) c) = scheduled-held (target-if x) c in
+            let y : Inside p 2052 1 1 0 5 F (R ++ valueOut (w .value)) m (withVisits (w .visits) (scheduled (target-if x) c)) =
+              inside-visited t (valueOut (w .value)) (w .visits) 5 (inside-held t c {e₁ = 1} 1 h s (omega arith) (omega (arith, h .stack))) (omega (arith, q .0, s .seen)) (q .1) (omega (arith, size-out (w .value), q .0, q .2, s .seen)) in
+            leaving (some x) w (unscheduled (withVisits (w .visits) (scheduled (target-if x) c))) q k
+            (inside-held t (withVisits (w .visits) (scheduled (target-if x) c)) {e₁ = 0} 1 y (unscheduled-held (withVisits (w .visits) (scheduled (target-if x) c)) (entriesOf F) (omega (arith, y .stack))) (omega arith) (omega arith))
+
+    branch-fit : (x y a : ℕ) → isSwitch (terminalAt t b) ≡ false → y < length (t .blocks) → a < length (t .blocks) → Good (Fit t p) (branchTurn b y a (blockAt t b .id) F R m c)
+    unfolding branchTurn
+    branch-fit x y a z k l = pick (Fit t p) (isScheduled c y) _ _
+        (good-bind Jump (Fit t p) _ _ (visitBreak-jump b y (blockAt t b .id) c) (λ s q.
+        into-fit (secondPart (frameOf b none 0 m)) a 19 b (inside-out t (blockRow (added s 0) ∷ []) m 3 (inside-out t (jumpOut s) m 4 h (omega (arith, q .0)) (omega (arith, h .tallied))) (omega arith)
+        (omega (arith, length-append R (jumpOut s), h .tallied))) (omega arith) (omega arith) refl (omega arith) (omega arith) (later (framed b none 0 m below tt (omega arith) z)) f l))
+        (push-fit t (frameOf b none 0 m) y h (omega arith) (omega arith) refl (omega arith) (omega arith) (framed b none 0 m below tt (omega arith) z) f k)
+
+    terminal-fit : (e : Terminal) → terminalAt t b ≡ e → NamesBelow (length (t .blocks)) e → Good (Fit t p) (terminalTurn t visit e b (blockAt t b) F R m c)
+    unfolding terminalTurn
+    terminal-fit absent q n = tt
+    terminal-fit unreachable q n = leave-fit t none h (omega arith) (omega arith) (omega arith) f tt
+    terminal-fit (throw x) q n = leaves none _ _ tt (omega arith) (omega (arith, h .tallied))
+    terminal-fit (return x) q n = leaves none _ _ tt (omega arith) (omega (arith, h .tallied))
+    terminal-fit (goto g v) q n = good-bind (Jumped c) (Fit t p) _ _ (goto-jump v b g (blockAt t b .id) c) (λ s k. at s k)
+      where
+        at : (s : TerminalResult) → Jumped c s → Fit t p (leave (s .next) F (R ++ jumpOut (s .statement)) (added (s .statement) m) (s .context))
+        at s (k, e₁, e₂) = rw (e₁, e₂) (leaves none (jumpOut (s .statement)) (added (s .statement) m) tt (k .0) (omega (arith, k .1 m, h .tallied)))
+    terminal-fit (if x y a g) q n = good-bind (Below (length (t .blocks))) (Fit t p) _ _ (reach-below c g (n .2)) (λ l k. enclosed-fit l y 12 y (scheduledIf l c) (if-held l c) k (ap isSwitch q) (n .0))
+    terminal-fit (branch x y a) q n = branch-fit x y a (ap isSwitch q) (n .0) (n .1)
+    terminal-fit (switch x i k g) q n = good-bind (Below (length (t .blocks))) (Fit t p) _ _ (reach-below c g n) (λ l w.
+        choose-fit t (withLeft (numberOfCases t i k) (frameOf b l (opens l) m)) (inside-held t c 1 h (switch-held l c) (omega arith) (omega (arith, h .stack))) (omega (arith, number-below t i k, ck .cases, opens-one l)) (omega arith) refl (omega arith) (omega arith)
+        (ap isSwitch q) (record { block = below; label = w; entries = omega (arith, opens-one l); case = λ z. fits (number-below t i k) }) f)
+      where
+        fits : numberOfCases t i k ≤ length (t .cases) - i → numberOfCases t i k < 1 + (length (t .cases) - firstCase (terminalAt t b))
+        fits u = rw q (omega (arith, u))
+    terminal-fit (do-while l x g) q n = good-bind (Held c 1 (suc (length (c .stack)))) (Fit t p) _ _ (loop-held g x l c) (λ c₁ k. at c₁ k)
+      where
+        none-out : (c₁ : Context) → Good (Fit t p) (intoLoop b l (loopIsTaken c l g) (c₁ .visits) (frameOf b (unlessScheduled c g) 1 m) F (R ++ []) c₁) → Good (Fit t p) (intoLoop b l (loopIsTaken c l g) (c₁ .visits) (frameOf b (unlessScheduled c g) 1 m) F R c₁)
+        none-out c₁ w = subst (λ (z : List Row). Good (Fit t p) (intoLoop b l (loopIsTaken c l g) (c₁ .visits) (frameOf b (unlessScheduled c g) 1 m) F z c₁)) (append-nil R) w
+
+        at : (c₁ : Context) → Held c 1 (suc (length (c .stack))) c₁ → Good (Fit t p) (intoLoop b l (loopIsTaken c l g) (c₁ .visits) (frameOf b (unlessScheduled c g) 1 m) F R c₁)
+        at c₁ k = none-out c₁ (loop-fit (unlessScheduled c g) l (loopIsTaken c l g) (c₁ .visits) [] c₁ k (taken-below c g (n .2)) (ap isSwitch q) (n .0) (le-refl _) (omega (arith, k .seen, h .visits)) (omega arith))
+    terminal-fit (while x l g) q n = good-bind (Below (length (t .blocks))) (Fit t p) _ _ (reach-below c g (n .2)) (λ o k.
+        good-bind (Held c 1 (suc (length (c .stack)))) (Fit t p) _ _ (loop-held g x l c) (λ c₁ k₁.
+        good-bind (Took (c₁ .visits)) (Fit t p) _ _ (vals x none (blockAt t b .span) (c₁ .visits) (omega (arith, k₁ .seen, h .visits))) (λ w u.
+        loop-fit o l _ (w .visits) (valueOut (w .value)) c₁ k₁ k (ap isSwitch q) (n .1) (u .0) (u .1) (omega (arith, size-out (w .value), u .0, u .2)))))
+    terminal-fit (for i x v l g) q n = good-bind (Held c 1 (suc (length (c .stack)))) (Fit t p) _ _ (loop-held g (continueBlockOf v x) l c) (λ c₁ k₁.
+        good-bind (Took (c₁ .visits)) (Fit t p) _ _ (vals i none (blockAt t b .span) (c₁ .visits) (omega (arith, k₁ .seen, h .visits))) (λ w u.
+        good-bind (Took (w .visits)) (Fit t p) _ _ (vals x none (blockAt t b .span) (w .visits) (u .1)) (λ y u₁.
+        good-bind (TookU (y .visits)) (Fit t p) _ _ (updates v (blockAt t b .span) (y .visits) (u₁ .1)) (λ z u₂.
+        together (valueOut (valueBlockResultToSequence t w (blockAt t b .span))) (valueOut (y .value)) (updateOut (z .value)) c₁ (z .visits)
+        (loop-fit (unlessScheduled c g) l (loopIsTaken c l g) (z .visits) _ c₁ k₁ (taken-below c g (n .4)) (ap isSwitch q) (n .3) (omega (arith, u .0, u₁ .0, u₂ .0)) (u₂ .1)
+        (omega (arith, long (valueOut (valueBlockResultToSequence t w (blockAt t b .span))) (valueOut (y .value)) (updateOut (z .value)), size-out (valueBlockResultToSequence t w (blockAt t b .span)), sequence-size t w (blockAt t b .span), size-out (y .value), u .0, u₁ .0, u₂ .0, u .2, u₁ .2, u₂ .2)))))))
+      where
+        long : (A B C : List Row) → length (A ++ (B ++ C)) ≡ length A + (length B + length C)
+        long A B C = omega (arith, length-append A (B ++ C), length-append B C)
+
+        together : (A B C : List Row) (c₁ : Context) (v : ℕ) → Good (Fit t p) (intoLoop b l (loopIsTaken c l g) v (frameOf b (unlessScheduled c g) 1 m) F (R ++ (A ++ (B ++ C))) c₁)
+            → Good (Fit t p) (intoLoop b l (loopIsTaken c l g) v (frameOf b (unlessScheduled c g) 1 m) F (((R ++ A) ++ B) ++ C) c₁)
+        together A B C c₁ v w = subst (λ (z : List Row). Good (Fit t p) (intoLoop b l (loopIsTaken c l g) v (frameOf b (unlessScheduled c g) 1 m) F z c₁)) (sym (append-assoc (R ++ A) B C ∙ append-assoc R A (B ++ C))) w
+    terminal-fit (for-of i x l g) q n = good-bind (Held c 1 (suc (length (c .stack)))) (Fit t p) _ _ (loop-held g i l c) (λ c₁ k₁.
+        good-bind (Took (c₁ .visits)) (Fit t p) _ _ (vals i none (blockAt t b .span) (c₁ .visits) (omega (arith, k₁ .seen, h .visits))) (λ w u.
+        good-bind (Took (w .visits)) (Fit t p) _ _ (vals x none (blockAt t b .span) (w .visits) (u .1)) (λ y u₁.
+        together (valueOut (valueBlockResultToSequence t w (blockAt t b .span))) (valueOut (valueBlockResultToSequence t y (blockAt t b .span))) c₁ (y .visits)
+        (loop-fit (unlessScheduled c g) l (loopIsTaken c l g) (y .visits) _ c₁ k₁ (taken-below c g (n .3)) (ap isSwitch q) (n .2) (omega (arith, u .0, u₁ .0)) (u₁ .1)
+        (omega (arith, length-append (valueOut (valueBlockResultToSequence t w (blockAt t b .span))) (valueOut (valueBlockResultToSequence t y (blockAt t b .span))), size-out (valueBlockResultToSequence t w (blockAt t b .span)), sequence-size t w (blockAt t b .span), size-out (valueBlockResultToSequence t y (blockAt t b .span)), sequence-size t y (blockAt t b .span), u .0, u₁ .0, u .2, u₁ .2))))))
+      where
+        together : (A B : List Row) (c₁ : Context) (v : ℕ) → Good (Fit t p) (intoLoop b l (loopIsTaken c l g) v (frameOf b (unlessScheduled c g) 1 m) F (R ++ (A ++ B)) c₁)
+            → Good (Fit t p) (intoLoop b l (loopIsTaken c l g) v (frameOf b (unlessScheduled c g) 1 m) F ((R ++ A) ++ B) c₁)
+        together A B c₁ v w = subst (λ (z : List Row). Good (Fit t p) (intoLoop b l (loopIsTaken c l g) v (frameOf b (unlessScheduled c g) 1 m) F z c₁)) (sym (append-assoc R A B)) w
+    terminal-fit (for-in i l g) q n = good-bind (Held c 1 (suc (length (c .stack)))) (Fit t p) _ _ (loop-held g i l c) (λ c₁ k₁.
+        good-bind (Took (c₁ .visits)) (Fit t p) _ _ (vals i none (blockAt t b .span) (c₁ .visits) (omega (arith, k₁ .seen, h .visits))) (λ w u.
+        loop-fit (unlessScheduled c g) l (loopIsTaken c l g) (w .visits) (valueOut (valueBlockResultToSequence t w (blockAt t b .span))) c₁ k₁ (taken-below c g (n .2)) (ap isSwitch q) (n .1) (u .0) (u .1)
+        (omega (arith, size-out (valueBlockResultToSequence t w (blockAt t b .span)), sequence-size t w (blockAt t b .span), u .0, u .2))))
+    terminal-fit (logical o x g) q n = value-fit (logical o x g) g (n .1)
+    terminal-fit (ternary x g) q n = value-fit (ternary x g) g (n .1)
+    terminal-fit (optional o x g) q n = value-fit (optional o x g) g (n .1)
+    terminal-fit (label x g) q n = good-bind (Below (length (t .blocks))) (Fit t p) _ _ (reach-below c g (n .1)) (λ l k. enclosed-fit l x 17 b (scheduledIf l c) (if-held l c) k (ap isSwitch q) (n .0))
+    terminal-fit (sequence x g) q n = value-fit (sequence x g) g (n .1)
+    terminal-fit (maybe-throw x) q n = leave-fit t (unlessScheduled c x) h (omega arith) (omega arith) (omega arith) f (taken-below c x n)
+    terminal-fit (try x y g k) q n = good-bind (Below (length (t .blocks))) (Fit t p) _ _ (reach-below c g (n .2)) (λ l w.
+        let o : Framed t 0 (frameOf b l (opens l) m) = framed b l (opens l) m below w (opens-one l) (ap isSwitch q) in
+        push-fit t (frameOf b l (opens l) m) x (nested (frameOf b l (opens l) m) x (scheduleCatchHandler y (scheduledIf l c)) (caught-held y (if-held l c)) refl refl refl (opens-one l) o (n .0)) (omega (arith, opens-one l)) (omega arith) refl (omega arith) (omega arith) o f (n .0))
+    terminal-fit (scope k x g z) q n =
+        let l : Option ℕ = unlessScheduled c g in
+        let s : Held c 1 (opens l + length (c .stack)) (scheduledIf l c) = if-held l c in
+        let r : Held (scheduledIf l c) 0 (length (scheduledIf l c .stack)) (markScopeFallthroughIf l (scheduledIf l c)) = scoped-held l (scheduledIf l c) in
+        enclosed-fit l x 18 b (markScopeFallthroughIf l (scheduledIf l c)) (record { ids = omega (arith, s .ids, r .ids); seen = r .seen ∙ s .seen; marked = r .marked ∙ s .marked; flags = r .flags ∙ s .flags; stack = r .stack ∙ s .stack }) (taken-below c g (n .1)) (ap isSwitch q) (n .0)
+
+instr-two : (t : Table) (rs : List ℕ) → length (instrOut t rs) ≡ 2 * length rs
+unfolding instrOut
+instr-two t [] = omega arith
+instr-two t (r ∷ rs) = omega (arith, instr-two t rs)
+
+module _ (t : Table) (ck : Checked t) where
+  visit-fit : (b : ℕ) (F : List Frame) (R : List Row) (m : ℕ) (c : Context) → b < length (t .blocks) → Frames t F → Holds 0 F R m c
+      → Good (Fit t (2053 * (8192 - c .visits) + turnsOfAll F)) (visitTurn t b F R m c)
+  unfolding visitTurn
+  visit-fit b F R m c below f h =
+      good-unless (Fit t p) _ 30 b (c .visits) _ (λ q.
+      let deep : length F < 128 = leb-false 128 (length F) q in
+      good-bind (Entered c) (Fit t p) _ _ (enter-sound t b c (ck .blocks) (h .flags)) (λ c₁ e.
+      terminal-fit t ck (depthLeft F) b F (R ++ instrOut t (instructionRowsAt t b)) (m + length (instructionRowsAt t b)) c₁ below f (inside c₁ deep e) (terminalAt t b) refl (ck .names b)))
+    where
+      p : ℕ
+      p = 2053 * (8192 - c .visits) + turnsOfAll F
+
+      inside : (c₁ : Context) → length F < 128 → Entered c c₁ → Inside p 2052 2 0 0 16 F (R ++ instrOut t (instructionRowsAt t b)) (m + length (instructionRowsAt t b)) c₁
+      inside c₁ deep e = record {
+        visits = omega (arith, e .fewer, e .seen);
+        ids = omega (arith, e .ids, e .seen, e .fewer, h .ids);
+        lower = omega (arith, e .seen, e .fewer);
+        stack = omega (arith, e .stack, h .stack);
+        marked = omega (arith, e .marked, h .marked);
+        depth = deep;
+        flags = e .flags;
+        tallied = omega (arith, length-append R (instrOut t (instructionRowsAt t b)), instr-two t (instructionRowsAt t b), h .tallied);
+        paid = omega (arith, length-append R (instrOut t (instructionRowsAt t b)), instr-two t (instructionRowsAt t b), ck .counts b, e .seen, h .paid);
+      }
+
+  abbrev Next : ℕ → Turn → Type 0
+  Next p (going s) = Fit t p s
+  Next p (halt a) = Unit {0}
+
+  next-of : (p : ℕ) (x : Result State) → Good (Fit t p) x → Next p (turn x)
+  unfolding turn
+  next-of p (ok s) h = h
+  next-of p (refused e q v) h = tt
+
+  -- at the end of a list, its BLOCK row out
+  ended-inside : (fr : Frame) (F : List Frame) (R : List Row) (m : ℕ) (c : Context) → Holds 1 (fr ∷ F) R m c
+      → Inside (suc (2053 * (8192 - c .visits) + (turnsOf fr + turnsOfAll F))) (turnsOf fr) 2 (fr .entries) (suc (fr .built)) 4 F (R ++ (blockRow m ∷ [])) (fr .count) c
+  ended-inside fr F R m c h = record {
+    visits = h .visits; ids = omega (arith, h .ids); lower = omega arith; stack = h .stack; marked = omega (arith, h .marked); depth = h .depth; flags = h .flags;
+    tallied = omega (arith, length-append R (blockRow m ∷ []), h .tallied); paid = omega (arith, length-append R (blockRow m ∷ []), h .paid);
+  }
+
+  -- where a Switch takes its next case, or a statement's entries are taken off
+  holds-inside : {p : ℕ} (s : ℕ) (fr : Frame) (F : List Frame) (R : List Row) (c : Context) → Holds 0 (fr ∷ F) R 0 c → 2053 * (8192 - c .visits) + (s + turnsOfAll F) < p
+      → Inside p s 1 (fr .entries) (fr .built) 3 F R (fr .count) c
+  holds-inside s fr F R c h k = record {
+    visits = h .visits; ids = omega (arith, h .ids); lower = k; stack = h .stack; marked = omega (arith, h .marked); depth = h .depth; flags = h .flags; tallied = omega (arith, h .tallied); paid = omega (arith, h .paid);
+  }
+
+  step-next : (s : State) → Sound t s → Next (potential s) (step t s)
+  unfolding step
+  step-next (visiting b F R m c) (k, f, h) = next-of _ (visitTurn t b F R m c) (visit-fit b F R m c k f h)
+  step-next (ended [] R m c) h = tt
+  step-next (ended (fr ∷ F) R m c) ((o, f), h) =
+      next-of _ (resume t (visitValueBlock t (depthLeft F)) fr F (R ++ (blockRow m ∷ [])) c)
+      (resume-fit t ck (depthLeft F) (terminalAt t (fr .block)) fr F (R ++ (blockRow m ∷ [])) c refl (ck .names (fr .block)) (ended-inside fr F R m c h) o f)
+  step-next (choosing fr F R c) (q, o, f, h) =
+      next-of _ (chooseCase t (firstCase (terminalAt t (fr .block))) (afterCases (terminalAt t (fr .block))) (fr .left) fr F R c)
+      (case-fit t ck 0 (fr .left) fr F R c refl q (holds-inside (suc (2 * fr .left + fr .entries)) fr F R c h (omega arith)) o f)
+  step-next (popping fr F R c) (o, f, h) = close-fit t fr R c (holds-inside (suc (fr .entries)) fr F R c h (omega arith)) (le-refl _) (omega arith) (le-refl _) (omega arith) o f
+
+  pub step-sound : (s s′ : State) → Sound t s → step t s ≡ going s′ → (potential s′ < potential s) × Sound t s′
+  step-sound s s′ h e = let q : Fit t (potential s) s′ = subst (λ (z : Turn). Next (potential s) z) e (step-next s h) in (q .lower, q .sound)
+
+  pub start-sound : Sound t (begin t)
+  unfolding start
+  start-sound = (ck .entry, tt, record { visits = omega arith; ids = omega arith; stack = refl; marked = omega arith; depth = omega arith; flags = length-none; tallied = omega arith; paid = omega arith })
+
+-- ---- the loop's invariant, in one record
+
+pub record Going (t : Table) (state : State) : Type 0 where
+  pub gives : Gives t state (report t)
+  pub sound : Sound t state
+
+pub going-start : (t : Table) → Checked t → Going t (begin t)
+going-start t ck = record { gives = machine-builds t; sound = start-sound t ck }
+
+pub going-step : (t : Table) → Checked t → (s s′ : State) → Going t s → step t s ≡ going s′ → Going t s′
+going-step t ck s s′ g e = record { gives = gives-next t s s′ (report t) (g .gives) e; sound = step-sound t ck s s′ (g .sound) e .1 }
+
+pub going-lower : (t : Table) → Checked t → (s s′ : State) → Going t s → step t s ≡ going s′ → potential s′ < potential s
+going-lower t ck s s′ g e = step-sound t ck s s′ (g .sound) e .0
+
+pub going-halt : (t : Table) (s : State) (a : Report) → Going t s → step t s ≡ halt a → report t ≡ a
+going-halt t s a g e = gives-halt t s (report t) a (g .gives) e
+
+-- ---- bounds in every state that is reached
+
+pub data Reached (t : Table) : State → Type 0 where
+  at-begin : Reached t (begin t)
+  by-turn : {state next : State} → Reached t state → step t state ≡ going next → Reached t next
+
+pub reached-going : (t : Table) → Checked t → (s : State) → Reached t s → Going t s
+reached-going t ck s at-begin = going-start t ck
+reached-going t ck s (by-turn {state} h e) = going-step t ck state s (reached-going t ck state h) e
+
+abbrev pub contextOf : State → Context
+contextOf (visiting block frames rows count cx) = cx
+contextOf (ended frames rows count cx) = cx
+contextOf (choosing frame frames rows cx) = cx
+contextOf (popping frame frames rows cx) = cx
+
+abbrev pub framesOf : State → List Frame
+framesOf (visiting block frames rows count cx) = frames
+framesOf (ended frames rows count cx) = frames
+framesOf (choosing frame frames rows cx) = frame ∷ frames
+framesOf (popping frame frames rows cx) = frame ∷ frames
+
+abbrev pub rowsOf : State → List Row
+rowsOf (visiting block frames rows count cx) = rows
+rowsOf (ended frames rows count cx) = rows
+rowsOf (choosing frame frames rows cx) = rows
+rowsOf (popping frame frames rows cx) = rows
+
+abbrev pub counted : State → ℕ
+counted (visiting block frames rows count cx) = count
+counted (ended frames rows count cx) = count
+counted (choosing frame frames rows cx) = 0
+counted (popping frame frames rows cx) = 0
+
+-- a frame that takes cases or is closed is as light as one that awaits a list
+light : (t : Table) (k : ℕ) (fr : Frame) (F : List Frame) (R : List Row) (m : ℕ) (c : Context) → Framed t 1 fr → Frames t F → Holds k (fr ∷ F) R m c → k + length (c .stack) ≤ 1024
+light t k fr F R m c o f h = omega (arith, entries-low t F f, o .entries, marks-below (c .emitted), h .stack, h .marked, h .flags)
+
+pub record Small (state : State) : Type 0 where
+  pub visits : contextOf state .visits ≤ 8192
+  pub frames : length (framesOf state) ≤ 128
+  pub stack : length (contextOf state .stack) ≤ 1024
+  pub ids : contextOf state .nextId ≤ 16384
+  pub rows : length (rowsOf state) ≤ 67239936
+  pub count : counted state + countOf (framesOf state) ≤ length (rowsOf state)
+
+pub sound-small : (t : Table) (s : State) → Sound t s → Small s
+sound-small t (visiting b F R m c) (k, f, h) =
+    record { visits = h .visits; frames = h .depth; stack = omega (arith, stack-most t 0 F R m c f h); ids = omega (arith, h .ids); rows = omega (arith, h .paid, h .visits); count = h .tallied }
+sound-small t (ended F R m c) (f, h) =
+    record { visits = h .visits; frames = h .depth; stack = omega (arith, stack-most t 1 F R m c f h); ids = omega (arith, h .ids); rows = omega (arith, h .paid, h .visits); count = h .tallied }
+sound-small t (choosing fr F R c) (q, o, f, h) =
+    record { visits = h .visits; frames = h .depth; stack = omega (arith, light t 0 fr F R 0 c o f h); ids = omega (arith, h .ids); rows = omega (arith, h .paid, h .visits); count = h .tallied }
+sound-small t (popping fr F R c) (o, f, h) =
+    record { visits = h .visits; frames = h .depth; stack = omega (arith, light t 0 fr F R 0 c o f h); ids = omega (arith, h .ids); rows = omega (arith, h .paid, h .visits); count = h .tallied }
+
+-- "The stack holds at most 1,152 entries": in every state that is reached. (1,024 is what it comes to.)
+pub stack-bound : (t : Table) → Checked t → (s : State) → Reached t s → length (contextOf s .stack) ≤ 1152
+stack-bound t ck s h = let m : Small s = sound-small t s (reached-going t ck s h .sound) in omega (arith, m .stack)
+
+-- and inside a turn: in a block that has just been entered, or where a list has ended, one entry more fits
+pub entered-room : (t : Table) → Checked t → (b : ℕ) (F : List Frame) (R : List Row) (m : ℕ) (c d : Context) → Frames t F → Holds 0 F R m c → enterBlock t b c ≡ ok d → length (d .stack) < 1152
+entered-room t ck b F R m c d f h e =
+    let q : Entered c d = subst (λ (z : Result Context). Good (Entered c) z) e (enter-sound t b c (ck .blocks) (h .flags)) in
+    omega (arith, entries-low t F f, marks-below (d .emitted), q .stack, q .marked, q .flags, h .stack, h .marked)
+
+pub ended-room : (t : Table) (F : List Frame) (R : List Row) (m : ℕ) (c : Context) → Frames t F → Holds 1 F R m c → length (c .stack) < 1152
+ended-room t F R m c f h = omega (arith, stack-most t 1 F R m c f h)
+
+-- ---- so many turns suffice
+
+within : (t : Table) → Checked t → (n : ℕ) (s : State) → potential s < n → Going t s → run t n s ≡ report t
+unfolding run
+within t ck zero s lt g = absurd (omega arith)
+within t ck (suc n) s lt g = at (step t s) refl (λ s′ e. within t ck n s′ (omega (arith, going-lower t ck s s′ g e)) (going-step t ck s s′ g e))
+  where
+    at : (z : Turn) → step t s ≡ z → ((s′ : State) → step t s ≡ going s′ → run t n s′ ≡ report t) → elim z [ going next ↦ run t n next | halt a ↦ a ] ≡ report t
+    at (going s′) e again = again s′ e
+    at (halt a) e again = sym (going-halt t s a g e)
+
+-- from the start, 16,818,177 turns give the report
+pub machine-turns : (t : Table) → Checked t → run t 16818177 (begin t) ≡ report t
+unfolding start
+machine-turns t ck = within t ck 16818177 (begin t) (omega arith) (going-start t ck)
