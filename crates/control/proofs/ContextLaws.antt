@@ -14,7 +14,7 @@ use borrow.Author.Tests.{eq-eqb, eqb-true, eqb-false}
 use Rattle.definition.specs.Result.{ok, _>>=_, refuseIf, already-scheduled}
 use Rattle.definition.specs.Context as definition
 use Rattle.definition.specs.Context.{Flags, or, has, add, no-flags, start, isScheduled, emit, markScopeFallthrough, scheduleCatchHandler, targetBlock, pushed, popped, schedule, scheduleLoop, unscheduledBy, unschedule, unscheduleTop}
-use Rattle.definition.specs.Machine.{popTop}
+use Rattle.definition.specs.Machine as machine
 use Rattle.control.specs.declared.ControlFlowTarget.{ControlFlowTarget}
 use Rattle.control.specs.declared.ControlFlowTarget.the-variants.{If, Switch, Case, Loop}
 use Rattle.control.specs.declared.Entry.{Entry}
@@ -114,10 +114,11 @@ bounded-stored entries n entry named h small bounded =
 
 module _ (target : ControlFlowTarget) (cx : Context) (named : Named target) (room : Room cx) (inside : cx .len < length (cx .stack)) where
   pub scheduled : Scheduled target cx (withEntry target (add (cx .scheduled) (targetBlock (targetOf target))) cx)
-  unfolding schedule contextOf
+  unfolding schedule contextOf machine.scheduled
   scheduled = record {
     state = refl;
     context = λ visits. ap (λ x. refuseIf (has (cx .scheduled) (targetBlock (targetOf target))) already-scheduled (targetBlock (targetOf target)) visits >>= λ _. ok x) (sym (stored-pushed visits target _ cx inside));
+    pushes = λ visits. stored-pushed visits target _ cx inside;
     len = refl;
     id = refl;
     bounded = bounded-stored _ _ _ named inside (room .len);
@@ -133,6 +134,7 @@ module _ (fallthrough continueBlock loopBlock : ℕ) (cx : Context) (named : (fa
   scheduled-loop = record {
     state = refl;
     context = λ visits. rw (← (continue-scheduled (cx .scheduled) fallthrough continueBlock flags), ← (owned (has (add (add (cx .scheduled) fallthrough) continueBlock) loopBlock))) (ap (λ x. refuseIf (has (add (cx .scheduled) fallthrough) continueBlock) 15 continueBlock visits >>= λ _. ok x) (sym (stored-pushed visits (loopTarget (cx .scheduled) fallthrough continueBlock loopBlock) _ cx inside)));
+    pushes = λ visits. stored-pushed visits (loopTarget (cx .scheduled) fallthrough continueBlock loopBlock) _ cx inside;
     len = refl;
     id = refl;
     bounded = bounded-stored _ _ _ named inside (room .len);
@@ -144,9 +146,9 @@ unschedule-top : (cx : definition.Context) (top : definition.Entry) (below : Lis
 unfolding unschedule unscheduleTop
 unschedule-top cx top below e = ap (λ (stack : List definition.Entry). unscheduleTop stack (top .id) cx) e ∙ rw (unscheduleTop, eq-eqb (top .id) (top .id) refl)
 
-pop-top : (cx : definition.Context) (top : definition.Entry) (below : List definition.Entry) → cx .stack ≡ top ∷ below → popTop (cx .stack) cx ≡ ok (popped below (unscheduledBy (top .target) (cx .scheduled)) cx)
-unfolding popTop
-pop-top cx top below e = ap (λ (stack : List definition.Entry). popTop stack cx) e
+unscheduled-top : (cx : definition.Context) (top : definition.Entry) (below : List definition.Entry) → cx .stack ≡ top ∷ below → machine.unscheduled cx ≡ popped below (unscheduledBy (top .target) (cx .scheduled)) cx
+unfolding machine.unscheduled machine.unscheduledTop
+unscheduled-top cx top below e = ap (λ (stack : List definition.Entry). machine.unscheduledTop stack cx) e
 
 module _ (cx : Context) (last : Entry) (top : Last cx last) where
   pub unscheduled : Unscheduled last cx (withoutLast (unscheduledBy (targetOf (last .target)) (cx .scheduled)) cx)
@@ -154,12 +156,8 @@ module _ (cx : Context) (last : Entry) (top : Last cx last) where
   unscheduled = record {
     state = refl;
     context = λ visits. unschedule-top (contextOf visits cx) (entryOf last) (stackOf (cx .stack) (cx .len - 1)) (stack-last (cx .stack) (cx .len) last (top .nonempty) (top .read));
+    pops = λ visits. sym (unscheduled-top (contextOf visits cx) (entryOf last) (stackOf (cx .stack) (cx .len - 1)) (stack-last (cx .stack) (cx .len) last (top .nonempty) (top .read)));
     len = refl;
     id = refl;
     bounded = λ bounded. record { most = omega (arith, bounded .most); named = λ k below. bounded .named k (omega arith) };
   }
-
-  -- a machine that takes a switch's cases off whatever their ids
-  pub pops : (visits : ℕ) → popTop (contextOf visits cx .stack) (contextOf visits cx) ≡ ok (contextOf visits (withoutLast (unscheduledBy (targetOf (last .target)) (cx .scheduled)) cx))
-  unfolding contextOf popped
-  pops visits = pop-top (contextOf visits cx) (entryOf last) (stackOf (cx .stack) (cx .len - 1)) (stack-last (cx .stack) (cx .len) last (top .nonempty) (top .read))

@@ -8,7 +8,8 @@ use lib.ListN.{getD, set, replicate}
 use lib.Dec.{eqb}
 use Rattle.definition.specs.Result.{ok, _>>=_, refuseIf, already-scheduled}
 use Rattle.definition.specs.Context as definition
-use Rattle.definition.specs.Context.{Flags, or, has, add, targetBlock, isLoop, breakKind, continueKind, unscheduledBy, start, schedule, scheduleLoop, unschedule}
+use Rattle.definition.specs.Machine as machine
+use Rattle.definition.specs.Context.{Flags, or, has, add, targetBlock, isLoop, breakKind, continueKind, pushed, unscheduledBy, start, schedule, scheduleLoop, unschedule}
 use Rattle.control.specs.declared.ControlFlowTarget.{ControlFlowTarget}
 use Rattle.control.specs.declared.ControlFlowTarget.the-variants.{If, Switch, Case, Loop}
 use Rattle.control.specs.declared.Entry.{Entry}
@@ -58,7 +59,8 @@ loopTarget scheduled fallthrough continueBlock loopBlock = Loop fallthrough cont
 abbrev pub loopScheduled : Flags → (fallthrough continueBlock loopBlock : ℕ) → Flags
 loopScheduled scheduled fallthrough continueBlock loopBlock = add (add (add scheduled fallthrough) continueBlock) loopBlock
 
--- ---- the promises. `context` is the equation with the definition, `state` says every field
+-- ---- the promises. `context` is the equation with the definition, refusals included, `pushes` and `pops` those of the machine, which asks none;
+-- `state` says every field
 
 pub record Created (r : Context) : Type 0 where
   pub context : contextOf 0 r ≡ start
@@ -70,6 +72,7 @@ pub record Created (r : Context) : Type 0 where
 pub record Scheduled (target : ControlFlowTarget) (self r : Context) : Type 0 where
   pub state : r ≡ withEntry target (add (self .scheduled) (targetBlock (targetOf target))) self
   pub context : (visits : ℕ) → schedule (targetOf target) (contextOf visits self) ≡ (refuseIf (has (self .scheduled) (targetBlock (targetOf target))) already-scheduled (targetBlock (targetOf target)) visits >>= λ _. ok (contextOf visits (stored r)))
+  pub pushes : (visits : ℕ) → contextOf visits (stored r) ≡ machine.scheduled (targetOf target) (contextOf visits self)
   pub len : r .len ≡ self .len + 1
   pub id : r .«next_schedule_id» ≡ self .«next_schedule_id» + 1
   pub bounded : Bounded (self .stack) (self .len) → Bounded (set (r .stack) (r .len - 1) (r .pushed)) (r .len)
@@ -77,6 +80,7 @@ pub record Scheduled (target : ControlFlowTarget) (self r : Context) : Type 0 wh
 pub record ScheduledLoop (fallthrough continueBlock loopBlock : ℕ) (self r : Context) : Type 0 where
   pub state : r ≡ withEntry (loopTarget (self .scheduled) fallthrough continueBlock loopBlock) (loopScheduled (self .scheduled) fallthrough continueBlock loopBlock) self
   pub context : (visits : ℕ) → scheduleLoop fallthrough continueBlock (some loopBlock) (contextOf visits self) ≡ (refuseIf (continueScheduled (self .scheduled) fallthrough continueBlock) 15 continueBlock visits >>= λ _. ok (contextOf visits (stored r)))
+  pub pushes : (visits : ℕ) → contextOf visits (stored r) ≡ pushed (targetOf (loopTarget (self .scheduled) fallthrough continueBlock loopBlock)) (loopScheduled (self .scheduled) fallthrough continueBlock loopBlock) (contextOf visits self)
   pub len : r .len ≡ self .len + 1
   pub id : r .«next_schedule_id» ≡ self .«next_schedule_id» + 1
   pub bounded : Bounded (self .stack) (self .len) → Bounded (set (r .stack) (r .len - 1) (r .pushed)) (r .len)
@@ -84,6 +88,7 @@ pub record ScheduledLoop (fallthrough continueBlock loopBlock : ℕ) (self r : C
 pub record Unscheduled (last : Entry) (self r : Context) : Type 0 where
   pub state : r ≡ withoutLast (unscheduledBy (targetOf (last .target)) (self .scheduled)) self
   pub context : (visits : ℕ) → unschedule (last .id) (contextOf visits self) ≡ ok (contextOf visits r)
+  pub pops : (visits : ℕ) → contextOf visits r ≡ machine.unscheduled (contextOf visits self)
   pub len : r .len ≡ self .len - 1
   pub id : r .«next_schedule_id» ≡ self .«next_schedule_id»
   pub bounded : Bounded (self .stack) (self .len) → Bounded (r .stack) (r .len)
