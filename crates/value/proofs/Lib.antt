@@ -1,0 +1,6 @@
+pub mod TableLaws
+pub mod Ranges
+pub mod MetLaws
+pub mod ExtractLaws
+pub mod WalkLaws
+pub mod FlattenLaws

@@ -1,0 +1,50 @@
+use Rattle.value.specs.Met.{blockResult}
+use native.Mathlib.Omega.{arith}
+use mathlib.Core.Path.{_≡_, refl, sym, ap, _∙_}
+use borrow.Author.Needs.{needs}
+use Rattle.value.proofs.instructions.wrap_with_sequence.Statement.{statement}
+use Rattle.value.proofs.instructions.wrap_with_sequence.Tie as tie
+use Rattle.value.proofs.instructions.wrap_with_sequence.Reads as reads
+use Rattle.value.proofs.instructions.wrap_with_sequence.Lts as lts
+use Rattle.value.proofs.result.found.Reads as found-reads
+use Rattle.value.proofs.result.put_row.Reads as put-row-reads
+
+returns : tie.Need-returns
+returns c =
+    let at-entry = c .before .before in
+    record { code = at-entry .pre .code; same = λ v. refl; none = λ _. (refl, refl); some = λ f. absurd (f (c .if1 .taken)); kept = λ f. absurd (f (c .if1 .taken)); visits = refl; most = omega arith }
+
+put-row-requires : tie.Need-put-row-requires
+put-row-requires c κs = search needs
+
+add-t9 : tie.Need-add-t9
+add-t9 c = search needs
+
+add-t10 : tie.Need-add-t10
+add-t10 c = search needs
+
+found-requires : tie.Need-found-requires
+found-requires c κs = search needs
+
+same-length : tie.Need-same-length
+same-length c = search needs
+
+returns-2 : tie.Need-returns-2
+returns-2 c =
+    let at-put-row = c .before .before .before .before .before in
+    let at-if1 = at-put-row .before .before in
+    let seq = at-put-row .put-row .ensures in
+    rw (c .found .ensures) (record {
+      code = refl;
+      same = λ v. rw (seq .visits);
+      none = λ e. absurd (at-if1 .if1 .left e);
+      some = λ _. (refl, seq .rows);
+      kept = λ _. seq .kept;
+      visits = seq .visits;
+      most = omega (arith, seq .rows);
+    })
+
+pub wrap-with-sequence-spec : {M : Type 1} → statement M
+wrap-with-sequence-spec =
+    tie.close
+    (tie.spec returns put-row-requires add-t9 add-t10 found-requires same-length returns-2)
