@@ -5,12 +5,12 @@ use mathlib.Core.List.{List, [], _∷_}
 use mathlib.Core.Bool.{Bool, true, false, not}
 use native.Mathlib.Omega.{arith}
 use lib.ListN.{length, getD}
-use lib.Dec.{leb, ltb, eqb}
+use lib.Dec.{leb}
 use borrow.Author.Tests.{lt-ltb, le-ltb, le-leb, lt-leb, eq-eqb, ne-eqb, not-true, not-false, leb-true}
 use Rattle.table.specs.Words.{word, entryWord, blockCount, instructionCount, caseCount, placeCount, identifierCount, wordsNeeded}
 use Rattle.table.specs.Check.{Verdict, accepted, refused, andThen, limits, countsVerdict, wordsVerdict, checked}
 use Rattle.table.specs.Answer.{isAccepted, firstOver}
-use Rattle.table.specs.Promise.{Limited, Sized}
+use Rattle.table.specs.Promise.{Limited}
 
 -- ---- the head
 

@@ -7,11 +7,11 @@ use mathlib.Core.Logic.{_⊎_, inl, inr}
 use native.Mathlib.Omega.{arith}
 use native.Mathlib.Nat.{zero-add}
 use lib.ListN.{length, getD}
-use lib.Dec.{leb, ltb, eqb}
-use borrow.Author.Tests.{ltb-true, leb-true, eqb-true, ltb-false, eqb-false, lt-ltb, le-ltb, le-leb, eq-eqb}
+use lib.Dec.{ltb, eqb}
+use borrow.Author.Tests.{ltb-true, leb-true, eqb-true, ltb-false, eqb-false, lt-ltb, le-ltb, le-leb}
 use Rattle.table.specs.Words.{word, entryWord, blockCount, instructionCount, caseCount, placeCount, identifierCount, wordsNeeded, blocksBegin, instructionsBegin, casesBegin, placesBegin, identifiersBegin, blockWord, instructionWord, caseWord, placeWord, identifierWord, largest}
-use Rattle.table.specs.Check.{Verdict, accepted, refused, Rule, unused, number, row, row-or-none, rows-from, fits, rowVerdict, rowsVerdict, andThen, limits, countsVerdict, wordsVerdict, checked, terminalRules, blockRules, instructionRules, caseRules, placeRules, identifierRules}
-use Rattle.table.specs.Promise.{Limited, Sized, Promise}
+use Rattle.table.specs.Check.{Verdict, accepted, refused, Rule, unused, number, row, row-or-none, rows-from, fits, rowVerdict, rowsVerdict, limits, countsVerdict, wordsVerdict, checked, blockRules, instructionRules, caseRules, placeRules, identifierRules}
+use Rattle.table.specs.Promise.{Limited, Promise}
 use Rattle.table.proofs.RowLaws.{row-fits, fits-row, rows-row, row-rows, on, both}
 use Rattle.table.proofs.RuleLaws.{block-width, instruction-width, case-width, place-width, identifier-width}
 use Rattle.table.proofs.CheckLaws.{limited, counts-all, checked-short, checked-length, checked-entry, checked-words}

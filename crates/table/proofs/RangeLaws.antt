@@ -1,17 +1,17 @@
 -- What the promise gives of a row, whatever its code; and so of the table's rows.
 use Prim.Native.Nat.{ℕ, zero, suc, _+_, _<_, _≤_}
-use mathlib.Core.Path.{_≡_, refl, sym, subst, _∙_}
+use mathlib.Core.Path.{_≡_, refl, sym, subst}
 use mathlib.Core.List.{List, [], _∷_}
 use mathlib.Core.Bool.{Bool, true, false, _||_}
-use mathlib.Core.Option.{Option, none, some}
+use mathlib.Core.Option.{none, some}
 use mathlib.Core.Logic.{_⊎_, inl, inr, ⊎-elim}
 use native.Mathlib.Omega.{arith}
-use lib.ListN.{length, getD, getD-replicate}
+use lib.ListN.{getD, getD-replicate}
 use lib.Dec.{ltb, eqb}
 use borrow.Author.Tests.{eqb-true, eqb-false, ltb-true}
-use Rattle.table.specs.Words.{blockCount, instructionCount, caseCount, placeCount, identifierCount, blockWord, instructionWord, caseWord, largest}
-use Rattle.table.specs.Check.{Rule, unused, number, row, row-or-none, rows-from, fits, block, block-or-none, place, place-or-none, rulesByCode, terminalRules, blockRules, operandsByCode, operandRules, instructionRules, caseRules}
-use Rattle.table.specs.Table.{Block, Terminal, absent, terminalsByCode, terminalOf, unlessNone, Operation, other, operationOf, blockAt, blockOf, terminalAt, instructionAt, instructionOf, tableOf}
+use Rattle.table.specs.Words.{blockCount, instructionCount, caseCount, placeCount, blockWord, instructionWord, caseWord, largest}
+use Rattle.table.specs.Check.{Rule, unused, number, row-or-none, rows-from, fits, block, block-or-none, place, place-or-none, rulesByCode, terminalRules, blockRules, operandRules, instructionRules, caseRules}
+use Rattle.table.specs.Table.{Block, Terminal, absent, terminalsByCode, terminalOf, unlessNone, operationOf, blockAt, blockOf, terminalAt, instructionAt, instructionOf, tableOf}
 use Rattle.table.specs.Promise.{Promise, InRange, OperandsInRange, BelowUnlessNone}
 use Rattle.table.proofs.RuleLaws.{absent as absent-rules, present as present-rules}
 use Rattle.table.proofs.TableLaws.{block-at, instruction-at}
@@ -36,96 +36,54 @@ below-5 P a b c d e (suc (suc (suc (suc zero)))) l = e
 below-5 P a b c d e (suc (suc (suc (suc (suc k))))) l = absurd (omega arith)
 
 -- lists in step: what holds of the heads and of the rest holds at every place
-abbrev Each : (Terminal → List Rule → Type 0) → List Terminal → List (List Rule) → Type 0
-Each P [] [] = Unit {0}
-Each P [] (r ∷ rs) = ⊥
-Each P (t ∷ ts) [] = ⊥
-Each P (t ∷ ts) (r ∷ rs) = P t r × Each P ts rs
+data Each (P : Terminal → List Rule → Type 0) : List Terminal → List (List Rule) → Type 0 where
+  ends : Each P [] []
+  _and_ : {t : Terminal} {ts : List Terminal} {r : List Rule} {rs : List (List Rule)} → P t r → Each P ts rs → Each P (t ∷ ts) (r ∷ rs)
 
+infixr 5 _and_
 each : (P : Terminal → List Rule → Type 0) → P absent [] → (ts : List Terminal) (rs : List (List Rule)) → Each P ts rs → (n : ℕ) → P (getD ts n absent) (getD rs n [])
-each P o [] [] h n = o
-each P o [] (r ∷ rs) h n = absurd h
-each P o (t ∷ ts) [] h n = absurd h
-each P o (t ∷ ts) (r ∷ rs) h zero = h .0
-each P o (t ∷ ts) (r ∷ rs) h (suc n) = each P o ts rs (h .1) n
+each P o [] [] ends n = o
+each P o (t ∷ ts) (r ∷ rs) (h and hs) zero = h
+each P o (t ∷ ts) (r ∷ rs) (h and hs) (suc n) = each P o ts rs hs n
 
 -- columns that fit the rules of a code give a terminal in range
 module _ (ws : List ℕ) (code a b c d e : ℕ) where
-  abbrev Fitting : List Rule → Type 0
-  Fitting rules = (k : ℕ) → k < 5 → fits (getD rules k unused) (getD (a ∷ b ∷ c ∷ d ∷ e ∷ []) k 0) ≡ true
+  record Fitting (rules : List Rule) : Type 0 where
+    fit-a : fits (getD rules 0 unused) a ≡ true
+    fit-b : fits (getD rules 1 unused) b ≡ true
+    fit-c : fits (getD rules 2 unused) c ≡ true
+    fit-d : fits (getD rules 3 unused) d ≡ true
+    fit-e : fits (getD rules 4 unused) e ≡ true
 
   abbrev Ranged : Terminal → Type 0
   Ranged = InRange (blockCount ws) (placeCount ws) (caseCount ws)
 
   terminal-in-range : Fitting (terminalRules ws code b) → Ranged (terminalOf code a b c d e)
   unfolding terminalRules terminalOf block block-or-none place place-or-none
-  terminal-in-range = each (λ t rules. Fitting rules → Ranged t) (λ _. tt) (terminalsByCode a b c d e) (rulesByCode ws b) (
-    λ h. tt,
-    (
-      λ h. tt,
-      (
-        λ h. row-below _ _ (h 0 (omega arith)),
-        (
-          λ h. row-below _ _ (h 0 (omega arith)),
-          (
-            λ h. row-below _ _ (h 0 (omega arith)),
-            (
-              λ h. (row-below _ _ (h 0 (omega arith)), row-below _ _ (h 1 (omega arith)), row-below _ _ (h 2 (omega arith)), row-below _ _ (h 3 (omega arith))),
-              (
-                λ h. (row-below _ _ (h 0 (omega arith)), row-below _ _ (h 1 (omega arith)), row-below _ _ (h 2 (omega arith))),
-                (
-                  λ h. (row-below _ _ (h 0 (omega arith)), rows-within _ _ _ (h 2 (omega arith)), row-below _ _ (h 3 (omega arith))),
-                  (
-                    λ h. (row-below _ _ (h 0 (omega arith)), row-below _ _ (h 1 (omega arith)), row-below _ _ (h 2 (omega arith))),
-                    (
-                      λ h. (row-below _ _ (h 0 (omega arith)), row-below _ _ (h 1 (omega arith)), row-below _ _ (h 2 (omega arith))),
-                      (
-                        λ h. (row-below _ _ (h 0 (omega arith)), row-below _ _ (h 1 (omega arith)), below-unless-none _ _ (h 2 (omega arith)), row-below _ _ (h 3 (omega arith)), row-below _ _ (h 4 (omega arith))),
-                        (
-                          λ h. (row-below _ _ (h 0 (omega arith)), row-below _ _ (h 1 (omega arith)), row-below _ _ (h 2 (omega arith)), row-below _ _ (h 3 (omega arith))),
-                          (
-                            λ h. (row-below _ _ (h 0 (omega arith)), row-below _ _ (h 1 (omega arith)), row-below _ _ (h 2 (omega arith))),
-                            (
-                              λ h. (number-most _ _ (h 0 (omega arith)), row-below _ _ (h 1 (omega arith)), row-below _ _ (h 2 (omega arith))),
-                              (
-                                λ h. (row-below _ _ (h 0 (omega arith)), row-below _ _ (h 1 (omega arith))),
-                                (
-                                  λ h. (number-most _ _ (h 0 (omega arith)), row-below _ _ (h 1 (omega arith)), row-below _ _ (h 2 (omega arith))),
-                                  (
-                                    λ h. (row-below _ _ (h 0 (omega arith)), row-below _ _ (h 1 (omega arith))),
-                                    (
-                                      λ h. (row-below _ _ (h 0 (omega arith)), row-below _ _ (h 1 (omega arith))),
-                                      (
-                                        λ h. row-below _ _ (h 0 (omega arith)),
-                                        (
-                                          λ h. (row-below _ _ (h 0 (omega arith)), row-below _ _ (h 1 (omega arith)), row-below _ _ (h 2 (omega arith)), below-unless-none _ _ (h 3 (omega arith))),
-                                          (
-                                            λ h. (row-below _ _ (h 0 (omega arith)), row-below _ _ (h 1 (omega arith)), number-most _ _ (h 2 (omega arith))),
-                                            (
-                                              λ h. (row-below _ _ (h 0 (omega arith)), row-below _ _ (h 1 (omega arith)), number-most _ _ (h 2 (omega arith))),
-                                              tt,
-                                            ),
-                                          ),
-                                        ),
-                                      ),
-                                    ),
-                                  ),
-                                ),
-                              ),
-                            ),
-                          ),
-                        ),
-                      ),
-                    ),
-                  ),
-                ),
-              ),
-            ),
-          ),
-        ),
-      ),
-    ),
-  )
+  terminal-in-range = each (λ t rules. Fitting rules → Ranged t) (λ _. tt) (terminalsByCode a b c d e) (rulesByCode ws b)
+      ((λ h. tt)
+      and (λ h. tt)
+      and (λ h. row-below _ _ (h .fit-a))
+      and (λ h. row-below _ _ (h .fit-a))
+      and (λ h. row-below _ _ (h .fit-a))
+      and (λ h. (row-below _ _ (h .fit-a), row-below _ _ (h .fit-b), row-below _ _ (h .fit-c), row-below _ _ (h .fit-d)))
+      and (λ h. (row-below _ _ (h .fit-a), row-below _ _ (h .fit-b), row-below _ _ (h .fit-c)))
+      and (λ h. (row-below _ _ (h .fit-a), rows-within _ _ _ (h .fit-c), row-below _ _ (h .fit-d)))
+      and (λ h. (row-below _ _ (h .fit-a), row-below _ _ (h .fit-b), row-below _ _ (h .fit-c)))
+      and (λ h. (row-below _ _ (h .fit-a), row-below _ _ (h .fit-b), row-below _ _ (h .fit-c)))
+      and (λ h. (row-below _ _ (h .fit-a), row-below _ _ (h .fit-b), below-unless-none _ _ (h .fit-c), row-below _ _ (h .fit-d), row-below _ _ (h .fit-e)))
+      and (λ h. (row-below _ _ (h .fit-a), row-below _ _ (h .fit-b), row-below _ _ (h .fit-c), row-below _ _ (h .fit-d)))
+      and (λ h. (row-below _ _ (h .fit-a), row-below _ _ (h .fit-b), row-below _ _ (h .fit-c)))
+      and (λ h. (number-most _ _ (h .fit-a), row-below _ _ (h .fit-b), row-below _ _ (h .fit-c)))
+      and (λ h. (row-below _ _ (h .fit-a), row-below _ _ (h .fit-b)))
+      and (λ h. (number-most _ _ (h .fit-a), row-below _ _ (h .fit-b), row-below _ _ (h .fit-c)))
+      and (λ h. (row-below _ _ (h .fit-a), row-below _ _ (h .fit-b)))
+      and (λ h. (row-below _ _ (h .fit-a), row-below _ _ (h .fit-b)))
+      and (λ h. row-below _ _ (h .fit-a))
+      and (λ h. (row-below _ _ (h .fit-a), row-below _ _ (h .fit-b), row-below _ _ (h .fit-c), below-unless-none _ _ (h .fit-d)))
+      and (λ h. (row-below _ _ (h .fit-a), row-below _ _ (h .fit-b), number-most _ _ (h .fit-c)))
+      and (λ h. (row-below _ _ (h .fit-a), row-below _ _ (h .fit-b), number-most _ _ (h .fit-c)))
+      and ends)
       code
 
 module _ (ws : List ℕ) (b : ℕ) where
@@ -171,8 +129,13 @@ module _ (ws : List ℕ) (p : Promise ws) (b : ℕ) (inside : b < blockCount ws)
       (terminal-in-range ws (blockWord ws b 2) (blockWord ws b 3) (blockWord ws b 4) (blockWord ws b 5) (blockWord ws b 6) (blockWord ws b 7) fitting)
     where
       fitting : Fitting ws (blockWord ws b 2) (blockWord ws b 3) (blockWord ws b 4) (blockWord ws b 5) (blockWord ws b 6) (blockWord ws b 7) (terminalRules ws (blockWord ws b 2) (blockWord ws b 4))
-      fitting = below-5 (λ k. fits (getD (terminalRules ws (blockWord ws b 2) (blockWord ws b 4)) k unused) (getD (blockWord ws b 3 ∷ blockWord ws b 4 ∷ blockWord ws b 5 ∷ blockWord ws b 6 ∷ blockWord ws b 7 ∷ []) k 0) ≡ true)
-          (terminal-fits 0 (omega arith)) (terminal-fits 1 (omega arith)) (terminal-fits 2 (omega arith)) (terminal-fits 3 (omega arith)) (terminal-fits 4 (omega arith))
+      fitting = record {
+        fit-a = terminal-fits 0 (omega arith);
+        fit-b = terminal-fits 1 (omega arith);
+        fit-c = terminal-fits 2 (omega arith);
+        fit-d = terminal-fits 3 (omega arith);
+        fit-e = terminal-fits 4 (omega arith);
+      }
 
   pub run-in-range : blockAt (tableOf ws) b .first + blockAt (tableOf ws) b .count ≤ instructionCount ws
   unfolding blockOf

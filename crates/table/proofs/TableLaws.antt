@@ -1,11 +1,11 @@
 -- A row of the table is that of the words.
-use Prim.Native.Nat.{ℕ, zero, suc, _+_, _<_, _≤_}
+use Prim.Native.Nat.{ℕ, zero, suc, _<_}
 use mathlib.Core.Path.{_≡_, refl, ap}
-use mathlib.Core.List.{List, [], _∷_}
+use mathlib.Core.List.{List}
 use native.Mathlib.Omega.{arith}
 use lib.ListN.{length, getD}
 use Rattle.table.specs.Words.{blockCount, instructionCount, caseCount, placeCount, identifierCount, placeWord, identifierWord}
-use Rattle.table.specs.Table.{Block, Instruction, Case, tabulate, tableOf, blockAt, blockOf, instructionAt, instructionOf, caseOf}
+use Rattle.table.specs.Table.{Case, tabulate, tableOf, blockAt, blockOf, instructionAt, instructionOf, caseOf}
 
 module _ {A : Type 0} where
   pub length-tabulate : (f : ℕ → A) (n : ℕ) → length (tabulate f n) ≡ n

@@ -1,7 +1,7 @@
 -- Paper 01, "Whoever fills the words": refusals 1 to 4 with their places, in the paper's order.
 use Prim.Native.Nat.{ℕ, zero, suc, _+_}
-use mathlib.Core.List.{List, [], _∷_, _++_}
-use mathlib.Core.Bool.{Bool, true, false, not, _||_}
+use mathlib.Core.List.{List, [], _∷_}
+use mathlib.Core.Bool.{Bool, true, false, _||_}
 use lib.ListN.{getD, length, replicate}
 use lib.Dec.{eqb, leb, ltb}
 use Rattle.table.specs.Words.{word, entryWord, blockCount, instructionCount, caseCount, placeCount, identifierCount, blocksBegin, instructionsBegin, casesBegin, placesBegin, identifiersBegin, wordsNeeded, blockWord, instructionWord, largest}

@@ -1,5 +1,5 @@
 -- The table that the words stand for: rows as records, a block's end as one of the paper's terminals. Below this file nothing looks at words.
-use Prim.Native.Nat.{ℕ, zero, suc, _+_}
+use Prim.Native.Nat.{ℕ, zero, suc}
 use mathlib.Core.List.{List, [], _∷_}
 use mathlib.Core.Option.{Option, none, some}
 use mathlib.Core.Bool.{Bool, true, false}

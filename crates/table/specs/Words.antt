@@ -1,6 +1,6 @@
 -- Paper 01, "Input words": six head words, then the five tables in the head's order, nothing after.
-use Prim.Native.Nat.{ℕ, zero, suc, _+_, _*_}
-use mathlib.Core.List.{List, [], _∷_}
+use Prim.Native.Nat.{ℕ, _+_, _*_}
+use mathlib.Core.List.{List}
 use lib.ListN.{getD}
 
 -- the word at a place; 0 beyond the end

@@ -1,15 +1,13 @@
 // Refusals 1 to 4 of paper 01, and the accessors that index the words by what the check promises.
 mod rows;
-mod rules;
 pub mod words;
 
 ghost use mathlib.Core.Path.{_≡_};
-ghost use Prim.Native.Nat.{_+_, _*_, _<_, _≤_};
+ghost use Prim.Native.Nat.{_≤_};
 ghost use lib.ListN.{length};
-ghost use Rattle.table.specs.Words.{word, blocksBegin, instructionsBegin, casesBegin, placesBegin, identifiersBegin};
-ghost use Rattle.table.specs.Check.{checked, countsVerdict, limits, wordsVerdict};
+ghost use Rattle.table.specs.Check.{checked, limits, wordsVerdict};
 ghost use Rattle.table.specs.Answer.{verdictOf, codeOf, placeOf, isAccepted, firstOver};
-ghost use Rattle.table.specs.Promise.{Limited, Sized};
+ghost use Rattle.table.specs.Promise.{Sized};
 
 // What the check finds. Paper 01's code and place of each: `verdictOf` in specs/Answer.antt.
 pub enum Checked {

@@ -1,7 +1,7 @@
-// The only functions that index the words. Where the tables begin is worked out from the head at each access: the head's words are at hand
-// in the cache, and no caller has to carry the places and a fact about them.
+// The only functions that index the words. Where a table begins is worked out from the head at each access: that costs a few loads from a line
+// that is always in the cache, and no caller has to carry the beginnings along with a fact about them.
 ghost use mathlib.Core.Path.{_≡_};
-ghost use Prim.Native.Nat.{_+_, _*_, _<_, _≤_};
+ghost use Prim.Native.Nat.{_<_, _≤_};
 ghost use lib.ListN.{length};
 ghost use Rattle.table.specs.Words.{entryWord, blockCount, instructionCount, caseCount, placeCount, identifierCount};
 ghost use Rattle.table.specs.Words.{instructionsBegin, casesBegin, placesBegin, identifiersBegin, wordsNeeded};

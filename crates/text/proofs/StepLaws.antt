@@ -2,15 +2,15 @@
 use mathlib.Core.Path.{_≡_, refl, sym, ap, subst, _∙_}
 use mathlib.Core.Bool.{Bool, true, false}
 use mathlib.Core.List.{List, [], _∷_, _++_, append-nil, append-assoc}
-use mathlib.Core.Logic.{_⊎_, inl, inr, ⊎-elim}
-use Prim.Native.Nat.{ℕ, zero, suc, _+_, _*_, _^_, _≤_, _<_}
+use mathlib.Core.Logic.{inl, inr, ⊎-elim}
+use Prim.Native.Nat.{ℕ, suc, _+_, _*_, _^_, _≤_, _<_}
 use native.Mathlib.Omega.{arith}
 use native.Mathlib.Numerals.{add-one}
 use lib.ListN.{length, take, drop, getD}
 use lib.Seq.{take-suc, take-length, split-at, append-snoc}
 use Rattle.text.specs.Form.{Form, finished, byte, field, digits, ending, Text, whole}
 use Rattle.text.specs.Steps.{Reached, Stopped, NumberRead, numberRefused}
-use Rattle.text.specs.declared.read.Number.{Number}
+use Rattle.text.specs.declared.number.Number.{Number}
 
 -- at first all of the file is to come
 pub reached-none : (file : List ℕ) → Reached file 0 [] whole

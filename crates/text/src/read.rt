@@ -1,12 +1,7 @@
-ghost use mathlib.Core.Path.{_≡_};
-ghost use Prim.Native.Nat.{_+_, _≤_, _<_};
 ghost use lib.ListN.{length};
 ghost use Rattle.text.specs.Answer.{Answered};
-ghost use Rattle.text.specs.Form.{ending, rows, table, tables};
-ghost use Rattle.text.specs.Steps.{Digit, Extended, NumberRead, numberRefused, Near, NamesRead, PartRead, RowRead, FileRead, cursorAt, cursorRefused};
 use crate::lent::clear_words;
-use crate::lent::put_word;
-use crate::lent::put_words;
+use crate::table::read_file;
 
 // What reading a file gives.
 pub enum Answer {
@@ -18,6 +13,7 @@ pub enum Answer {
     NoRoom,
 }
 
+<<<<<<< HEAD
 // How far the reading has come: the next byte and the number of words so far; or the byte that it is refused at.
 pub struct Cursor {
     pub refused: bool,
@@ -278,6 +274,8 @@ fn read_file(file: &[u8], words: &mut [u32]) -> Cursor
     end
 }
 
+=======
+>>>>>>> main
 // Reads a file: its words into the lent ones, then zeros. Where there is no such answer the lent words are all zeros.
 pub fn read(file: &[u8], words: &mut [u32]) -> Answer
     ensures { λ r. ⌜ Answered (now (file .entry)) (length (now (words .entry))) (now (words .exit)) r ⌝ }

@@ -6,8 +6,15 @@ use super::Refusal;
 #[derive(Clone, Copy)]
 pub enum Target {
     /// If, Switch or Case: only its end counts.
-    Plain { block: u32 },
-    Loop { block: u32, continue_block: u32, loop_block: u32, owns_loop: bool },
+    Plain {
+        block: u32,
+    },
+    Loop {
+        block: u32,
+        continue_block: u32,
+        loop_block: u32,
+        owns_loop: bool,
+    },
 }
 
 impl Target {
@@ -15,6 +22,10 @@ impl Target {
         match self {
             Target::Plain { block } | Target::Loop { block, .. } => block,
         }
+    }
+
+    fn continues_at(self, block: u32) -> bool {
+        matches!(self, Target::Loop { continue_block, .. } if continue_block == block)
     }
 
     fn is_loop(self) -> bool {
@@ -108,36 +119,29 @@ impl Context {
         }
     }
 
-    /// The kind of a break to this block, or nothing if no entry has it.
+    /// The kind of a break to this block, or nothing if no entry has it. The innermost counts.
     pub fn break_kind(&self, block: u32) -> Option<u32> {
-        let above = self.stack.iter().rev().position(|target| target.block() == block)?;
-        let found = self.stack.len() - 1 - above;
-        let loop_above = self.stack[found + 1..].iter().any(|target| target.is_loop());
-        Some(match (self.stack[found].is_loop(), above) {
-            (true, _) if loop_above => LABELED,
-            (true, _) => UNLABELED,
-            (false, 0) => IMPLICIT,
-            (false, _) => LABELED,
+        let found = self.stack.iter().rposition(|target| target.block() == block)?;
+        let above = &self.stack[found + 1..];
+        Some(match self.stack[found] {
+            Target::Loop { .. } if above.iter().any(|target| target.is_loop()) => LABELED,
+            Target::Loop { .. } => UNLABELED,
+            Target::Plain { .. } if above.is_empty() => IMPLICIT,
+            Target::Plain { .. } => LABELED,
         })
     }
 
     /// The end of the innermost loop with this continue block, and the kind of a continue to it.
     pub fn continue_target(&self, block: u32) -> Option<(u32, u32)> {
-        for (above, target) in self.stack.iter().rev().enumerate() {
-            if let Target::Loop { block: end, continue_block, .. } = *target
-                && continue_block == block
-            {
-                let inner = &self.stack[self.stack.len() - above..];
-                let kind = if inner.iter().any(|target| target.is_loop()) {
-                    LABELED
-                } else if above == 0 {
-                    IMPLICIT
-                } else {
-                    UNLABELED
-                };
-                return Some((end, kind));
-            }
-        }
-        None
+        let found = self.stack.iter().rposition(|target| target.continues_at(block))?;
+        let above = &self.stack[found + 1..];
+        let kind = if above.iter().any(|target| target.is_loop()) {
+            LABELED
+        } else if above.is_empty() {
+            IMPLICIT
+        } else {
+            UNLABELED
+        };
+        Some((self.stack[found].block(), kind))
     }
 }

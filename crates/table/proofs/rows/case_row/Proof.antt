@@ -1,68 +1,68 @@
-use mathlib.Core.Path.{_≡_, refl, sym, ap, _∙_}
-use Rattle.table.proofs.RowLaws.{passed, failed, all-fit}
-use Rattle.table.specs.Check.{caseRules, block, place-or-none}
+-- `table::rows::case_row` meets its contract.
+use mathlib.Core.Path.{refl}
 use borrow.Author.Needs.{needs}
+use Rattle.table.specs.Check.{caseRules, block, place-or-none}
+use Rattle.table.proofs.RowLaws.{passed, failed, all-fit}
 use Rattle.table.proofs.rows.case_row.Statement.{statement}
 use Rattle.table.proofs.rows.case_row.Tie as tie
-use Rattle.table.proofs.rows.case_row.Reads as reads
-use Rattle.table.proofs.rows.case_row.Lts as lts
-use Rattle.table.proofs.rules.fits.Reads as fits-reads
-use Rattle.table.proofs.words.block_count.Reads as block-count-reads
-use Rattle.table.proofs.words.case_word.Reads as case-word-reads
-use Rattle.table.proofs.words.place_count.Reads as place-count-reads
 
--- src/rows.rt:136:9
-place-count-requires : tie.Need-place-count-requires
-place-count-requires c κs = search needs
-
--- src/rows.rt:137:39
 case-word-requires : tie.Need-case-word-requires
 case-word-requires c κs = search needs
 
--- src/rows.rt:137:9
-fits-requires : tie.Need-fits-requires
-fits-requires c κs = search needs
+place-count-requires : tie.Need-place-count-requires
+place-count-requires c κs = search needs
 
--- src/rows.rt:138:9
+row-or-none-requires : tie.Need-row-or-none-requires
+row-or-none-requires c κs = search needs
+
 returns : tie.Need-returns
 unfolding caseRules block place-or-none
-returns c = rw (← (c .before .before .before .place-count .ensures)) (failed _ _ _ _ (c .before .before .case-word .ensures) (c .before .fits2 .ensures) (c .if1 .taken))
+returns c =
+    let at-row-or-none = c .before in
+    let at-place-count = at-row-or-none .before in
+    let at-case-word = at-place-count .before in
+    rw (← (at-place-count .place-count .ensures)) (failed _ _ _ _ (at-case-word .case-word .ensures) (at-row-or-none .row-or-none .ensures) (c .if1 .taken))
 
--- src/rows.rt:140:9
-block-count-requires : tie.Need-block-count-requires
-block-count-requires c κs = search needs
-
--- src/rows.rt:141:33
 case-word-requires-2 : tie.Need-case-word-requires-2
 case-word-requires-2 c κs = search needs
 
--- src/rows.rt:141:9
-fits-requires-2 : tie.Need-fits-requires-2
-fits-requires-2 c κs = search needs
+block-count-requires : tie.Need-block-count-requires
+block-count-requires c κs = search needs
 
--- src/rows.rt:142:9
 returns-2 : tie.Need-returns-2
 unfolding caseRules block place-or-none
-returns-2 c = rw (← (c .before .before .before .before .before .before .before .place-count .ensures), ← (c .before .before .before .block-count .ensures)) (passed _ _ _ _ (c .before .before .before .before .before .before .case-word .ensures) (c .before .before .before .before .before .fits2 .ensures) (c .before .before .before .before .if1 .left)
-    (failed _ _ _ _ (c .before .before .case-word2 .ensures) (c .before .fits3 .ensures) (c .if2 .taken)))
+returns-2 c =
+    let at-block-count = c .before in
+    let at-case-word2 = at-block-count .before in
+    let at-if1 = at-case-word2 .before in
+    let at-row-or-none = at-if1 .before in
+    let at-place-count = at-row-or-none .before in
+    let at-case-word = at-place-count .before in
+    rw (← (at-place-count .place-count .ensures), ← (at-block-count .block-count .ensures)) (passed _ _ _ _ (at-case-word .case-word .ensures) (at-row-or-none .row-or-none .ensures) (at-if1 .if1 .left)
+    (failed _ _ _ _ (at-case-word2 .case-word2 .ensures) refl (c .if2 .taken)))
 
--- src/rows.rt:131:1
 returns-3 : tie.Need-returns-3
 unfolding caseRules block place-or-none
-returns-3 c = rw (← (c .before .before .before .before .before .before .before .place-count .ensures), ← (c .before .before .before .block-count .ensures)) (passed _ _ _ _ (c .before .before .before .before .before .before .case-word .ensures) (c .before .before .before .before .before .fits2 .ensures) (c .before .before .before .before .if1 .left)
-    (passed _ _ _ _ (c .before .before .case-word2 .ensures) (c .before .fits3 .ensures) (c .if2 .left)
+returns-3 c =
+    let at-block-count = c .before in
+    let at-case-word2 = at-block-count .before in
+    let at-if1 = at-case-word2 .before in
+    let at-row-or-none = at-if1 .before in
+    let at-place-count = at-row-or-none .before in
+    let at-case-word = at-place-count .before in
+    rw (← (at-place-count .place-count .ensures), ← (at-block-count .block-count .ensures)) (passed _ _ _ _ (at-case-word .case-word .ensures) (at-row-or-none .row-or-none .ensures) (at-if1 .if1 .left)
+    (passed _ _ _ _ (at-case-word2 .case-word2 .ensures) refl (c .if2 .left)
     (all-fit _ _)))
 
 pub case-row-spec : {M : Type 1} → statement M
 case-row-spec =
     tie.close
     (tie.spec
-    place-count-requires
     case-word-requires
-    fits-requires
+    place-count-requires
+    row-or-none-requires
     returns
-    block-count-requires
     case-word-requires-2
-    fits-requires-2
+    block-count-requires
     returns-2
     returns-3)

@@ -1,52 +1,38 @@
-use Rattle.table.proofs.RowLaws.{passed, failed, all-fit}
-use mathlib.Core.Path.{_≡_, refl, sym, ap, _∙_}
+-- `table::rows::operands` meets its contract.
 use borrow.Author.Needs.{needs}
+use Rattle.table.proofs.RowLaws.{is-below, is-not-below, all-below}
 use Rattle.table.proofs.rows.operands.Statement.{statement}
 use Rattle.table.proofs.rows.operands.Tie as tie
-use Rattle.table.proofs.rows.operands.Reads as reads
-use Rattle.table.proofs.rows.operands.Lts as lts
-use Rattle.table.proofs.rules.fits.Reads as fits-reads
-use Rattle.table.proofs.words.instruction_word.Reads as instruction-word-reads
 
--- src/rows.rt:139:17
 instruction-word-requires : tie.Need-instruction-word-requires
 instruction-word-requires c κs = search needs
 
--- src/rows.rt:139:9
-fits-requires : tie.Need-fits-requires
-fits-requires c κs = search needs
-
--- src/rows.rt:140:9
 returns : tie.Need-returns
-returns c = failed _ _ _ _ (c .before .before .instruction-word .ensures) (c .before .fits2 .ensures) (c .if1 .taken)
+returns c =
+    let at-instruction-word = c .before in
+    is-not-below _ _ _ _ (at-instruction-word .instruction-word .ensures) (c .if1 .taken)
 
--- src/rows.rt:142:17
 instruction-word-requires-2 : tie.Need-instruction-word-requires-2
 instruction-word-requires-2 c κs = search needs
 
--- src/rows.rt:142:9
-fits-requires-2 : tie.Need-fits-requires-2
-fits-requires-2 c κs = search needs
-
--- src/rows.rt:143:9
 returns-2 : tie.Need-returns-2
-returns-2 c = passed _ _ _ _ (c .before .before .before .before .before .instruction-word .ensures) (c .before .before .before .before .fits2 .ensures) (c .before .before .before .if1 .left)
-    (failed _ _ _ _ (c .before .before .instruction-word2 .ensures) (c .before .fits3 .ensures) (c .if2 .taken))
+returns-2 c =
+    let at-instruction-word2 = c .before in
+    let at-if1 = at-instruction-word2 .before in
+    let at-instruction-word = at-if1 .before in
+    is-below _ _ _ _ (at-instruction-word .instruction-word .ensures) (at-if1 .if1 .left)
+    (is-not-below _ _ _ _ (at-instruction-word2 .instruction-word2 .ensures) (c .if2 .taken))
 
--- src/rows.rt:134:1
 returns-3 : tie.Need-returns-3
-returns-3 c = passed _ _ _ _ (c .before .before .before .before .before .instruction-word .ensures) (c .before .before .before .before .fits2 .ensures) (c .before .before .before .if1 .left)
-    (passed _ _ _ _ (c .before .before .instruction-word2 .ensures) (c .before .fits3 .ensures) (c .if2 .left)
-    (all-fit _ _))
+returns-3 c =
+    let at-instruction-word2 = c .before in
+    let at-if1 = at-instruction-word2 .before in
+    let at-instruction-word = at-if1 .before in
+    is-below _ _ _ _ (at-instruction-word .instruction-word .ensures) (at-if1 .if1 .left)
+    (is-below _ _ _ _ (at-instruction-word2 .instruction-word2 .ensures) (c .if2 .left)
+    (all-below _ _))
 
 pub operands-spec : {M : Type 1} → statement M
 operands-spec =
     tie.close
-    (tie.spec
-    instruction-word-requires
-    fits-requires
-    returns
-    instruction-word-requires-2
-    fits-requires-2
-    returns-2
-    returns-3)
+    (tie.spec instruction-word-requires returns instruction-word-requires-2 returns-2 returns-3)

@@ -1,15 +1,12 @@
-use Rattle.table.specs.Words.{entryWord, word}
+-- `table::words::entry` meets its contract.
 use borrow.Author.Needs.{needs}
+use Rattle.table.specs.Words.{entryWord, word}
 use Rattle.table.proofs.words.entry.Statement.{statement}
 use Rattle.table.proofs.words.entry.Tie as tie
-use Rattle.table.proofs.words.entry.Reads as reads
-use Rattle.table.proofs.words.entry.Lts as lts
 
--- src/words.rt:15:5
 shared-slice-read-result : tie.Need-shared-slice-read-result
 shared-slice-read-result c = search needs
 
--- src/words.rt:11:1
 returns : tie.Need-returns
 unfolding entryWord word
 returns c = search needs
