@@ -150,20 +150,6 @@ begun : (file : List ℕ) → Reached file 0 [] (literal headNames headed)
 unfolding whole
 begun file = reached-none file
 
-<<<<<<< HEAD
--- the head was read into six words, which were then stored in the buffer
-pub head-stored : {file : List ℕ} {r : Cursor} {next : List ℕ → Form} {head buffer : List ℕ} → RowEnd file 6 [] next r head → length head ≡ 6 → Holds buffer (length head) head
-    → At file buffer (r .at) (r .count) head (next head)
-head-stored {file} {r} {next} {head} {buffer} e p h =
-    let H = e .at .holds in
-    let six : r .count ≡ 6 = omega (arith, H .counted, e .long) in
-    let same : head ≡ e .numbers =
-    sym (take-all 6 head (omega arith)) ∙ rw six at (H .held) ∙ take-all (length head) (e .numbers) (omega (arith, e .long)) in
-    record {
-      reached = subst (λ (l : List ℕ). Reached file (r .at) l (next l)) (sym same) (e .at .reached);
-      holds = subst (λ (k : ℕ). Holds buffer k head) (p ∙ sym six) h;
-    }
-=======
 -- the six words that a row of six numbers was read into are its numbers
 six-words : {file : List ℕ} {at count : ℕ} (next : List ℕ → Form) (head numbers : List ℕ) → length head ≡ 6 → length numbers ≡ 6
     → At file head at count numbers (next numbers) → At file head at count head (next head)
@@ -196,4 +182,3 @@ module _ {file : List ℕ} {n : Cursor} (h : NamesRead file headNames (cursorAt 
 pub stored-too : {file buffer : List ℕ} {at count : ℕ} {words : List ℕ} {next : Form} (buffer′ : List ℕ) → At file buffer at count words next → Holds buffer′ (length words) words
     → At file buffer′ at count words next
 stored-too {words = words} buffer′ a h = record { reached = a .reached; holds = subst (λ (k : ℕ). Holds buffer′ k words) (a .holds .counted) h }
->>>>>>> main
