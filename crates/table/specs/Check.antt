@@ -43,10 +43,10 @@ module _ (ws : List ℕ) where
   unfoldable pub place-or-none : Rule
   place-or-none = row-or-none (placeCount ws)
 
-  -- the columns a to e of a code, in order; those not listed are unused. A Switch's number of cases is charged with its sum
-  unfoldable pub terminalRules : (code firstCase : ℕ) → List Rule
-  terminalRules code firstCase = getD
-      ([]
+  -- the columns a to e of each code, in the order of the codes; those not listed are unused. A Switch's number of cases is charged with its sum
+  abbrev pub rulesByCode : (firstCase : ℕ) → List (List Rule)
+  rulesByCode firstCase =
+      []
       ∷ []
       ∷ (place ∷ [])
       ∷ (place ∷ [])
@@ -68,8 +68,10 @@ module _ (ws : List ℕ) where
       ∷ (block ∷ block ∷ block ∷ place-or-none ∷ [])
       ∷ (block ∷ block ∷ number largest ∷ [])
       ∷ (block ∷ block ∷ number largest ∷ [])
-      ∷ [])
-      code []
+      ∷ []
+
+  unfoldable pub terminalRules : (code firstCase : ℕ) → List Rule
+  terminalRules code firstCase = getD (rulesByCode firstCase) code []
 
   -- "0 no such block (whole row 0)"; else first, count, code, a to e, id, span. "a bad sum is charged to count"
   unfoldable pub blockRules : ℕ → List Rule
@@ -93,8 +95,11 @@ module _ (ws : List ℕ) where
       ]
 
   -- p and q of an instruction, by its code; those not listed are unused
+  abbrev pub operandsByCode : List (List Rule)
+  operandsByCode = [] ∷ (place ∷ []) ∷ (place ∷ place ∷ []) ∷ []
+
   unfoldable pub operandRules : (code : ℕ) → List Rule
-  operandRules code = getD ([] ∷ (place ∷ []) ∷ (place ∷ place ∷ []) ∷ []) code []
+  operandRules code = getD operandsByCode code []
 
   -- id, lvalue, code, p, q, span
   unfoldable pub instructionRules : ℕ → List Rule

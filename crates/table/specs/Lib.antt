@@ -1,3 +1,5 @@
 pub mod Words
 pub mod Table
 pub mod Check
+pub mod Answer
+pub mod Promise

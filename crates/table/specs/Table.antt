@@ -113,10 +113,10 @@ variantOf zero = Break
 variantOf (suc zero) = Continue
 variantOf (suc (suc n)) = Try
 
--- the terminal with a code and the columns a to e: its place in the list is its code
-unfoldable pub terminalOf : (code a b c d e : ℕ) → Terminal
-terminalOf code a b c d e = getD
-    (absent
+-- the terminals with the columns a to e, in the order of their codes
+abbrev pub terminalsByCode : (a b c d e : ℕ) → List Terminal
+terminalsByCode a b c d e =
+    absent
     ∷ unreachable
     ∷ throw a
     ∷ return a
@@ -138,8 +138,10 @@ terminalOf code a b c d e = getD
     ∷ try a b c (unlessNone d)
     ∷ scope false a b c
     ∷ scope true a b c
-    ∷ [])
-    code absent
+    ∷ []
+
+unfoldable pub terminalOf : (code a b c d e : ℕ) → Terminal
+terminalOf code a b c d e = getD (terminalsByCode a b c d e) code absent
 
 -- "block, 10 words: first, count, code, a, b, c, d, e, id, span"
 unfoldable pub blockOf : List ℕ → ℕ → Block

@@ -1,0 +1,6 @@
+pub mod RowLaws
+pub mod RuleLaws
+pub mod CheckLaws
+pub mod TableLaws
+pub mod PromiseLaws
+pub mod RangeLaws

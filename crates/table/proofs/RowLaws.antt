@@ -1,0 +1,260 @@
+-- Rows and their verdicts: the first bad column of a row, and rows one after the other. One set of laws for the five tables.
+use Prim.Native.Nat.{ℕ, zero, suc, _+_, _*_, _-_, _<_, _≤_}
+use mathlib.Core.Path.{_≡_, refl, sym, ap, _∙_}
+use mathlib.Core.List.{List, [], _∷_, _++_}
+use mathlib.Core.Bool.{Bool, true, false, not}
+use native.Mathlib.Omega.{arith}
+use borrow.Author.Tests.{not-true, not-false}
+use native.Mathlib.Nat.{zero-mul, suc-mul, one-mul, add-mul}
+use native.Mathlib.Numerals.{add-one}
+use lib.ListN.{length, getD, replicate}
+use Rattle.table.specs.Words.{word}
+use Rattle.table.specs.Words as Words
+use Rattle.table.specs.Check.{Verdict, accepted, refused, Rule, unused, fits, rowVerdict, rowsVerdict, andThen}
+use Rattle.table.specs.Answer.{firstBad}
+
+-- ---- a row
+
+pub all-fit : (words : ℕ → ℕ) (column : ℕ) → column ≡ firstBad words column []
+unfolding firstBad
+all-fit words column = refl
+
+-- what the code finds at a column: the word, whether it fits, and so the first bad column from there on
+module _ (words : ℕ → ℕ) (column : ℕ) (rule : Rule) (rules : List Rule) {word : ℕ} {ok : Bool} (read : word ≡ words column) (test : ok ≡ fits rule word) where
+  told : {b : Bool} → ok ≡ b → fits rule (words column) ≡ b
+  told e = rw (← read) (sym test ∙ e)
+
+  pub passed : {bad : ℕ} → not ok ≡ false → bad ≡ firstBad words (suc column) rules → bad ≡ firstBad words column (rule ∷ rules)
+  unfolding firstBad
+  passed e h = rw (told (not-false _ e), firstBad) h
+
+  pub failed : not ok ≡ true → column ≡ firstBad words column (rule ∷ rules)
+  unfolding firstBad
+  failed e = rw (told (not-true _ e), firstBad)
+
+-- columns that are all unused, one more of them
+module _ (words : ℕ → ℕ) (column width : ℕ) (inside : column < width) {word : ℕ} {ok : Bool} (read : word ≡ words column) (test : ok ≡ fits unused word) where
+  more : replicate (width - column) unused ≡ unused ∷ replicate (width - (column + 1)) unused
+  more = let e : width - column ≡ suc (width - (column + 1)) = omega arith in rw e
+
+  pub unused-on : not ok ≡ false → firstBad words column (replicate (width - column) unused) ≡ firstBad words (column + 1) (replicate (width - (column + 1)) unused)
+  unused-on e = rw (more, add-one column) (sym (passed words column unused _ read test e refl))
+
+  pub unused-off : not ok ≡ true → column ≡ firstBad words column (replicate (width - column) unused)
+  unused-off e = rw more (failed words column unused _ read test e)
+
+pub unused-last : (words : ℕ → ℕ) (column width : ℕ) → width ≤ column → column ≡ firstBad words column (replicate (width - column) unused)
+unfolding firstBad
+unused-last words column width h = let e : width - column ≡ 0 = omega arith in rw e
+
+-- the first bad column is none before the one that the search begins at
+pub bad-least : (words : ℕ → ℕ) (column : ℕ) (rules : List Rule) → column ≤ firstBad words column rules
+unfolding firstBad
+bad-least words column [] = omega arith
+bad-least words column (rule ∷ rules) = go (bad-least words (suc column) rules) (fits rule (words column))
+  where
+    go : suc column ≤ firstBad words (suc column) rules → (b : Bool) → column ≤ elim b [ true ↦ firstBad words (suc column) rules | false ↦ column ]
+    go h true = omega arith
+    go h false = omega arith
+
+-- rules after others: the first bad column is among the former, or else among the latter
+pub bad-within : (words : ℕ → ℕ) (column : ℕ) (rules rest : List Rule) → firstBad words column rules < column + length rules
+    → firstBad words column (rules ++ rest) ≡ firstBad words column rules
+unfolding firstBad
+bad-within words column [] rest h = absurd (omega arith)
+bad-within words column (rule ∷ rules) rest h = go (fits rule (words column)) (bad-within words (suc column) rules rest) h
+  where
+    go : (b : Bool) → (firstBad words (suc column) rules < suc column + length rules → firstBad words (suc column) (rules ++ rest) ≡ firstBad words (suc column) rules)
+        → elim b [ true ↦ firstBad words (suc column) rules | false ↦ column ] < column + suc (length rules)
+        → _≡_ {A = ℕ} (elim b [ true ↦ firstBad words (suc column) (rules ++ rest) | false ↦ column ]) (elim b [ true ↦ firstBad words (suc column) rules | false ↦ column ])
+    go true ih h = ih (omega arith)
+    go false ih h = refl
+
+pub bad-beyond : (words : ℕ → ℕ) (column : ℕ) (rules rest : List Rule) → column + length rules ≤ firstBad words column rules
+    → firstBad words column (rules ++ rest) ≡ firstBad words (column + length rules) rest
+unfolding firstBad
+bad-beyond words column [] rest h = let e : column + 0 ≡ column = omega arith in rw e
+bad-beyond words column (rule ∷ rules) rest h = go (fits rule (words column)) (bad-beyond words (suc column) rules rest) h
+  where
+    go : (b : Bool) → (suc column + length rules ≤ firstBad words (suc column) rules → firstBad words (suc column) (rules ++ rest) ≡ firstBad words (suc column + length rules) rest)
+        → column + suc (length rules) ≤ elim b [ true ↦ firstBad words (suc column) rules | false ↦ column ]
+        → elim b [ true ↦ firstBad words (suc column) (rules ++ rest) | false ↦ column ] ≡ firstBad words (column + suc (length rules)) rest
+    go true ih h = let e : column + suc (length rules) ≡ suc column + length rules = omega arith in rw e (ih (omega arith))
+    go false ih h = absurd (omega arith)
+
+-- the same of what the code finds for the former rules
+module _ (words : ℕ → ℕ) (column : ℕ) (rules rest : List Rule) {bad : ℕ} (found : bad ≡ firstBad words column rules) where
+  pub within : bad < column + length rules → bad ≡ firstBad words column (rules ++ rest)
+  within h = found ∙ sym (bad-within words column rules rest (rw (← found) h))
+
+  pub beyond : {next : ℕ} → column + length rules ≤ bad → next ≡ firstBad words (column + length rules) rest → next ≡ firstBad words column (rules ++ rest)
+  beyond h e = e ∙ sym (bad-beyond words column rules rest (rw (← found) h))
+
+module _ (ws : List ℕ) (at : ℕ) where
+  abbrev columns : ℕ → ℕ
+  columns column = word ws (at + column)
+
+  -- a row's verdict is that on its first bad column
+  pub row-bad : (column : ℕ) (rules : List Rule) → firstBad columns column rules < column + length rules
+      → rowVerdict ws (at + column) rules ≡ refused 4 (at + firstBad columns column rules)
+  unfolding firstBad rowVerdict
+  row-bad column [] h = absurd (omega arith)
+  row-bad column (rule ∷ rules) h = go (fits rule (columns column)) (row-bad (suc column) rules) h
+    where
+      go : (b : Bool) → (firstBad columns (suc column) rules < suc column + length rules → rowVerdict ws (at + suc column) rules ≡ refused 4 (at + firstBad columns (suc column) rules))
+          → elim b [ true ↦ firstBad columns (suc column) rules | false ↦ column ] < column + suc (length rules)
+          → elim b [ true ↦ rowVerdict ws (suc (at + column)) rules | false ↦ refused 4 (at + column) ]
+          ≡ refused 4 (at + elim b [ true ↦ firstBad columns (suc column) rules | false ↦ column ])
+      go true ih h = let e : suc (at + column) ≡ at + suc column = omega arith in rw e (ih (omega arith))
+      go false ih h = refl
+
+  pub row-good : (column : ℕ) (rules : List Rule) → column + length rules ≤ firstBad columns column rules → rowVerdict ws (at + column) rules ≡ accepted
+  unfolding firstBad rowVerdict
+  row-good column [] h = refl
+  row-good column (rule ∷ rules) h = go (fits rule (columns column)) (row-good (suc column) rules) h
+    where
+      go : (b : Bool) → (suc column + length rules ≤ firstBad columns (suc column) rules → rowVerdict ws (at + suc column) rules ≡ accepted)
+          → column + suc (length rules) ≤ elim b [ true ↦ firstBad columns (suc column) rules | false ↦ column ]
+          → elim b [ true ↦ rowVerdict ws (suc (at + column)) rules | false ↦ refused 4 (at + column) ] ≡ accepted
+      go true ih h = let e : suc (at + column) ≡ at + suc column = omega arith in rw e (ih (omega arith))
+      go false ih h = absurd (omega arith)
+
+  -- an accepted row: every word fits, and the other way round
+  pub row-fits : (column : ℕ) (rules : List Rule) → rowVerdict ws (at + column) rules ≡ accepted
+      → (k : ℕ) → k < length rules → fits (getD rules k unused) (columns (column + k)) ≡ true
+  unfolding rowVerdict
+  row-fits column [] h k l = absurd (omega arith)
+  row-fits column (rule ∷ rules) h k l = go (fits rule (columns column)) refl h (row-fits (suc column) rules) k l
+    where
+      go : (b : Bool) → fits rule (columns column) ≡ b → elim b [ true ↦ rowVerdict ws (suc (at + column)) rules | false ↦ refused 4 (at + column) ] ≡ accepted
+          → (rowVerdict ws (at + suc column) rules ≡ accepted → (k : ℕ) → k < length rules → fits (getD rules k unused) (columns (suc column + k)) ≡ true)
+          → (k : ℕ) → k < suc (length rules) → fits (getD (rule ∷ rules) k unused) (columns (column + k)) ≡ true
+      go true e h ih zero l = let z : column + 0 ≡ column = omega arith in rw z e
+      go true e h ih (suc k) l =
+          let z : at + suc column ≡ suc (at + column) = omega arith in
+          let y : suc column + k ≡ column + suc k = omega arith in
+          rw (← y) (ih (rw z h) k (omega arith))
+      go false e h ih k l = absurd (let z : _≡_ {A = ℕ} 0 1 = cc in omega arith)
+
+  pub fits-row : (column : ℕ) (rules : List Rule) → ((k : ℕ) → k < length rules → fits (getD rules k unused) (columns (column + k)) ≡ true)
+      → rowVerdict ws (at + column) rules ≡ accepted
+  unfolding rowVerdict
+  fits-row column [] h = refl
+  fits-row column (rule ∷ rules) h =
+      let z : column ≡ column + 0 = omega arith in
+      let y : suc (at + column) ≡ at + suc column = omega arith in
+      let first : fits rule (columns column) ≡ true = rw z (h 0 (omega arith)) in
+      rw (first, rowVerdict) (rw y (fits-row (suc column) rules λ k l. (let x : suc column + k ≡ column + suc k = omega arith in rw x (h (suc k) (omega arith)))))
+
+-- ---- rows one after the other
+
+pub on : (first next : Verdict) → first ≡ accepted → andThen first next ≡ next
+unfolding andThen
+on first next e = rw e
+
+pub off : (first next : Verdict) {code at : ℕ} → first ≡ refused code at → andThen first next ≡ refused code at
+unfolding andThen
+off first next e = rw e
+
+pub both : (first next : Verdict) → andThen first next ≡ accepted → (first ≡ accepted) × (next ≡ accepted)
+unfolding andThen
+both accepted next e = (refl, e)
+both (refused code at) next e = absurd (let z : _≡_ {A = ℕ} 0 1 = cc in omega arith)
+
+-- the rows of a table: all of one width
+module _ (ws : List ℕ) (rules : ℕ → List Rule) (width : ℕ) (wide : (i : ℕ) → length (rules i) ≡ width) where
+  one : (at first : ℕ) {count : ℕ} → 0 < count
+      → rowsVerdict ws rules at first count ≡ andThen (rowVerdict ws at (rules first)) (rowsVerdict ws rules (at + width) (suc first) (count - 1))
+  unfolding rowsVerdict
+  one at first {count = zero} h = absurd (omega arith)
+  one at first {count = suc count} h = let e : suc count - 1 ≡ count = omega arith in rw (e, wide first)
+
+  pub rows-row : (at first count : ℕ) → rowsVerdict ws rules at first count ≡ accepted
+      → (i : ℕ) → i < count → rowVerdict ws (at + i * width) (rules (first + i)) ≡ accepted
+  unfolding rowsVerdict
+  rows-row at first zero h i l = absurd (omega arith)
+  rows-row at first (suc count) h zero l =
+      let e : at + 0 * width ≡ at = omega (arith, zero-mul width) in
+      let f : first + 0 ≡ first = omega arith in
+      rw (e, f) (both _ _ h .0)
+  rows-row at first (suc count) h (suc i) l =
+      let e : at + suc i * width ≡ at + width + i * width = omega (arith, suc-mul i width) in
+      let f : first + suc i ≡ suc first + i = omega arith in
+      rw (e, f) (rows-row (at + width) (suc first) count (rw (wide first) at (both _ _ h .1)) i (omega arith))
+
+  pub row-rows : (at first count : ℕ) → ((i : ℕ) → i < count → rowVerdict ws (at + i * width) (rules (first + i)) ≡ accepted)
+      → rowsVerdict ws rules at first count ≡ accepted
+  unfolding rowsVerdict
+  row-rows at first zero h = refl
+  row-rows at first (suc count) h =
+      let e : at + 0 * width ≡ at = omega (arith, zero-mul width) in
+      let f : first + 0 ≡ first = omega arith in
+      let g : rowVerdict ws at (rules first) ≡ accepted = rw (e, f) at (h 0 (omega arith)) in
+      on _ _ g ∙ rw (wide first) (row-rows (at + width) (suc first) count λ i l.
+      (let e : at + suc i * width ≡ at + width + i * width = omega (arith, suc-mul i width) in
+      let f : first + suc i ≡ suc first + i = omega arith in
+      rw (e, f) at (h (suc i) (omega arith))))
+
+  -- a loop over the rows: what is left from a row on gives what all give
+  module _ (begin rows : ℕ) where
+    abbrev pub left : ℕ → Verdict
+    left row = rowsVerdict ws rules (begin + row * width) row (rows - row)
+
+    abbrev column : ℕ → ℕ → ℕ
+    column row k = word ws (begin + row * width + k)
+
+    pub rows-first : rowsVerdict ws rules begin 0 rows ≡ left 0
+    rows-first =
+        let e : begin + 0 * width ≡ begin = omega (arith, zero-mul width) in
+        let f : rows - 0 ≡ rows = omega arith in
+        rw (e, f)
+
+    pub rows-last : (row : ℕ) → rows ≤ row → left row ≡ accepted
+    unfolding rowsVerdict
+    rows-last row h = let f : rows - row ≡ 0 = omega arith in rw f
+
+    -- of a row, the code finds the first bad column
+    module _ (row : ℕ) (inside : row < rows) {bad : ℕ} (found : bad ≡ firstBad (column row) 0 (rules row)) where
+      at-row : begin + row * width + 0 ≡ begin + row * width
+      at-row = omega arith
+
+      pub rows-on : width ≤ bad → left row ≡ left (row + 1)
+      rows-on h =
+          let e : begin + (row + 1) * width ≡ begin + row * width + width = omega (arith, add-mul row 1 width, one-mul width) in
+          let f : rows - row - 1 ≡ rows - (row + 1) = omega arith in
+          let g : rowVerdict ws (begin + row * width) (rules row) ≡ accepted =
+          rw at-row at (row-good ws (begin + row * width) 0 (rules row) (omega (arith, wide row, found))) in
+          one _ row (omega arith) ∙ (on _ _ g ∙ rw (e, f, add-one row))
+
+      pub rows-off : bad < width → {from : ℕ} → from ≡ begin → refused 4 (from + row * width + bad) ≡ left row
+      rows-off h e =
+          let g : rowVerdict ws (begin + row * width) (rules row) ≡ refused 4 (begin + row * width + firstBad (column row) 0 (rules row)) =
+          rw at-row at (row-bad ws (begin + row * width) 0 (rules row) (omega (arith, wide row, found))) in
+          rw (e, found) (sym (one _ row (omega arith) ∙ off _ _ g))
+
+-- rows of one word, and so of one rule
+module _ (ws : List ℕ) (rule : Rule) (begin rows : ℕ) where
+  abbrev pub rest : ℕ → Verdict
+  rest row = rowsVerdict ws (λ _. rule ∷ []) (begin + row) row (rows - row)
+
+  pub rest-first : rowsVerdict ws (λ _. rule ∷ []) begin 0 rows ≡ rest 0
+  rest-first = let e : begin + 0 ≡ begin = omega arith in let f : rows - 0 ≡ rows = omega arith in rw (e, f)
+
+  pub rest-last : (row : ℕ) → rows ≤ row → rest row ≡ accepted
+  unfolding rowsVerdict
+  rest-last row h = let f : rows - row ≡ 0 = omega arith in rw f
+
+  module _ (row : ℕ) (inside : row < rows) {word : ℕ} {ok : Bool} (read : word ≡ Words.word ws (begin + row)) (test : ok ≡ fits rule word) where
+    split : rest row ≡ andThen (rowVerdict ws (begin + row) (rule ∷ [])) (rest (row + 1))
+    split =
+        let e : begin + row + 1 ≡ begin + (row + 1) = omega arith in
+        let f : rows - row - 1 ≡ rows - (row + 1) = omega arith in
+        one ws (λ _. rule ∷ []) 1 (λ _. refl) (begin + row) row (omega arith) ∙ rw (e, f, add-one row)
+
+    pub rest-on : not ok ≡ false → rest row ≡ rest (row + 1)
+    unfolding rowVerdict
+    rest-on e = let h : fits rule (Words.word ws (begin + row)) ≡ true = rw (← read) (sym test ∙ not-false _ e) in split ∙ on _ _ (rw (h, rowVerdict))
+
+    pub rest-off : not ok ≡ true → {from : ℕ} → from ≡ begin → refused 4 (from + row) ≡ rest row
+    unfolding rowVerdict
+    rest-off e b = let h : fits rule (Words.word ws (begin + row)) ≡ false = rw (← read) (sym test ∙ not-true _ e) in rw b (sym (split ∙ off _ _ (rw (h, rowVerdict))))

@@ -1,0 +1,87 @@
+use Prim.Native.Nat.{ℕ, _+_, _*_, _-_, _≤_}
+use native.Mathlib.Omega.{arith}
+use mathlib.Core.Path.{_≡_, refl, sym, ap, _∙_}
+use borrow.Author.Needs.{needs}
+use Rattle.table.specs.Words.{identifierWord, identifiersBegin, identifierCount}
+use Rattle.table.specs.Check.{identifierRules, rowsVerdict}
+use Rattle.table.proofs.RowLaws.{rest-first, rest-last, rest-on, rest-off}
+use Rattle.table.proofs.rows.check_identifiers.Statement.{statement}
+use Rattle.table.proofs.rows.check_identifiers.Tie as tie
+use Rattle.table.proofs.rows.check_identifiers.Reads as reads
+use Rattle.table.proofs.rows.check_identifiers.Lts as lts
+use Rattle.table.proofs.rules.fits.Reads as fits-reads
+use Rattle.table.proofs.words.identifier_count.Reads as identifier-count-reads
+use Rattle.table.proofs.words.identifier_word.Reads as identifier-word-reads
+use Rattle.table.proofs.words.identifiers_begin.Reads as identifiers-begin-reads
+
+abbrev Inv-loop : tie.InvT-loop
+Inv-loop words begin rows row₀ row = (rowsVerdict words (identifierRules words) (identifiersBegin words) 0 (identifierCount words) ≡ rowsVerdict words (identifierRules words) (identifiersBegin words + row) row (identifierCount words - row)) × (row ≤ identifierCount words)
+
+abbrev μ-loop : tie.MeasureT-loop
+μ-loop words begin rows row₀ row = identifierCount words - row
+
+-- src/rows.rt:218:9
+identifiers-begin-requires : tie.Need-identifiers-begin-requires Inv-loop μ-loop
+identifiers-begin-requires c κs = search needs
+
+-- src/rows.rt:219:9
+identifier-count-requires : tie.Need-identifier-count-requires Inv-loop μ-loop
+identifier-count-requires c κs = search needs
+
+-- src/rows.rt:221:5
+loop-holds : tie.Need-loop-holds Inv-loop μ-loop
+unfolding identifierRules
+loop-holds c = (rest-first _ _ _ _, omega arith)
+
+-- src/rows.rt:222:35
+identifier-word-requires : tie.Need-identifier-word-requires Inv-loop μ-loop
+identifier-word-requires c κs = (c .before .before .before .before .before .pre, (omega (arith, c .before .before .identifier-count .ensures, c .loop-test .taken)))
+
+-- src/rows.rt:222:13
+fits-requires : tie.Need-fits-requires Inv-loop μ-loop
+fits-requires c κs = search needs
+
+-- src/rows.rt:223:37
+add-t9 : tie.Need-add-t9 Inv-loop μ-loop
+add-t9 c = omega (arith, c .before .before .before .before .before .identifier-count .ensures, c .before .before .before .loop-test .taken, c .before .before .before .before .before .before .before .before .pre .limited, c .before .before .before .before .before .before .identifiers-begin .ensures)
+
+-- src/rows.rt:223:13
+returns : tie.Need-returns Inv-loop μ-loop
+unfolding identifierWord identifierRules
+returns c = rest-off _ _ _ _ _ (omega (arith, c .before .before .before .before .before .identifier-count .ensures, c .before .before .before .loop-test .taken)) (c .before .before .identifier-word .ensures) (c .before .fits2 .ensures) (c .if1 .taken) (c .before .before .before .before .before .before .identifiers-begin .ensures .0) ∙ sym (c .before .before .before .before .loop .inv .0)
+
+-- src/rows.rt:225:9
+add-row : tie.Need-add-row Inv-loop μ-loop
+add-row c = omega (arith, c .before .before .before .before .before .identifier-count .ensures, c .before .before .before .loop-test .taken, c .before .before .before .before .before .before .before .before .pre .limited, c .before .before .before .before .before .before .identifiers-begin .ensures)
+
+-- src/rows.rt:221:5
+loop-less : tie.Need-loop-less Inv-loop μ-loop
+loop-less c = omega (arith, c .before .before .before .before .before .identifier-count .ensures, c .before .before .before .loop-test .taken)
+
+-- src/rows.rt:221:5
+loop-again : tie.Need-loop-again Inv-loop μ-loop
+unfolding identifierWord identifierRules
+loop-again c = (c .before .before .before .before .loop .inv .0 ∙ rest-on _ _ _ _ _ (omega (arith, c .before .before .before .before .before .identifier-count .ensures, c .before .before .before .loop-test .taken)) (c .before .before .identifier-word .ensures) (c .before .fits2 .ensures) (c .if1 .left), omega (arith, c .before .before .before .before .before .identifier-count .ensures, c .before .before .before .loop-test .taken))
+
+-- src/rows.rt:214:1
+returns-2 : tie.Need-returns-2 Inv-loop μ-loop
+unfolding identifierRules
+returns-2 c = sym (c .before .loop .inv .0 ∙ rest-last _ _ _ _ _ (omega (arith, c .before .before .identifier-count .ensures, c .loop-test .left)))
+
+pub check-identifiers-spec : {M : Type 1} → statement M
+check-identifiers-spec =
+    tie.close
+    (tie.spec
+    Inv-loop
+    μ-loop
+    identifiers-begin-requires
+    identifier-count-requires
+    loop-holds
+    identifier-word-requires
+    fits-requires
+    add-t9
+    returns
+    add-row
+    loop-less
+    loop-again
+    returns-2)
