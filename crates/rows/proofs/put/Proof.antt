@@ -1,0 +1,22 @@
+use borrow.Author.Needs.{needs}
+use Rattle.rows.proofs.RowLaws.{holds-put}
+use Rattle.rows.proofs.put.Statement.{statement}
+use Rattle.rows.proofs.put.Tie as tie
+use Rattle.rows.proofs.put.Reads as reads
+use Rattle.rows.proofs.put.Lts as lts
+use Rattle.rows.proofs.put_at.Reads as put-at-reads
+
+put-at-requires : tie.Need-put-at-requires
+put-at-requires c κs = search needs
+
+add-result : tie.Need-add-result
+add-result c = search needs
+
+same-length : tie.Need-same-length
+same-length c = search needs
+
+returns : tie.Need-returns
+returns c = record { count = search needs; kept = λ stack h. rw (c .before .before .put-at .ensures) (holds-put _ _ _ stack h) }
+
+pub put-spec : {M : Type 1} → statement M
+put-spec = tie.close (tie.spec put-at-requires add-result same-length returns)
