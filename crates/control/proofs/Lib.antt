@@ -1,0 +1,2 @@
+pub mod ContextLaws
+pub mod SearchLaws
