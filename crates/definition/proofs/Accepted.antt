@@ -1,6 +1,6 @@
 -- What the caller sees as accepted: the check passed, the walk gave a tree, and the buffer was long enough for its rows.
 use mathlib.Core.Path.{_≡_, refl, sym, ap, _∙_, subst}
-use Prim.Native.Nat.{ℕ, zero, suc, _+_, _*_, _-_, _/_, _≤_}
+use Prim.Native.Nat.{ℕ, zero, suc, _*_, _-_, _/_}
 use native.Mathlib.Omega.{arith}
 use mathlib.Core.List.{List, [], _∷_, _++_}
 use mathlib.Core.Bool.{Bool, true, false}
@@ -9,7 +9,7 @@ use lib.Dec.{T, leb}
 use Rattle.table.specs.Check.{Verdict, checked}
 use Rattle.table.specs.Check as check
 use Rattle.table.specs.Table.{tableOf}
-use Rattle.definition.specs.Tree.{Row, row, Statements, rows}
+use Rattle.definition.specs.Tree.{Row, row, rows}
 use Rattle.definition.specs.Result.{Result, ok, refused}
 use Rattle.definition.specs.Statement.{BlockResult, buildTree}
 use Rattle.definition.specs.Build.{Outcome, refusal, wordsOf, placed, reported, report, outcomeOf, afterCheck, built}
@@ -48,6 +48,7 @@ module _ (words : List ℕ) (lent : ℕ) where
     where
       list : List Row
       list = rows (root .statements)
+
       fit : placed lent list (root .context .visits) ≡ record { code = 0; at = 0; rows = length list; visits = root .context .visits; buffer = wordsOf list ++ replicate (lent - length list * 6) 0 }
       fit = rw (f, placed)
   placed-of root false c b f o h =
@@ -55,6 +56,7 @@ module _ (words : List ℕ) (lent : ℕ) where
     where
       list : List Row
       list = rows (root .statements)
+
       full : placed lent list (root .context .visits) ≡ refusal 40 0 (length list) (root .context .visits) lent
       full = rw (f, placed)
 

@@ -1,32 +1,31 @@
 -- The run law of plain tables: the block run and the tree run both stop, with the same rows, the same answers taken and for the same reason.
-use mathlib.Core.Path.{_≡_, refl, sym, ap, _∙_, subst}
-use Prim.Native.Nat.{ℕ, zero, suc, _+_, _<_}
-use mathlib.Core.List.{List, [], _∷_, _++_}
+use mathlib.Core.Path.{_≡_, refl, sym, ap, _∙_}
+use Prim.Native.Nat.{ℕ, zero, suc, _+_}
+use mathlib.Core.List.{List, []}
 use mathlib.Core.Option.{Option, none, some}
-use mathlib.Core.Bool.{Bool, true, false}
 use native.Mathlib.Nat.{zero-add, suc-add}
 use native.Mathlib.Omega.{arith}
-use lib.Dec.{T}
-use Rattle.table.specs.Words.{largest}
 use Rattle.table.specs.Table.{Table, tableOf, blockAt, terminalAt, instructionRowsAt}
 use Rattle.definition.specs.Tree.{Statements, rows}
 use Rattle.definition.specs.Build.{built}
-use Rattle.definition.specs.Result.{Result, ok}
+use Rattle.definition.specs.Result.{ok}
 use Rattle.definition.specs.Context.{start}
-use Rattle.definition.specs.Statement.{BlockResult, instructionStatements, traverseBlock, buildTree}
-use Rattle.definition.specs.Reading.{WellFormed, ReadAs, TreeOf}
+use Rattle.definition.specs.Statement.{BlockResult, buildTree}
+use Rattle.definition.specs.Reading.{TreeOf, OneTree}
 use Rattle.definition.specs.Run.{Answers, Reason, Run, unfinished, stopped}
 use Rattle.definition.specs.BlockRun.{Move, go, halt, move, performing, blockRun}
 use Rattle.definition.specs.Completion.{Completion, normal, break, continue, stop}
-use Rattle.definition.specs.TreeRun.{Completed, runStatements, reasonOf, treeRun}
-use Rattle.definition.specs.Plain.{Plain, Ranged, fallthroughOf}
+use Rattle.definition.specs.TreeRun.{runStatements, reasonOf, treeRun}
+use Rattle.definition.specs.Plain.{Plain}
 use Rattle.definition.specs.RunLaw.{Agree, RunLaw}
-use Rattle.definition.proofs.Semantics.{Frame, Built, bReturn, bThrow, bJump, bIf, bIfOnly, bLabel, bScope, bWhile, LeadsOn, Stops, runs}
+use Rattle.definition.proofs.Semantics.{Built, LeadsOn, runs}
 use Rattle.definition.proofs.State.{inv-start}
-use Rattle.definition.proofs.Structure.{WalkOk, walk-ok, Made}
-use Rattle.definition.proofs.Loops.{Taken, takes-statements}
+use Rattle.definition.proofs.Structure.{WalkOk, walk-ok}
+use Rattle.definition.proofs.Loops.{takes-statements}
 use Rattle.definition.proofs.Checked.{ranged}
+use Rattle.definition.proofs.Ranged.{Ranged}
 use Rattle.definition.proofs.Accepted.{Accepted, accepted-of, rows-of-buffer, words-rows}
+use Rattle.definition.proofs.Formed.{tree-formed}
 use Rattle.definition.proofs.Readings.{one-reading}
 
 -- ---- more steps change nothing: there is one block run
@@ -91,53 +90,37 @@ pub tree-built : (t : Table) → Plain t → Ranged t → (r : BlockResult) → 
 unfolding buildTree WalkOk
 tree-built t pl rg r e = walk-ok t pl rg 128 [] (t .entry) start r (inv-start t) (pl .entry) e .tree
 
+-- ---- the tree in the buffer
 
--- ---- and is well-formed, as a label is a block
+-- the build's own tree, and no other: one list of rows is read as one tree
+module _ (words : List ℕ) (lent : ℕ) (a : Accepted words lent) where
+  tree-held : TreeOf (built words lent) (a .root .statements)
+  tree-held = record {
+    well-formed = tree-formed (tableOf words) (ranged words (a .checks)) (a .root) (a .builds);
+    number = sym (a .number);
+    held = sym (rows-of-buffer words lent a);
+  }
 
-module _ (t : Table) (rg : Ranged t) where
-  instructions-formed : (rs : List ℕ) (k : Statements) → WellFormed k → WellFormed (instructionStatements t rs k)
-  unfolding instructionStatements WellFormed
-  instructions-formed [] k h = h
-  instructions-formed (r ∷ rs) k h = (tt, instructions-formed rs k h)
+  tree-only : (other : Statements) → TreeOf (built words lent) other → other ≡ a .root .statements
+  tree-only other o =
+      one-reading (rows (a .root .statements)) other (a .root .statements)
+      (record { well-formed = o .well-formed; same-rows = words-rows (rows other) (rows (a .root .statements)) (o .held ∙ rows-of-buffer words lent a) })
+      (record { well-formed = tree-held .well-formed; same-rows = refl })
 
-  label-formed : (b f : ℕ) → fallthroughOf (terminalAt t b) ≡ some f → f < largest
-  label-formed b f e = omega (arith, rg .fallthroughs b f e, rg .few)
+  tree-one : OneTree (built words lent)
+  tree-one = record { tree = a .root .statements; held = tree-held; only = tree-only }
 
-  built-formed : {F : List Frame} {b : ℕ} {s : Statements} → Built t F b s → WellFormed s
-  unfolding WellFormed
-  built-formed {F} {b} (bReturn v e) = instructions-formed (instructionRowsAt t b) _ (tt, tt)
-  built-formed {F} {b} (bThrow v e) = instructions-formed (instructionRowsAt t b) _ (tt, tt)
-  built-formed {F} {b} (bJump g v e s h k w q) = instructions-formed (instructionRowsAt t b) s w
-  built-formed {F} {b} (bIf x c a f i e h₁ h₂ h₃) =
-      instructions-formed (instructionRowsAt t b) _ ((label-formed b f (ap fallthroughOf e), built-formed h₁, built-formed h₂, tt), built-formed h₃)
-  built-formed {F} {b} (bIfOnly x c f i e h₁ h₃) =
-      instructions-formed (instructionRowsAt t b) _ ((label-formed b f (ap fallthroughOf e), built-formed h₁, tt, tt), built-formed h₃)
-  built-formed {F} {b} (bLabel c f i e h₁ h₃) = instructions-formed (instructionRowsAt t b) _ ((label-formed b f (ap fallthroughOf e), built-formed h₁), built-formed h₃)
-  built-formed {F} {b} (bScope p c f n e h₁ h₃) = instructions-formed (instructionRowsAt t b) _ (built-formed h₁, built-formed h₃)
-  built-formed {F} {b} (bWhile x l f y i v e e₁ q h₁ h₃) = instructions-formed (instructionRowsAt t b) _ ((label-formed b f (ap fallthroughOf e), built-formed h₁), built-formed h₃)
+-- whatever table was accepted, plain or not
+pub one-tree : (words : List ℕ) (lent : ℕ) → built words lent .code ≡ 0 → OneTree (built words lent)
+one-tree words lent h = tree-one words lent (accepted-of words lent h)
 
 -- ---- demand 3
 
--- the tree in the buffer is the one that was built, as one list of rows is read as one tree
-module _ (words : List ℕ) (lent : ℕ) (a : Accepted words lent) where
-  tree-held : WellFormed (a .root .statements) → TreeOf (built words lent) (a .root .statements)
-  tree-held w = record { well-formed = w; number = sym (a .number); held = sym (rows-of-buffer words lent a) }
-
-  tree-only : WellFormed (a .root .statements) → (other : Statements) → TreeOf (built words lent) other → other ≡ a .root .statements
-  tree-only w other o =
-      one-reading (rows (a .root .statements)) other (a .root .statements)
-        (record { well-formed = o .well-formed; same-rows = words-rows (rows other) (rows (a .root .statements)) (o .held ∙ rows-of-buffer words lent a) })
-        (record { well-formed = w; same-rows = refl })
-
 pub run-law : (words : List ℕ) (lent : ℕ) → built words lent .code ≡ 0 → Plain (tableOf words) → RunLaw words (built words lent)
+unfolding tree-one
 run-law words lent h pl =
     let a : Accepted words lent = accepted-of words lent h in
-    let rg : Ranged (tableOf words) = ranged words (a .checks) in
-    let b : Built (tableOf words) [] (tableOf words .entry) (a .root .statements) = tree-built (tableOf words) pl rg (a .root) (a .builds) in
-    let w : WellFormed (a .root .statements) = built-formed (tableOf words) rg b in
     record {
-      tree = a .root .statements;
-      held = tree-held words lent a w;
-      only = tree-only words lent a w;
-      agree = built-agrees (tableOf words) (a .root .statements) b;
+      one = tree-one words lent a;
+      agree = built-agrees (tableOf words) (a .root .statements) (tree-built (tableOf words) pl (ranged words (a .checks)) (a .root) (a .builds));
     }

@@ -19,3 +19,5 @@ pub mod Samples
 pub mod Checked
 pub mod Accepted
 pub mod Example
+pub mod Formed
+pub mod Ranged

@@ -3,13 +3,13 @@ use mathlib.Core.Path.{_≡_, refl, sym, ap, _∙_, subst}
 use Prim.Native.Nat.{ℕ, zero, suc, _≤_}
 use native.Mathlib.Nat.{le-refl, le-trans, le-of-suc-le-suc, not-suc-le-zero, le-step}
 use mathlib.Core.List.{List, [], _∷_, _++_, append-nil, append-assoc}
-use mathlib.Core.Option.{Option, none, some}
+use mathlib.Core.Option.{Option}
 use mathlib.Core.Bool.{Bool, true, false}
 use lib.ListN.{length}
 use Rattle.definition.specs.Tree.{Value, Statement, INSTR, IF, SWITCH, DOWHILE, WHILE, FOR, FOROF, FORIN, LABEL, TRY, SCOPE, RETURN, THROW, BREAK, CONTINUE, Statements, done, _▸_}
 use Rattle.definition.specs.Run.{Answers, no-answer-left}
 use Rattle.definition.specs.Completion.{Completion, normal, break, continue, stop, labelSet, loopContinues, breakable, labelled}
-use Rattle.definition.specs.TreeRun.{Completed, completed, completing, prefix, thenOn, then, choose, performs, afterBody, whileRounds, loop, runStatement, runStatements}
+use Rattle.definition.specs.TreeRun.{Completed, completed, completing, prefix, thenOn, then, choose, performs, afterBody, whileRounds, whileLoop, loop, runStatement, runStatements}
 
 -- ---- answers are taken from the front, and none is given back
 
@@ -73,12 +73,14 @@ rounds-takes l test body p (suc n) (suc m ∷ a) =
     (after-takes (loopContinues (body a .completion) l) (body a) (λ a′. whileRounds l test body n a′) (rounds-takes l test body p n)))
 
 mutual
-  unfolding runStatement completed completing loop
+  unfolding runStatement completed completing loop whileLoop
 
   takes-statement : (s : Statement) (a : Answers) → Taken a (runStatement s a .left)
   takes-statement (INSTR i l s v) a = taken-none a
-  takes-statement (IF t i l c p x) a =
+  takes-statement (IF t i l c true x) a =
       choose-takes (λ a′. runStatements c a′) (λ a′. runStatements x a′) (λ a′. takes-statements c a′) (λ a′. takes-statements x a′) a
+  takes-statement (IF t i l c false x) a =
+      choose-takes (λ a′. runStatements c a′) (λ a′. completed [] normal a′) (λ a′. takes-statements c a′) (λ a′. taken-none a′) a
   takes-statement (SWITCH t i l cs) a = taken-none a
   takes-statement (DOWHILE i l b t) a = taken-none a
   takes-statement (WHILE i l t b) a = rounds-takes (labelSet l) (performs t) (λ a′. runStatements b a′) (λ a′. takes-statements b a′) (length a) a
@@ -102,10 +104,6 @@ mutual
 after-same : (m : Bool) (o : Completed) (k k′ : Answers → Completed) → k (o .left) ≡ k′ (o .left) → afterOn m o k ≡ afterOn m o k′
 after-same true o k k′ e = ap (λ (z : Completed). prefix (o .rows) z) e
 after-same false o k k′ e = refl
-
--- the rounds, as many as there are answers
-unfoldable pub whileLoop : (labelSet test : List ℕ) → (body : Answers → Completed) → Answers → Completed
-whileLoop labels test body answers = whileRounds labels test body (length answers) answers
 
 module _ (l test : List ℕ) (body : Answers → Completed) (p : Takes body) where
   -- any count that is not below the number of the answers gives the same
@@ -134,13 +132,37 @@ module _ (l test : List ℕ) (body : Answers → Completed) (p : Takes body) whe
       (after-same (loopContinues (body a .completion) l) (body a) (λ a′. whileRounds l test body (length a) a′) (λ a″. whileRounds l test body (length a″) a″)
       (rounds-same (length a) (length (body a .left)) (body a .left) (taken-shorter (p a)) (le-refl (length (body a .left)))))
 
--- WHILE is its loop within the label, and the loop satisfies WhileLoopEvaluation's equation
-pub while-runs : (i : ℕ) (l : Option ℕ) (t : Value) (b : Statements) (a : Answers)
-    → runStatement (WHILE i l t b) a ≡ loop l (whileLoop (labelSet l) (performs t) (λ a′. runStatements b a′) a)
-unfolding runStatement whileLoop
-while-runs i l t b a = refl
-
 pub while-again : (l : List ℕ) (t : Value) (b : Statements) (a : Answers)
     → whileLoop l (performs t) (λ a′. runStatements b a′) a
     ≡ prefix (performs t) (choose (λ a′. afterBody l (runStatements b a′) (λ a″. whileLoop l (performs t) (λ z. runStatements b z) a″)) (λ a′. completed [] normal a′) a)
 while-again l t b a = loop-again l (performs t) (λ a′. runStatements b a′) (λ a′. takes-statements b a′) a
+
+-- ---- and WHILE itself: "its test, then by one answer its body and itself again (yes) or ends (no)"
+
+-- after the body: the statement again, or its end
+unfoldable pub afterRound : Option ℕ → Completed → (Answers → Completed) → Completed
+afterRound l body again = elim (loopContinues (body .completion) (labelSet l)) [ true ↦ prefix (body .rows) (again (body .left)) | false ↦ loop l body ]
+
+loop-prefix : (l : Option ℕ) (rs : List ℕ) (o : Completed) → loop l (prefix rs o) ≡ prefix rs (loop l o)
+unfolding loop completing prefix completed
+loop-prefix l rs o = refl
+
+loop-after : (l : Option ℕ) (m : Bool) (o : Completed) (k : Answers → Completed)
+    → loop l (afterOn m o k) ≡ elim m [ true ↦ prefix (o .rows) (loop l (k (o .left))) | false ↦ loop l o ]
+loop-after l true o k = loop-prefix l (o .rows) (k (o .left))
+loop-after l false o k = refl
+
+while-on : (i : ℕ) (l : Option ℕ) (t : Value) (b : Statements) (a : Answers)
+    → loop l (choose (λ a′. afterBody (labelSet l) (runStatements b a′) (λ a″. whileLoop (labelSet l) (performs t) (λ z. runStatements b z) a″)) (λ a′. completed [] normal a′) a)
+    ≡ choose (λ a′. afterRound l (runStatements b a′) (λ a″. runStatement (WHILE i l t b) a″)) (λ a′. completed [] normal a′) a
+unfolding choose loop completing completed breakable labelled runStatement afterRound afterBody
+while-on i l t b [] = refl
+while-on i l t b (zero ∷ a) = refl
+while-on i l t b (suc n ∷ a) =
+    loop-after l (loopContinues (runStatements b a .completion) (labelSet l)) (runStatements b a) (λ a″. whileLoop (labelSet l) (performs t) (λ z. runStatements b z) a″)
+
+pub while-itself : (i : ℕ) (l : Option ℕ) (t : Value) (b : Statements) (a : Answers)
+    → runStatement (WHILE i l t b) a
+    ≡ prefix (performs t) (choose (λ a′. afterRound l (runStatements b a′) (λ a″. runStatement (WHILE i l t b) a″)) (λ a′. completed [] normal a′) a)
+unfolding runStatement
+while-itself i l t b a = ap (λ (o : Completed). loop l o) (while-again (labelSet l) t b a) ∙ loop-prefix l (performs t) _ ∙ ap (λ (o : Completed). prefix (performs t) o) (while-on i l t b a)

@@ -5,7 +5,6 @@ use Prim.Native.Nat.{ℕ, zero, suc}
 use mathlib.Core.List.{List, [], _∷_}
 use mathlib.Core.Option.{Option, none, some}
 use mathlib.Core.Bool.{Bool, true, false, not, _&&_, _||_}
-use native.Mathlib.Omega.{arith}
 use lib.ListN.{getD}
 use lib.Dec.{eqb}
 use borrow.Author.Tests.{eqb-true, eq-eqb, ne-eqb}
@@ -158,7 +157,7 @@ some-at : (bs : List Block) (p : ℕ → Terminal → Bool) → someOf bs p ≡ 
 some-at [] p h = absurd (true-false (sym h))
 some-at (k ∷ ks) p h =
     by-cases (p 0 (k .terminal)) (λ e. (0, e))
-      (λ e. let (c, q) = some-at ks (λ n. p (suc n)) (or-else (p 0 (k .terminal)) (someOf ks (λ n. p (suc n))) h e) in (suc c, q))
+    (λ e. let (c, q) = some-at ks (λ n. p (suc n)) (or-else (p 0 (k .terminal)) (someOf ks (λ n. p (suc n))) h e) in (suc c, q))
 
 some-of : (bs : List Block) (p : ℕ → Terminal → Bool) → ((c : ℕ) → p c absent ≡ false) → (c : ℕ) → p c (getD bs c noBlock .terminal) ≡ true → someOf bs p ≡ true
 some-of [] p q c h = absurd (true-false (sym h ∙ q c))
@@ -180,8 +179,11 @@ while-of x′ l′ f′ (branch x y z) h = absurd (true-false (sym h))
 while-of x′ l′ f′ (switch x i n f) h = absurd (true-false (sym h))
 while-of x′ l′ f′ (do-while l x f) h = absurd (true-false (sym h))
 while-of x′ l′ f′ (while x l f) h =
-    cc (eqb-true x x′ (and-left (eqb x x′) (eqb l l′) (and-left (eqb x x′ && eqb l l′) (eqb f f′) h)),
-      eqb-true l l′ (and-right (eqb x x′) (eqb l l′) (and-left (eqb x x′ && eqb l l′) (eqb f f′) h)), eqb-true f f′ (and-right (eqb x x′ && eqb l l′) (eqb f f′) h))
+    cc (
+      eqb-true x x′ (and-left (eqb x x′) (eqb l l′) (and-left (eqb x x′ && eqb l l′) (eqb f f′) h)),
+      eqb-true l l′ (and-right (eqb x x′) (eqb l l′) (and-left (eqb x x′ && eqb l l′) (eqb f f′) h)),
+      eqb-true f f′ (and-right (eqb x x′ && eqb l l′) (eqb f f′) h),
+    )
 while-of x′ l′ f′ (for i x u l f) h = absurd (true-false (sym h))
 while-of x′ l′ f′ (for-of i x l f) h = absurd (true-false (sym h))
 while-of x′ l′ f′ (for-in i l f) h = absurd (true-false (sym h))
@@ -266,9 +268,10 @@ some-eq e = cc
 module _ (t : Table) where
   branches-none : (ns : List ℕ) → noBranches t ns ≡ true → All (NotBranch t) ns
   branches-none [] h = tt
-  branches-none (n ∷ ns) h =
-      (not-is (isBranch (terminalAt t n)) (and-left (not (isBranch (terminalAt t n))) (noBranches t ns) h),
-        branches-none ns (and-right (not (isBranch (terminalAt t n))) (noBranches t ns) h))
+  branches-none (n ∷ ns) h = (
+    not-is (isBranch (terminalAt t n)) (and-left (not (isBranch (terminalAt t n))) (noBranches t ns) h),
+    branches-none ns (and-right (not (isBranch (terminalAt t n))) (noBranches t ns) h),
+  )
 
   none-branches : (ns : List ℕ) → All (NotBranch t) ns → noBranches t ns ≡ true
   none-branches [] h = refl
@@ -299,7 +302,7 @@ module _ (t : Table) where
     passed : (b : ℕ) → Passed b (terminalAt t b)
     passed b =
         passed-of b (terminalAt t b)
-          (every-at (t .blocks) (λ c m. blockTest t c m) (λ c. refl) (and-right (not (isBranch (terminalAt t (t .entry)))) (everyOf (t .blocks) (λ c m. blockTest t c m)) h) b)
+        (every-at (t .blocks) (λ c m. blockTest t c m) (λ c. refl) (and-right (not (isBranch (terminalAt t (t .entry)))) (everyOf (t .blocks) (λ c m. blockTest t c m)) h) b)
 
     shape-at : (b : ℕ) (m : Terminal) → terminalAt t b ≡ m → shapeTest t b (shapeOf m) ≡ true
     shape-at b m e = subst (λ (z : Terminal). shapeTest t b (shapeOf z) ≡ true) e (passed b .shape)
@@ -324,18 +327,18 @@ module _ (t : Table) where
     one-fallthrough : (b c f : ℕ) → fallthroughOf (terminalAt t b) ≡ some f → fallthroughOf (terminalAt t c) ≡ some f → b ≡ c
     one-fallthrough b c f e e′ =
         by-cases (eqb b c) (eqb-true b c)
-          (λ n. absurd (true-false (sym (this-is f (fallthroughOf (terminalAt t c)) e′) ∙ not-is (isThis f (fallthroughOf (terminalAt t c))) (or-else (eqb b c) (not (isThis f (fallthroughOf (terminalAt t c)))) other n))))
+        (λ n. absurd (true-false (sym (this-is f (fallthroughOf (terminalAt t c)) e′) ∙ not-is (isThis f (fallthroughOf (terminalAt t c))) (or-else (eqb b c) (not (isThis f (fallthroughOf (terminalAt t c)))) other n))))
       where
         other : eqb b c || not (isThis f (fallthroughOf (terminalAt t c))) ≡ true
         other =
             every-at (t .blocks) (λ c m. eqb b c || not (isThis f (fallthroughOf m))) (λ c. or-right (eqb b c) true refl)
-              (and-left (everyOf (t .blocks) (λ c m. eqb b c || not (isThis f (fallthroughOf m)))) (everyOf (t .blocks) (λ w m. notOfLoop f (shapeOf m))) (fallthrough-at b f e)) c
+            (and-left (everyOf (t .blocks) (λ c m. eqb b c || not (isThis f (fallthroughOf m)))) (everyOf (t .blocks) (λ w m. notOfLoop f (shapeOf m))) (fallthrough-at b f e)) c
 
     no-loop-at : (b f w x l g : ℕ) → fallthroughOf (terminalAt t b) ≡ some f → terminalAt t w ≡ while x l g → not (eqb f l) && not (eqb f x) ≡ true
     no-loop-at b f w x l g e e′ =
         subst (λ (m : Terminal). notOfLoop f (shapeOf m) ≡ true) e′
-          (every-at (t .blocks) (λ w m. notOfLoop f (shapeOf m)) (λ c. refl)
-            (and-right (everyOf (t .blocks) (λ c m. eqb b c || not (isThis f (fallthroughOf m)))) (everyOf (t .blocks) (λ w m. notOfLoop f (shapeOf m))) (fallthrough-at b f e)) w)
+        (every-at (t .blocks) (λ w m. notOfLoop f (shapeOf m)) (λ c. refl)
+        (and-right (everyOf (t .blocks) (λ c m. eqb b c || not (isThis f (fallthroughOf m)))) (everyOf (t .blocks) (λ w m. notOfLoop f (shapeOf m))) (fallthrough-at b f e)) w)
 
     -- two Whiles with one test have one fallthrough, as their test has one alternate; so they are one
     same-alternate : (p l f p′ l′ f′ : ℕ) → branch p l f ≡ branch p′ l′ f′ → f ≡ f′
@@ -377,8 +380,8 @@ module _ (t : Table) where
     shape-passes b (branch x y z) e =
         let (w, q) = pl .branches b x y z e in
         and-both (someOf (t .blocks) (λ w m. isWhile b y z (shapeOf m))) (not (endsInStore t (instructionRowsAt t b)))
-          (some-of (t .blocks) (λ w m. isWhile b y z (shapeOf m)) (λ c. refl) w (is-while b y z (terminalAt t w) q))
-          (is-not (endsInStore t (instructionRowsAt t b)) (pl .no-store b x y z e))
+        (some-of (t .blocks) (λ w m. isWhile b y z (shapeOf m)) (λ c. refl) w (is-while b y z (terminalAt t w) q))
+        (is-not (endsInStore t (instructionRowsAt t b)) (pl .no-store b x y z e))
     shape-passes b (switch x i n f) e = refl
     shape-passes b (do-while l x f) e = refl
     shape-passes b (while x l f) e = let (p, q) = pl .tests b x l f e in is-branch-to p l f (terminalAt t x) q
@@ -398,27 +401,27 @@ module _ (t : Table) where
     fallthrough-passes b none e = refl
     fallthrough-passes b (some f) e =
         and-both (everyOf (t .blocks) (λ c m. eqb b c || not (isThis f (fallthroughOf m)))) (everyOf (t .blocks) (λ w m. notOfLoop f (shapeOf m)))
-          (every-of (t .blocks) (λ c m. eqb b c || not (isThis f (fallthroughOf m))) only)
-          (every-of (t .blocks) (λ w m. notOfLoop f (shapeOf m))
-            (λ w. not-of-loop f (terminalAt t w) (λ x l g q. pl .no-loop b f w x l g e q) (λ x l g q. pl .no-test b f w x l g e q)))
+        (every-of (t .blocks) (λ c m. eqb b c || not (isThis f (fallthroughOf m))) only)
+        (every-of (t .blocks) (λ w m. notOfLoop f (shapeOf m))
+        (λ w. not-of-loop f (terminalAt t w) (λ x l g q. pl .no-loop b f w x l g e q) (λ x l g q. pl .no-test b f w x l g e q)))
       where
         only : (c : ℕ) → eqb b c || not (isThis f (fallthroughOf (terminalAt t c))) ≡ true
         only c =
             by-cases (isThis f (fallthroughOf (terminalAt t c)))
-              (λ h. or-left (eqb b c) (not (isThis f (fallthroughOf (terminalAt t c)))) (eq-eqb b c (pl .one-fallthrough b c f e (is-this f (fallthroughOf (terminalAt t c)) h))))
-              (λ h. or-right (eqb b c) (not (isThis f (fallthroughOf (terminalAt t c)))) (is-not (isThis f (fallthroughOf (terminalAt t c))) h))
+            (λ h. or-left (eqb b c) (not (isThis f (fallthroughOf (terminalAt t c)))) (eq-eqb b c (pl .one-fallthrough b c f e (is-this f (fallthroughOf (terminalAt t c)) h))))
+            (λ h. or-right (eqb b c) (not (isThis f (fallthroughOf (terminalAt t c)))) (is-not (isThis f (fallthroughOf (terminalAt t c))) h))
 
     block-passes : (b : ℕ) → blockTest t b (terminalAt t b) ≡ true
     block-passes b =
         let m : Terminal = terminalAt t b in
         and-both (among plainCodes (codeOf m)) (noBranches t (otherNames m) && (shapeTest t b (shapeOf m) && fallthroughTest t b (fallthroughOf m))) (pl .ends b)
-          (and-both (noBranches t (otherNames m)) (shapeTest t b (shapeOf m) && fallthroughTest t b (fallthroughOf m)) (none-branches (otherNames m) (pl .names b))
-            (and-both (shapeTest t b (shapeOf m)) (fallthroughTest t b (fallthroughOf m)) (shape-passes b m refl) (fallthrough-passes b (fallthroughOf m) refl)))
+        (and-both (noBranches t (otherNames m)) (shapeTest t b (shapeOf m) && fallthroughTest t b (fallthroughOf m)) (none-branches (otherNames m) (pl .names b))
+        (and-both (shapeTest t b (shapeOf m)) (fallthroughTest t b (fallthroughOf m)) (shape-passes b m refl) (fallthrough-passes b (fallthroughOf m) refl)))
 
     pub plain-is : isPlain t ≡ true
     plain-is =
         and-both (not (isBranch (terminalAt t (t .entry)))) (everyOf (t .blocks) (λ b m. blockTest t b m)) (is-not (isBranch (terminalAt t (t .entry))) (pl .entry))
-          (every-of (t .blocks) (λ b m. blockTest t b m) block-passes)
+        (every-of (t .blocks) (λ b m. blockTest t b m) block-passes)
 
 -- the test holds exactly of the plain tables
 pub plain-test : (t : Table) → (isPlain t ≡ true) ↔ Plain t

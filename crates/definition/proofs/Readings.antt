@@ -1,18 +1,17 @@
 -- The rows determine the tree: a reader, a stack machine over the rows, gives every well-formed tree back from its rows. So one list of rows
 -- is read as one tree.
-use mathlib.Core.Path.{_≡_, refl, sym, ap, _∙_, subst}
-use Prim.Native.Nat.{ℕ, zero, suc, _+_, _<_}
+use mathlib.Core.Path.{_≡_, refl, sym, ap, _∙_}
+use Prim.Native.Nat.{ℕ, zero, suc, _+_}
 use native.Mathlib.Nat.{zero-add, add-zero}
 use native.Mathlib.Omega.{arith}
 use mathlib.Core.List.{List, [], _∷_}
 use mathlib.Core.Option.{Option, none, some}
 use mathlib.Core.Bool.{Bool, true, false}
 use lib.ListN.{getD}
-use lib.Dec.{eqb}
 use borrow.Author.Tests.{ne-eqb}
 use Rattle.table.specs.Words.{largest}
 use Rattle.table.specs.Table.{unlessNone}
-use Rattle.definition.specs.Tree.{Kind, implicit, labeled, unlabeled, Value, PLAIN, LOAD, UNDEF, SEQ, LOGICAL, COND, OPTIONAL, Instructions, no-instructions, instruction, Statement, INSTR, IF, SWITCH, DOWHILE, WHILE, FOR, FOROF, FORIN, LABEL, TRY, SCOPE, RETURN, THROW, BREAK, CONTINUE, Statements, done, _▸_, Cases, no-cases, CASE, Row, row, orNone, kindNumber, present, valueRows, instructionsRows, countInstructions, updateRows, countStatements, countCases, statementRows, statementsRows, blockRows, casesRows, rows}
+use Rattle.definition.specs.Tree.{Kind, implicit, labeled, unlabeled, Value, PLAIN, LOAD, UNDEF, SEQ, LOGICAL, COND, OPTIONAL, Instructions, no-instructions, instruction, Statement, INSTR, IF, SWITCH, DOWHILE, WHILE, FOR, FOROF, FORIN, LABEL, TRY, SCOPE, RETURN, THROW, BREAK, CONTINUE, Statements, done, _▸_, Cases, no-cases, CASE, Row, row, orNone, kindNumber, present, valueRows, instructionsRows, countInstructions, countStatements, countCases, statementRows, statementsRows, blockRows, casesRows, rows}
 use Rattle.definition.specs.Reading.{BelowNone, EmptyUnless, WellFormedStatement, WellFormed, WellFormedCases, ReadAs}
 
 -- ---- the reader
@@ -239,6 +238,7 @@ closed r after S S′ e = ap (λ (o : Option Stack). elim o [ none ↦ none | so
 
 mutual
   unfolding close closings pushes takeValue pushInstructions
+
   value-read : (v : Value) (after : List Row) (S : Stack) → read (valueRows v after) S ≡ read after (value v ∷ S)
   value-read (PLAIN r) after S = closed (row 1 r 0 0 0 0) after S (value (PLAIN r) ∷ S) refl
   value-read (LOAD p) after S = closed (row 2 p 0 0 0 0) after S (value (LOAD p) ∷ S) refl
@@ -247,7 +247,7 @@ mutual
       instructions-read is (valueRows v (row 5 (countInstructions is) i 0 0 0 ∷ after)) S
       ∙ value-read v (row 5 (countInstructions is) i 0 0 0 ∷ after) (pushInstructions is S)
       ∙ closed (row 5 (countInstructions is) i 0 0 0) after (value v ∷ pushInstructions is S) (value (SEQ is i v) ∷ S)
-          (all-instructions is (λ z. pushes (value (SEQ z i v))) S)
+      (all-instructions is (λ z. pushes (value (SEQ z i v))) S)
   value-read (LOGICAL o l r) after S =
       value-read l (valueRows r (row 6 o 0 0 0 0 ∷ after)) S
       ∙ value-read r (row 6 o 0 0 0 0 ∷ after) (value l ∷ S)
@@ -290,6 +290,7 @@ gives r after S S′ made item e q = closed r after S (item ∷ S′) (e ∙ ap 
 
 mutual
   unfolding close closings pushes takeValue takeBlock closeIf closeFor WellFormed pushStatements pushCases
+
   statement-read : (s : Statement) → WellFormedStatement s → (after : List Row) (S : Stack) → read (statementRows s after) S ≡ read after (statement s ∷ S)
   statement-read (INSTR i l s v) w after S =
       value-read v (row 4 i l s 0 0 ∷ after) S ∙ closed (row 4 i l s 0 0) after (value v ∷ S) (statement (INSTR i l s v) ∷ S) refl
@@ -297,59 +298,59 @@ mutual
       block-read c (w .1) (blockRows a (row 10 t 1 i (orNone l) 0 ∷ after)) S
       ∙ block-read a (w .2) (row 10 t 1 i (orNone l) 0 ∷ after) (block c ∷ S)
       ∙ gives (row 10 t 1 i (orNone l) 0) after (block a ∷ block c ∷ S) S (statement (IF t i (unlessNone (orNone l)) c true a)) (statement (IF t i l c true a)) refl
-          (ap (λ (z : Option ℕ). statement (IF t i z c true a)) (label-read l (w .0)))
+      (ap (λ (z : Option ℕ). statement (IF t i z c true a)) (label-read l (w .0)))
   statement-read (IF t i l c false a) w after S =
       block-read c (w .1) (row 10 t 0 i (orNone l) 0 ∷ after) S
       ∙ gives (row 10 t 0 i (orNone l) 0) after (block c ∷ S) S (statement (IF t i (unlessNone (orNone l)) c false done)) (statement (IF t i l c false a)) refl
-          (ap (λ (z : Option ℕ). statement (IF t i z c false done)) (label-read l (w .0)) ∙ ap (λ (z : Statements). statement (IF t i l c false z)) (is-done a (w .3)))
+      (ap (λ (z : Option ℕ). statement (IF t i z c false done)) (label-read l (w .0)) ∙ ap (λ (z : Statements). statement (IF t i l c false z)) (is-done a (w .3)))
   statement-read (SWITCH t i l cs) w after S =
       cases-read cs (w .1) (row 12 t (countCases cs) i (orNone l) 0 ∷ after) S
       ∙ gives (row 12 t (countCases cs) i (orNone l) 0) after (pushCases cs S) S (statement (SWITCH t i (unlessNone (orNone l)) cs)) (statement (SWITCH t i l cs))
-          (all-cases cs (λ z. pushes (statement (SWITCH t i (unlessNone (orNone l)) z))) S)
-          (ap (λ (z : Option ℕ). statement (SWITCH t i z cs)) (label-read l (w .0)))
+      (all-cases cs (λ z. pushes (statement (SWITCH t i (unlessNone (orNone l)) z))) S)
+      (ap (λ (z : Option ℕ). statement (SWITCH t i z cs)) (label-read l (w .0)))
   statement-read (DOWHILE i l b t) w after S =
       block-read b (w .1) (valueRows t (row 13 i (orNone l) 0 0 0 ∷ after)) S
       ∙ value-read t (row 13 i (orNone l) 0 0 0 ∷ after) (block b ∷ S)
       ∙ gives (row 13 i (orNone l) 0 0 0) after (value t ∷ block b ∷ S) S (statement (DOWHILE i (unlessNone (orNone l)) b t)) (statement (DOWHILE i l b t)) refl
-          (ap (λ (z : Option ℕ). statement (DOWHILE i z b t)) (label-read l (w .0)))
+      (ap (λ (z : Option ℕ). statement (DOWHILE i z b t)) (label-read l (w .0)))
   statement-read (WHILE i l t b) w after S =
       value-read t (blockRows b (row 14 i (orNone l) 0 0 0 ∷ after)) S
       ∙ block-read b (w .1) (row 14 i (orNone l) 0 0 0 ∷ after) (value t ∷ S)
       ∙ gives (row 14 i (orNone l) 0 0 0) after (block b ∷ value t ∷ S) S (statement (WHILE i (unlessNone (orNone l)) t b)) (statement (WHILE i l t b)) refl
-          (ap (λ (z : Option ℕ). statement (WHILE i z t b)) (label-read l (w .0)))
+      (ap (λ (z : Option ℕ). statement (WHILE i z t b)) (label-read l (w .0)))
   statement-read (FOR i l n t none b) w after S =
       value-read n (valueRows t (blockRows b (row 15 i (orNone l) 0 0 0 ∷ after))) S
       ∙ value-read t (blockRows b (row 15 i (orNone l) 0 0 0 ∷ after)) (value n ∷ S)
       ∙ block-read b (w .1) (row 15 i (orNone l) 0 0 0 ∷ after) (value t ∷ value n ∷ S)
       ∙ gives (row 15 i (orNone l) 0 0 0) after (block b ∷ value t ∷ value n ∷ S) S (statement (FOR i (unlessNone (orNone l)) n t none b)) (statement (FOR i l n t none b)) refl
-          (ap (λ (z : Option ℕ). statement (FOR i z n t none b)) (label-read l (w .0)))
+      (ap (λ (z : Option ℕ). statement (FOR i z n t none b)) (label-read l (w .0)))
   statement-read (FOR i l n t (some u) b) w after S =
       value-read n (valueRows t (valueRows u (blockRows b (row 15 i (orNone l) 1 0 0 ∷ after)))) S
       ∙ value-read t (valueRows u (blockRows b (row 15 i (orNone l) 1 0 0 ∷ after))) (value n ∷ S)
       ∙ value-read u (blockRows b (row 15 i (orNone l) 1 0 0 ∷ after)) (value t ∷ value n ∷ S)
       ∙ block-read b (w .1) (row 15 i (orNone l) 1 0 0 ∷ after) (value u ∷ value t ∷ value n ∷ S)
       ∙ gives (row 15 i (orNone l) 1 0 0) after (block b ∷ value u ∷ value t ∷ value n ∷ S) S (statement (FOR i (unlessNone (orNone l)) n t (some u) b)) (statement (FOR i l n t (some u) b)) refl
-          (ap (λ (z : Option ℕ). statement (FOR i z n t (some u) b)) (label-read l (w .0)))
+      (ap (λ (z : Option ℕ). statement (FOR i z n t (some u) b)) (label-read l (w .0)))
   statement-read (FOROF i l s n t b) w after S =
       value-read n (valueRows t (blockRows b (row 16 i (orNone l) s 0 0 ∷ after))) S
       ∙ value-read t (blockRows b (row 16 i (orNone l) s 0 0 ∷ after)) (value n ∷ S)
       ∙ block-read b (w .1) (row 16 i (orNone l) s 0 0 ∷ after) (value t ∷ value n ∷ S)
       ∙ gives (row 16 i (orNone l) s 0 0) after (block b ∷ value t ∷ value n ∷ S) S (statement (FOROF i (unlessNone (orNone l)) s n t b)) (statement (FOROF i l s n t b)) refl
-          (ap (λ (z : Option ℕ). statement (FOROF i z s n t b)) (label-read l (w .0)))
+      (ap (λ (z : Option ℕ). statement (FOROF i z s n t b)) (label-read l (w .0)))
   statement-read (FORIN i l s n b) w after S =
       value-read n (blockRows b (row 17 i (orNone l) s 0 0 ∷ after)) S
       ∙ block-read b (w .1) (row 17 i (orNone l) s 0 0 ∷ after) (value n ∷ S)
       ∙ gives (row 17 i (orNone l) s 0 0) after (block b ∷ value n ∷ S) S (statement (FORIN i (unlessNone (orNone l)) s n b)) (statement (FORIN i l s n b)) refl
-          (ap (λ (z : Option ℕ). statement (FORIN i z s n b)) (label-read l (w .0)))
+      (ap (λ (z : Option ℕ). statement (FORIN i z s n b)) (label-read l (w .0)))
   statement-read (LABEL i l b) w after S =
       block-read b (w .1) (row 18 i (orNone l) 0 0 0 ∷ after) S
       ∙ gives (row 18 i (orNone l) 0 0 0) after (block b ∷ S) S (statement (LABEL i (unlessNone (orNone l)) b)) (statement (LABEL i l b)) refl
-          (ap (λ (z : Option ℕ). statement (LABEL i z b)) (label-read l (w .0)))
+      (ap (λ (z : Option ℕ). statement (LABEL i z b)) (label-read l (w .0)))
   statement-read (TRY i l n b h) w after S =
       block-read b (w .2) (blockRows h (row 19 i (orNone l) (orNone n) 0 0 ∷ after)) S
       ∙ block-read h (w .3) (row 19 i (orNone l) (orNone n) 0 0 ∷ after) (block b ∷ S)
       ∙ gives (row 19 i (orNone l) (orNone n) 0 0) after (block h ∷ block b ∷ S) S (statement (TRY i (unlessNone (orNone l)) (unlessNone (orNone n)) b h)) (statement (TRY i l n b h)) refl
-          (ap (λ (z : Option ℕ). statement (TRY i z (unlessNone (orNone n)) b h)) (label-read l (w .0)) ∙ ap (λ (z : Option ℕ). statement (TRY i l z b h)) (label-read n (w .1)))
+      (ap (λ (z : Option ℕ). statement (TRY i z (unlessNone (orNone n)) b h)) (label-read l (w .0)) ∙ ap (λ (z : Option ℕ). statement (TRY i l z b h)) (label-read n (w .1)))
   statement-read (SCOPE true n b) w after S =
       block-read b w (row 21 n 0 0 0 0 ∷ after) S ∙ closed (row 21 n 0 0 0 0) after (block b ∷ S) (statement (SCOPE true n b) ∷ S) refl
   statement-read (SCOPE false n b) w after S =

@@ -1,6 +1,6 @@
--- The ★ samples of paper 01, from their words and a lent buffer: one tabulated claim over `built`, by computation.
+-- The ★ samples of paper 01, from their words and the length of a lent buffer: one tabulated claim over `built`, by computation.
 use mathlib.Core.Path.{_≡_, refl}
-use Prim.Native.Nat.{ℕ, _+_, _*_}
+use Prim.Native.Nat.{ℕ, _*_, _-_}
 use mathlib.Core.List.{List, [], _∷_, _++_, map}
 use lib.ListN.{replicate}
 use Rattle.table.specs.Words.{word, entryWord, blockCount, instructionCount, caseCount, placeCount, identifierCount, blocksBegin, instructionsBegin, casesBegin, placesBegin, identifiersBegin, wordsNeeded, blockWord, instructionWord, caseWord, placeWord, identifierWord}
@@ -14,15 +14,18 @@ use Rattle.definition.specs.Build.{Outcome, reported, report, refusal, w
 
 -- ---- the words of a table
 
--- a terminal's code and columns a to e, as the paper writes it: While(1,2,3)
+-- a terminal as the paper writes it, While(1,2,3): its code and the columns a to e
 abbrev Return : (value : ℕ) → List ℕ
 Return value = 3 ∷ value ∷ 0 ∷ 0 ∷ 0 ∷ 0 ∷ []
 
-abbrev GotoBreak : (target : ℕ) → List ℕ
-GotoBreak target = 4 ∷ target ∷ 0 ∷ 0 ∷ 0 ∷ 0 ∷ []
+abbrev Break : ℕ
+Break = 0
 
-abbrev GotoContinue : (target : ℕ) → List ℕ
-GotoContinue target = 4 ∷ target ∷ 1 ∷ 0 ∷ 0 ∷ 0 ∷ []
+abbrev Continue : ℕ
+Continue = 1
+
+abbrev Goto : (target variant : ℕ) → List ℕ
+Goto target variant = 4 ∷ target ∷ variant ∷ 0 ∷ 0 ∷ 0 ∷ []
 
 abbrev If : (test consequent alternate fallthrough : ℕ) → List ℕ
 If test consequent alternate fallthrough = 5 ∷ test ∷ consequent ∷ alternate ∷ fallthrough ∷ 0 ∷ []
@@ -40,40 +43,39 @@ abbrev Scope : (body fallthrough scope : ℕ) → List ℕ
 Scope body fallthrough scope = 20 ∷ body ∷ fallthrough ∷ scope ∷ 0 ∷ 0 ∷ []
 
 -- a block with no instructions: first, count, its terminal, id, span
-abbrev emptyBlock : (terminal : List ℕ) → (id : ℕ) → List ℕ
-emptyBlock terminal id = 0 ∷ 0 ∷ (terminal ++ (id ∷ 0 ∷ []))
+abbrev empty : (terminal : List ℕ) → (id : ℕ) → List ℕ
+empty terminal id = 0 ∷ 0 ∷ terminal ++ id ∷ 0 ∷ []
 
--- the six head words, the blocks, and then one place and its identifier, which is named. The entry is block 0
-abbrev tableOfBlocks : (number : ℕ) → (blocks : List ℕ) → List ℕ
-tableOfBlocks number blocks = 0 ∷ number ∷ 0 ∷ 0 ∷ 1 ∷ 1 ∷ (blocks ++ (0 ∷ 1 ∷ []))
+-- six head words, so many blocks, of which 0 is the entry, and then one place and its identifier, which is named
+abbrev table : (number : ℕ) → (blocks : List ℕ) → List ℕ
+table number blocks = 0 ∷ number ∷ 0 ∷ 0 ∷ 1 ∷ 1 ∷ blocks ++ 0 ∷ 1 ∷ []
 
-abbrev oneReturn : List ℕ
-oneReturn = tableOfBlocks 1 (emptyBlock (Return 0) 7)
-
--- four blocks, the last of which is 3 Return(0) id 4
-abbrev fourBlocks : (block0 block1 block2 : List ℕ) → List ℕ
-fourBlocks block0 block1 block2 = tableOfBlocks 4 (block0 ++ (block1 ++ (block2 ++ emptyBlock (Return 0) 4)))
-
-abbrev threeBlocks : (block0 block1 : List ℕ) → List ℕ
-threeBlocks block0 block1 = tableOfBlocks 3 (block0 ++ (block1 ++ emptyBlock (Return 0) 4))
+-- the table of the sample file
+abbrev file : List ℕ
+file = table 1 (empty (Return 0) 7)
 
 abbrev W : List ℕ
-W = fourBlocks (emptyBlock (While 1 2 3) 1) (emptyBlock (Branch 0 2 3) 2) (emptyBlock (GotoContinue 1) 3)
+W = table 4 (empty (While 1 2 3) 1 ++ empty (Branch 0 2 3) 2 ++ empty (Goto 1 Continue) 3 ++ empty (Return 0) 4)
 
+-- "W, 2 Goto(3,Break)"
 abbrev W-break : List ℕ
-W-break = fourBlocks (emptyBlock (While 1 2 3) 1) (emptyBlock (Branch 0 2 3) 2) (emptyBlock (GotoBreak 3) 3)
+W-break = table 4 (empty (While 1 2 3) 1 ++ empty (Branch 0 2 3) 2 ++ empty (Goto 3 Break) 3 ++ empty (Return 0) 4)
 
+-- "W, 0 While(1,2,1)"
 abbrev W-own-test : List ℕ
-W-own-test = fourBlocks (emptyBlock (While 1 2 1) 1) (emptyBlock (Branch 0 2 3) 2) (emptyBlock (GotoContinue 1) 3)
+W-own-test = table 4 (empty (While 1 2 1) 1 ++ empty (Branch 0 2 3) 2 ++ empty (Goto 1 Continue) 3 ++ empty (Return 0) 4)
 
+-- "W, 1 empty MaybeThrow(1)"
 abbrev W-endless-test : List ℕ
-W-endless-test = fourBlocks (emptyBlock (While 1 2 3) 1) (emptyBlock (MaybeThrow 1) 2) (emptyBlock (GotoContinue 1) 3)
+W-endless-test = table 4 (empty (While 1 2 3) 1 ++ empty (MaybeThrow 1) 2 ++ empty (Goto 1 Continue) 3 ++ empty (Return 0) 4)
 
+-- "0 Scope(1,2,5); 1 Goto(2,Break); 2 Return(0) id 4"
 abbrev scoped : List ℕ
-scoped = threeBlocks (emptyBlock (Scope 1 2 5) 1) (emptyBlock (GotoBreak 2) 2)
+scoped = table 3 (empty (Scope 1 2 5) 1 ++ empty (Goto 2 Break) 2 ++ empty (Return 0) 4)
 
-abbrev sameWays : List ℕ
-sameWays = threeBlocks (emptyBlock (If 0 1 1 2) 1) (emptyBlock (Return 0) 2)
+-- "0 If(0,1,1,2), 1 and 2 Return"
+abbrev same-ways : List ℕ
+same-ways = table 3 (empty (If 0 1 1 2) 1 ++ empty (Return 0) 2 ++ empty (Return 0) 4)
 
 -- ---- the words of rows
 
@@ -105,27 +107,27 @@ pub record Sample : Type 0 where
   pub lent : ℕ
   pub outcome : Outcome
 
--- accepted, with so many words left over: the rows, then zeros
-abbrev accepts : (words : List ℕ) → (rows left visits : ℕ) → (rowWords : List ℕ) → Sample
-accepts words rows left visits rowWords =
-    record { words = words; lent = rows * 6 + left; outcome = record { code = 0; at = 0; rows = rows; visits = visits; buffer = rowWords ++ replicate left 0 } }
+-- accepted: the buffer holds the rows, then zeros
+abbrev accepts : (words : List ℕ) → (lent rows visits : ℕ) → (rowWords : List ℕ) → Sample
+accepts words lent rows visits rowWords =
+    record { words = words; lent = lent; outcome = record { code = 0; at = 0; rows = rows; visits = visits; buffer = rowWords ++ replicate (lent - rows * 6) 0 } }
 
--- refused: every word lent is zero
+-- refused: all zeros
 abbrev refuses : (words : List ℕ) → (lent code at rows visits : ℕ) → Sample
 refuses words lent code at rows visits =
     record { words = words; lent = lent; outcome = record { code = code; at = at; rows = rows; visits = visits; buffer = replicate lent 0 } }
 
+-- accepts: table, words lent, rows, visits. refuses: table, words lent, code, at, rows, visits
 abbrev pub samples : List Sample
 samples =
-    accepts oneReturn 2 0 1 (RETURN 0 7 ++ BLOCK 1)
-    ∷ accepts oneReturn 2 5 1 (RETURN 0 7 ++ BLOCK 1)
-    ∷ refuses oneReturn 11 40 0 2 1
-    ∷ accepts W 6 9 4 (LOAD 0 ++ (CONTINUE 3 3 0 ++ (BLOCK 1 ++ (WHILE 1 3 ++ (RETURN 0 4 ++ BLOCK 2)))))
-    ∷ accepts W-break 6 9 4 (LOAD 0 ++ (BREAK 3 3 2 ++ (BLOCK 1 ++ (WHILE 1 3 ++ (RETURN 0 4 ++ BLOCK 2)))))
+    accepts file 12 2 1 (RETURN 0 7 ++ BLOCK 1)
+    ∷ refuses file 11 40 0 2 1
+    ∷ accepts W 36 6 4 (LOAD 0 ++ CONTINUE 3 3 0 ++ BLOCK 1 ++ WHILE 1 3 ++ RETURN 0 4 ++ BLOCK 2)
+    ∷ accepts W-break 45 6 4 (LOAD 0 ++ BREAK 3 3 2 ++ BLOCK 1 ++ WHILE 1 3 ++ RETURN 0 4 ++ BLOCK 2)
     ∷ refuses W-own-test 36 15 1 0 1
     ∷ refuses W-endless-test 36 30 1 0 128
-    ∷ accepts scoped 4 3 3 (BLOCK 0 ++ (SCOPE 5 ++ (RETURN 0 4 ++ BLOCK 2)))
-    ∷ refuses sameWays 24 11 1 0 3
+    ∷ accepts scoped 27 4 3 (BLOCK 0 ++ SCOPE 5 ++ RETURN 0 4 ++ BLOCK 2)
+    ∷ refuses same-ways 24 11 1 0 3
     ∷ []
 
 abbrev pub builtFor : Sample → Outcome

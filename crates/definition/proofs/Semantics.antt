@@ -1,21 +1,20 @@
 -- The run law for what the build makes: from a description of the tree, the block run and the tree run agree.
 use mathlib.Core.Path.{_≡_, refl, sym, ap, _∙_, subst}
-use Prim.Native.Nat.{ℕ, zero, suc, _+_, _≤_, _<_}
+use Prim.Native.Nat.{ℕ, zero, suc, _≤_}
 use native.Mathlib.Nat.{le-refl, le-trans, le-of-suc-le-suc, not-suc-le-zero, le-step}
 use native.Mathlib.Omega.{arith}
 use mathlib.Core.List.{List, [], _∷_, _++_, append-assoc, append-nil}
 use mathlib.Core.Option.{Option, none, some}
 use mathlib.Core.Bool.{Bool, true, false, _||_}
 use lib.ListN.{length}
-use lib.Dec.{T, eqb}
-use Rattle.table.specs.Table.{Table, Block, Terminal, throw, return, goto, if, branch, while, label, scope, Variant, blockAt, terminalAt, instructionRowsAt}
-use Rattle.definition.specs.Tree.{Value, PLAIN, Statement, INSTR, IF, WHILE, LABEL, SCOPE, RETURN, THROW, Statements, done, _▸_}
+use lib.Dec.{eqb}
+use Rattle.table.specs.Table.{Table, Terminal, throw, return, goto, if, branch, while, label, scope, Variant, blockAt, terminalAt, instructionRowsAt}
+use Rattle.definition.specs.Tree.{Value, IF, WHILE, LABEL, SCOPE, RETURN, THROW, Statements, done, _▸_}
 use Rattle.definition.specs.Statement.{instructionStatements}
-use Rattle.definition.specs.Reading.{WellFormed}
-use Rattle.definition.specs.Run.{Answers, Reason, returned, threw, no-answer-left, not-plain, no-target, end-of-tree, isGood, Run, unfinished, stopped}
+use Rattle.definition.specs.Run.{Answers, Reason, returned, threw, no-answer-left, isGood, Run, stopped}
 use Rattle.definition.specs.BlockRun.{Move, go, halt, byAnswer, move, performing, blockRun}
-use Rattle.definition.specs.Completion.{Completion, normal, break, continue, stop, labelSet, contains, loopContinues, breakable, labelled}
-use Rattle.definition.specs.TreeRun.{Completed, completed, completing, prefix, thenOn, then, choose, performs, afterBody, whileRounds, loop, runStatement, runStatements}
+use Rattle.definition.specs.Completion.{Completion, normal, break, continue, stop, contains, loopContinues, breakable, labelled}
+use Rattle.definition.specs.TreeRun.{Completed, completed, completing, prefix, thenOn, then, choose, performs, afterBody, whileRounds, whileLoop, loop, runStatements}
 
 -- ---- where a completion leads: the statements around, from the innermost
 
@@ -301,7 +300,7 @@ module _ (t : Table) where
     bThrow : {F : List Frame} {b : ℕ} (v : ℕ) → terminalAt t b ≡ throw v → Built F b (instructionStatements t (instructionRowsAt t b) (THROW v (blockAt t b .id) ▸ done))
     -- the jump's rows, if any, complete as `e`, which leads to the Goto's block
     bJump : {F : List Frame} {b : ℕ} (g : ℕ) (v : Variant) (e : Completion) (s : Statements) → terminalAt t b ≡ goto g v → target F e ≡ some g
-        → WellFormed s → ((ans : Answers) → runStatements s ans ≡ completed [] e ans) → Built F b (instructionStatements t (instructionRowsAt t b) s)
+        → ((ans : Answers) → runStatements s ans ≡ completed [] e ans) → Built F b (instructionStatements t (instructionRowsAt t b) s)
     bIf : {F : List Frame} {b : ℕ} (x c a f i : ℕ) {s₁ s₂ r : Statements} → terminalAt t b ≡ if x c a f
         → Built (fLabel f ∷ F) c s₁ → Built (fLabel f ∷ F) a s₂ → Built F f r
         → Built F b (instructionStatements t (instructionRowsAt t b) (IF x i (some f) s₁ true s₂ ▸ r))
@@ -342,18 +341,19 @@ module _ (t : Table) where
   unfolding prefix completed then thenOn completing labelled
   wants F b f l k e = stops-halt b [] no-answer-left e refl
 
-  if-leads : (F : List Frame) (b x c a f i : ℕ) (p : Bool) (s₁ s₂ r : Statements) → terminalAt t b ≡ if x c a f
-      → ((y : Answers) → Leads (fLabel f ∷ F) c y (runStatements s₁ y)) → ((y : Answers) → Ends F f a y (completing (labelled (some f)) (runStatements s₂ y)))
+  -- an If whose answer no runs `ifNo`, from the block a
+  if-leads : (F : List Frame) (b x c a f : ℕ) (s₁ : Statements) (ifNo : Answers → Completed) (r : Statements) → terminalAt t b ≡ if x c a f
+      → ((y : Answers) → Leads (fLabel f ∷ F) c y (runStatements s₁ y)) → ((y : Answers) → Ends F f a y (completing (labelled (some f)) (ifNo y)))
       → ((y : Answers) → Leads F f y (runStatements r y)) → (ans : Answers)
-      → Leads F b ans (prefix (instructionRowsAt t b) (runStatements (IF x i (some f) s₁ p s₂ ▸ r) ans))
-  unfolding runStatements choose move byAnswer
-  if-leads F b x c a f i p s₁ s₂ r e h₁ h₂ h₃ [] = wants F b f (some f) (λ a′. runStatements r a′) (move-of b (if x c a f) [] (halt no-answer-left) e refl)
-  if-leads F b x c a f i p s₁ s₂ r e h₁ h₂ h₃ (suc n ∷ y) =
+      → Leads F b ans (prefix (instructionRowsAt t b) (then (completing (labelled (some f)) (choose (λ y. runStatements s₁ y) ifNo ans)) (λ y. runStatements r y)))
+  unfolding choose move byAnswer
+  if-leads F b x c a f s₁ ifNo r e h₁ h₂ h₃ [] = wants F b f (some f) (λ y. runStatements r y) (move-of b (if x c a f) [] (halt no-answer-left) e refl)
+  if-leads F b x c a f s₁ ifNo r e h₁ h₂ h₃ (suc n ∷ y) =
       leads-part F b c f (suc n ∷ y) y (completing (labelled (some f)) (runStatements s₁ y)) (λ a′. runStatements r a′)
       (move-of b (if x c a f) (suc n ∷ y) (go c y) e refl) (le-step (le-refl (length y)))
       (ends-label F f c y (runStatements s₁ y) (h₁ y)) h₃
-  if-leads F b x c a f i p s₁ s₂ r e h₁ h₂ h₃ (zero ∷ y) =
-      leads-part F b a f (zero ∷ y) y (completing (labelled (some f)) (runStatements s₂ y)) (λ a′. runStatements r a′)
+  if-leads F b x c a f s₁ ifNo r e h₁ h₂ h₃ (zero ∷ y) =
+      leads-part F b a f (zero ∷ y) y (completing (labelled (some f)) (ifNo y)) (λ a′. runStatements r a′)
       (move-of b (if x c a f) (zero ∷ y) (go a y) e refl) (le-step (le-refl (length y)))
       (h₂ y) h₃
 
@@ -371,29 +371,29 @@ module _ (t : Table) where
   unfolding completed
   jump-out F g ans e h = jump-on F g g ans [] e ans h (onward-here g ans)
 
-  ends-nothing : (F : List Frame) (f : ℕ) (ans : Answers) → Ends F f f ans (completing (labelled (some f)) (runStatements done ans))
-  unfolding completed completing labelled runStatements
+  ends-nothing : (F : List Frame) (f : ℕ) (ans : Answers) → Ends F f f ans (completing (labelled (some f)) (completed [] normal ans))
+  unfolding completed completing labelled
   ends-nothing F f ans = onward-here f ans
 
   -- ---- the law, for what is built
 
   pub runs : {F : List Frame} {b : ℕ} {s : Statements} → Built F b s → (ans : Answers) → Leads F b ans (runStatements s ans)
-  unfolding runStatements move
+  unfolding runStatements move whileLoop
   runs {F} {b} (bReturn v e) ans =
       leads-instructions F b (RETURN v (blockAt t b .id) ▸ done) ans
       (return-leads F b v (blockAt t b .id) ans (move-of b (return v) ans (halt (returned v (blockAt t b .id))) e refl))
   runs {F} {b} (bThrow v e) ans =
       leads-instructions F b (THROW v (blockAt t b .id) ▸ done) ans
       (throw-leads F b v (blockAt t b .id) ans (move-of b (throw v) ans (halt (threw v (blockAt t b .id))) e refl))
-  runs {F} {b} (bJump g v e s h k w q) ans =
+  runs {F} {b} (bJump g v e s h k q) ans =
       leads-instructions F b s ans (subst (λ (o : Completed). Leads F b ans (prefix (instructionRowsAt t b) o)) (sym (q ans))
       (leads-prefix F (completed [] e ans) (onward-go b ans g ans (move-of b (goto g v) ans (go g ans) h refl) (le-refl (length ans))) (jump-out F g ans e k)))
   runs {F} {b} (bIf x c a f i {s₁} {s₂} {r} e h₁ h₂ h₃) ans =
       leads-instructions F b (IF x i (some f) s₁ true s₂ ▸ r) ans
-      (if-leads F b x c a f i true s₁ s₂ r e (λ y. runs h₁ y) (λ y. ends-label F f a y (runStatements s₂ y) (runs h₂ y)) (λ y. runs h₃ y) ans)
+      (if-leads F b x c a f s₁ (λ y. runStatements s₂ y) r e (λ y. runs h₁ y) (λ y. ends-label F f a y (runStatements s₂ y) (runs h₂ y)) (λ y. runs h₃ y) ans)
   runs {F} {b} (bIfOnly x c f i {s₁} {r} e h₁ h₃) ans =
       leads-instructions F b (IF x i (some f) s₁ false done ▸ r) ans
-      (if-leads F b x c f f i false s₁ done r e (λ y. runs h₁ y) (λ y. ends-nothing F f y) (λ y. runs h₃ y) ans)
+      (if-leads F b x c f f s₁ (λ y. completed [] normal y) r e (λ y. runs h₁ y) (λ y. ends-nothing F f y) (λ y. runs h₃ y) ans)
   runs {F} {b} (bLabel c f i {s} {r} e h₁ h₃) ans =
       leads-instructions F b (LABEL i (some f) s ▸ r) ans
       (leads-part F b c f ans ans (completing (labelled (some f)) (runStatements s ans)) (λ a′. runStatements r a′)
@@ -405,9 +405,9 @@ module _ (t : Table) where
       (ends-scope F f c ans (runStatements s ans) (runs h₁ ans)) (λ y. runs h₃ y))
   runs {F} {b} (bWhile x l f y i v {s} {r} e e₁ q h₁ h₃) ans =
       leads-instructions F b (WHILE i (some f) v s ▸ r) ans
-      (leads-part F b x f ans ans (loop (some f) (whileRounds (f ∷ []) (performs v) (λ a′. runStatements s a′) (length ans) ans)) (λ a′. runStatements r a′)
+      (leads-part F b x f ans ans (loop (some f) (whileLoop (f ∷ []) (performs v) (λ a′. runStatements s a′) ans)) (λ a′. runStatements r a′)
       (move-of b (while x l f) ans (go x ans) e refl) (le-refl (length ans))
-      (ends-loop F f x ans (whileRounds (f ∷ []) (performs v) (λ a′. runStatements s a′) (length ans) ans)
-      (subst (λ (w : List ℕ). LoopEnds F f x ans (whileRounds (f ∷ []) w (λ a′. runStatements s a′) (length ans) ans)) (sym q)
+      (ends-loop F f x ans (whileLoop (f ∷ []) (performs v) (λ a′. runStatements s a′) ans)
+      (subst (λ (w : List ℕ). LoopEnds F f x ans (whileLoop (f ∷ []) w (λ a′. runStatements s a′) ans)) (sym q)
       (ends-rounds F y f x l (λ a′. runStatements s a′) e₁ (λ a′. runs h₁ a′) (length ans) ans (le-refl (length ans)))))
       (λ y′. runs h₃ y′))

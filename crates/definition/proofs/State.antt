@@ -11,11 +11,12 @@ use lib.ListN.{length}
 use lib.Dec.{eqb}
 use Rattle.table.specs.Table.{Table, Terminal, while, terminalAt, isAbsent}
 use Rattle.definition.specs.Context.{Flags, has, add, remove, or, no-flags, ControlFlowTarget, target-if, target-switch, target-case, target-loop, Entry, Context, start, isScheduled, emit, withVisits, markScopeFallthrough, pushed, schedule, scheduleLoop, unscheduledBy, popped, unscheduleTop, unschedule}
-use Rattle.definition.specs.Plain.{Plain, Ranged, fallthroughOf}
+use Rattle.definition.specs.Plain.{Plain, fallthroughOf}
 use Rattle.definition.specs.Result.{refused, Result, ok, _>>=_, refuseIf}
 use Rattle.definition.specs.Statement.{enterBlock, unlessScheduled}
 use Rattle.definition.specs.Value.{beginVisit}
 use Rattle.definition.proofs.Semantics.{Frame, fLabel, fScope, fLoop}
+use Rattle.definition.proofs.Ranged.{Ranged}
 use Rattle.definition.proofs.Tools.{true-false, refused-ok, ok-eq, bind-ok, unless-ok, has-add, has-remove, has-still, has-new, length-add, has-none, length-none, below-blocks}
 use Rattle.definition.proofs.Resolve.{Framed, fnone, flabel, fscope, floop}
 

@@ -11,9 +11,8 @@ use lib.Dec.{T, eqb}
 use borrow.Author.Tests.{eqb-true}
 use Rattle.table.specs.Table.{codeOf, Table, Block, Instruction, Operation, other, load-local, store-local, Terminal, absent, unreachable, throw, return, goto, if, branch, switch, do-while, while, for, for-of, for-in, logical, ternary, optional, sequence, maybe-throw, try, scope, Variant, Break, Continue, Try, blockAt, terminalAt, instructionAt, instructionRowsAt, instructionRows, isAbsent, isUnreachable, label}
 use Rattle.definition.specs.Context.{getBreakTarget, getContinueTarget, Resolution, has, add, Entry, target-if, target-loop, Context, start, isScheduled, withVisits, markScopeFallthrough, pushed, schedule, scheduleLoop, unschedule, breakTargetFrom, continueTargetFrom}
-use Rattle.definition.specs.Plain.{Plain, Ranged, fallthroughOf, plainCodes, among, isBranch, isStore, endsInStore, NotBranch, otherNames, All}
+use Rattle.definition.specs.Plain.{Plain, fallthroughOf, plainCodes, among, isBranch, isStore, endsInStore, NotBranch, otherNames, All}
 use Rattle.definition.specs.Result.{refused, Result, ok, _>>=_, refuseIf}
-use Rattle.definition.specs.Reading.{WellFormed}
 use Rattle.definition.specs.Run.{Answers}
 use Rattle.definition.specs.Completion.{Completion, break, continue}
 use Rattle.definition.specs.TreeRun.{performs, performsAll, runStatements, completed, prefix, then, thenOn, jumpCompletion}
@@ -21,6 +20,7 @@ use Rattle.definition.specs.Statement.{breakToScope, visitBreak, visitCo
 use Rattle.definition.specs.Tree.{Kind, implicit, labeled, unlabeled, Value, PLAIN, LOAD, SEQ, Instructions, no-instructions, instruction, Statement, IF, WHILE, LABEL, SCOPE, RETURN, THROW, BREAK, CONTINUE, Statements, done, _▸_}
 use Rattle.definition.specs.Value.{visitValueBlock, branchWays, beginVisit, ValueBlockResult, VisitValueBlock, isThis, instructionsOf, wrapWithSequence, finalValue, finalPlace, storedToNamed, allButLast, last, extractValueBlockResult, branchValue, visitValueBlockAt, Ways}
 use Rattle.definition.proofs.Semantics.{Frame, fLabel, fScope, fLoop, target, Built, bReturn, bThrow, bJump, bIf, bIfOnly, bLabel, bScope, bWhile}
+use Rattle.definition.proofs.Ranged.{Ranged}
 use Rattle.definition.proofs.Tools.{true-false, refused-ok, ok-eq, bind-ok, unless-ok, below-blocks}
 use Rattle.definition.proofs.Resolve.{break-exit, break-names, Framed, break-target, continue-target}
 use Rattle.definition.proofs.State.{Known, ft-of, Inv, inv-start, inv-visited, Entered, enter-ok, ft-free, untaken-free, inv-label, inv-scope, inv-loop, schedule-ok, scheduleLoop-ok, Closed, unschedule-ok}
@@ -311,7 +311,7 @@ module _ (t : Table) where
 
     -- a jump's rows end as it goes
     pub data JumpOk (F : List Frame) (g : ℕ) (s : Option Statement) : Type 0 where
-      goes-as : (e : Completion) → target F e ≡ some g → WellFormed (followedBy s done) → ((ans : Answers) → runStatements (followedBy s done) ans ≡ completed [] e ans) → JumpOk F g s
+      goes-as : (e : Completion) → target F e ≡ some g → ((ans : Answers) → runStatements (followedBy s done) ans ≡ completed [] e ans) → JumpOk F g s
 
     run-break : (g i : ℕ) (k : Kind) (ans : Answers) → runStatements (BREAK g i k ▸ done) ans ≡ completed [] (jumpCompletion k g break) ans
     unfolding runStatements then thenOn prefix completed jumpCompletion
@@ -326,17 +326,16 @@ module _ (t : Table) where
     broke : {F : List Frame} {c : Context} (g i : ℕ) (r : Resolution) (s : Option Statement) (y : Bool) (x : Result (Option Statement)) → Inv t F c
         → breakTargetFrom (c .stack) g true false ≡ some r → r .target ≡ g → has (c .scopeFallthroughs) g ≡ y → elim y [ true ↦ x | false ↦ ok (some (BREAK g i (r .kind))) ] ≡ ok s
         → (x ≡ ok s → JumpOk F g s) → JumpOk F g s
-    unfolding WellFormed
     broke g i r s true x p e q n h z = z h
     broke {F} g i r s false x p e q n h z =
-        subst (λ (w : Option Statement). JumpOk F g w) (ok-eq h) (goes-as (jumpCompletion (r .kind) g break) (break-target t (p .framed) g r e n (r .kind) refl) (tt, tt) (run-break g i (r .kind)))
+        subst (λ (w : Option Statement). JumpOk F g w) (ok-eq h) (goes-as (jumpCompletion (r .kind) g break) (break-target t (p .framed) g r e n (r .kind) refl) (run-break g i (r .kind)))
 
     -- to a scope: no row, as good as an Implicit one
     to-scope : {F : List Frame} (c : Context) (b g : ℕ) (r : Resolution) (s : Option Statement) (k : Kind) → Inv t F c → breakTargetFrom (c .stack) g true false ≡ some r → r .kind ≡ k
         → breakToScope k b (c .visits) ≡ ok s → JumpOk F g s
-    unfolding breakToScope jumpCompletion WellFormed
+    unfolding breakToScope jumpCompletion
     to-scope {F} c b g r s implicit p e k h =
-        subst (λ (w : Option Statement). JumpOk F g w) (ok-eq h) (goes-as (jumpCompletion implicit g break) (break-exit t (p .framed) g true false r e k) tt (run-done g))
+        subst (λ (w : Option Statement). JumpOk F g w) (ok-eq h) (goes-as (jumpCompletion implicit g break) (break-exit t (p .framed) g true false r e k) (run-done g))
     to-scope c b g r s labeled p e k h = absurd (refused-ok h)
     to-scope c b g r s unlabeled p e k h = absurd (refused-ok h)
 
@@ -360,14 +359,14 @@ module _ (t : Table) where
 
     continue-ok : {F : List Frame} (c : Context) (g i : ℕ) (k : Option Resolution) (s : Statement) → Inv t F c → continueTargetFrom (c .stack) g true false ≡ k
         → continueResolved g i c k ≡ ok s → JumpOk F g (some s)
-    unfolding continueResolved WellFormed
+    unfolding continueResolved
     continue-ok c g i none s p e h = absurd (refused-ok h)
     continue-ok {F} c g i (some k) s p e h =
         subst (λ (z : Statement). JumpOk F g (some z)) (ok-eq h)
-        (goes-as (jumpCompletion (k .kind) (k .target) continue) (continue-target t pl (p .framed) g (k .target) (k .kind) e) (tt, tt) (run-continue (k .target) i (k .kind)))
+        (goes-as (jumpCompletion (k .kind) (k .target) continue) (continue-target t pl (p .framed) g (k .target) (k .kind) e) (run-continue (k .target) i (k .kind)))
 
     jump-built : {F : List Frame} (b g : ℕ) (v : Variant) (s : Option Statement) → terminalAt t b ≡ goto g v → JumpOk F g s → Built t F b (instructionStatements t (instructionRowsAt t b) (followedBy s done))
-    jump-built b g v s e (goes-as z q w r) = bJump g v z (followedBy s done) e q w r
+    jump-built b g v s e (goes-as z q r) = bJump g v z (followedBy s done) e q r
 
     jump-ok : {F : List Frame} {c₀ c : Context} (b g i : ℕ) (v : Variant) (s : TerminalResult) → Entered t b F c₀ c → terminalAt t b ≡ goto g v
         → visitGoto v b g i c ≡ ok s → StepOk F b (c .stack) s

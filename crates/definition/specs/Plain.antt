@@ -1,11 +1,10 @@
 -- Paper 01, "Plain tables": the tables that the run law speaks of. Each field of `Plain` stands below the paper's sentence that it states.
 -- A block beyond the table is absent, so that "every block" needs no bound here.
 use mathlib.Core.Path.{_≡_}
-use Prim.Native.Nat.{ℕ, _≤_, _<_}
+use Prim.Native.Nat.{ℕ}
 use mathlib.Core.List.{List, [], _∷_}
 use mathlib.Core.Option.{Option, none, some}
 use mathlib.Core.Bool.{Bool, true, false, _||_}
-use lib.ListN.{length}
 use lib.Dec.{eqb}
 use Rattle.table.specs.Table.{Table, Operation, other, load-local, store-local, Terminal, absent, unreachable, throw, return, goto, if, branch, switch, do-while, while, for, for-of, for-in, logical, ternary, optional, label, sequence, maybe-throw, try, scope, Try, codeOf, terminalAt, instructionAt, instructionRowsAt}
 
@@ -107,8 +106,3 @@ pub record Plain (t : Table) : Type 0 where
   -- "and no ft is a loop block or test."
   pub no-loop : (block fallthrough loop-of test loop fallthrough′ : ℕ) → fallthroughOf (terminalAt t block) ≡ some fallthrough → terminalAt t loop-of ≡ while test loop fallthrough′ → fallthrough ≡ loop → ⊥
   pub no-test : (block fallthrough loop-of test loop fallthrough′ : ℕ) → fallthroughOf (terminalAt t block) ≡ some fallthrough → terminalAt t loop-of ≡ while test loop fallthrough′ → fallthrough ≡ test → ⊥
-
--- what the check of the words promises of the blocks
-pub record Ranged (t : Table) : Type 0 where
-  pub few : length (t .blocks) ≤ 1024
-  pub fallthroughs : (block fallthrough : ℕ) → fallthroughOf (terminalAt t block) ≡ some fallthrough → fallthrough < length (t .blocks)

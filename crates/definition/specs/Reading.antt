@@ -57,3 +57,9 @@ pub record TreeOf (outcome : Outcome) (root : Statements) : Type 0 where
   pub well-formed : WellFormed root
   pub number : length (rows root) ≡ outcome .rows
   pub held : wordsOf (rows root) ≡ take (outcome .rows * 6) (outcome .buffer)
+
+-- there is such a tree, and no other: what the rows are read as
+pub record OneTree (outcome : Outcome) : Type 0 where
+  pub tree : Statements
+  pub held : TreeOf outcome tree
+  pub only : (other : Statements) → TreeOf outcome other → other ≡ tree

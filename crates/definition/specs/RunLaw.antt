@@ -5,9 +5,9 @@ use mathlib.Core.List.{List, _++_}
 use mathlib.Core.Bool.{true}
 use Rattle.table.specs.Table.{Table, tableOf}
 use Rattle.definition.specs.Tree.{Statements}
-use Rattle.definition.specs.Build.{Outcome, built}
-use Rattle.definition.specs.Reading.{TreeOf}
-use Rattle.definition.specs.Run.{Answers, Reason, isGood, Run, stopped}
+use Rattle.definition.specs.Build.{Outcome}
+use Rattle.definition.specs.Reading.{OneTree}
+use Rattle.definition.specs.Run.{Answers, Reason, isGood, stopped}
 use Rattle.definition.specs.BlockRun.{blockRun}
 use Rattle.definition.specs.TreeRun.{treeRun}
 
@@ -25,10 +25,8 @@ pub record Agree (t : Table) (root : Statements) (answers : Answers) : Type 0 wh
   pub answers-taken : taken ++ left ≡ answers
   pub good : isGood reason ≡ true
 
--- of words, and of what the build of them gave: the lent buffer holds the rows of a tree, and of no other, and its run agrees with that of
--- the blocks, over every finite list of answers
+-- of words and what their build gave: the rows in the lent buffer are read as one tree, and over every finite list of answers its run agrees
+-- with the run of the blocks
 pub record RunLaw (words : List ℕ) (outcome : Outcome) : Type 0 where
-  pub tree : Statements
-  pub held : TreeOf outcome tree
-  pub only : (other : Statements) → TreeOf outcome other → other ≡ tree
-  pub agree : (answers : Answers) → Agree (tableOf words) tree answers
+  pub one : OneTree outcome
+  pub agree : (answers : Answers) → Agree (tableOf words) (one .tree) answers

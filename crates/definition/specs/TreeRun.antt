@@ -2,7 +2,7 @@
 use Prim.Native.Nat.{ℕ, zero, suc}
 use mathlib.Core.List.{List, [], _∷_, _++_}
 use mathlib.Core.Option.{Option, none, some}
-use mathlib.Core.Bool.{Bool, true, false}
+use mathlib.Core.Bool.{true, false}
 use lib.ListN.{length}
 use Rattle.definition.specs.Tree.{Kind, implicit, labeled, unlabeled, Value, PLAIN, LOAD, UNDEF, SEQ, LOGICAL, COND, OPTIONAL, Instructions, no-instructions, instruction, Statement, INSTR, IF, SWITCH, DOWHILE, WHILE, FOR, FOROF, FORIN, LABEL, TRY, SCOPE, RETURN, THROW, BREAK, CONTINUE, Statements, done, _▸_}
 use Rattle.definition.specs.Run.{Answers, Reason, returned, threw, no-answer-left, not-plain, no-target, end-of-tree, Run, stopped}
@@ -66,26 +66,28 @@ jumpCompletion labeled label jump = jump (some label)
 unfoldable pub afterBody : (labelSet : List ℕ) → Completed → (Answers → Completed) → Completed
 afterBody labels body again = elim (loopContinues (body .completion) labels) [ true ↦ prefix (body .rows) (again (body .left)) | false ↦ body ]
 
--- WhileLoopEvaluation: the test; by one answer the body and the loop again (yes), or a normal completion (no).
--- Each round takes an answer, so that as many rounds as there are answers are enough: proofs/Loops has the equation without a count
+-- WhileLoopEvaluation: the test; by one answer the body and the loop again (yes), or a normal completion (no)
 unfoldable pub whileRounds : (labelSet test : List ℕ) → (body : Answers → Completed) → (count : ℕ) → Answers → Completed
 whileRounds labels test body zero answers = completed test (stop no-answer-left) answers
 whileRounds labels test body (suc count) answers =
     prefix test (choose (λ left. afterBody labels (body left) (λ left′. whileRounds labels test body count left′)) (λ left. completed [] normal left) answers)
 
+-- Each round takes an answer, so that as many rounds as there are answers are enough: proofs/Loops has the equation, which needs no count
+unfoldable pub whileLoop : (labelSet test : List ℕ) → (body : Answers → Completed) → Answers → Completed
+whileLoop labels test body answers = whileRounds labels test body (length answers) answers
+
 -- a loop with its label: LoopEvaluation within the two LabelledEvaluations
 unfoldable pub loop : (label : Option ℕ) → Completed → Completed
 loop label rounds = completing (λ c. labelled label (breakable c)) rounds
 
--- "IF by one answer runs its consequent (yes) or alternate, if any (no)": where there is none, it is empty.
--- Statements that are in no plain table's tree stop the run
+-- "IF by one answer runs its consequent (yes) or alternate, if any (no)". Statements that are in no plain table's tree stop the run
 unfoldable mutual
   pub runStatement : Statement → Answers → Completed
   runStatement (INSTR id lvalue span value) answers = completed (performs value) normal answers
   runStatement (IF test id label consequent present alternate) answers =
-      completing (labelled label) (choose (λ left. runStatements consequent left) (λ left. runStatements alternate left) answers)
-  runStatement (WHILE id label test body) answers =
-      loop label (whileRounds (labelSet label) (performs test) (λ left. runStatements body left) (length answers) answers)
+      completing (labelled label)
+      (choose (λ left. runStatements consequent left) (λ left. elim present [ true ↦ runStatements alternate left | false ↦ completed [] normal left ]) answers)
+  runStatement (WHILE id label test body) answers = loop label (whileLoop (labelSet label) (performs test) (λ left. runStatements body left) answers)
   runStatement (LABEL id label body) answers = completing (labelled label) (runStatements body answers)
   runStatement (SCOPE pruned scope body) answers = runStatements body answers
   runStatement (RETURN value id) answers = completed [] (stop (returned value id)) answers
