@@ -125,3 +125,13 @@ pub fn check(words: &[u32]) -> Checked
     }
     check_tables(words)
 }
+
+// The check for callers in C or Rust: paper 01's code; its place is left in `at`.
+#[no_mangle]
+pub extern "C" fn table_check(words: &[u32], at: &mut u32) -> u32
+    ensures { λ r. ⌜ (r ≡ codeOf (checked (now (words .entry)))) × (now (at .exit) ≡ placeOf (checked (now (words .entry)))) ⌝ }
+{
+    let checked = check(words);
+    *at = checked.place();
+    checked.code()
+}
