@@ -6,11 +6,11 @@ use Prim.Native.Nat.{ℕ, zero, suc, _+_, _*_, _≤_, _<_}
 use lib.Dec.{eqb}
 use lib.ListN.{length}
 use Rattle.table.specs.Words.{blockCount, placeCount, blockWord, instructionWord, placeWord, identifierWord, largest}
-use Rattle.table.specs.Table.{Table, tableOf, unlessNone, rowsFrom}
+use Rattle.table.specs.Table.{Table, tableOf, instructionAt, unlessNone, rowsFrom}
 use Rattle.table.specs.Promise.{Promise}
 use Rattle.definition.specs.Result.{Result, ok, refused}
 use Rattle.definition.specs.Tree.{Row, row, Value, SEQ, countInstructions}
-use Rattle.definition.specs.Value.{ValueBlockResult, ValueTerminalResult, TestBlockResult, VisitValueBlock, innermostValue, loadedPlace, wrapWithSequence, valueBlockResultToSequence}
+use Rattle.definition.specs.Value.{ValueBlockResult, ValueTerminalResult, TestBlockResult, VisitValueBlock, innermostValue, loadedPlace, loadedBy, wrapWithSequence, valueBlockResultToSequence}
 use Rattle.definition.proofs.Flatten.{seqs, within}
 use Rattle.rows.specs.Rows.{Holds}
 use Rattle.rows.specs.Stack.{pushValue, pushInstructionRows}
@@ -116,12 +116,18 @@ pub record Wrappable (count : ℕ) (v : ValueResult) : Type 0 where
   pub room : v .tally .rows < 3000000000
 
 pub record Wrapped (count : ℕ) (v : ValueResult) (buffer : List ℕ) (r : ValueResult) (buffer′ : List ℕ) : Type 0 where
-  pub none : count ≡ 0 → (r ≡ v) × (buffer′ ≡ buffer)
-  pub some : (count ≡ 0 → ⊥) → r ≡ finished (v .block) (v .place) (v .id) (record { rows = v .tally .rows + 1; visits = v .tally .visits }) (wrapTrailing (v .trailing) count)
-  pub kept : (count ≡ 0 → ⊥) → (stack : List Row) → Holds buffer (v .tally .rows) stack → Holds buffer′ (r .tally .rows) (row 5 count (v .id) 0 0 0 ∷ stack)
   pub code : r .code ≡ 0
+  pub same : (value : Value) → blockResult r value ≡ blockResult v value
+  pub none : count ≡ 0 → (r ≡ v) × (buffer′ ≡ buffer)
+  pub some : (count ≡ 0 → ⊥) → (r .trailing ≡ wrapTrailing (v .trailing) count) × (r .tally .rows ≡ v .tally .rows + 1)
+  pub kept : (count ≡ 0 → ⊥) → (stack : List Row) → Holds buffer (v .tally .rows) stack → Holds buffer′ (r .tally .rows) (row 5 count (v .id) 0 0 0 ∷ stack)
   pub visits : r .tally .visits ≡ v .tally .visits
   pub most : r .tally .rows ≤ v .tally .rows + 1
+
+-- the place that an instruction loads, if it is a LoadLocal
+pub record Loaded (words : List ℕ) (i place : ℕ) : Type 0 where
+  pub same : unlessNone place ≡ loadedBy (instructionAt (tableOf words) i .operation)
+  pub there : (place ≡ largest → ⊥) → place < placeCount words
 
 -- the last instruction stores to an identifier that is not named
 abbrev pub unnamed : (isStore : Bool) → (named : ℕ) → Bool

@@ -19,11 +19,11 @@ ghost use mathlib.Core.Path.{_≡_};
 ghost use mathlib.Core.List.{[]};
 ghost use Prim.Native.Nat.{suc, _+_, _≤_, _<_};
 ghost use Rattle.table.specs.Words.{blockCount, instructionCount, blockWord, instructionWord};
-ghost use Rattle.table.specs.Table.{tableOf, instructionAt, instructionRowsAt, blockAt, rowsFrom, unlessNone};
+ghost use Rattle.table.specs.Table.{tableOf, instructionRowsAt, blockAt, rowsFrom};
 ghost use Rattle.table.specs.Promise.{Promise};
 ghost use Rattle.definition.specs.Result.{ok};
-ghost use Rattle.definition.specs.Value.{extractValueBlockResult, extractOrRefuse, branchValue, loadedBy, isEmptyGoto};
-ghost use Rattle.value.specs.Met.{blockResult, Fit, Met, InstructionsPut, Wrappable, Wrapped, unnamedStore};
+ghost use Rattle.definition.specs.Value.{extractValueBlockResult, extractOrRefuse, branchValue, isEmptyGoto};
+ghost use Rattle.value.specs.Met.{blockResult, Fit, Met, InstructionsPut, Wrappable, Wrapped, Loaded, unnamedStore};
 
 // Writes the rows of `count` instructions from `first` on, PLAIN and INSTR for each.
 pub fn put_instructions(words: &[u32], buffer: &mut [u32], rows: u32, first: u32, count: u32) -> u32
@@ -66,7 +66,7 @@ fn stores_to_unnamed(words: &[u32], i: u32) -> bool
 fn loaded_by(words: &[u32], i: u32) -> u32
     requires { ⌜ Promise (now words) ⌝ }
     requires { ⌜ i < instructionCount (now words) ⌝ }
-    ensures { λ r. ⌜ unlessNone r ≡ loadedBy (instructionAt (tableOf (now (words .entry))) i .operation) ⌝ }
+    ensures { λ r. ⌜ Loaded (now (words .entry)) i r ⌝ }
 {
     let code = instruction_word(words, i, 2);
     if code != 1 {

@@ -1,0 +1,6 @@
+pub mod Ranges
+pub mod TableLaws
+pub mod MetLaws
+pub mod ExtractLaws
+pub mod WalkLaws
+pub mod FlattenLaws

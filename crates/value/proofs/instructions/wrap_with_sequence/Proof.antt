@@ -1,0 +1,40 @@
+use native.Mathlib.Omega.{arith}
+use mathlib.Core.Path.{_≡_, refl, sym, ap, _∙_}
+use borrow.Author.Needs.{needs}
+use Rattle.value.proofs.instructions.wrap_with_sequence.Statement.{statement}
+use Rattle.value.proofs.instructions.wrap_with_sequence.Tie as tie
+use Rattle.value.proofs.instructions.wrap_with_sequence.Reads as reads
+use Rattle.value.proofs.instructions.wrap_with_sequence.Lts as lts
+use Rattle.rows.proofs.put.Reads as put-reads
+use Rattle.value.proofs.result.found.Reads as found-reads
+returns : tie.Need-returns
+returns c =
+    let at-entry = c .before .before in
+    record { code = at-entry .pre .code; same = λ v. refl; none = λ _. (refl, refl); some = λ f. absurd (f (c .if1 .taken)); kept = λ f. absurd (f (c .if1 .taken)); visits = refl; most = omega arith }
+put-requires : tie.Need-put-requires
+put-requires c κs = search needs
+add-t9 : tie.Need-add-t9
+add-t9 c = search needs
+add-t10 : tie.Need-add-t10
+add-t10 c = search needs
+found-requires : tie.Need-found-requires
+found-requires c κs = search needs
+same-length : tie.Need-same-length
+same-length c = search needs
+returns-2 : tie.Need-returns-2
+returns-2 c =
+    let at-put = c .before .before .before .before .before in
+    let at-if1 = at-put .before .before in
+    rw (c .found .ensures) (record {
+      code = refl;
+      same = λ v. refl;
+      none = λ e. absurd (at-if1 .if1 .left e);
+      some = λ _. (refl, at-put .put .ensures .count);
+      kept = λ _. at-put .put .ensures .kept;
+      visits = refl;
+      most = omega (arith, at-put .put .ensures .count);
+    })
+
+pub wrap-with-sequence-spec : {M : Type 1} → statement M
+wrap-with-sequence-spec =
+    tie.close (tie.spec returns put-requires add-t9 add-t10 found-requires same-length returns-2)
