@@ -15,7 +15,8 @@ use borrow.Author.Tests.{eq-eqb, eqb-true, eqb-false}
 use Rattle.definition.specs.Result.{Result, ok, refused, _>>=_, refuseIf, already-scheduled}
 use Rattle.definition.specs.Context as definition
 use Rattle.definition.specs.Context.{Flags, or, has, add, no-flags, start, isScheduled, emit, markScopeFallthrough, scheduleCatchHandler, targetBlock, pushed, popped, schedule, scheduleLoop, unscheduledBy, unschedule, unscheduleTop}
-use Rattle.definition.specs.Machine.{popTop}
+use Rattle.definition.specs.Machine.{unscheduledTop}
+use Rattle.definition.specs.Machine as machine
 use Rattle.control.specs.declared.ControlFlowTarget.{ControlFlowTarget}
 use Rattle.control.specs.declared.ControlFlowTarget.the-variants.{If, Switch, Case, Loop}
 use Rattle.control.specs.declared.Entry.{Entry}
@@ -145,9 +146,9 @@ unschedule-top : (cx : definition.Context) (top : definition.Entry) (below : Lis
 unfolding unschedule unscheduleTop
 unschedule-top cx top below e = ap (λ (stack : List definition.Entry). unscheduleTop stack (top .id) cx) e ∙ rw (unscheduleTop, eq-eqb (top .id) (top .id) refl)
 
-pop-top : (cx : definition.Context) (top : definition.Entry) (below : List definition.Entry) → cx .stack ≡ top ∷ below → popTop (cx .stack) cx ≡ ok (popped below (unscheduledBy (top .target) (cx .scheduled)) cx)
-unfolding popTop
-pop-top cx top below e = ap (λ (stack : List definition.Entry). popTop stack cx) e
+pop-top : (cx : definition.Context) (top : definition.Entry) (below : List definition.Entry) → cx .stack ≡ top ∷ below → machine.unscheduled cx ≡ popped below (unscheduledBy (top .target) (cx .scheduled)) cx
+unfolding machine.unscheduled unscheduledTop
+pop-top cx top below e = ap (λ (stack : List definition.Entry). unscheduledTop stack cx) e
 
 module _ (cx : Context) (last : Entry) (top : Last cx last) where
   pub unscheduled : Unscheduled last cx (withoutLast (unscheduledBy (targetOf (last .target)) (cx .scheduled)) cx)
@@ -160,7 +161,7 @@ module _ (cx : Context) (last : Entry) (top : Last cx last) where
     bounded = λ bounded. record { most = omega (arith, bounded .most); named = λ k below. bounded .named k (omega arith) };
   }
 
-  -- a machine that takes a switch's cases off whatever their ids
-  pub pops : (visits : ℕ) → popTop (contextOf visits cx .stack) (contextOf visits cx) ≡ ok (contextOf visits (withoutLast (unscheduledBy (targetOf (last .target)) (cx .scheduled)) cx))
+  -- the machine takes the last entry off whatever its id
+  pub pops : (visits : ℕ) → machine.unscheduled (contextOf visits cx) ≡ contextOf visits (withoutLast (unscheduledBy (targetOf (last .target)) (cx .scheduled)) cx)
   unfolding contextOf popped
   pops visits = pop-top (contextOf visits cx) (entryOf last) (stackOf (cx .stack) (cx .len - 1)) (stack-last (cx .stack) (cx .len) last (top .some) (top .read))

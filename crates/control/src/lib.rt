@@ -166,7 +166,7 @@ pub fn continue_block_is_scheduled(
     ensures { λ r. ⌜ r ≡ continueScheduled (now (scheduled .entry)) fallthrough «continue_block» ⌝ }
 {
     if continue_block == fallthrough {
-        return true;
+        return true; // it has just been inserted
     }
     let at = continue_block as usize;
     scheduled[at]
@@ -209,10 +209,11 @@ fn remove_target(scheduled: &mut [bool; 1024], target: ControlFlowTarget)
 pub fn or_loop(has_preceding_loop: bool, target: ControlFlowTarget) -> bool
     ensures { λ r. ⌜ r ≡ or «has_preceding_loop» (isLoop (targetOf target)) ⌝ }
 {
+    let loop_here = target.is_loop();
     if has_preceding_loop {
         return true;
     }
-    target.is_loop()
+    loop_here
 }
 
 // A loop gives Unlabeled, or Labeled if a loop lies above. Another entry gives Implicit at the top, else Labeled.
@@ -358,7 +359,7 @@ impl Context {
         requires { ⌜ self .len ≤ 1152 ⌝ }
         ensures { λ r. ⌜ ((visits : ℕ) → resolvedOf r ≡ getBreakTarget (contextOf visits self) block) ⌝ }
     {
-        let mut at = self.len;
+        let mut at = self.len; // the innermost entry first
         let mut top = true;
         let mut has_preceding_loop = false;
         loop {
