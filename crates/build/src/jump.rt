@@ -109,7 +109,7 @@ fn continue_to_found(tree: &mut [u32], p: Position, id: u32, found: Resolution) 
     Jumped { code: 0, at: 0, rows: rows, count: 1 }
 }
 
-fn jumped(p: Position, jump: Jumped) -> Plan {
+fn after_jump(p: Position, jump: Jumped) -> Plan {
     if jump.code != 0 {
         return refuse(p, jump.code, jump.at);
     }
@@ -120,8 +120,8 @@ pub fn visit_goto(words: &[u32], tree: &mut [u32], scopes: &[bool; 1024], p: Pos
     let target = block_word(words, p.block, 3);
     let id = block_word(words, p.block, 8);
     match block_word(words, p.block, 4) {
-        0 => jumped(p, visit_break(tree, scopes, p, target, id, resolved)),
-        1 => jumped(p, visit_continue(tree, p, target, id, resolved)),
+        0 => after_jump(p, visit_break(tree, scopes, p, target, id, resolved)),
+        1 => after_jump(p, visit_continue(tree, p, target, id, resolved)),
         _ => leave(NONE, p.depth, p.count, p.rows, p.visits, Change::Nothing), // Goto Try gives no row
     }
 }
