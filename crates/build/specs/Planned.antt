@@ -1,0 +1,56 @@
+-- The contract of a planner: its plan, applied, is what the machine's turn comes to, and the buffer holds the rows that it put out.
+use Prim.Native.Nat.{ℕ, zero, suc, _+_, _-_, _≤_, _<_}
+use mathlib.Core.Path.{_≡_}
+use mathlib.Core.Bool.{Bool, true, false}
+use mathlib.Core.List.{List, [], _∷_, _++_}
+use mathlib.Core.Option.{Option, none, some}
+use lib.ListN.{length}
+use Rattle.table.specs.Table.{Table, unlessNone}
+use Rattle.definition.specs.Context.{Flags}
+use Rattle.definition.specs.Context as definition
+use Rattle.definition.specs.Machine.{State, turn}
+use Rattle.definition.specs.Machine as machine
+use Rattle.definition.specs.Result.{Result}
+use Rattle.definition.specs.Tree.{Row}
+use Rattle.definition.proofs.Invariant.{Below}
+use Rattle.control.specs.Contract.{Named}
+use Rattle.rows.specs.Rows.{Holds}
+use Rattle.rows.specs.Stack.{pushed}
+use Rattle.build.specs.declared.plan.Position.{Position}
+use Rattle.build.specs.declared.plan.Change.{Change}
+use Rattle.build.specs.declared.plan.Change.the-variants.{Nothing, Schedule, ScheduleLoop, TakeId, Unschedule}
+use Rattle.build.specs.declared.plan.Plan.{Plan}
+use Rattle.build.specs.Plans.{applied}
+
+-- a Context of which a planner sees the sets and the visits
+pub record Seen (scheduledSet handlerSet : Flags) (begun : ℕ) (cx : definition.Context) : Type 0 where
+  pub scheduled : cx .scheduled ≡ scheduledSet
+  pub handlers : cx .catchHandlers ≡ handlerSet
+  pub visits : cx .visits ≡ begun
+
+-- the blocks that a change names are among the 1,024; an entry is taken off only where the statement has one
+abbrev pub NamedChange : (entries : ℕ) → Change → Type 0
+NamedChange entries Nothing = Unit {0}
+NamedChange entries (Schedule target) = Named target
+NamedChange entries (ScheduleLoop fallthrough continueBlock loopBlock) = (fallthrough < 1024) × (continueBlock < 1024) × (loopBlock < 1024)
+NamedChange entries TakeId = Unit {0}
+NamedChange entries Unschedule = 1 ≤ entries
+
+abbrev pub entriesOnTop : List machine.Frame → ℕ
+entriesOnTop [] = 0
+entriesOnTop (frame ∷ frames) = frame .entries
+
+-- what the driver needs to apply a plan. `top` is the frame in hand, if any
+pub record Fitting (top : List machine.Frame) (depth : ℕ) (plan : Plan) : Type 0 where
+  pub change : NamedChange (entriesOnTop top) (plan .change)
+  pub handler : Below 1024 (unlessNone (plan .handler))
+  pub scope : Below 1024 (unlessNone (plan .scope))
+  pub deep : plan .keep ≡ true → 1 ≤ plan .position .depth
+  pub next : plan .position .depth ≤ suc depth
+
+-- `top` and then the frames are `depth` in all; `On` says what is known of the Context
+pub record Planned (step : List machine.Frame → List Row → definition.Context → Result State) (On : definition.Context → Type 0) (top : List machine.Frame) (depth rows : ℕ) (buffer : List ℕ) (plan : Plan) (buffer′ : List ℕ) : Type 0 where
+  pub out : List Row
+  pub held : plan .code ≡ 0 → (before : List Row) → Holds buffer rows (pushed before []) → Holds buffer′ (plan .position .rows) (pushed (before ++ out) [])
+  pub same : (frames : List machine.Frame) (before : List Row) (cx : definition.Context) → length (top ++ frames) ≡ depth → On cx → turn (step frames before cx) ≡ applied plan (top ++ frames) (before ++ out) cx
+  pub fitting : plan .code ≡ 0 → Fitting top depth plan
