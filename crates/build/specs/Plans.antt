@@ -193,3 +193,11 @@ scheduleIf false taken = Schedule (If taken)
 abbrev pub scheduleSwitch : Bool → ℕ → Change
 scheduleSwitch true taken = Nothing
 scheduleSwitch false taken = Schedule (Switch taken)
+
+-- a block is scheduled, or will be once the label is
+abbrev pub scheduledWith : (busy : Bool) → (label block : ℕ) → Bool
+scheduledWith busy taken block = definition.or (eqb block taken) busy
+
+abbrev pub enclosing : (busy : Bool) → Position → (label block code at : ℕ) → Plan
+enclosing true p taken block code at = refusing p code at
+enclosing false p taken block code at = nesting block (openFrame p taken (entriesIf (eqb taken 65535))) (p .depth + 1) (p .rows) (p .visits) 65535 65535 (scheduleIf (eqb taken 65535) taken)
