@@ -102,7 +102,7 @@ accept-applied rows visits F R C = refl
 -- ---- labels
 
 -- a label is none, or one of the 1,024 blocks
-pub Label : ℕ → Type 0
+unfoldable pub Label : ℕ → Type 0
 Label n = (n ≡ 65535) ⊎ (n < 1024)
 
 pub label-block : (n : ℕ) → n < 1024 → Label n

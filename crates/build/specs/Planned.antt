@@ -5,13 +5,16 @@ use mathlib.Core.Bool.{Bool, true, false}
 use mathlib.Core.List.{List, [], _∷_, _++_}
 use mathlib.Core.Option.{Option, none, some}
 use lib.ListN.{length}
-use Rattle.table.specs.Table.{Table, unlessNone}
+use Rattle.table.specs.Words.{blockCount, blockWord}
+use Rattle.table.specs.Promise.{Promise}
+use Rattle.table.specs.Table.{Table, tableOf, terminalAt, blockAt, unlessNone}
 use Rattle.definition.specs.Context.{Flags}
 use Rattle.definition.specs.Context as definition
 use Rattle.definition.specs.Machine.{State, turn}
 use Rattle.definition.specs.Machine as machine
 use Rattle.definition.specs.Result.{Result}
 use Rattle.definition.specs.Tree.{Row}
+use Rattle.definition.specs.Value.{visitValueBlock}
 use Rattle.definition.proofs.Invariant.{Below}
 use Rattle.control.specs.Contract.{Named}
 use Rattle.rows.specs.Rows.{Holds}
@@ -27,6 +30,7 @@ pub record Seen (scheduledSet handlerSet : Flags) (begun : ℕ) (cx : definition
   pub scheduled : cx .scheduled ≡ scheduledSet
   pub handlers : cx .catchHandlers ≡ handlerSet
   pub visits : cx .visits ≡ begun
+  pub wide : length scheduledSet ≡ 1024
 
 -- the blocks that a change names are among the 1,024; an entry is taken off only where the statement has one
 abbrev pub NamedChange : (entries : ℕ) → Change → Type 0
@@ -54,3 +58,23 @@ pub record Planned (step : List machine.Frame → List Row → definition.Contex
   pub held : plan .code ≡ 0 → (before : List Row) → Holds buffer rows (pushed before []) → Holds buffer′ (plan .position .rows) (pushed (before ++ out) [])
   pub same : (frames : List machine.Frame) (before : List Row) (cx : definition.Context) → length (top ++ frames) ≡ depth → On cx → turn (step frames before cx) ≡ applied plan (top ++ frames) (before ++ out) cx
   pub fitting : plan .code ≡ 0 → Fitting top depth plan
+
+-- ---- the terminal of a block that is entered
+
+-- what the machine's turn comes to
+abbrev pub terminalStep : List ℕ → Position → List machine.Frame → List Row → definition.Context → Result State
+terminalStep words p frames before cx =
+    machine.terminalTurn (tableOf words) (visitValueBlock (tableOf words) (127 - p .depth)) (terminalAt (tableOf words) (p .block)) (p .block) (blockAt (tableOf words) (p .block)) frames before (p .count) cx
+
+-- what holds of a position there
+pub record Entered (words : List ℕ) (p : Position) : Type 0 where
+  pub promise : Promise words
+  pub block : p .block < blockCount words
+  pub depth : p .depth < 128
+  pub visits : p .visits ≤ 8192
+  pub rows : p .rows ≤ 100000000
+  pub count : p .count ≤ p .rows
+
+-- a planner that puts out no row
+abbrev pub PlannedBare : List ℕ → Flags → Flags → Position → Plan → Type 0
+PlannedBare words scheduledSet handlerSet p plan = (buffer : List ℕ) → Planned (terminalStep words p) (Seen scheduledSet handlerSet (p .visits)) [] (p .depth) (p .rows) buffer plan buffer

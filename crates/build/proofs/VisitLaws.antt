@@ -1,0 +1,199 @@
+-- What each terminal that puts out no row has to show: its plan is the machine's turn.
+use Prim.Native.Nat.{ℕ, zero, suc, _+_, _-_, _≤_, _<_}
+use native.Mathlib.Omega.{arith}
+use mathlib.Core.Path.{_≡_, refl, sym, ap, _∙_, subst}
+use mathlib.Core.Bool.{Bool, true, false}
+use mathlib.Core.List.{List, [], _∷_, _++_, append-nil}
+use mathlib.Core.Option.{Option, none, some}
+use mathlib.Core.Logic.{_⊎_, inl, inr}
+use lib.Dec.{eqb}
+use lib.ListN.{length, take, drop, length-drop, length-reverse, length-take}
+use borrow.Author.Tests.{eq-eqb, ne-eqb}
+use Rattle.table.specs.Words.{blockCount, placeCount, caseCount, blockWord}
+use Rattle.table.specs.Promise.{Promise, InRange}
+use Rattle.table.specs.Table.{Table, Block, Case, Terminal, tableOf, terminalOf, terminalAt, blockAt, unlessNone, if, switch, label, maybe-throw, try, scope, unreachable}
+use Rattle.table.proofs.TableLaws.{length-cases}
+use Rattle.table.proofs.RangeLaws.{in-range}
+use Rattle.definition.specs.Build.{rejected}
+use Rattle.definition.specs.Context.{Flags, or, has, pushed, withVisits, scheduleCatchHandler, markScopeFallthrough, isScheduled, add, target-if}
+use Rattle.definition.specs.Context as definition
+use Rattle.definition.specs.Machine.{State, visiting, ended, choosing, Turn, going, halt, turn, leave, into, opens, scheduled, scheduledIf, scheduledSwitch, withLeft, numberOfCases, terminalTurn}
+use Rattle.definition.specs.Machine as machine
+use Rattle.definition.specs.Result.{Result, ok, refused, _>>=_, refuseIf}
+use Rattle.definition.specs.Statement.{unlessScheduled, unlessUnreachable, markScopeFallthroughIf, casesLastFirst}
+use Rattle.definition.specs.Tree.{Row}
+use Rattle.definition.specs.Value.{visitValueBlock, VisitValueBlock}
+use Rattle.definition.proofs.Invariant.{Below}
+use Rattle.control.specs.declared.ControlFlowTarget.the-variants.{If, Switch}
+use Rattle.rows.specs.Rows.{Holds}
+use Rattle.rows.specs.Stack as stack
+use Rattle.build.specs.declared.plan.Position.{Position}
+use Rattle.build.specs.declared.plan.Frame.{Frame}
+use Rattle.build.specs.declared.plan.Change.{Change}
+use Rattle.build.specs.declared.plan.Change.the-variants.{Nothing, Schedule}
+use Rattle.build.specs.declared.plan.Plan.{Plan}
+use Rattle.build.specs.Plans.{frameOf, within, changed, handled, scoped, applied, openFrame, refusing, leaving, nesting, choosingNext, unlessTaken, entriesIf, scheduleIf, scheduleSwitch, scheduledWith, enclosing, withScope}
+use Rattle.build.specs.Planned.{Seen, NamedChange, Fitting, Planned, PlannedBare, Entered, terminalStep}
+use Rattle.build.proofs.PlanLaws.{within-all, visits-same, none-is, some-is, refuse-applied, leave-applied, nest-applied, choose-applied, Label, label-none, label-taken, label-most, label-entries, label-if, label-switch}
+use Rattle.build.proofs.StepLaws.{end-by, label-scheduled, label-missing, label-reached, enclose-same, turn-refused, turn-ok}
+
+-- ---- a planner with no row
+
+pub bare-planned : (w : List ℕ) (S H : Flags) (p : Position) (plan : Plan) → (plan .code ≡ 0 → plan .position .rows ≡ p .rows)
+    → ((F : List machine.Frame) (R : List Row) (C : definition.Context) → length F ≡ p .depth → Seen S H (p .visits) C → turn (terminalStep w p F R C) ≡ applied plan F R C)
+    → (plan .code ≡ 0 → Fitting [] (p .depth) plan) → PlannedBare w S H p plan
+bare-planned w S H p plan rows same fit buffer = record {
+  out = [];
+  held = λ z before h. rw (append-nil before, rows z) h;
+  same = λ F R C d seen. rw (append-nil R) (same F R C d seen);
+  fitting = fit;
+}
+
+pub step-by : (w : List ℕ) (p : Position) (e : Terminal) (F : List machine.Frame) (R : List Row) (C : definition.Context) → terminalAt (tableOf w) (p .block) ≡ e
+    → terminalStep w p F R C ≡ terminalTurn (tableOf w) (visitValueBlock (tableOf w) (127 - p .depth)) e (p .block) (blockAt (tableOf w) (p .block)) F R (p .count) C
+step-by w p e F R C q = ap (λ (z : Terminal). terminalTurn (tableOf w) (visitValueBlock (tableOf w) (127 - p .depth)) z (p .block) (blockAt (tableOf w) (p .block)) F R (p .count) C) q
+
+refuse-fits : (p : Position) (code at : ℕ) → (code ≡ 0 → ⊥) → code ≡ 0 → Fitting [] (p .depth) (refusing p code at)
+refuse-fits p code at h e = absurd (h e)
+
+-- a fallthrough that is not there
+missing-same : (w : List ℕ) (S H : Flags) (p : Position) → Promise w → (f : ℕ) → f < blockCount w → blockWord w f 2 ≡ 0 → (k : definition.Context → Option ℕ → Result State)
+    → (F : List machine.Frame) (R : List Row) (C : definition.Context) → Seen S H (p .visits) C → turn (unlessUnreachable (tableOf w) C f >>= k C) ≡ applied (refusing p 10 f) F R C
+unfolding _>>=_
+missing-same w S H p pr f h e k F R C seen =
+    ap (λ (z : Result (Option ℕ)). turn (z >>= k C)) (label-missing w pr S H (p .visits) C seen f h e) ∙ turn-refused 10 f (C .visits) ∙ ap (λ (v : ℕ). halt (rejected 10 f v)) (seen .visits)
+    ∙ sym (refuse-applied p 10 f F R C (λ z. omega arith))
+
+reach-same : (w : List ℕ) (S H : Flags) (p : Position) → Promise w → (f n : ℕ) → f < blockCount w → f < 1024 → (blockWord w f 2 ≡ 0 → ⊥)
+    → n ≡ unlessTaken (or (eqb (blockWord w f 2) 1) (or (has S f) (has H f))) f → (k : Option ℕ → Result State) (C : definition.Context) → Seen S H (p .visits) C
+    → turn (unlessUnreachable (tableOf w) C f >>= k) ≡ turn (k (unlessNone n))
+unfolding _>>=_
+reach-same w S H p pr f n h u e q k C seen = ap (λ (z : Result (Option ℕ)). turn (z >>= k)) (label-reached w pr S H (p .visits) C seen f h u e) ∙ ap (λ (z : ℕ). turn (k (unlessNone z))) (sym q)
+
+-- ---- ranges
+
+few-blocks : (w : List ℕ) → Promise w → (b : ℕ) → b < blockCount w → b < 1024
+few-blocks w pr b h = omega (arith, pr .sized .limited .blocks)
+
+ranges : (w : List ℕ) → Promise w → (b : ℕ) → b < blockCount w → (e : Terminal) → terminalAt (tableOf w) b ≡ e → InRange (blockCount w) (placeCount w) (caseCount w) e
+ranges w pr b h e q = subst (λ (z : Terminal). InRange (blockCount w) (placeCount w) (caseCount w) z) q (in-range w pr b h)
+
+enclosing-fits : (y : Bool) (p : Position) (n block code at : ℕ) → Label n → (code ≡ 0 → ⊥) → enclosing y p n block code at .code ≡ 0 → Fitting [] (p .depth) (enclosing y p n block code at)
+enclosing-fits true p n block code at l h e = absurd (h e)
+enclosing-fits false p n block code at l h e = record { change = named l; handler = rw none-is tt; scope = rw none-is tt; deep = λ _. omega arith; next = omega arith }
+  where
+    at-if : (y : Bool) → eqb n 65535 ≡ y → (y ≡ false → n < 1024) → NamedChange 0 (scheduleIf y n)
+    at-if true e h = tt
+    at-if false e h = h refl
+
+    named : Label n → NamedChange 0 (scheduleIf (eqb n 65535) n)
+    named l = at-if (eqb n 65535) refl (λ e. below l e)
+      where
+        below : Label n → eqb n 65535 ≡ false → n < 1024
+        below l e = unfold Label in elim l [ inl q ↦ absurd (let z : _≡_ {A = Bool} true false = sym (eq-eqb n 65535 q) ∙ e in let o : _≡_ {A = ℕ} 0 1 = cc in omega arith) | inr h ↦ h ]
+
+enclosing-rows : (y : Bool) (p : Position) (n block code at : ℕ) → enclosing y p n block code at .position .rows ≡ p .rows
+enclosing-rows true p n block code at = refl
+enclosing-rows false p n block code at = refl
+
+-- ---- terminals that ask whether their fallthrough is reachable
+
+abbrev Rest : Type 0
+Rest = List machine.Frame → List Row → definition.Context → Option ℕ → Result State
+
+module _ (w : List ℕ) (S H : Flags) (p : Position) (en : Entered w p) where
+  abbrev At : Terminal → Type 0
+  At e = terminalAt (tableOf w) (p .block) ≡ e
+
+  -- the terminal's turn looks at the fallthrough g first
+  abbrev Asks : Terminal → ℕ → Rest → Type 0
+  Asks e g k = (F : List machine.Frame) (R : List Row) (C : definition.Context)
+      → terminalTurn (tableOf w) (visitValueBlock (tableOf w) (127 - p .depth)) e (p .block) (blockAt (tableOf w) (p .block)) F R (p .count) C ≡ unlessUnreachable (tableOf w) C g >>= k F R C
+
+  reached-missing : (e : Terminal) (g : ℕ) (k : Rest) (f : ℕ) (plan : Plan) → At e → Asks e g k → g < blockCount w → f ≡ g → blockWord w f 2 ≡ 0 → plan ≡ refusing p 10 f → PlannedBare w S H p plan
+  reached-missing e g k f plan q asks h s z r = rw r (bare-planned w S H p (refusing p 10 f) (λ _. refl) (λ F R C d seen.
+      ap turn (step-by w p e F R C q ∙ asks F R C)
+      ∙ missing-same w S H p (en .promise) g h (ap (λ (y : ℕ). blockWord w y 2) (sym s) ∙ z) (λ D taken. k F R D taken) F R C seen ∙ ap (λ (y : ℕ). applied (refusing p 10 y) F R C) (sym s))
+      (refuse-fits p 10 f (λ y. omega arith)))
+
+  -- the label that the code takes
+  abbrev Reached : ℕ → ℕ → Type 0
+  Reached f n = n ≡ unlessTaken (or (eqb (blockWord w f 2) 1) (or (has S f) (has H f))) f
+
+  reached-label : (g f n : ℕ) → g < blockCount w → f ≡ g → Reached f n → Label n
+  reached-label g f n h s q = rw q (label-taken (or (eqb (blockWord w f 2) 1) (or (has S f) (has H f))) f (rw s (few-blocks w (en .promise) g h)))
+
+  reached-same : (e : Terminal) (g : ℕ) (k : Rest) (f n : ℕ) (plan : Plan) → At e → Asks e g k → g < blockCount w → f ≡ g → (blockWord w f 2 ≡ 0 → ⊥) → Reached f n
+      → (plan .code ≡ 0 → plan .position .rows ≡ p .rows) → (plan .code ≡ 0 → Fitting [] (p .depth) plan)
+      → ((F : List machine.Frame) (R : List Row) (C : definition.Context) → length F ≡ p .depth → Seen S H (p .visits) C → turn (k F R C (unlessNone n)) ≡ applied plan F R C)
+      → PlannedBare w S H p plan
+  reached-same e g k f n plan q asks h s z r rows fit same = bare-planned w S H p plan rows (λ F R C d seen.
+      ap turn (step-by w p e F R C q ∙ asks F R C)
+      ∙ reach-same w S H p (en .promise) g n h (few-blocks w (en .promise) g h) (λ y. z (ap (λ (x : ℕ). blockWord w x 2) s ∙ y)) (r ∙ ap (λ (x : ℕ). unlessTaken (or (eqb (blockWord w x 2) 1) (or (has S x) (has H x))) x) s) (k F R C) C seen
+      ∙ same F R C d seen) fit
+
+  abbrev here : List machine.Frame → List Row → definition.Context → Option ℕ → machine.Frame
+  here F R C taken = machine.frameOf (p .block) taken (opens taken) (p .count)
+
+  -- and then one nested block
+  reached-enclosed : (e : Terminal) (g x code at : ℕ) (f n y : ℕ) (plan : Plan) → At e
+      → Asks e g (λ F R C taken. into x code at (here F R C taken) F R (scheduledIf taken C)) → g < blockCount w → x < blockCount w → (code ≡ 0 → ⊥)
+      → f ≡ g → (blockWord w f 2 ≡ 0 → ⊥) → Reached f n → y ≡ x → plan ≡ enclosing (scheduledWith (or (has S y) (has H y)) n y) p n x code at → PlannedBare w S H p plan
+  reached-enclosed e g x code at f n y plan q asks h u nz s z r t o = subst (λ (z : Plan). PlannedBare w S H p z) (sym (o ∙ ap (λ (k : ℕ). enclosing (scheduledWith (or (has S k) (has H k)) n k) p n x code at) t))
+      (reached-same e g (λ F R C taken. into x code at (here F R C taken) F R (scheduledIf taken C)) f n E q asks h s z r
+      (λ _. enclosing-rows busy p n x code at) (enclosing-fits busy p n x code at l nz)
+      (λ F R C d seen. enclose-same S H p n x code at F R C l (few-blocks w (en .promise) x u) nz seen d))
+    where
+      busy : Bool
+      busy = scheduledWith (or (has S x) (has H x)) n x
+
+      E : Plan
+      E = enclosing busy p n x code at
+
+      l : Label n
+      l = reached-label g f n h s r
+
+  -- ---- If
+
+  module _ (code : blockWord w (p .block) 2 ≡ 5) where
+    if-at : At (if (blockWord w (p .block) 3) (blockWord w (p .block) 4) (blockWord w (p .block) 5) (blockWord w (p .block) 6))
+    unfolding terminalOf
+    if-at = end-by w (p .block) (en .block) 5 code
+
+    if-ranges : InRange (blockCount w) (placeCount w) (caseCount w) (if (blockWord w (p .block) 3) (blockWord w (p .block) 4) (blockWord w (p .block) 5) (blockWord w (p .block) 6))
+    if-ranges = ranges w (en .promise) (p .block) (en .block) _ if-at
+
+    if-asks : Asks (if (blockWord w (p .block) 3) (blockWord w (p .block) 4) (blockWord w (p .block) 5) (blockWord w (p .block) 6)) (blockWord w (p .block) 6)
+        (λ F R C taken. into (blockWord w (p .block) 4) 12 (blockWord w (p .block) 4) (here F R C taken) F R (scheduledIf taken C))
+    unfolding terminalTurn
+    if-asks F R C = refl
+
+    pub if-missing : (f : ℕ) (plan : Plan) → f ≡ blockWord w (p .block) 6 → blockWord w f 2 ≡ 0 → plan ≡ refusing p 10 f → PlannedBare w S H p plan
+    if-missing f plan s z r = reached-missing _ (blockWord w (p .block) 6) _ f plan if-at if-asks (if-ranges .3) s z r
+
+    pub if-nested : (f n y : ℕ) (plan : Plan) → f ≡ blockWord w (p .block) 6 → (blockWord w f 2 ≡ 0 → ⊥) → Reached f n → y ≡ blockWord w (p .block) 4
+        → plan ≡ enclosing (scheduledWith (or (has S y) (has H y)) n y) p n y 12 y → PlannedBare w S H p plan
+    if-nested f n y plan s z r t e = reached-enclosed _ (blockWord w (p .block) 6) (blockWord w (p .block) 4) 12 (blockWord w (p .block) 4) f n y plan if-at if-asks (if-ranges .3) (if-ranges .1) (λ x. omega arith) s z r t
+        (e ∙ ap (λ (k : ℕ). enclosing (scheduledWith (or (has S y) (has H y)) n y) p n k 12 k) t)
+
+  -- ---- Label
+
+  module _ (code : blockWord w (p .block) 2 ≡ 16) where
+    label-at : At (label (blockWord w (p .block) 3) (blockWord w (p .block) 4))
+    unfolding terminalOf
+    label-at = end-by w (p .block) (en .block) 16 code
+
+    label-ranges : InRange (blockCount w) (placeCount w) (caseCount w) (label (blockWord w (p .block) 3) (blockWord w (p .block) 4))
+    label-ranges = ranges w (en .promise) (p .block) (en .block) _ label-at
+
+    label-asks : Asks (label (blockWord w (p .block) 3) (blockWord w (p .block) 4)) (blockWord w (p .block) 4) (λ F R C taken. into (blockWord w (p .block) 3) 17 (p .block) (here F R C taken) F R (scheduledIf taken C))
+    unfolding terminalTurn
+    label-asks F R C = refl
+
+    pub label-absent : (f : ℕ) (plan : Plan) → f ≡ blockWord w (p .block) 4 → blockWord w f 2 ≡ 0 → plan ≡ refusing p 10 f → PlannedBare w S H p plan
+    label-absent f plan s z r = reached-missing _ (blockWord w (p .block) 4) _ f plan label-at label-asks (label-ranges .1) s z r
+
+    pub label-nested : (f n y : ℕ) (plan : Plan) → f ≡ blockWord w (p .block) 4 → (blockWord w f 2 ≡ 0 → ⊥) → Reached f n → y ≡ blockWord w (p .block) 3
+        → plan ≡ enclosing (scheduledWith (or (has S y) (has H y)) n y) p n y 17 (p .block) → PlannedBare w S H p plan
+    label-nested f n y plan s z r t e = reached-enclosed _ (blockWord w (p .block) 4) (blockWord w (p .block) 3) 17 (p .block) f n y plan label-at label-asks (label-ranges .1) (label-ranges .0) (λ x. omega arith) s z r t
+        (e ∙ ap (λ (k : ℕ). enclosing (scheduledWith (or (has S y) (has H y)) n y) p n k 17 (p .block)) t)
