@@ -44,13 +44,18 @@ abbrev pub entriesOnTop : List machine.Frame → ℕ
 entriesOnTop [] = 0
 entriesOnTop (frame ∷ frames) = frame .entries
 
+-- the depth that a plan comes to at most: one more with a frame that it keeps
+abbrev pub deepest : (keep : Bool) → ℕ → ℕ
+deepest true depth = suc depth
+deepest false depth = depth
+
 -- what the driver needs to apply a plan. `top` is the frame in hand, if any
 pub record Fitting (top : List machine.Frame) (depth : ℕ) (plan : Plan) : Type 0 where
   pub change : NamedChange (entriesOnTop top) (plan .change)
   pub handler : Below 1024 (unlessNone (plan .handler))
   pub scope : Below 1024 (unlessNone (plan .scope))
   pub deep : plan .keep ≡ true → 1 ≤ plan .position .depth
-  pub next : plan .position .depth ≤ suc depth
+  pub next : plan .position .depth ≤ deepest (plan .keep) depth
 
 -- `top` and then the frames are `depth` in all; `On` says what is known of the Context
 pub record Planned (step : List machine.Frame → List Row → definition.Context → Result State) (On : definition.Context → Type 0) (top : List machine.Frame) (depth rows : ℕ) (buffer : List ℕ) (plan : Plan) (buffer′ : List ℕ) : Type 0 where
