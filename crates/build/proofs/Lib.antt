@@ -1,3 +1,6 @@
 pub mod PlanLaws
 pub mod StepLaws
 pub mod VisitLaws
+pub mod ApplyLaws
+pub mod JumpLaws
+pub mod DriverLaws

@@ -80,7 +80,7 @@ ranges w pr b h e q = subst (λ (z : Terminal). InRange (blockCount w) (placeCou
 
 enclosing-fits : (y : Bool) (p : Position) (n block code at : ℕ) → Label n → (code ≡ 0 → ⊥) → enclosing y p n block code at .code ≡ 0 → Fitting [] (p .depth) (enclosing y p n block code at)
 enclosing-fits true p n block code at l h e = absurd (h e)
-enclosing-fits false p n block code at l h e = record { change = named l; handler = rw none-is tt; scope = rw none-is tt; deep = λ _. omega arith; next = omega arith }
+enclosing-fits false p n block code at l h e = record { change = named l; handler = rw none-is tt; scope = rw none-is tt; deep = λ _. omega arith; next = omega arith; nested = tt }
   where
     at-if : (y : Bool) → eqb n 65535 ≡ y → (y ≡ false → n < 1024) → NamedChange 0 (scheduleIf y n)
     at-if true e h = tt

@@ -1,3 +1,7 @@
 // build_reactive_function: words of a block table in, rows of the tree out, or a refusal with its place.
 mod plan;
 mod fallthrough;
+mod search;
+mod turn;
+mod apply;
+mod driver;
