@@ -7,10 +7,10 @@ use mathlib.Core.Bool.{Bool, true, false}
 use mathlib.Core.List.{List, [], _∷_, _++_}
 use mathlib.Core.Option.{Option, none, some}
 use lib.Dec.{eqb}
-use lib.ListN.{length, drop, getD, set, length-set}
+use lib.ListN.{length, drop, getD, set, length-set, length-replicate}
 use lib.Seq.{getD-set-same, getD-set-other}
 use borrow.Author.Tests.{eq-eqb, ne-eqb}
-use Rattle.table.specs.Words.{blockCount}
+use Rattle.table.specs.Words.{blockCount, entryWord}
 use Rattle.table.specs.Promise.{Promise}
 use Rattle.table.specs.Table.{Table, tableOf, terminalAt, unlessNone}
 use Rattle.table.proofs.TableLaws.{length-blocks}
@@ -20,12 +20,13 @@ use Rattle.definition.specs.Context as definition
 use Rattle.definition.specs.Machine.{State, visiting, ended, choosing, popping, Turn, going, halt, step}
 use Rattle.definition.specs.Machine as machine
 use Rattle.definition.specs.Tree.{Row}
-use Rattle.definition.proofs.Invariant.{Checked, Below, Frames, Framed, Sound, Going, going-step, going-lower, going-halt, entriesOf, builtOf, countOf, marks-below, potential, isSwitch}
+use Rattle.definition.proofs.Invariant.{Checked, Below, Frames, Framed, Sound, Going, going-start, going-step, going-lower, going-halt, entriesOf, builtOf, countOf, marks-below, potential, isSwitch}
 use Rattle.definition.proofs.Invariant as invariant
 use Rattle.control.specs.declared.Context.{Context}
 use Rattle.control.specs.declared.Resolved.{Resolved}
-use Rattle.control.specs.Abstraction.{contextOf, resolvedOf, stackOf}
-use Rattle.control.specs.Contract.{Bounded, Room}
+use Rattle.control.specs.Abstraction.{contextOf, resolvedOf, stackOf, noEntry}
+use Rattle.control.specs.Contract.{Bounded, Room, Created}
+use Rattle.definition.proofs.Tools.{length-none}
 use Rattle.control.proofs.ContextLaws.{stack-length}
 use Rattle.rows.specs.Rows.{Holds}
 use Rattle.rows.specs.Stack.{pushed}
@@ -37,9 +38,11 @@ use Rattle.build.specs.declared.plan.Frame.{Frame}
 use Rattle.build.specs.declared.plan.Change.{Change}
 use Rattle.build.specs.declared.plan.Change.the-variants.{Nothing, Schedule, ScheduleLoop, TakeId, Unschedule}
 use Rattle.build.specs.declared.plan.Plan.{Plan}
+use Rattle.build.specs.declared.search.Jump.{Jump}
+use Rattle.build.specs.declared.driver.Walked.{Walked}
 use Rattle.build.specs.Plans.{frameOf, noFrame, framesOf, stateAt, scheduledLoop, idTaken, changed, handled, scoped, within, kept, contextAfter, onward, applied}
 use Rattle.build.specs.Planned.{NamedChange, entriesOnTop, deepest, Nested, Fitting}
-use Rattle.build.specs.Driver.{Resolves, Shown, inHand, FrameFits, StageFits, Ready, emitting, PlannedTurn, visitedBlock, emitted, withMarks, Whole, Changeable, Applicable, Applied, slot, isHalt}
+use Rattle.build.specs.Driver.{Resolves, foundBy, Searches, Shown, inHand, FrameFits, StageFits, Ready, emitting, PlannedTurn, visitedBlock, emitted, withMarks, Whole, Changeable, Applicable, Applied, slot, isHalt, Reported}
 use Rattle.build.proofs.PlanLaws.{none-is, some-is}
 use Rattle.build.proofs.ApplyLaws.{marks}
 
@@ -166,7 +169,49 @@ pub record Walking (w : List ℕ) (buffer : List ℕ) (cx : Context) (A : List F
 abbrev pub turnsLeft : Position → List Frame → Context → ℕ
 turnsLeft p A cx = potential (stateOf p A [] cx)
 
+getD-any : {A : Type 0} (xs : List A) (i : ℕ) (d e : A) → i < length xs → getD xs i d ≡ getD xs i e
+getD-any [] i d e h = absurd (omega arith)
+getD-any (x ∷ xs) zero d e h = refl
+getD-any (x ∷ xs) (suc i) d e h = getD-any xs i d e (omega arith)
+
+entry-at : (w : List ℕ) → tableOf w .entry ≡ entryWord w
+unfolding tableOf
+entry-at w = refl
+
+scheduled-start : (cx : Context) → contextOf 0 cx ≡ definition.start → length (cx .scheduled) ≡ 1024
+unfolding contextOf definition.start
+scheduled-start cx e = ap (λ (C : definition.Context). length (C .scheduled)) e ∙ length-none
+
+-- what a read past the array's end would give
+abbrev pub beyond : Frame
+beyond = record { block = 0; label = 0; entries = 0; left = 0; built = 0; count = 0; second = false }
+
+-- what the search of the stack found
+pub found-jump : (w : List ℕ) (cx : Context) (p : Position) (jump : Jump) (found : Resolved) → (p .stage ≡ Visit → Searches w (cx .scheduled) (cx .«catch_handlers») (p .block) jump)
+    → ((visits : ℕ) → resolvedOf found ≡ foundBy jump (contextOf visits cx)) → p .stage ≡ Visit → Resolves (terminalAt (tableOf w) (p .block)) (contextOf (p .visits) cx) (resolvedOf found)
+unfolding contextOf
+found-jump w cx p jump found S R e =
+    subst (λ (z : Option definition.Resolution). Resolves (terminalAt (tableOf w) (p .block)) (contextOf (p .visits) cx) z) (sym (R (p .visits))) (S e .resolves (contextOf (p .visits) cx) refl refl)
+
 module _ (w : List ℕ) (pr : Promise w) (ck : Checked (tableOf w)) where
+  -- where the loop begins
+  pub walking-start : (buffer : List ℕ) (cx : Context) (A : List Frame) (e : ℕ) → Created cx → length A ≡ 129 → e ≡ entryWord w → Walking w buffer cx A (record { block = e; depth = 0; count = 0; rows = 0; visits = 0; stage = Visit })
+  unfolding framesOf pushed
+  walking-start buffer cx A e new l q = record {
+    rows = [];
+    going = subst (λ (C : definition.Context). Going (tableOf w) (visiting e [] [] 0 C)) (sym (new .context)) (subst (λ (b : ℕ). Going (tableOf w) (visiting b [] [] 0 definition.start)) (entry-word ∙ sym q) (going-start (tableOf w) ck));
+    held = record { count = refl; rows = tt };
+    live = tt;
+    whole = record { bounded = new .bounded; wide = flags; tall = ap length (new .stack) ∙ length-replicate 1152 noEntry };
+    frames = l;
+  }
+    where
+      entry-word : tableOf w .entry ≡ entryWord w
+      entry-word = entry-at w
+
+      flags : length (cx .scheduled) ≡ 1024
+      flags = scheduled-start cx (new .context)
+
   frame-fits : (chosen over n rows : ℕ) (A : List Frame) (F : List machine.Frame) (R : List Row) (m : ℕ) (C : definition.Context) (f : Frame) → f ≡ getD A (suc n - 1) noFrame → length R ≡ rows
       → Framed (tableOf w) chosen (frameOf (getD A n noFrame)) → invariant.Holds over (frameOf (getD A n noFrame) ∷ F) R m C → FrameFits w chosen rows f
   frame-fits chosen over n rows A F R m C f e l o h =
@@ -204,6 +249,10 @@ module _ (w : List ℕ) (pr : Promise w) (ck : Checked (tableOf w)) where
     pub shallow : p .depth ≤ 128
     shallow = omega (arith, numbered .frames, frames-length A (p .depth))
 
+    -- the innermost frame, as the code reads it
+    pub frame-read : (i : ℕ) → i ≡ p .depth - 1 → getD A i beyond ≡ getD A (p .depth - 1) noFrame
+    frame-read i e = ap (λ (k : ℕ). getD A k beyond) e ∙ getD-any A (p .depth - 1) beyond noFrame (omega (arith, I .frames, shallow))
+
     pub ready : (f : Frame) → f ≡ getD A (p .depth - 1) noFrame → Ready w p f
     unfolding contextOf
     ready f e = record {
@@ -227,7 +276,7 @@ module _ (w : List ℕ) (pr : Promise w) (ck : Checked (tableOf w)) where
       together : inHand (p .stage) (p .depth) f ++ restOf A (p .stage) (p .depth) ≡ framesOf A (p .depth)
       together = in-hand A (p .stage) (p .depth) f read
 
-      pub after : List Row
+      after : List Row
       after = I .rows ++ T .out
 
       entering : definition.Context
@@ -239,9 +288,12 @@ module _ (w : List ℕ) (pr : Promise w) (ck : Checked (tableOf w)) where
           (T .same (restOf A (p .stage) (p .depth)) (I .rows) C (ap length together ∙ frames-length A (p .depth)) shown)
 
       -- a refusal
-      pub refused-report : (plan .code ≡ 0 → ⊥) → report (tableOf w) ≡ rejected (plan .code) (plan .at) (plan .position .visits)
+      refused-report : (plan .code ≡ 0 → ⊥) → report (tableOf w) ≡ rejected (plan .code) (plan .at) (plan .position .visits)
       unfolding applied
       refused-report z = going-halt (tableOf w) (stateOf p A (I .rows) cx) _ (I .going) (stepped ∙ rw (ne-eqb (plan .code) 0 z, applied))
+
+      pub refused-reported : (plan .code ≡ 0 → ⊥) → (r : Walked) → (r .code ≡ plan .code) × (r .at ≡ plan .at) × (r .visits ≡ plan .position .visits) → Reported (report (tableOf w)) r buffer′
+      refused-reported z r e = subst (λ (a : Report). Reported a r buffer′) (sym (refused-report z)) (e .0, z, e .1, e .2)
 
       module _ (fine : plan .code ≡ 0) where
         ahead : applied plan (framesOf A (p .depth)) after entering ≡ onward (plan .position .stage) plan (framesOf A (p .depth)) after entering
@@ -251,12 +303,12 @@ module _ (w : List ℕ) (pr : Promise w) (ck : Checked (tableOf w)) where
         fit : Fitting (inHand (p .stage) (p .depth) f) (p .depth) plan
         fit = T .fitting fine
 
-        pub rows-held : Holds buffer′ (plan .position .rows) (pushed after [])
+        rows-held : Holds buffer′ (plan .position .rows) (pushed after [])
         unfolding after
         rows-held = T .held fine (I .rows) (I .held)
 
         -- the end
-        pub accepted-report : isHalt (plan .position .stage) ≡ true → report (tableOf w) ≡ accepted after (plan .position .visits)
+        accepted-report : isHalt (plan .position .stage) ≡ true → report (tableOf w) ≡ accepted after (plan .position .visits)
         accepted-report z = going-halt (tableOf w) (stateOf p A (I .rows) cx) _ (I .going) (stepped ∙ ahead ∙ at (plan .position .stage) z)
           where
             at : (s : Stage) → isHalt s ≡ true → onward s plan (framesOf A (p .depth)) after entering ≡ halt (accepted after (plan .position .visits))
@@ -265,6 +317,9 @@ module _ (w : List ℕ) (pr : Promise w) (ck : Checked (tableOf w)) where
             at Choose e = absurd (unlike e)
             at Pop e = absurd (unlike e)
             at Halt e = refl
+
+        pub accepted-reported : isHalt (plan .position .stage) ≡ true → (r : Walked) → (r .code ≡ 0) × (r .at ≡ 0) × (r .visits ≡ plan .position .visits) × (r .rows ≡ plan .position .rows) → Reported (report (tableOf w)) r buffer′
+        accepted-reported z r e = subst (λ (a : Report). Reported a r buffer′) (sym (accepted-report z)) (e .0, e .1, e .2, rw (e .3) rows-held)
 
         -- the turn leads on
         module _ (on : isHalt (plan .position .stage) ≡ false) where
@@ -275,7 +330,7 @@ module _ (w : List ℕ) (pr : Promise w) (ck : Checked (tableOf w)) where
           unfolding K
           kept-deep = kept-length A (p .depth) (plan .position .depth) (plan .keep) (plan .frame) (fit .deep) (fit .next)
 
-          pub next-live : Live (plan .position .stage) (plan .position .depth)
+          next-live : Live (plan .position .stage) (plan .position .depth)
           next-live = at (plan .position .stage) on (fit .nested)
             where
               at : (s : Stage) → isHalt s ≡ false → Nested s (plan .keep) → Live s (plan .position .depth)
@@ -314,7 +369,7 @@ module _ (w : List ℕ) (pr : Promise w) (ck : Checked (tableOf w)) where
           unfolding next
           next-numbers = numbers (tableOf w) (plan .position .stage) (plan .position .block) K after (plan .position .count) (contextAfter plan entering) (rw kept-deep next-live) (next-going .sound)
 
-          pub next-shallow : plan .position .depth ≤ 128
+          next-shallow : plan .position .depth ≤ 128
           next-shallow = omega (arith, next-numbers .frames, kept-deep)
 
           -- ---- the Context
@@ -381,7 +436,7 @@ module _ (w : List ℕ) (pr : Promise w) (ck : Checked (tableOf w)) where
               at Pop h = subst (λ (o : Option ℕ). Below 1024 o) (sym none-is) tt
               at Halt h = subst (λ (o : Option ℕ). Below 1024 o) (sym none-is) tt
 
-          slot-below : slot (plan .keep) (plan .position .depth) < 129
+          pub slot-below : slot (plan .keep) (plan .position .depth) < 129
           slot-below = at (plan .keep)
             where
               at : (keep : Bool) → slot keep (plan .position .depth) < 129

@@ -4,3 +4,4 @@ pub mod VisitLaws
 pub mod ApplyLaws
 pub mod JumpLaws
 pub mod DriverLaws
+pub mod CheckedLaws
