@@ -5,3 +5,4 @@ pub mod ApplyLaws
 pub mod JumpLaws
 pub mod DriverLaws
 pub mod CheckedLaws
+pub mod EntryLaws
