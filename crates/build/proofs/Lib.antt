@@ -6,3 +6,4 @@ pub mod JumpLaws
 pub mod DriverLaws
 pub mod CheckedLaws
 pub mod EntryLaws
+pub mod Demand3
