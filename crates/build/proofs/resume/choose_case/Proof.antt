@@ -1,0 +1,92 @@
+use borrow.Author.Needs.{needs}
+use Rattle.build.proofs.resume.choose_case.Statement.{statement}
+use Rattle.build.proofs.resume.choose_case.Tie as tie
+use Rattle.build.proofs.resume.choose_case.Reads as reads
+use Rattle.build.proofs.resume.choose_case.Lts as lts
+use Rattle.build.proofs.fallthrough.scheduled_at.Reads as scheduled-at-reads
+use Rattle.build.proofs.plan.choose.Reads as choose-reads
+use Rattle.build.proofs.plan.refuse.Reads as refuse-reads
+use Rattle.build.proofs.plan.traverse_block.Reads as traverse-block-reads
+use Rattle.build.proofs.resume.close_statement.Reads as close-statement-reads
+use Rattle.table.proofs.words.block_word.Reads as block-word-reads
+use Rattle.table.proofs.words.case_word.Reads as case-word-reads
+
+-- src/resume.rt:291:9
+close-statement-requires : tie.Need-close-statement-requires
+close-statement-requires c κs = ?
+
+-- src/resume.rt:291:9
+same-length : tie.Need-same-length
+same-length c = search needs
+
+-- src/resume.rt:291:9
+returns : tie.Need-returns
+returns c = ?
+
+-- src/resume.rt:293:16
+sub-left : tie.Need-sub-left
+sub-left c = search needs
+
+-- src/resume.rt:294:34
+block-word-requires : tie.Need-block-word-requires
+block-word-requires c κs = ?
+
+-- src/resume.rt:294:34
+add-case-word : tie.Need-add-case-word
+add-case-word c = ?
+
+-- src/resume.rt:294:9
+case-word-requires : tie.Need-case-word-requires
+case-word-requires c κs = ?
+
+-- src/resume.rt:296:9
+scheduled-at-requires : tie.Need-scheduled-at-requires
+scheduled-at-requires c κs = ?
+
+-- src/resume.rt:297:9
+traverse-block-requires : tie.Need-traverse-block-requires
+traverse-block-requires c κs = search needs
+
+-- src/resume.rt:297:9
+returns-2 : tie.Need-returns-2
+returns-2 c = ?
+
+-- src/resume.rt:299:17
+block-word-requires-2 : tie.Need-block-word-requires-2
+block-word-requires-2 c κs = ?
+
+-- src/resume.rt:300:9
+refuse-requires : tie.Need-refuse-requires
+refuse-requires c κs = search needs
+
+-- src/resume.rt:300:9
+returns-3 : tie.Need-returns-3
+returns-3 c = ?
+
+-- src/resume.rt:302:5
+choose-requires : tie.Need-choose-requires
+choose-requires c κs = search needs
+
+-- src/resume.rt:278:1
+returns-4 : tie.Need-returns-4
+returns-4 c = ?
+
+pub choose-case-spec : {M : Type 1} → statement M
+choose-case-spec =
+    tie.close
+    (tie.spec
+    close-statement-requires
+    same-length
+    returns
+    sub-left
+    block-word-requires
+    add-case-word
+    case-word-requires
+    scheduled-at-requires
+    traverse-block-requires
+    returns-2
+    block-word-requires-2
+    refuse-requires
+    returns-3
+    choose-requires
+    returns-4)
