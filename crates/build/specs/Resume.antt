@@ -4,7 +4,7 @@ use mathlib.Core.Path.{_≡_}
 use mathlib.Core.Bool.{Bool, true, false}
 use mathlib.Core.List.{List, [], _∷_}
 use lib.Dec.{eqb}
-use Rattle.table.specs.Words.{blockCount}
+use Rattle.table.specs.Words.{blockCount, caseCount, blockWord}
 use Rattle.table.specs.Promise.{Promise}
 use Rattle.table.specs.Table.{tableOf, terminalAt, blockAt, unlessNone}
 use Rattle.definition.specs.Context.{Flags}
@@ -22,7 +22,6 @@ use Rattle.build.specs.declared.plan.Plan.{Plan}
 use Rattle.build.specs.declared.resume.ClosingRow.{ClosingRow}
 use Rattle.build.specs.Plans.{frameOf, second, refusing, leaving, nesting, poppingNext}
 use Rattle.build.specs.Planned.{Seen, Planned}
-use Rattle.build.specs.Driver.{FrameFits}
 
 -- ---- frames and rows
 
@@ -62,14 +61,24 @@ pub record Closing (words : List ℕ) (p : Position) (frame : Frame) : Type 0 wh
   pub rows : p .rows ≤ 1000000000
   pub count : frame .count ≤ p .rows
 
--- what a statement's resumption asks
+-- what a statement's resumption asks: of a Switch, that the case that is built is there
 pub record Resuming (words : List ℕ) (p : Position) (frame : Frame) : Type 0 where
   pub promise : Promise words
+  pub block : frame .block < blockCount words
   pub depth : 1 ≤ p .depth
   pub deep : p .depth ≤ 128
   pub visits : p .visits ≤ 8192
   pub rows : p .rows ≤ 100000000
-  pub fits : FrameFits words 0 p frame
+  pub count : frame .count ≤ p .rows
+  pub entries : frame .entries ≤ 1025
+  pub built : frame .built ≤ 1024
+  pub case : blockWord words (frame .block) 2 ≡ 7 → blockWord words (frame .block) 4 + frame .left < caseCount words
+
+-- what a Switch's choice asks
+pub record Choosing (words : List ℕ) (p : Position) (frame : Frame) : Type 0 where
+  pub code : blockWord words (frame .block) 2 ≡ 7
+  pub closing : Closing words p frame
+  pub case : frame .left ≤ caseCount words - blockWord words (frame .block) 4
 
 -- a plan for the frame in hand
 abbrev pub PlannedFor : (step : List machine.Frame → List Row → definition.Context → Result State) → (On : definition.Context → Type 0) → Position → Frame → List ℕ → Plan → List ℕ → Type 0
@@ -98,3 +107,6 @@ PlannedResume words scheduledSet handlerSet p frame = PlannedFor (resumeStep wor
 -- where the sets are not looked at
 abbrev pub PlannedOn : List ℕ → Position → Frame → List ℕ → Plan → List ℕ → Type 0
 PlannedOn words p frame = PlannedFor (resumeStep words p frame) (Begun (p .visits)) p frame
+
+abbrev pub PlannedChoice : List ℕ → Flags → Flags → Position → Frame → List ℕ → Plan → List ℕ → Type 0
+PlannedChoice words scheduledSet handlerSet p frame = PlannedFor (chooseStep words frame) (Seen scheduledSet handlerSet (p .visits)) p frame
