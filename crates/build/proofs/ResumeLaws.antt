@@ -133,6 +133,9 @@ module _ (w : List ℕ) (p : Position) (frame : Frame) where
       }
 
   module _ (re : Resuming w p frame) where
+    pub closing-of : Closing w p frame
+    closing-of = record { promise = re .promise; block = re .block; depth = re .depth; rows = omega (arith, re .rows); count = re .count }
+
     resume-at : (e : Terminal) (F : List machine.Frame) (R : List Row) (C : definition.Context) → terminalAt t (frame .block) ≡ e → resumeStep w p frame F R C ≡ resumeAt t visit e (blockAt t (frame .block)) (frameOf frame) F R C
     resume-at e F R C q = ap (λ (z : Terminal). resumeAt t visit z (blockAt t (frame .block)) (frameOf frame) F R C) q
 
@@ -268,7 +271,7 @@ module _ (w : List ℕ) (p : Position) (frame : Frame) where
       unfolding resumeAt
       test-step F R C on = resume-at _ F R C do-while-at ∙ rw (none-is, span-at w (frame .block) (re .block), on)
 
-      module _ (start : Tally) (levels : ℕ) (buffer buffer₁ : List ℕ) (r : ValueResult) (m : Met w blockResult (visitValueBlock (tableOf w) (128 - p .depth) (col 4) (unlessNone 65535) (col 9) (p .visits)) start 0 buffer r buffer₁) where
+      module _ (start : Tally) (buffer buffer₁ : List ℕ) (r : ValueResult) (m : Met w blockResult (visitValueBlock (tableOf w) (128 - p .depth) (col 4) (unlessNone 65535) (col 9) (p .visits)) start 0 buffer r buffer₁) where
         pub test-refused : (after : Position) (plan : Plan) → after .visits ≡ r .tally .visits → (r .code ≡ 0 → ⊥) → plan ≡ refusing after (r .code) (r .at) → PlannedOn w p frame buffer plan buffer₁
         test-refused after plan e nz q = subst (λ (y : Plan). PlannedOn w p frame buffer y buffer₁) (sym q) (record {
           out = [];
@@ -278,14 +281,14 @@ module _ (w : List ℕ) (p : Position) (frame : Frame) where
           fitting = λ z. absurd (nz z);
         })
 
-        pub test-closed : (after : Position) (plan : Plan) (buffer′ : List ℕ) → start .rows ≡ p .rows → after .rows ≡ r .tally .rows → after .visits ≡ r .tally .visits → after .depth ≡ p .depth → r .code ≡ 0
-            → PlannedClose w after frame buffer₁ plan buffer′ → PlannedOn w p frame buffer plan buffer′
-        test-closed after plan buffer′ b e v d z closed = planned-after (valueOut (m .value)) (withVisits (r .tally .visits))
-            (λ before h. rw (e, ← (push-value-after (m .value) before)) (m .found z .held (stack.pushed before []) (rw b h)))
+        pub test-closed : (plan : Plan) (buffer′ : List ℕ) → start .rows ≡ p .rows → r .code ≡ 0
+            → Planned (closeStep w frame) (Begun (r .tally .visits)) (frameOf frame ∷ []) (p .depth) (r .tally .rows) buffer₁ plan buffer′ → PlannedOn w p frame buffer plan buffer′
+        test-closed plan buffer′ b z closed = planned-after (valueOut (m .value)) (withVisits (r .tally .visits))
+            (λ before h. rw (← (push-value-after (m .value) before)) (m .found z .held (stack.pushed before []) (rw b h)))
             (λ F R C on. test-step F R C on ∙ then-on (closes F R C) m z)
-            (λ C on. visits-set (r .tally .visits) C ∙ sym v)
+            (λ C on. visits-set (r .tally .visits) C)
             (λ F R C. applied-visits plan (r .tally .visits) F R C)
-            (subst (λ (k : ℕ). Planned (closeStep w frame) (Begun (after .visits)) (frameOf frame ∷ []) k (after .rows) buffer₁ plan buffer′) d closed)
+            closed
 
     -- ---- any other
 
@@ -498,23 +501,21 @@ module _ (w : List ℕ) (p : Position) (frame : Frame) where
       root (f ∷ F) R C l o = absurd (omega arith)
 
   -- and a nested one
-  pub ended-nested : (plan : Plan) (S H : Flags) (buffer buffer₁ buffer′ : List ℕ) (after : Position) → p .stage ≡ Ended → 1 ≤ p .depth → after .depth ≡ p .depth → after .visits ≡ p .visits
-      → Written buffer (p .rows) (row 9 (p .count) 0 0 0 0) buffer₁ (after .rows) → PlannedResume w S H after frame buffer₁ plan buffer′ → PlannedTurn w (Seen S H (p .visits)) p frame buffer plan buffer′
+  pub ended-nested : (plan : Plan) (S H : Flags) (buffer buffer₁ buffer′ : List ℕ) (rows : ℕ) → p .stage ≡ Ended → 1 ≤ p .depth → Written buffer (p .rows) (row 9 (p .count) 0 0 0 0) buffer₁ rows
+      → Planned (resumeStep w p frame) (Seen S H (p .visits)) (frameOf frame ∷ []) (p .depth) rows buffer₁ plan buffer′ → PlannedTurn w (Seen S H (p .visits)) p frame buffer plan buffer′
   unfolding step
-  ended-nested plan S H buffer buffer₁ buffer′ after e deep d v put m =
+  ended-nested plan S H buffer buffer₁ buffer′ rows e deep put m =
       turn-planned Ended (frameOf frame ∷ []) e (hand-ended (p .depth) frame deep) (λ F R C l. ap (λ (n : ℕ). turn (resumed n F R C)) (levels F l)) (λ C. refl)
       (planned-after (blockRow (p .count) ∷ []) (λ C. C)
       (λ before h. rw (← (push-row-after (blockRow (p .count)) before)) (put .kept (stack.pushed before []) h))
-      (λ F R C on. refl) (λ C on. on) (λ F R C. refl)
-      (subst (λ (k : ℕ). Planned (resumeStep w after frame) (Seen S H (p .visits)) (frameOf frame ∷ []) k (after .rows) buffer₁ plan buffer′) d
-      (subst (λ (k : ℕ). Planned (resumeStep w after frame) (Seen S H k) (frameOf frame ∷ []) (after .depth) (after .rows) buffer₁ plan buffer′) v m)))
+      (λ F R C on. refl) (λ C on. on) (λ F R C. refl) m)
     where
       resumed : ℕ → List machine.Frame → List Row → definition.Context → Result State
       resumed n F R C =
           resumeAt (tableOf w) (visitValueBlock (tableOf w) n) (terminalAt (tableOf w) (frame .block)) (blockAt (tableOf w) (frame .block)) (frameOf frame) F (R ++ (blockRow (p .count) ∷ [])) C
 
-      levels : (F : List machine.Frame) → suc (length F) ≡ p .depth → 127 - length F ≡ 128 - after .depth
-      levels F l = omega (arith, d)
+      levels : (F : List machine.Frame) → suc (length F) ≡ p .depth → 127 - length F ≡ 128 - p .depth
+      levels F l = omega arith
 
   -- ---- a Switch chooses
 

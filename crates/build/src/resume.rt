@@ -293,11 +293,11 @@ pub fn choose_case<'a>(
     let left = frame.left - 1;
     let block = case_word(words, block_word(words, frame.block, 4) + left, 1);
     let rest = Frame { block: frame.block, label: frame.label, entries: frame.entries, left: left, built: frame.built, count: frame.count, second: frame.second };
-    if !scheduled_at(scheduled, catch_handlers, block) {
-        return traverse_block(block, rest, p.depth, p.rows, p.visits, Change::Nothing);
+    if scheduled_at(scheduled, catch_handlers, block) {
+        if block != block_word(words, frame.block, 6) {
+            return refuse(p, 14, frame.block);
+        }
+        return choose(rest, p.depth, p.rows, p.visits, Change::Nothing);
     }
-    if block != block_word(words, frame.block, 6) {
-        return refuse(p, 14, frame.block);
-    }
-    choose(rest, p.depth, p.rows, p.visits, Change::Nothing)
+    traverse_block(block, rest, p.depth, p.rows, p.visits, Change::Nothing)
 }

@@ -1,3 +1,4 @@
+use mathlib.Core.Path.{sym, _∙_}
 use borrow.Author.Needs.{needs}
 use Rattle.build.proofs.resume.alternate.Statement.{statement}
 use Rattle.build.proofs.resume.alternate.Tie as tie
@@ -18,7 +19,7 @@ refuse-requires c κs = search needs
 
 -- src/resume.rt:146:9
 returns : tie.Need-returns
-returns c = ?
+returns c = rw (sym (c .before .before .scheduled-at .ensures) ∙ c .before .if1 .taken) (c .refuse .ensures)
 
 -- src/resume.rt:148:27
 second-part-requires : tie.Need-second-part-requires
@@ -30,7 +31,7 @@ traverse-block-requires c κs = search needs
 
 -- src/resume.rt:133:1
 returns-2 : tie.Need-returns-2
-returns-2 c = ?
+returns-2 c = rw (sym (c .before .before .before .scheduled-at .ensures) ∙ c .before .before .if1 .left) (cc)
 
 pub alternate-spec : {M : Type 1} → statement M
 alternate-spec =

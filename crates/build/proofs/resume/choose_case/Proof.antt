@@ -39,33 +39,33 @@ add-case-word c = ?
 case-word-requires : tie.Need-case-word-requires
 case-word-requires c κs = ?
 
--- src/resume.rt:296:9
+-- src/resume.rt:296:8
 scheduled-at-requires : tie.Need-scheduled-at-requires
 scheduled-at-requires c κs = ?
 
--- src/resume.rt:297:9
-traverse-block-requires : tie.Need-traverse-block-requires
-traverse-block-requires c κs = search needs
-
--- src/resume.rt:297:9
-returns-2 : tie.Need-returns-2
-returns-2 c = ?
-
--- src/resume.rt:299:17
+-- src/resume.rt:297:21
 block-word-requires-2 : tie.Need-block-word-requires-2
 block-word-requires-2 c κs = ?
 
--- src/resume.rt:300:9
+-- src/resume.rt:298:13
 refuse-requires : tie.Need-refuse-requires
 refuse-requires c κs = search needs
+
+-- src/resume.rt:298:13
+returns-2 : tie.Need-returns-2
+returns-2 c = ?
+
+-- src/resume.rt:300:9
+choose-requires : tie.Need-choose-requires
+choose-requires c κs = search needs
 
 -- src/resume.rt:300:9
 returns-3 : tie.Need-returns-3
 returns-3 c = ?
 
 -- src/resume.rt:302:5
-choose-requires : tie.Need-choose-requires
-choose-requires c κs = search needs
+traverse-block-requires : tie.Need-traverse-block-requires
+traverse-block-requires c κs = search needs
 
 -- src/resume.rt:278:1
 returns-4 : tie.Need-returns-4
@@ -83,10 +83,10 @@ choose-case-spec =
     add-case-word
     case-word-requires
     scheduled-at-requires
-    traverse-block-requires
-    returns-2
     block-word-requires-2
     refuse-requires
-    returns-3
+    returns-2
     choose-requires
+    returns-3
+    traverse-block-requires
     returns-4)

@@ -1,3 +1,6 @@
+use mathlib.Core.Path.{_≡_, refl, sym, ap, subst, _∙_}
+use native.Mathlib.Omega.{arith}
+use Rattle.build.proofs.ResumeLaws.{closing-of, resumed-closed, resumed-seen, Other, other-closed}
 use borrow.Author.Needs.{needs}
 use Rattle.build.proofs.resume.resume_statement.Statement.{statement}
 use Rattle.build.proofs.resume.resume_statement.Tie as tie
@@ -13,7 +16,7 @@ use Rattle.table.proofs.words.block_word.Reads as block-word-reads
 
 -- src/resume.rt:246:11
 block-word-requires : tie.Need-block-word-requires
-block-word-requires c κs = ?
+block-word-requires c κs = search needs
 
 -- src/resume.rt:247:14
 resume-if-requires : tie.Need-resume-if-requires
@@ -37,7 +40,7 @@ resume-try-requires c κs = search needs
 
 -- src/resume.rt:252:14
 close-statement-requires : tie.Need-close-statement-requires
-close-statement-requires c κs = ?
+close-statement-requires c κs = closing-of (c .before .before .before .before .before .args .words .now) (c .before .before .before .before .before .args .p) (c .before .before .before .before .before .args .frame) (c .before .before .before .before .before .pre)
 
 -- src/resume.rt:235:1
 same-length : tie.Need-same-length
@@ -61,7 +64,7 @@ same-length-3 c = search needs
 
 -- src/resume.rt:235:1
 returns-3 : tie.Need-returns-3
-returns-3 c = ?
+returns-3 c = resumed-seen (c .before .before .before .before .before .before .before .before .args .words .now) (c .before .before .before .before .before .before .before .before .args .p) (c .before .before .before .before .before .before .before .before .args .frame) (c .before .before .resume-switch .ensures)
 
 -- src/resume.rt:235:1
 same-length-4 : tie.Need-same-length-4
@@ -69,7 +72,7 @@ same-length-4 c = search needs
 
 -- src/resume.rt:235:1
 returns-4 : tie.Need-returns-4
-returns-4 c = ?
+returns-4 c = resumed-seen (c .before .before .before .before .before .before .before .before .args .words .now) (c .before .before .before .before .before .before .before .before .args .p) (c .before .before .before .before .before .before .before .before .args .frame) (c .before .before .resume-do-while .ensures)
 
 -- src/resume.rt:235:1
 same-length-5 : tie.Need-same-length-5
@@ -77,7 +80,7 @@ same-length-5 c = search needs
 
 -- src/resume.rt:235:1
 returns-5 : tie.Need-returns-5
-returns-5 c = ?
+returns-5 c = resumed-seen (c .before .before .before .before .before .before .before .before .args .words .now) (c .before .before .before .before .before .before .before .before .args .p) (c .before .before .before .before .before .before .before .before .args .frame) (c .before .before .resume-try .ensures)
 
 -- src/resume.rt:235:1
 same-length-6 : tie.Need-same-length-6
@@ -85,7 +88,7 @@ same-length-6 c = search needs
 
 -- src/resume.rt:235:1
 returns-6 : tie.Need-returns-6
-returns-6 c = ?
+returns-6 c = resumed-seen (c .before .before .before .before .before .before .before .before .args .words .now) (c .before .before .before .before .before .before .before .before .args .p) (c .before .before .before .before .before .before .before .before .args .frame) (resumed-closed (c .before .before .before .before .before .before .before .before .args .words .now) (c .before .before .before .before .before .before .before .before .args .p) (c .before .before .before .before .before .before .before .before .args .frame) (other-closed (c .before .before .before .before .before .before .before .before .args .words .now) (c .before .before .before .before .before .before .before .before .args .p) (c .before .before .before .before .before .before .before .before .args .frame) (c .before .before .before .before .before .before .before .before .pre) (subst (Other (c .before .before .before .before .before .before .before .before .args .words .now) (c .before .before .before .before .before .before .before .before .args .p) (c .before .before .before .before .before .before .before .before .args .frame) (c .before .before .before .before .before .before .before .before .pre)) (c .before .before .before .before .before .block-word .ensures) (c .before .before .before .before .match .rest .0 .0 .0 .0 .1, c .before .before .before .before .match .rest .0 .0 .0 .1, c .before .before .before .before .match .rest .0 .0 .1, c .before .before .before .before .match .rest .0 .1, c .before .before .before .before .match .rest .1))) (c .before .before .close-statement .ensures))
 
 pub resume-statement-spec : {M : Type 1} → statement M
 resume-statement-spec =

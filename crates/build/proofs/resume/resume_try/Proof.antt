@@ -1,3 +1,6 @@
+use mathlib.Core.Path.{_≡_, refl, sym, ap, _∙_}
+use native.Mathlib.Omega.{arith}
+use Rattle.build.proofs.ResumeLaws.{closing-of, resumed-closed, try-second, try-handler}
 use borrow.Author.Needs.{needs}
 use Rattle.build.proofs.resume.resume_try.Statement.{statement}
 use Rattle.build.proofs.resume.resume_try.Tie as tie
@@ -10,7 +13,7 @@ use Rattle.table.proofs.words.block_word.Reads as block-word-reads
 
 -- src/resume.rt:198:9
 close-statement-requires : tie.Need-close-statement-requires
-close-statement-requires c κs = ?
+close-statement-requires c κs = closing-of (c .before .before .before .before .args .words .now) (c .before .before .before .before .args .p) (c .before .before .before .before .args .frame) (c .before .before .before .before .pre .0)
 
 -- src/resume.rt:198:9
 same-length : tie.Need-same-length
@@ -18,11 +21,11 @@ same-length c = search needs
 
 -- src/resume.rt:198:9
 returns : tie.Need-returns
-returns c = ?
+returns c = resumed-closed (c .before .before .before .before .before .before .before .args .words .now) (c .before .before .before .before .before .before .before .args .p) (c .before .before .before .before .before .before .before .args .frame) (try-second (c .before .before .before .before .before .before .before .args .words .now) (c .before .before .before .before .before .before .before .args .p) (c .before .before .before .before .before .before .before .args .frame) (c .before .before .before .before .before .before .before .pre .0) (c .before .before .before .before .before .before .before .pre .1) (c .before .before .before .before .if1 .taken)) (c .before .before .close-statement .ensures)
 
 -- src/resume.rt:200:9
 block-word-requires : tie.Need-block-word-requires
-block-word-requires c κs = ?
+block-word-requires c κs = search needs
 
 -- src/resume.rt:201:29
 second-part-requires : tie.Need-second-part-requires
@@ -34,7 +37,7 @@ traverse-block-requires c κs = search needs
 
 -- src/resume.rt:192:1
 returns-2 : tie.Need-returns-2
-returns-2 c = ?
+returns-2 c = try-handler (c .before .before .before .before .before .before .args .words .now) (c .before .before .before .before .before .before .args .p) (c .before .before .before .before .before .before .args .frame) (c .before .before .before .before .before .before .pre .0) (c .before .before .before .before .before .before .pre .1) _ (c .before .before .before .before .before .before .args .tree .now) (c .before .before .before .if1 .left) (rw (← (c .before .before .block-word .ensures), ← (c .before .second-part .ensures)) (c .traverse-block .ensures))
 
 pub resume-try-spec : {M : Type 1} → statement M
 resume-try-spec =
