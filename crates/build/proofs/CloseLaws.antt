@@ -27,7 +27,7 @@ use Rattle.build.specs.declared.plan.Plan.{Plan}
 use Rattle.build.specs.Plans.{frameOf, changed, applied, leaving, poppingNext}
 use Rattle.build.specs.Planned.{NamedChange, Fitting, Planned}
 use Rattle.build.specs.Resume.{entriesLess, closingRowAt, unscheduleIf, Closing, Begun, closeStep, PlannedFor, PlannedClose}
-use Rattle.build.proofs.PlanLaws.{within-rest, visits-same, none-is, leave-applied, pop-applied}
+use Rattle.build.proofs.PlanLaws.{within-rest, visits-same, none-is, leave-applied, leave-nested, pop-applied}
 use Rattle.build.proofs.StepLaws.{end-by, code-at, turn-ok}
 
 -- ---- the closing row
@@ -106,7 +106,7 @@ module _ (w : List ℕ) (p : Position) (frame : Frame) (cl : Closing w p frame) 
     out = [];
     held = λ _ before k. rw (append-nil before) k;
     same = λ F R C d on. rw (append-nil R) (same F R C d on);
-    fitting = λ _. record { change = omega arith; handler = rw none-is tt; scope = rw none-is tt; deep = λ _. cl .depth; next = omega arith };
+    fitting = λ _. record { change = omega arith; handler = rw none-is tt; scope = rw none-is tt; deep = λ _. cl .depth; next = omega arith; nested = refl };
   })
     where
       same : (F : List machine.Frame) (R : List Row) (C : definition.Context) → length (frameOf frame ∷ F) ≡ p .depth → C .visits ≡ p .visits
@@ -122,7 +122,7 @@ module _ (w : List ℕ) (p : Position) (frame : Frame) (cl : Closing w p frame) 
     out = closingRowAt w frame ∷ [];
     held = λ _ before k. rw (← r, ← (push-row-after last before)) (put .kept (stack.pushed before []) k);
     same = same;
-    fitting = λ _. record { change = named (frame .entries) h; handler = rw none-is tt; scope = rw none-is tt; deep = λ z. absurd (let o : _≡_ {A = ℕ} 0 1 = cc in omega arith); next = omega arith };
+    fitting = λ _. record { change = named (frame .entries) h; handler = rw none-is tt; scope = rw none-is tt; deep = λ z. absurd (let o : _≡_ {A = ℕ} 0 1 = cc in omega arith); next = omega arith; nested = leave-nested (eqb (frame .label) 65535) };
   })
     where
       named : (n : ℕ) → n < 2 → NamedChange n (unscheduleIf (eqb n 0))

@@ -28,7 +28,7 @@ use Rattle.build.specs.declared.plan.Change.{Change}
 use Rattle.build.specs.declared.plan.Change.the-variants.{Nothing, Schedule, ScheduleLoop, TakeId, Unschedule}
 use Rattle.build.specs.declared.plan.Plan.{Plan}
 use Rattle.build.specs.Plans.{frameOf, within, kept, changed, handled, scoped, contextAfter, onward, applied, openFrame, refusing, stageAfter, leaving, nesting, choosingNext, poppingNext, accepting, unlessTaken, entriesIf, scheduleIf, scheduleSwitch, idTaken}
-use Rattle.build.specs.Planned.{Seen}
+use Rattle.build.specs.Planned.{Seen, Nested}
 
 -- ---- frames
 
@@ -151,3 +151,7 @@ label-switch n C = at (eqb n 65535)
     at : (y : Bool) → changed (scheduleSwitch y n) C ≡ machine.scheduledSwitch (elim y [ true ↦ none | false ↦ some n ]) C
     at true = refl
     at false = refl
+
+pub leave-nested : (y : Bool) → Nested (stageAfter y) false
+leave-nested true = tt
+leave-nested false = tt

@@ -129,7 +129,7 @@ module _ (w : List ℕ) (p : Position) (frame : Frame) where
         held = λ _ before h. rw (append-nil before) h;
         same = λ F R C d seen. rw (append-nil R) (ap turn (e F R C ∙ into-free block code at (secondPart (frameOf frame)) F R C (seen-scheduled S H (p .visits) C seen block ∙ u)) ∙ turn-ok _
             ∙ sym (nest-applied block (second frame) (p .depth) (p .rows) (p .visits) 65535 65535 Nothing (frameOf frame ∷ F) R C ∙ rw (none-is, visits-same (p .visits) C (seen .visits), within-rest (p .depth) (frameOf frame) F d)));
-        fitting = λ _. record { change = tt; handler = rw none-is tt; scope = rw none-is tt; deep = λ _. deep; next = omega arith };
+        fitting = λ _. record { change = tt; handler = rw none-is tt; scope = rw none-is tt; deep = λ _. deep; next = omega arith; nested = tt };
       }
 
   module _ (re : Resuming w p frame) where
@@ -208,7 +208,7 @@ module _ (w : List ℕ) (p : Position) (frame : Frame) where
         held = λ _ before h. rw (append-nil before) h;
         same = λ F R C d on. rw (append-nil R) (ap turn (try-goes-on s F R C) ∙ turn-ok _
             ∙ sym (nest-applied (col 4) (second frame) (p .depth) (p .rows) (p .visits) 65535 65535 Nothing (frameOf frame ∷ F) R C ∙ rw (none-is, visits-same (p .visits) C on, within-rest (p .depth) (frameOf frame) F d)));
-        fitting = λ _. record { change = tt; handler = rw none-is tt; scope = rw none-is tt; deep = λ _. re .depth; next = omega arith };
+        fitting = λ _. record { change = tt; handler = rw none-is tt; scope = rw none-is tt; deep = λ _. re .depth; next = omega arith; nested = tt };
       })
 
     -- ---- Switch
@@ -245,7 +245,7 @@ module _ (w : List ℕ) (p : Position) (frame : Frame) where
         held = λ _ before h. rw (← e, ← (push-row-after (row 11 test 0 0 0 0) before)) (put .kept (stack.pushed before []) h);
         same = λ F R C d on. ap turn (case-goes-on F R C) ∙ turn-ok _ ∙ sym (choose-applied (oneBuilt frame) (p .depth) rows (p .visits) (Schedule (CaseTarget (caseWord w number 1))) (frameOf frame ∷ F) (R ++ (caseRow ∷ [])) C
             ∙ rw (visits-same (p .visits) C on, within-rest (p .depth) (frameOf frame) F d, more (frame .entries), more (frame .built)));
-        fitting = λ _. record { change = case-below; handler = rw none-is tt; scope = rw none-is tt; deep = λ _. re .depth; next = omega arith };
+        fitting = λ _. record { change = case-below; handler = rw none-is tt; scope = rw none-is tt; deep = λ _. re .depth; next = omega arith; nested = refl };
       })
         where
           more : (n : ℕ) → n + 1 ≡ suc n
@@ -376,7 +376,7 @@ module _ (w : List ℕ) (p : Position) (frame : Frame) (ch : Choosing w p frame)
         ∙ ap (λ (y : Bool). chosen y (caseWord w last 1) (frame .left - 1) F R C) (seen-scheduled S H (p .visits) C seen (caseWord w last 1) ∙ e)
 
     fits : Fitting (frameOf frame ∷ []) (p .depth) (choosingNext (leftLess frame) (p .depth) (p .rows) (p .visits) Nothing)
-    fits = record { change = tt; handler = rw none-is tt; scope = rw none-is tt; deep = λ _. ch .closing .depth; next = omega arith }
+    fits = record { change = tt; handler = rw none-is tt; scope = rw none-is tt; deep = λ _. ch .closing .depth; next = omega arith; nested = refl }
 
     pub choice-visits : (block : ℕ) (plan : Plan) (buffer : List ℕ) → block ≡ caseWord w last 1 → or (has S block) (has H block) ≡ false
         → plan ≡ nesting block (leftLess frame) (p .depth) (p .rows) (p .visits) 65535 65535 Nothing → PlannedChoice w S H p frame buffer plan buffer
@@ -385,7 +385,7 @@ module _ (w : List ℕ) (p : Position) (frame : Frame) (ch : Choosing w p frame)
       held = λ _ before h. rw (append-nil before) h;
       same = λ F R C d seen. rw (append-nil R) (ap turn (case-chosen false F R C seen (ap (λ (k : ℕ). or (has S k) (has H k)) (sym u) ∙ e) ∙ ap (λ (k : ℕ). chosen false k (frame .left - 1) F R C) (sym u)) ∙ turn-ok _
           ∙ sym (nest-applied block (leftLess frame) (p .depth) (p .rows) (p .visits) 65535 65535 Nothing (frameOf frame ∷ F) R C ∙ rw (none-is, visits-same (p .visits) C (seen .visits), within-rest (p .depth) (frameOf frame) F d)));
-      fitting = λ _. record { change = tt; handler = rw none-is tt; scope = rw none-is tt; deep = λ _. ch .closing .depth; next = omega arith };
+      fitting = λ _. record { change = tt; handler = rw none-is tt; scope = rw none-is tt; deep = λ _. ch .closing .depth; next = omega arith; nested = tt };
     })
 
     abbrev refusal : (same : Bool) → List machine.Frame → List Row → definition.Context → Result State
@@ -464,13 +464,13 @@ module _ (w : List ℕ) (p : Position) (frame : Frame) where
 
   -- ---- a list has ended
 
-  ended-fits : Ready w p frame → p .stage ≡ Ended → 1 ≤ p .depth → FrameFits w 0 p frame
-  ended-fits ready e = subst (λ (s : Stage). StageFits w s p frame) e (ready .stage)
+  ended-fits : Ready w p frame → p .stage ≡ Ended → 1 ≤ p .depth → FrameFits w 0 (p .rows) frame
+  ended-fits ready e = let here : StageFits w Ended p frame = subst (λ (s : Stage). StageFits w s p frame) e (ready .stage) in here .1
 
   pub resuming : (after : Position) → Ready w p frame → p .stage ≡ Ended → 1 ≤ p .depth → after .depth ≡ p .depth → after .visits ≡ p .visits → after .rows ≡ p .rows + 1 → Resuming w after frame
   unfolding terminalOf
   resuming after ready e deep d v r =
-      let fits : FrameFits w 0 p frame = ended-fits ready e deep in
+      let fits : FrameFits w 0 (p .rows) frame = ended-fits ready e deep in
       let below : frame .block < blockCount w = rw (length-blocks w) at (fits .framed .block) in
       record {
         promise = ready .promise;
@@ -493,7 +493,7 @@ module _ (w : List ℕ) (p : Position) (frame : Frame) where
     out = blockRow (p .count) ∷ [];
     held = λ _ before h. rw (← (push-row-after (blockRow (p .count)) before)) (put .kept (stack.pushed before []) h);
     same = λ F R C. rw (e, z) (λ l o. root F R C l o);
-    fitting = λ _. rw (e, z) (record { change = tt; handler = rw none-is tt; scope = rw none-is tt; deep = λ y. absurd (let o : _≡_ {A = ℕ} 0 1 = cc in omega arith); next = omega arith });
+    fitting = λ _. rw (e, z) (record { change = tt; handler = rw none-is tt; scope = rw none-is tt; deep = λ y. absurd (let o : _≡_ {A = ℕ} 0 1 = cc in omega arith); next = omega arith; nested = tt });
   })
     where
       root : (F : List machine.Frame) (R : List Row) (C : definition.Context) → length F ≡ 0 → On C → step (tableOf w) (ended F R (p .count) C) ≡ applied (accepting rows (p .visits)) F (R ++ (blockRow (p .count) ∷ [])) C

@@ -34,7 +34,7 @@ use Rattle.build.specs.declared.plan.Change.the-variants.{Nothing, Sched
 use Rattle.build.specs.declared.plan.Plan.{Plan}
 use Rattle.build.specs.Plans.{frameOf, within, changed, handled, scoped, applied, openFrame, refusing, leaving, nesting, choosingNext, unlessTaken, entriesIf, scheduleIf, scheduleSwitch, scheduledWith, enclosing, withScope}
 use Rattle.build.specs.Planned.{Seen, NamedChange, Fitting, Planned, PlannedBare, Entered, terminalStep}
-use Rattle.build.proofs.PlanLaws.{within-all, visits-same, none-is, some-is, refuse-applied, leave-applied, nest-applied, choose-applied, Label, label-none, label-taken, label-most, label-entries, label-if, label-switch}
+use Rattle.build.proofs.PlanLaws.{within-all, visits-same, none-is, some-is, refuse-applied, leave-applied, leave-nested, nest-applied, choose-applied, Label, label-none, label-taken, label-most, label-entries, label-if, label-switch}
 use Rattle.build.proofs.StepLaws.{end-by, label-scheduled, label-missing, label-reached, enclose-same, turn-refused, turn-ok}
 
 -- ---- a planner with no row
@@ -92,7 +92,7 @@ named-if n l = at (eqb n 65535) (λ e. label-below n l e)
 
 enclosing-fits : (y : Bool) (p : Position) (n block code at : ℕ) → Label n → (code ≡ 0 → ⊥) → enclosing y p n block code at .code ≡ 0 → Fitting [] (p .depth) (enclosing y p n block code at)
 enclosing-fits true p n block code at l h e = absurd (h e)
-enclosing-fits false p n block code at l h e = record { change = named-if n l; handler = rw none-is tt; scope = rw none-is tt; deep = λ _. omega arith; next = omega arith }
+enclosing-fits false p n block code at l h e = record { change = named-if n l; handler = rw none-is tt; scope = rw none-is tt; deep = λ _. omega arith; next = omega arith; nested = tt }
 
 enclosing-rows : (y : Bool) (p : Position) (n block code at : ℕ) → enclosing y p n block code at .position .rows ≡ p .rows
 enclosing-rows true p n block code at = refl
@@ -236,7 +236,7 @@ module _ (w : List ℕ) (S H : Flags) (p : Position) (en : Entered w p) where
         → plan ≡ choosingNext (switchFrame n left) (p .depth + 1) (p .rows) (p .visits) (scheduleSwitch (eqb n 65535) n) → PlannedBare w S H p plan
     switch-begins f n left plan s z r t e = subst (λ (y : Plan). PlannedBare w S H p y) (sym (e ∙ ap plan-of t))
         (reached-same _ (blockWord w (p .block) 6) switch-rest f n (plan-of number) switch-at switch-asks (switch-ranges .2) s z r (λ _. refl)
-        (λ _. record { change = named (reached-label (blockWord w (p .block) 6) f n (switch-ranges .2) s r); handler = rw none-is tt; scope = rw none-is tt; deep = λ _. omega arith; next = omega arith }) same)
+        (λ _. record { change = named (reached-label (blockWord w (p .block) 6) f n (switch-ranges .2) s r); handler = rw none-is tt; scope = rw none-is tt; deep = λ _. omega arith; next = omega arith; nested = refl }) same)
       where
         number : ℕ
         number = blockWord w (p .block) 5
@@ -289,6 +289,7 @@ module _ (w : List ℕ) (S H : Flags) (p : Position) (en : Entered w p) where
           scope = rw none-is tt;
           deep = λ _. omega arith;
           next = omega arith;
+          nested = tt;
         }) same)
       where
         caught : (g : Option ℕ) (C : definition.Context) → scheduleCatchHandler (blockWord w (p .block) 4) (scheduledIf g C) ≡ scheduledIf g (scheduleCatchHandler (blockWord w (p .block) 4) C)
@@ -312,7 +313,7 @@ module _ (w : List ℕ) (S H : Flags) (p : Position) (en : Entered w p) where
       ap turn (step-by w p _ F R C (end-by w (p .block) (en .block) 18 code)) ∙ turn-ok _
       ∙ ap (λ (z : Option ℕ). going (leave z F R (p .count) C)) (label-scheduled w (en .promise) S H (p .visits) C seen (blockWord w (p .block) 3) (few-blocks w (en .promise) _ below) ∙ ap unlessNone (sym (q ∙ ap (λ (k : ℕ). unlessTaken (or (has S k) (has H k)) k) s)))
       ∙ sym (leave-applied n (p .depth) (p .count) (p .rows) (p .visits) Nothing F R C ∙ rw (visits-same (p .visits) C (seen .visits), within-all (p .depth) F d)))
-      (λ _. record { change = tt; handler = rw none-is tt; scope = rw none-is tt; deep = λ z. absurd (let o : _≡_ {A = ℕ} 0 1 = cc in omega arith); next = omega arith }))
+      (λ _. record { change = tt; handler = rw none-is tt; scope = rw none-is tt; deep = λ z. absurd (let o : _≡_ {A = ℕ} 0 1 = cc in omega arith); next = omega arith; nested = leave-nested (eqb n 65535) }))
     where
       below : blockWord w (p .block) 3 < blockCount w
       below = ranges w (en .promise) (p .block) (en .block) _ (end-by w (p .block) (en .block) 18 code)
@@ -322,7 +323,7 @@ module _ (w : List ℕ) (S H : Flags) (p : Position) (en : Entered w p) where
   unreachable-left plan code e = subst (λ (y : Plan). PlannedBare w S H p y) (sym e) (bare-planned w S H p (leaving 65535 (p .depth) (p .count) (p .rows) (p .visits) Nothing) (λ _. refl) (λ F R C d seen.
       ap turn (step-by w p _ F R C (end-by w (p .block) (en .block) 1 code)) ∙ turn-ok _
       ∙ sym (leave-applied 65535 (p .depth) (p .count) (p .rows) (p .visits) Nothing F R C ∙ rw (none-is, visits-same (p .visits) C (seen .visits), within-all (p .depth) F d)))
-      (λ _. record { change = tt; handler = rw none-is tt; scope = rw none-is tt; deep = λ z. absurd (let o : _≡_ {A = ℕ} 0 1 = cc in omega arith); next = omega arith }))
+      (λ _. record { change = tt; handler = rw none-is tt; scope = rw none-is tt; deep = λ z. absurd (let o : _≡_ {A = ℕ} 0 1 = cc in omega arith); next = omega arith; nested = tt }))
 
 pub continuation-below : (w : List ℕ) (p : Position) → Entered w p → blockWord w (p .block) 2 ≡ 18 → blockWord w (p .block) 3 < blockCount w
 unfolding terminalOf

@@ -78,16 +78,16 @@ inHand Pop (suc depth) frame = frameOf frame ∷ []
 inHand Halt depth frame = []
 
 -- numbers of the frame in hand
-pub record FrameFits (words : List ℕ) (chosen : ℕ) (p : Position) (frame : Frame) : Type 0 where
+pub record FrameFits (words : List ℕ) (chosen rows : ℕ) (frame : Frame) : Type 0 where
   pub framed : Framed (tableOf words) chosen (frameOf frame)
   pub built : frame .built ≤ 1024
-  pub count : frame .count ≤ p .rows
+  pub count : frame .count ≤ rows
 
 abbrev pub StageFits : List ℕ → Stage → Position → Frame → Type 0
-StageFits words Visit p frame = p .block < blockCount words
-StageFits words Ended p frame = 1 ≤ p .depth → FrameFits words 0 p frame
-StageFits words Choose p frame = (1 ≤ p .depth) × (isSwitch (terminalAt (tableOf words) (frame .block)) ≡ true) × FrameFits words 1 p frame
-StageFits words Pop p frame = (1 ≤ p .depth) × FrameFits words 1 p frame
+StageFits words Visit p frame = (p .block < blockCount words) × (p .count ≤ p .rows)
+StageFits words Ended p frame = (p .count ≤ p .rows) × (1 ≤ p .depth → FrameFits words 0 (p .rows) frame)
+StageFits words Choose p frame = (1 ≤ p .depth) × (isSwitch (terminalAt (tableOf words) (frame .block)) ≡ true) × FrameFits words 1 (p .rows) frame
+StageFits words Pop p frame = (1 ≤ p .depth) × FrameFits words 1 (p .rows) frame
 StageFits words Halt p frame = ⊥
 
 pub record Ready (words : List ℕ) (p : Position) (frame : Frame) : Type 0 where
@@ -95,7 +95,6 @@ pub record Ready (words : List ℕ) (p : Position) (frame : Frame) : Type 0 wher
   pub depth : p .depth ≤ 128
   pub visits : p .visits ≤ 8192
   pub rows : p .rows ≤ 67239936
-  pub count : p .count ≤ p .rows
   pub stage : StageFits words (p .stage) p frame
 
 -- ---- what it gives back

@@ -19,6 +19,8 @@ use Rattle.definition.proofs.Invariant.{Below}
 use Rattle.control.specs.Contract.{Named}
 use Rattle.rows.specs.Rows.{Holds}
 use Rattle.rows.specs.Stack.{pushed}
+use Rattle.build.specs.declared.plan.Stage.{Stage}
+use Rattle.build.specs.declared.plan.Stage.the-variants.{Visit, Ended, Choose, Pop, Halt}
 use Rattle.build.specs.declared.plan.Position.{Position}
 use Rattle.build.specs.declared.plan.Change.{Change}
 use Rattle.build.specs.declared.plan.Change.the-variants.{Nothing, Schedule, ScheduleLoop, TakeId, Unschedule}
@@ -49,6 +51,14 @@ abbrev pub deepest : (keep : Bool) → ℕ → ℕ
 deepest true depth = suc depth
 deepest false depth = depth
 
+-- a Switch that takes its next case, and a statement whose entries come off, are kept
+abbrev pub Nested : Stage → (keep : Bool) → Type 0
+Nested Visit keep = Unit {0}
+Nested Ended keep = Unit {0}
+Nested Choose keep = keep ≡ true
+Nested Pop keep = keep ≡ true
+Nested Halt keep = Unit {0}
+
 -- what the driver needs to apply a plan. `top` is the frame in hand, if any
 pub record Fitting (top : List machine.Frame) (depth : ℕ) (plan : Plan) : Type 0 where
   pub change : NamedChange (entriesOnTop top) (plan .change)
@@ -56,6 +66,7 @@ pub record Fitting (top : List machine.Frame) (depth : ℕ) (plan : Plan) : Type
   pub scope : Below 1024 (unlessNone (plan .scope))
   pub deep : plan .keep ≡ true → 1 ≤ plan .position .depth
   pub next : plan .position .depth ≤ deepest (plan .keep) depth
+  pub nested : Nested (plan .position .stage) (plan .keep)
 
 -- `top` and then the frames are `depth` in all; `On` says what is known of the Context
 pub record Planned (step : List machine.Frame → List Row → definition.Context → Result State) (On : definition.Context → Type 0) (top : List machine.Frame) (depth rows : ℕ) (buffer : List ℕ) (plan : Plan) (buffer′ : List ℕ) : Type 0 where
