@@ -7,3 +7,5 @@ pub mod DriverLaws
 pub mod CheckedLaws
 pub mod EntryLaws
 pub mod Demand3
+pub mod CloseLaws
+pub mod ResumeLaws

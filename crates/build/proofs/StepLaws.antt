@@ -127,11 +127,11 @@ pub turn-ok : (s : State) → turn (ok s) ≡ going s
 unfolding turn
 turn-ok s = refl
 
-into-busy : (block code at : ℕ) (fr : machine.Frame) (F : List machine.Frame) (R : List Row) (C : definition.Context) → isScheduled C block ≡ true → into block code at fr F R C ≡ refused code at (C .visits)
+pub into-busy : (block code at : ℕ) (fr : machine.Frame) (F : List machine.Frame) (R : List Row) (C : definition.Context) → isScheduled C block ≡ true → into block code at fr F R C ≡ refused code at (C .visits)
 unfolding into refuseIf _>>=_
 into-busy block code at fr F R C e = rw e
 
-into-free : (block code at : ℕ) (fr : machine.Frame) (F : List machine.Frame) (R : List Row) (C : definition.Context) → isScheduled C block ≡ false → into block code at fr F R C ≡ ok (visiting block (fr ∷ F) R 0 C)
+pub into-free : (block code at : ℕ) (fr : machine.Frame) (F : List machine.Frame) (R : List Row) (C : definition.Context) → isScheduled C block ≡ false → into block code at fr F R C ≡ ok (visiting block (fr ∷ F) R 0 C)
 unfolding into refuseIf _>>=_
 into-free block code at fr F R C e = rw e
 

@@ -2,3 +2,4 @@ pub mod Plans
 pub mod Planned
 pub mod Driver
 pub mod Entry
+pub mod Resume

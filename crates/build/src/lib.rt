@@ -12,6 +12,8 @@ ghost use Rattle.build.specs.Entry.{outcome};
 
 mod plan;
 mod fallthrough;
+mod nested;
+mod resume;
 mod search;
 mod turn;
 mod apply;
