@@ -72,25 +72,27 @@ reach-same w S H p pr f n h u e q k C seen = ap (λ (z : Result (Option ℕ)). t
 
 -- ---- ranges
 
-few-blocks : (w : List ℕ) → Promise w → (b : ℕ) → b < blockCount w → b < 1024
+pub few-blocks : (w : List ℕ) → Promise w → (b : ℕ) → b < blockCount w → b < 1024
 few-blocks w pr b h = omega (arith, pr .sized .limited .blocks)
 
 ranges : (w : List ℕ) → Promise w → (b : ℕ) → b < blockCount w → (e : Terminal) → terminalAt (tableOf w) b ≡ e → InRange (blockCount w) (placeCount w) (caseCount w) e
 ranges w pr b h e q = subst (λ (z : Terminal). InRange (blockCount w) (placeCount w) (caseCount w) z) q (in-range w pr b h)
 
+label-below : (n : ℕ) → Label n → eqb n 65535 ≡ false → n < 1024
+unfolding Label
+label-below n (inl q) e = absurd (let z : _≡_ {A = Bool} true false = sym (eq-eqb n 65535 q) ∙ e in let o : _≡_ {A = ℕ} 0 1 = cc in omega arith)
+label-below n (inr h) e = h
+
+named-if : (n : ℕ) → Label n → NamedChange 0 (scheduleIf (eqb n 65535) n)
+named-if n l = at (eqb n 65535) (λ e. label-below n l e)
+  where
+    at : (y : Bool) → (y ≡ false → n < 1024) → NamedChange 0 (scheduleIf y n)
+    at true h = tt
+    at false h = h refl
+
 enclosing-fits : (y : Bool) (p : Position) (n block code at : ℕ) → Label n → (code ≡ 0 → ⊥) → enclosing y p n block code at .code ≡ 0 → Fitting [] (p .depth) (enclosing y p n block code at)
 enclosing-fits true p n block code at l h e = absurd (h e)
-enclosing-fits false p n block code at l h e = record { change = named l; handler = rw none-is tt; scope = rw none-is tt; deep = λ _. omega arith; next = omega arith }
-  where
-    at-if : (y : Bool) → eqb n 65535 ≡ y → (y ≡ false → n < 1024) → NamedChange 0 (scheduleIf y n)
-    at-if true e h = tt
-    at-if false e h = h refl
-
-    named : Label n → NamedChange 0 (scheduleIf (eqb n 65535) n)
-    named l = at-if (eqb n 65535) refl (λ e. below l e)
-      where
-        below : Label n → eqb n 65535 ≡ false → n < 1024
-        below l e = unfold Label in elim l [ inl q ↦ absurd (let z : _≡_ {A = Bool} true false = sym (eq-eqb n 65535 q) ∙ e in let o : _≡_ {A = ℕ} 0 1 = cc in omega arith) | inr h ↦ h ]
+enclosing-fits false p n block code at l h e = record { change = named-if n l; handler = rw none-is tt; scope = rw none-is tt; deep = λ _. omega arith; next = omega arith }
 
 enclosing-rows : (y : Bool) (p : Position) (n block code at : ℕ) → enclosing y p n block code at .position .rows ≡ p .rows
 enclosing-rows true p n block code at = refl
@@ -120,7 +122,7 @@ module _ (w : List ℕ) (S H : Flags) (p : Position) (en : Entered w p) where
   abbrev Reached : ℕ → ℕ → Type 0
   Reached f n = n ≡ unlessTaken (or (eqb (blockWord w f 2) 1) (or (has S f) (has H f))) f
 
-  reached-label : (g f n : ℕ) → g < blockCount w → f ≡ g → Reached f n → Label n
+  pub reached-label : (g f n : ℕ) → g < blockCount w → f ≡ g → Reached f n → Label n
   reached-label g f n h s q = rw q (label-taken (or (eqb (blockWord w f 2) 1) (or (has S f) (has H f))) f (rw s (few-blocks w (en .promise) g h)))
 
   reached-same : (e : Terminal) (g : ℕ) (k : Rest) (f n : ℕ) (plan : Plan) → At e → Asks e g k → g < blockCount w → f ≡ g → (blockWord w f 2 ≡ 0 → ⊥) → Reached f n
@@ -160,7 +162,7 @@ module _ (w : List ℕ) (S H : Flags) (p : Position) (en : Entered w p) where
     unfolding terminalOf
     if-at = end-by w (p .block) (en .block) 5 code
 
-    if-ranges : InRange (blockCount w) (placeCount w) (caseCount w) (if (blockWord w (p .block) 3) (blockWord w (p .block) 4) (blockWord w (p .block) 5) (blockWord w (p .block) 6))
+    pub if-ranges : InRange (blockCount w) (placeCount w) (caseCount w) (if (blockWord w (p .block) 3) (blockWord w (p .block) 4) (blockWord w (p .block) 5) (blockWord w (p .block) 6))
     if-ranges = ranges w (en .promise) (p .block) (en .block) _ if-at
 
     if-asks : Asks (if (blockWord w (p .block) 3) (blockWord w (p .block) 4) (blockWord w (p .block) 5) (blockWord w (p .block) 6)) (blockWord w (p .block) 6)
@@ -183,7 +185,7 @@ module _ (w : List ℕ) (S H : Flags) (p : Position) (en : Entered w p) where
     unfolding terminalOf
     label-at = end-by w (p .block) (en .block) 16 code
 
-    label-ranges : InRange (blockCount w) (placeCount w) (caseCount w) (label (blockWord w (p .block) 3) (blockWord w (p .block) 4))
+    pub label-ranges : InRange (blockCount w) (placeCount w) (caseCount w) (label (blockWord w (p .block) 3) (blockWord w (p .block) 4))
     label-ranges = ranges w (en .promise) (p .block) (en .block) _ label-at
 
     label-asks : Asks (label (blockWord w (p .block) 3) (blockWord w (p .block) 4)) (blockWord w (p .block) 4) (λ F R C taken. into (blockWord w (p .block) 3) 17 (p .block) (here F R C taken) F R (scheduledIf taken C))
@@ -197,3 +199,131 @@ module _ (w : List ℕ) (S H : Flags) (p : Position) (en : Entered w p) where
         → plan ≡ enclosing (scheduledWith (or (has S y) (has H y)) n y) p n y 17 (p .block) → PlannedBare w S H p plan
     label-nested f n y plan s z r t e = reached-enclosed _ (blockWord w (p .block) 4) (blockWord w (p .block) 3) 17 (p .block) f n y plan label-at label-asks (label-ranges .1) (label-ranges .0) (λ x. omega arith) s z r t
         (e ∙ ap (λ (k : ℕ). enclosing (scheduledWith (or (has S y) (has H y)) n y) p n k 17 (p .block)) t)
+
+  -- ---- Switch
+
+  number-is : (first number : ℕ) → first + number ≤ caseCount w → numberOfCases (tableOf w) first number ≡ number
+  unfolding numberOfCases casesLastFirst
+  number-is first number h = length-reverse (take number (drop first (tableOf w .cases))) ∙ whole number (drop first (tableOf w .cases)) (omega (arith, length-drop first (tableOf w .cases), length-cases w))
+    where
+      whole : (n : ℕ) (l : List Case) → n ≤ length l → length (take n l) ≡ n
+      whole zero l k = refl
+      whole (suc n) [] k = absurd (omega arith)
+      whole (suc n) (x ∷ l) k = ap suc (whole n l (omega arith))
+
+  abbrev switchFrame : (n left : ℕ) → Frame
+  switchFrame n left = record { block = p .block; label = n; entries = entriesIf (eqb n 65535); left = left; built = 0; count = p .count; second = false }
+
+  module _ (code : blockWord w (p .block) 2 ≡ 7) where
+    switch-at : At (switch (blockWord w (p .block) 3) (blockWord w (p .block) 4) (blockWord w (p .block) 5) (blockWord w (p .block) 6))
+    unfolding terminalOf
+    switch-at = end-by w (p .block) (en .block) 7 code
+
+    pub switch-ranges : InRange (blockCount w) (placeCount w) (caseCount w) (switch (blockWord w (p .block) 3) (blockWord w (p .block) 4) (blockWord w (p .block) 5) (blockWord w (p .block) 6))
+    switch-ranges = ranges w (en .promise) (p .block) (en .block) _ switch-at
+
+    abbrev switch-rest : Rest
+    switch-rest F R C taken = ok (choosing (withLeft (numberOfCases (tableOf w) (blockWord w (p .block) 4) (blockWord w (p .block) 5)) (here F R C taken)) F R (scheduledSwitch taken C))
+
+    switch-asks : Asks (switch (blockWord w (p .block) 3) (blockWord w (p .block) 4) (blockWord w (p .block) 5) (blockWord w (p .block) 6)) (blockWord w (p .block) 6) switch-rest
+    unfolding terminalTurn
+    switch-asks F R C = refl
+
+    pub switch-missing : (f : ℕ) (plan : Plan) → f ≡ blockWord w (p .block) 6 → blockWord w f 2 ≡ 0 → plan ≡ refusing p 10 f → PlannedBare w S H p plan
+    switch-missing f plan s z r = reached-missing _ (blockWord w (p .block) 6) switch-rest f plan switch-at switch-asks (switch-ranges .2) s z r
+
+    pub switch-begins : (f n left : ℕ) (plan : Plan) → f ≡ blockWord w (p .block) 6 → (blockWord w f 2 ≡ 0 → ⊥) → Reached f n → left ≡ blockWord w (p .block) 5
+        → plan ≡ choosingNext (switchFrame n left) (p .depth + 1) (p .rows) (p .visits) (scheduleSwitch (eqb n 65535) n) → PlannedBare w S H p plan
+    switch-begins f n left plan s z r t e = subst (λ (y : Plan). PlannedBare w S H p y) (sym (e ∙ ap plan-of t))
+        (reached-same _ (blockWord w (p .block) 6) switch-rest f n (plan-of number) switch-at switch-asks (switch-ranges .2) s z r (λ _. refl)
+        (λ _. record { change = named (reached-label (blockWord w (p .block) 6) f n (switch-ranges .2) s r); handler = rw none-is tt; scope = rw none-is tt; deep = λ _. omega arith; next = omega arith }) same)
+      where
+        number : ℕ
+        number = blockWord w (p .block) 5
+
+        plan-of : ℕ → Plan
+        plan-of k = choosingNext (switchFrame n k) (p .depth + 1) (p .rows) (p .visits) (scheduleSwitch (eqb n 65535) n)
+
+        at-switch : (y : Bool) → (y ≡ false → n < 1024) → NamedChange 0 (scheduleSwitch y n)
+        at-switch true h = tt
+        at-switch false h = h refl
+
+        named : Label n → NamedChange 0 (scheduleSwitch (eqb n 65535) n)
+        named l = at-switch (eqb n 65535) (λ e. label-below n l e)
+
+        same : (F : List machine.Frame) (R : List Row) (C : definition.Context) → length F ≡ p .depth → Seen S H (p .visits) C → turn (switch-rest F R C (unlessNone n)) ≡ applied (plan-of number) F R C
+        same F R C d seen = turn-ok _ ∙ rw (number-is (blockWord w (p .block) 4) number (switch-ranges .1))
+            (sym (choose-applied (switchFrame n number) (p .depth + 1) (p .rows) (p .visits) (scheduleSwitch (eqb n 65535) n) F R C
+            ∙ rw (visits-same (p .visits) C (seen .visits), label-switch n C, label-entries n, within-all (p .depth + 1 - 1) F (omega (arith, d)))))
+
+  -- ---- Try
+
+  module _ (code : blockWord w (p .block) 2 ≡ 19) where
+    try-at : At (try (blockWord w (p .block) 3) (blockWord w (p .block) 4) (blockWord w (p .block) 5) (unlessNone (blockWord w (p .block) 6)))
+    unfolding terminalOf
+    try-at = end-by w (p .block) (en .block) 19 code
+
+    pub try-ranges : InRange (blockCount w) (placeCount w) (caseCount w) (try (blockWord w (p .block) 3) (blockWord w (p .block) 4) (blockWord w (p .block) 5) (unlessNone (blockWord w (p .block) 6)))
+    try-ranges = ranges w (en .promise) (p .block) (en .block) _ try-at
+
+    abbrev try-rest : Rest
+    try-rest F R C taken = ok (visiting (blockWord w (p .block) 3) (here F R C taken ∷ F) R 0 (scheduleCatchHandler (blockWord w (p .block) 4) (scheduledIf taken C)))
+
+    try-asks : Asks (try (blockWord w (p .block) 3) (blockWord w (p .block) 4) (blockWord w (p .block) 5) (unlessNone (blockWord w (p .block) 6))) (blockWord w (p .block) 5) try-rest
+    unfolding terminalTurn
+    try-asks F R C = refl
+
+    pub try-missing : (f : ℕ) (plan : Plan) → f ≡ blockWord w (p .block) 5 → blockWord w f 2 ≡ 0 → plan ≡ refusing p 10 f → PlannedBare w S H p plan
+    try-missing f plan s z r = reached-missing _ (blockWord w (p .block) 5) try-rest f plan try-at try-asks (try-ranges .2) s z r
+
+    abbrev tryPlan : (n body handler : ℕ) → Plan
+    tryPlan n body handler = nesting body (openFrame p n (entriesIf (eqb n 65535))) (p .depth + 1) (p .rows) (p .visits) handler 65535 (scheduleIf (eqb n 65535) n)
+
+    pub try-nested : (f n body handler : ℕ) (plan : Plan) → f ≡ blockWord w (p .block) 5 → (blockWord w f 2 ≡ 0 → ⊥) → Reached f n → body ≡ blockWord w (p .block) 3 → handler ≡ blockWord w (p .block) 4
+        → plan ≡ tryPlan n body handler → PlannedBare w S H p plan
+    try-nested f n body handler plan s z r t u e = subst (λ (y : Plan). PlannedBare w S H p y) (sym (e ∙ ap (λ (k : ℕ). tryPlan n k handler) t ∙ ap (λ (k : ℕ). tryPlan n (blockWord w (p .block) 3) k) u))
+        (reached-same _ (blockWord w (p .block) 5) try-rest f n (tryPlan n (blockWord w (p .block) 3) (blockWord w (p .block) 4)) try-at try-asks (try-ranges .2) s z r (λ _. refl)
+        (λ _. record {
+          change = named-if n (reached-label (blockWord w (p .block) 5) f n (try-ranges .2) s r);
+          handler = rw (some-is (blockWord w (p .block) 4) (λ y. omega (arith, few-blocks w (en .promise) _ (try-ranges .1)))) (few-blocks w (en .promise) _ (try-ranges .1));
+          scope = rw none-is tt;
+          deep = λ _. omega arith;
+          next = omega arith;
+        }) same)
+      where
+        caught : (g : Option ℕ) (C : definition.Context) → scheduleCatchHandler (blockWord w (p .block) 4) (scheduledIf g C) ≡ scheduledIf g (scheduleCatchHandler (blockWord w (p .block) 4) C)
+        caught none C = refl
+        caught (some x) C = unfold scheduled pushed scheduleCatchHandler in refl
+
+        same : (F : List machine.Frame) (R : List Row) (C : definition.Context) → length F ≡ p .depth → Seen S H (p .visits) C
+            → turn (try-rest F R C (unlessNone n)) ≡ applied (tryPlan n (blockWord w (p .block) 3) (blockWord w (p .block) 4)) F R C
+        same F R C d seen = turn-ok _ ∙ sym (nest-applied (blockWord w (p .block) 3) (openFrame p n (entriesIf (eqb n 65535))) (p .depth + 1) (p .rows) (p .visits) (blockWord w (p .block) 4) 65535 (scheduleIf (eqb n 65535) n) F R C
+            ∙ rw (none-is, some-is (blockWord w (p .block) 4) (λ y. omega (arith, few-blocks w (en .promise) _ (try-ranges .1))), visits-same (p .visits) C (seen .visits), label-entries n, within-all (p .depth + 1 - 1) F (omega (arith, d)))
+            (ap (λ (D : definition.Context). going (visiting (blockWord w (p .block) 3) (here F R C (unlessNone n) ∷ F) R 0 D)) (label-if n (scheduleCatchHandler (blockWord w (p .block) 4) C) ∙ sym (caught (unlessNone n) C))))
+
+  -- ---- MaybeThrow and Unreachable
+
+  abbrev Taken : ℕ → ℕ → Type 0
+  Taken f n = n ≡ unlessTaken (or (has S f) (has H f)) f
+
+  pub maybe-throw-left : (f n : ℕ) (plan : Plan) → blockWord w (p .block) 2 ≡ 18 → f ≡ blockWord w (p .block) 3 → Taken f n → plan ≡ leaving n (p .depth) (p .count) (p .rows) (p .visits) Nothing → PlannedBare w S H p plan
+  unfolding terminalTurn terminalOf
+  maybe-throw-left f n plan code s q e = subst (λ (y : Plan). PlannedBare w S H p y) (sym e) (bare-planned w S H p (leaving n (p .depth) (p .count) (p .rows) (p .visits) Nothing) (λ _. refl) (λ F R C d seen.
+      ap turn (step-by w p _ F R C (end-by w (p .block) (en .block) 18 code)) ∙ turn-ok _
+      ∙ ap (λ (z : Option ℕ). going (leave z F R (p .count) C)) (label-scheduled w (en .promise) S H (p .visits) C seen (blockWord w (p .block) 3) (few-blocks w (en .promise) _ below) ∙ ap unlessNone (sym (q ∙ ap (λ (k : ℕ). unlessTaken (or (has S k) (has H k)) k) s)))
+      ∙ sym (leave-applied n (p .depth) (p .count) (p .rows) (p .visits) Nothing F R C ∙ rw (visits-same (p .visits) C (seen .visits), within-all (p .depth) F d)))
+      (λ _. record { change = tt; handler = rw none-is tt; scope = rw none-is tt; deep = λ z. absurd (let o : _≡_ {A = ℕ} 0 1 = cc in omega arith); next = omega arith }))
+    where
+      below : blockWord w (p .block) 3 < blockCount w
+      below = ranges w (en .promise) (p .block) (en .block) _ (end-by w (p .block) (en .block) 18 code)
+
+  pub unreachable-left : (plan : Plan) → blockWord w (p .block) 2 ≡ 1 → plan ≡ leaving 65535 (p .depth) (p .count) (p .rows) (p .visits) Nothing → PlannedBare w S H p plan
+  unfolding terminalTurn terminalOf
+  unreachable-left plan code e = subst (λ (y : Plan). PlannedBare w S H p y) (sym e) (bare-planned w S H p (leaving 65535 (p .depth) (p .count) (p .rows) (p .visits) Nothing) (λ _. refl) (λ F R C d seen.
+      ap turn (step-by w p _ F R C (end-by w (p .block) (en .block) 1 code)) ∙ turn-ok _
+      ∙ sym (leave-applied 65535 (p .depth) (p .count) (p .rows) (p .visits) Nothing F R C ∙ rw (none-is, visits-same (p .visits) C (seen .visits), within-all (p .depth) F d)))
+      (λ _. record { change = tt; handler = rw none-is tt; scope = rw none-is tt; deep = λ z. absurd (let o : _≡_ {A = ℕ} 0 1 = cc in omega arith); next = omega arith }))
+
+pub continuation-below : (w : List ℕ) (p : Position) → Entered w p → blockWord w (p .block) 2 ≡ 18 → blockWord w (p .block) 3 < blockCount w
+unfolding terminalOf
+continuation-below w p en code = ranges w (en .promise) (p .block) (en .block) _ (end-by w (p .block) (en .block) 18 code)
