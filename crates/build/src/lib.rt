@@ -2,3 +2,4 @@
 mod plan;
 mod fallthrough;
 mod nested;
+mod loops;
