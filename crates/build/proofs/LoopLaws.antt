@@ -1,5 +1,6 @@
 -- Loops and value statements: values made one after another, the turn that all loops share, and what their plans come to.
 use Prim.Native.Nat.{ℕ, zero, suc, _+_, _-_, _*_, _≤_, _<_}
+use native.Mathlib.Numerals.{add-one}
 use native.Mathlib.Omega.{arith}
 use mathlib.Core.Path.{_≡_, refl, sym, ap, _∙_, subst}
 use mathlib.Core.Bool.{Bool, true, false}
@@ -40,11 +41,11 @@ use Rattle.build.specs.declared.plan.Plan.{Plan}
 use Rattle.build.specs.declared.loops.Values.{Values}
 use Rattle.build.specs.declared.loops.Loop.{Loop}
 use Rattle.build.specs.Plans.{frameOf, within, changed, applied, openFrame, refusing, leaving, nesting, scheduledLoop, idTaken, unlessTaken}
-use Rattle.build.specs.Planned.{Seen, Fitting, Planned, PlannedBare, Entered, terminalStep}
-use Rattle.build.specs.Loops.{PlannedRows, Made, noneMade, valueMade, plainForm, flatForm, updateMade, forMade, forOfMade, noValues, valuesOf, madeIf, Makes, Spent, MakesMore, loopTurn, afterValues, enteringBody, enteringLoop, loopTaken, continuesAt, valueFallthrough, takeIdIf}
+use Rattle.build.specs.Planned.{Seen, NamedChange, Fitting, Planned, PlannedBare, Entered, terminalStep}
+use Rattle.build.specs.Loops.{PlannedRows, Made, noneMade, valueMade, plainForm, flatForm, updateMade, testedMade, forMade, forOfMade, noValues, valuesOf, madeIf, Makes, Spent, MakesMore, loopTurn, afterValues, enteringBody, enteringLoop, loopTaken, continuesAt, valueFallthrough, takeIdIf}
 use Rattle.build.proofs.PlanLaws.{within-all, visits-same, none-is, some-is, refuse-applied, leave-applied, nest-applied, Label, label-taken, label-most}
 use Rattle.build.proofs.StepLaws.{end-by, span-at, label-scheduled, label-missing, label-reached, seen-scheduled, turn-refused, turn-ok}
-use Rattle.build.proofs.VisitLaws.{bare-planned, step-by, few-blocks, reach-same, reached-missing}
+use Rattle.build.proofs.VisitLaws.{bare-planned, step-by, few-blocks, ranges, reach-same, reached-missing}
 
 no-some : {f : ℕ} → _≡_ {A = Option ℕ} none (some f) → ⊥
 no-some q = let o : _≡_ {A = ℕ} 0 1 = cc in omega arith
@@ -80,23 +81,52 @@ module _ {p : Position} {o : Result Made} {b₀ b : List ℕ} {before : Values} 
   still-refused k b′ f = record { out = []; same = made-off k f ∙ rw (ne-eqb (before .code) 0 f); held = λ e. absurd (f e) }
 
   module _ {w : List ℕ} {x : Tally} {n : ℕ} {r : ValueResult} {b₁ : List ℕ} (visit : VisitValueBlock) (form : ValueBlockResult → Value) (block span : ℕ)
-      (e : before .code ≡ 0) (v : Met w blockResult (visit block none span (before .visits)) x n b r b₁) where
+      (e : before .code ≡ 0) (v : Met w blockResult (visit block (unlessNone 65535) span (before .visits)) x n b r b₁) where
 
     -- one value more was refused
     pub value-refused : (b′ : List ℕ) → (r .code ≡ 0 → ⊥) → Makes p (o >>= valueMade visit form block span) b₀ (valuesOf r) b′
     unfolding valueMade
-    value-refused b′ f = record { out = []; same = made-on (valueMade visit form block span) e ∙ then-off _ v f ∙ rw (ne-eqb (r .code) 0 f); held = λ g. absurd (f g) }
+    value-refused b′ f = record { out = []; same = made-on (valueMade visit form block span) e ∙ rw (← none-is) (then-off _ v f ∙ rw (ne-eqb (r .code) 0 f)); held = λ g. absurd (f g) }
 
     -- one value more was found, and the buffer holds it in its form
-    pub value-found : (rows : ℕ) (b′ : List ℕ) → r .code ≡ 0
-        → ((below : List Row) → Holds b (before .rows) below → Holds b′ rows (pushValue (form (blockResult r (v .value))) below))
-        → Makes p (o >>= valueMade visit form block span) b₀ (record { code = 0; at = 0; rows = rows; visits = r .tally .visits }) b′
+    pub value-found : (values : Values) (b′ : List ℕ) → r .code ≡ 0 → values .code ≡ 0 → values .visits ≡ r .tally .visits
+        → ((below : List Row) → Holds b (before .rows) below → Holds b′ (values .rows) (pushValue (form (blockResult r (v .value))) below)) → Makes p (o >>= valueMade visit form block span) b₀ values b′
     unfolding valueMade
-    value-found rows b′ f held = record {
+    value-found values b′ f z t held = record {
       out = m .out ++ valueOut (form (blockResult r (v .value)));
-      same = made-on (valueMade visit form block span) e ∙ then-on _ v f;
+      same = made-on (valueMade visit form block span) e ∙ rw (← none-is) (then-on _ v f ∙ rw (eq-eqb (values .code) 0 z, t));
       held = λ _ R h. rw (← (append-assoc R (m .out) (valueOut (form (blockResult r (v .value))))), ← (push-value-after (form (blockResult r (v .value))) (R ++ m .out))) (held _ (m .held e R h));
     }
+
+-- what `plain_value` and `flat_value` answer
+module _ {p : Position} {b : List ℕ} (before : Values) where
+  pub more-refused : (step : Made → Result Made) → (before .code ≡ 0 → ⊥) → Spent (noValues p) 6 before → MakesMore p step before b before b
+  more-refused step f s = record { made = λ o first m. still-refused m step b f; spent = record { visits = s .visits; paid = omega arith } }
+
+  module _ {w : List ℕ} {r : ValueResult} {b₁ : List ℕ} (visit : VisitValueBlock) (form : ValueBlockResult → Value) (block span : ℕ)
+      (e : before .code ≡ 0) (v : Met w blockResult (visit block (unlessNone 65535) span (before .visits)) (record { rows = before .rows; visits = before .visits }) 0 b r b₁) where
+    value-more-refused : (r .code ≡ 0 → ⊥) → MakesMore p (valueMade visit form block span) before b (valuesOf r) b₁
+    value-more-refused f = record { made = λ o first m. value-refused m visit form block span e v b₁ f; spent = record { visits = v .numbers .visits; paid = omega (arith, v .numbers .paid) } }
+
+    pub value-more : (values : Values) → values ≡ valuesOf r → (r .code ≡ 0 → ⊥) → MakesMore p (valueMade visit form block span) before b values b₁
+    value-more values q f = rw q (value-more-refused f)
+
+    pub flat-more : (values : Values) (b′ : List ℕ) → r .code ≡ 0 → values .code ≡ 0 → values .visits ≡ r .tally .visits → values .rows ≤ r .tally .rows + 3
+        → ((below : List Row) → Holds b₁ (r .tally .rows) (pushValue (v .value) below) → Holds b′ (values .rows) (pushValue (form (blockResult r (v .value))) below))
+        → MakesMore p (valueMade visit form block span) before b values b′
+    flat-more values b′ f z t most flat = record {
+      made = λ o first m. value-found m visit form block span e v values b′ f z t (λ below h. flat below (v .found f .held below h));
+      spent = record { visits = rw t (v .numbers .visits); paid = omega (arith, v .numbers .paid, t, most) };
+    }
+
+  pub plain-more : {w : List ℕ} {r : ValueResult} {b₁ : List ℕ} (visit : VisitValueBlock) (block span : ℕ) → before .code ≡ 0
+      → Met w blockResult (visit block (unlessNone 65535) span (before .visits)) (record { rows = before .rows; visits = before .visits }) 0 b r b₁ → (values : Values) → values ≡ valuesOf r
+      → MakesMore p (valueMade visit plainForm block span) before b values b₁
+  plain-more {r = r} {b₁ = b₁} visit block span e v values q = rw q (by (eqb (r .code) 0) refl)
+    where
+      by : (y : Bool) → eqb (r .code) 0 ≡ y → MakesMore p (valueMade visit plainForm block span) before b (valuesOf r) b₁
+      by true z = flat-more visit plainForm block span e v (valuesOf r) b₁ (eqb-true (r .code) 0 z) (eqb-true (r .code) 0 z) refl (omega arith) (λ below h. h)
+      by false z = value-more visit plainForm block span e v (valuesOf r) refl (eqb-false (r .code) 0 z)
 
 -- a value, or an update, and then more
 value-then : {B : Type 0} (visit : VisitValueBlock) (form : ValueBlockResult → Value) (block span : ℕ) (made : Made) (k : Made → Result B)
@@ -205,9 +235,38 @@ module _ (S H : Flags) (p : Position) (f c l n : ℕ) (values : ℕ → Result M
 start-made : (p : Position) (b : List ℕ) → Makes p (ok (noneMade (p .visits))) b (noValues p) b
 start-made p b = record { out = []; same = refl; held = λ _ R h. rw (append-nil R) h }
 
-pub first-made : {p : Position} {b b′ : List ℕ} {r : Values} (step : Made → Result Made) → MakesMore p step (noValues p) b r b′ → Makes p (step (noneMade (p .visits))) b r b′
+pub first-made : {p : Position} {b b′ : List ℕ} {before r : Values} (step : Made → Result Made) → before ≡ noValues p → MakesMore p step before b r b′ → Makes p (step (noneMade (p .visits))) b r b′
 unfolding _>>=_
-first-made {p} {b} step m = m .made (ok (noneMade (p .visits))) b (start-made p b)
+first-made {p} {b} {before = before} step q m = m .made (ok (noneMade (p .visits))) b (rw q (start-made p b))
+
+pub no-values-made : (p : Position) (b : List ℕ) (r : Values) → r ≡ noValues p → Makes p (ok (noneMade (p .visits))) b r b
+no-values-made p b r q = rw q (start-made p b)
+
+-- ---- rows and visits
+
+pub nothing-spent : (w : List ℕ) (p : Position) (before : Values) → Entered w p → before ≡ noValues p → Spent (noValues p) 6 before
+nothing-spent w p before en q = rw q (record { visits = en .visits; paid = omega arith })
+
+pub first-spent : {p : Position} {before r : Values} → before ≡ noValues p → Spent before 3 r → Spent (noValues p) 6 r
+first-spent q s = let t = rw q at s in record { visits = s .visits; paid = omega (arith, t .paid) }
+
+pub second-spent : {p : Position} {before first r : Values} → before ≡ noValues p → Spent before 3 first → Spent first 3 r → Spent (noValues p) 6 r
+second-spent q s u = let t = rw q at s in record { visits = u .visits; paid = omega (arith, t .paid, u .paid) }
+
+-- ---- a For's update
+
+then-ok : {A : Type 0} (o : Result A) → (o >>= λ a. ok a) ≡ o
+unfolding _>>=_
+then-ok (ok a) = refl
+then-ok (refused code at visits) = refl
+
+module _ {p : Position} {b b′ : List ℕ} {r : Values} (t : Table) (visit : VisitValueBlock) (init test update span : ℕ) where
+  pub for-without-update : update ≡ 65535 → Makes p (testedMade t visit init test span (noneMade (p .visits))) b r b′ → Makes p (forMade t visit init test (unlessNone update) span (noneMade (p .visits))) b r b′
+  for-without-update e m = rw (e, none-is) (rw (then-ok (testedMade t visit init test span (noneMade (p .visits)))) m)
+
+  pub for-with-update : (update ≡ 65535 → ⊥) → Makes p (testedMade t visit init test span (noneMade (p .visits)) >>= valueMade visit plainForm update span) b r b′
+      → Makes p (forMade t visit init test (unlessNone update) span (noneMade (p .visits))) b r b′
+  for-with-update f m = rw (some-is update f) m
 
 module _ (w : List ℕ) (S H : Flags) (p : Position) (en : Entered w p) where
   abbrev visit : VisitValueBlock
@@ -329,6 +388,80 @@ module _ (w : List ℕ) (S H : Flags) (p : Position) (en : Entered w p) where
   while-missing c l f plan q h z r =
       reached-missing w S H p en (while c l f) f (λ F R C taken. loopTurn (p .block) f c l taken (p .count) (λ v. valueMade visit plainForm c span (noneMade v)) F R C) f plan q (while-asks c l f) h refl z r
 
+-- ---- the columns of the loops, as the code reads them
+
+module _ (w : List ℕ) (p : Position) (en : Entered w p) where
+  pub few-loop-blocks : {f c l : ℕ} → (f < blockCount w) × (c < blockCount w) × (l < blockCount w) → (f < 1024) × (c < 1024) × (l < 1024)
+  few-loop-blocks {f} {c} {l} h = (few-blocks w (en .promise) f (h .0), few-blocks w (en .promise) c (h .1), few-blocks w (en .promise) l (h .2))
+
+  in-ranges : (e : Terminal) → terminalAt (tableOf w) (p .block) ≡ e → InRange (blockCount w) (placeCount w) (caseCount w) e
+  in-ranges e q = ranges w (en .promise) (p .block) (en .block) e q
+
+  module _ (l c f : ℕ) (code : blockWord w (p .block) 2 ≡ 8) (el : l ≡ blockWord w (p .block) 3) (ec : c ≡ blockWord w (p .block) 4) (ef : f ≡ blockWord w (p .block) 5) where
+    pub do-while-ends : terminalAt (tableOf w) (p .block) ≡ do-while l c f
+    unfolding terminalOf
+    do-while-ends = rw (el, ec, ef) (end-by w (p .block) (en .block) 8 code)
+
+    pub do-while-blocks : (f < blockCount w) × (c < blockCount w) × (l < blockCount w)
+    do-while-blocks = let h = in-ranges (do-while l c f) do-while-ends in (h .2, h .1, h .0)
+
+  module _ (c l f : ℕ) (code : blockWord w (p .block) 2 ≡ 9) (ec : c ≡ blockWord w (p .block) 3) (el : l ≡ blockWord w (p .block) 4) (ef : f ≡ blockWord w (p .block) 5) where
+    pub while-ends : terminalAt (tableOf w) (p .block) ≡ while c l f
+    unfolding terminalOf
+    while-ends = rw (ec, el, ef) (end-by w (p .block) (en .block) 9 code)
+
+    pub while-blocks : (f < blockCount w) × (c < blockCount w) × (l < blockCount w)
+    while-blocks = let h = in-ranges (while c l f) while-ends in (h .2, h .0, h .1)
+
+  module _ (init test update l f : ℕ) (code : blockWord w (p .block) 2 ≡ 10) (ei : init ≡ blockWord w (p .block) 3) (et : test ≡ blockWord w (p .block) 4) (eu : update ≡ blockWord w (p .block) 5)
+      (el : l ≡ blockWord w (p .block) 6) (ef : f ≡ blockWord w (p .block) 7) where
+    pub for-ends : terminalAt (tableOf w) (p .block) ≡ for init test (unlessNone update) l f
+    unfolding terminalOf
+    for-ends = rw (ei, et, eu, el, ef) (end-by w (p .block) (en .block) 10 code)
+
+    pub update-below : (update ≡ 65535 → ⊥) → update < blockCount w
+    update-below z = subst (λ (o : Option ℕ). BelowUnlessNone (blockCount w) o) (some-is update z) (in-ranges (for init test (unlessNone update) l f) for-ends .2)
+
+    pub init-below : init < blockCount w
+    init-below = in-ranges (for init test (unlessNone update) l f) for-ends .0
+
+    pub test-below : test < blockCount w
+    test-below = in-ranges (for init test (unlessNone update) l f) for-ends .1
+
+    pub for-blocks : (c : ℕ) → c ≡ continuesAt (eqb update 65535) test update → (f < blockCount w) × (c < blockCount w) × (l < blockCount w)
+    for-blocks c q = let h = in-ranges (for init test (unlessNone update) l f) for-ends in (h .4, rw q (at (eqb update 65535) refl), h .3)
+      where
+        at : (y : Bool) → eqb update 65535 ≡ y → continuesAt y test update < blockCount w
+        at true e = test-below
+        at false e = update-below (eqb-false update 65535 e)
+
+  module _ (c test l f : ℕ) (code : blockWord w (p .block) 2 ≡ 11) (ec : c ≡ blockWord w (p .block) 3) (et : test ≡ blockWord w (p .block) 4) (el : l ≡ blockWord w (p .block) 5) (ef : f ≡ blockWord w (p .block) 6) where
+    pub for-of-ends : terminalAt (tableOf w) (p .block) ≡ for-of c test l f
+    unfolding terminalOf
+    for-of-ends = rw (ec, et, el, ef) (end-by w (p .block) (en .block) 11 code)
+
+    pub for-of-blocks : (f < blockCount w) × (c < blockCount w) × (l < blockCount w)
+    for-of-blocks = let h = in-ranges (for-of c test l f) for-of-ends in (h .3, h .0, h .2)
+
+    pub for-of-test : test < blockCount w
+    for-of-test = in-ranges (for-of c test l f) for-of-ends .1
+
+  module _ (c l f : ℕ) (code : blockWord w (p .block) 2 ≡ 12) (ec : c ≡ blockWord w (p .block) 3) (el : l ≡ blockWord w (p .block) 4) (ef : f ≡ blockWord w (p .block) 5) where
+    pub for-in-ends : terminalAt (tableOf w) (p .block) ≡ for-in c l f
+    unfolding terminalOf
+    for-in-ends = rw (ec, el, ef) (end-by w (p .block) (en .block) 12 code)
+
+    pub for-in-blocks : (f < blockCount w) × (c < blockCount w) × (l < blockCount w)
+    for-in-blocks = let h = in-ranges (for-in c l f) for-in-ends in (h .2, h .0, h .1)
+
+pub continue-is : (test update : ℕ) → continueBlockOf (unlessNone update) test ≡ continuesAt (eqb update 65535) test update
+unfolding unlessNone
+continue-is test update = at (eqb update 65535)
+  where
+    at : (y : Bool) → continueBlockOf (elim y [ true ↦ none | false ↦ some update ]) test ≡ continuesAt y test update
+    at true = refl
+    at false = refl
+
 -- ---- value statements
 
 -- an entry that is pushed and popped again leaves only its id taken
@@ -418,7 +551,7 @@ module _ (w : List ℕ) (S H : Flags) (p : Position) (en : Entered w p) (f : ℕ
   unfolding valueTurn left
   value-step F R C seen = value-turn (tableOf w) (visitValueBlock (tableOf w) (127 - p .depth)) (terminalAt (tableOf w) (p .block)) (p .block) (blockAt (tableOf w) (p .block)) f F R (p .count) C q ∙ rw (seen .visits)
 
-  module _ {x : Tally} {m : ℕ} {b b₁ : List ℕ} {r : ValueResult} (v : Met w terminalResult outcome x m b r b₁) where
+  module _ {m : ℕ} {b b₁ : List ℕ} {r : ValueResult} (v : Met w terminalResult outcome (record { rows = p .rows; visits = p .visits }) m b r b₁) where
     pub value-statement-refused : (plan : Plan) (b′ : List ℕ) → (r .code ≡ 0 → ⊥) → plan ≡ refusing (afterValues p (valuesOf r)) (r .code) (r .at) → PlannedRows w S H p b plan b′
     value-statement-refused plan b′ z o = subst (λ (y : Plan). PlannedRows w S H p b y b′) (sym o) (record {
       out = [];
@@ -426,3 +559,27 @@ module _ (w : List ℕ) (S H : Flags) (p : Position) (en : Entered w p) (f : ℕ
       same = λ F R C d seen. ap turn (value-step F R C seen ∙ then-off (left F R C) v z) ∙ turn-refused (r .code) (r .at) (r .tally .visits) ∙ sym (refuse-applied (afterValues p (valuesOf r)) (r .code) (r .at) F (R ++ []) C z);
       fitting = λ e. absurd (z e);
     })
+
+    pub value-statement-left : (n rows : ℕ) (plan : Plan) (b′ : List ℕ) → r .code ≡ 0 → n ≡ unlessTaken (or (has S f) (has H f)) f
+        → Written b₁ (r .tally .rows) (row 4 (r .id) (r .place) (blockWord w (p .block) 9) 0 0) b′ rows
+        → plan ≡ leaving n (p .depth) (p .count + 1) rows (r .tally .visits) (takeIdIf (eqb n 65535)) → PlannedRows w S H p b plan b′
+    value-statement-left n rows plan b′ z o put e = subst (λ (y : Plan). PlannedRows w S H p b y b′) (sym e) (record {
+      out = valueOut (v .value) ++ (last ∷ []);
+      held = λ _ R h. rw (← (append-assoc R (valueOut (v .value)) (last ∷ [])), ← (push-row-after last (R ++ valueOut (v .value))), ← (push-value-after (v .value) R)) (put .kept _ (v .found z .held _ h));
+      same = same;
+      fitting = λ _. record { change = named (eqb n 65535); handler = rw none-is tt; scope = rw none-is tt; deep = λ y. absurd (let o : _≡_ {A = ℕ} 0 1 = cc in omega arith); next = omega arith };
+    })
+      where
+        last : Row
+        last = row 4 (r .id) (r .place) (blockWord w (p .block) 9) 0 0
+
+        named : (y : Bool) → NamedChange 0 (takeIdIf y)
+        named true = tt
+        named false = tt
+
+        same : (F : List machine.Frame) (R : List Row) (C : definition.Context) → length F ≡ p .depth → Seen S H (p .visits) C
+            → turn (terminalStep w p F R C) ≡ applied (leaving n (p .depth) (p .count + 1) rows (r .tally .visits) (takeIdIf (eqb n 65535))) F (R ++ (valueOut (v .value) ++ (last ∷ []))) C
+        same F R C d seen =
+            ap turn (value-step F R C seen ∙ then-on (left F R C) v z) ∙ unfold left in (turn-ok _
+            ∙ rw (label-scheduled w (en .promise) S H (p .visits) C seen f (few-blocks w (en .promise) f fallthrough-below) ∙ ap unlessNone (sym o), value-context S H (p .visits) C seen f n (few-blocks w (en .promise) f fallthrough-below) o (r .tally .visits), span-at w (p .block) (en .block), append-assoc R (valueOut (v .value)) (last ∷ []))
+            (sym (leave-applied n (p .depth) (p .count + 1) rows (r .tally .visits) (takeIdIf (eqb n 65535)) F (R ++ (valueOut (v .value) ++ (last ∷ []))) C ∙ rw (within-all (p .depth) F d, add-one))))

@@ -75,7 +75,7 @@ reach-same w S H p pr f n h u e q k C seen = ap (λ (z : Result (Option ℕ)). t
 pub few-blocks : (w : List ℕ) → Promise w → (b : ℕ) → b < blockCount w → b < 1024
 few-blocks w pr b h = omega (arith, pr .sized .limited .blocks)
 
-ranges : (w : List ℕ) → Promise w → (b : ℕ) → b < blockCount w → (e : Terminal) → terminalAt (tableOf w) b ≡ e → InRange (blockCount w) (placeCount w) (caseCount w) e
+pub ranges : (w : List ℕ) → Promise w → (b : ℕ) → b < blockCount w → (e : Terminal) → terminalAt (tableOf w) b ≡ e → InRange (blockCount w) (placeCount w) (caseCount w) e
 ranges w pr b h e q = subst (λ (z : Terminal). InRange (blockCount w) (placeCount w) (caseCount w) z) q (in-range w pr b h)
 
 label-below : (n : ℕ) → Label n → eqb n 65535 ≡ false → n < 1024

@@ -7,7 +7,7 @@ use mathlib.Core.Option.{Option, none, some}
 use lib.Dec.{eqb}
 use Rattle.table.specs.Words.{blockCount, blockWord}
 use Rattle.table.specs.Table.{Table, Terminal, absent, unreachable, throw, return, goto, if, branch, switch, do-while, while, for, for-of, for-in, logical, ternary, optional, label, sequence, maybe-throw, try, scope, tableOf, unlessNone}
-use Rattle.definition.specs.Context.{Flags, or, has, scheduleLoop}
+use Rattle.definition.specs.Context.{Flags, or, has}
 use Rattle.definition.specs.Context as definition
 use Rattle.definition.specs.Machine.{State, intoLoop, valueOut}
 use Rattle.definition.specs.Machine as machine
@@ -59,8 +59,11 @@ updateMade visit none span made = ok made
 updateMade visit (some update) span made = valueMade visit plainForm update span made
 
 -- For: init, test, update. ForOf: init, test
+abbrev pub testedMade : Table → VisitValueBlock → (init test span : ℕ) → Made → Result Made
+testedMade t visit init test span made = valueMade visit (flatForm t span) init span made >>= valueMade visit plainForm test span
+
 abbrev pub forMade : Table → VisitValueBlock → (init test : ℕ) → (update : Option ℕ) → (span : ℕ) → Made → Result Made
-forMade t visit init test update span made = valueMade visit (flatForm t span) init span made >>= valueMade visit plainForm test span >>= updateMade visit update span
+forMade t visit init test update span made = testedMade t visit init test span made >>= updateMade visit update span
 
 abbrev pub forOfMade : Table → VisitValueBlock → (init test span : ℕ) → Made → Result Made
 forOfMade t visit init test span made = valueMade visit (flatForm t span) init span made >>= valueMade visit (flatForm t span) test span
@@ -93,11 +96,16 @@ pub record MakesMore (p : Position) (step : Made → Result Made) (before : Valu
   pub made : (outcome : Result Made) (first : List ℕ) → Makes p outcome first before buffer → Makes p (outcome >>= step) first values buffer′
   pub spent : Spent before 3 values
 
+-- a For's init and test
+pub record MakesTested (words : List ℕ) (p : Position) (init test : ℕ) (buffer : List ℕ) (values : Values) (buffer′ : List ℕ) : Type 0 where
+  pub made : Makes p (testedMade (tableOf words) (visitValueBlock (tableOf words) (127 - p .depth)) init test (blockWord words (p .block) 9) (noneMade (p .visits))) buffer values buffer′
+  pub spent : Spent (noValues p) 6 values
+
 -- ---- the turn that all loops share
 
 unfoldable pub loopTurn : (at fallthrough continueBlock loop : ℕ) → (taken : Option ℕ) → (count : ℕ) → (values : ℕ → Result Made) → List machine.Frame → List Row → definition.Context → Result State
 loopTurn at fallthrough continueBlock loop taken count values frames rows cx =
-    scheduleLoop fallthrough continueBlock (some loop) cx >>= λ inside.
+    definition.scheduleLoop fallthrough continueBlock (some loop) cx >>= λ inside.
     values (inside .visits) >>= λ made.
     intoLoop at loop (loopIsTaken cx loop fallthrough) (made .visits) (machine.frameOf at taken 1 count) frames (rows ++ made .out) inside
 
@@ -106,10 +114,13 @@ loopTurn at fallthrough continueBlock loop taken count values frames rows cx =
 abbrev pub afterValues : Position → Values → Position
 afterValues p values = record { block = p .block; depth = p .depth; count = p .count; rows = values .rows; visits = values .visits; stage = Visit }
 
+abbrev pub scheduleLoop : Loop → Change
+scheduleLoop blocks = ScheduleLoop (blocks .fallthrough) (blocks .«continue_block») (blocks .«loop_block»)
+
 abbrev pub enteringBody : (taken : Bool) → Position → Values → Loop → Plan
 enteringBody true p values blocks = refusing (afterValues p values) 16 (p .block)
 enteringBody false p values blocks =
-    nesting (blocks .«loop_block») (openFrame p (blocks .label) 1) (p .depth + 1) (values .rows) (values .visits) 65535 65535 (ScheduleLoop (blocks .fallthrough) (blocks .«continue_block») (blocks .«loop_block»))
+    nesting (blocks .«loop_block») (openFrame p (blocks .label) 1) (p .depth + 1) (values .rows) (values .visits) 65535 65535 (scheduleLoop blocks)
 
 abbrev pub enteringLoop : (made taken : Bool) → Position → Values → Loop → Plan
 enteringLoop false taken p values blocks = refusing (afterValues p values) (values .code) (values .at)
