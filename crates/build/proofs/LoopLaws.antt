@@ -247,11 +247,11 @@ no-values-made p b r q = rw q (start-made p b)
 pub nothing-spent : (w : List ℕ) (p : Position) (before : Values) → Entered w p → before ≡ noValues p → Spent (noValues p) 6 before
 nothing-spent w p before en q = rw q (record { visits = en .visits; paid = omega arith })
 
-pub first-spent : {p : Position} {before r : Values} → before ≡ noValues p → Spent before 3 r → Spent (noValues p) 6 r
-first-spent q s = let t = rw q at s in record { visits = s .visits; paid = omega (arith, t .paid) }
+pub first-spent : (p : Position) {before r : Values} → before ≡ noValues p → Spent before 3 r → Spent (noValues p) 6 r
+first-spent p q s = let t = rw q at s in record { visits = s .visits; paid = omega (arith, t .paid) }
 
-pub second-spent : {p : Position} {before first r : Values} → before ≡ noValues p → Spent before 3 first → Spent first 3 r → Spent (noValues p) 6 r
-second-spent q s u = let t = rw q at s in record { visits = u .visits; paid = omega (arith, t .paid, u .paid) }
+pub second-spent : (p : Position) {before first r : Values} → before ≡ noValues p → Spent before 3 first → Spent first 3 r → Spent (noValues p) 6 r
+second-spent p q s u = let t = rw q at s in record { visits = u .visits; paid = omega (arith, t .paid, u .paid) }
 
 -- ---- a For's update
 
@@ -461,6 +461,11 @@ continue-is test update = at (eqb update 65535)
     at : (y : Bool) → continueBlockOf (elim y [ true ↦ none | false ↦ some update ]) test ≡ continuesAt y test update
     at true = refl
     at false = refl
+
+pub for-turns-at : (w : List ℕ) (S H : Flags) (p : Position) (en : Entered w p) (init test update l f c n : ℕ) → terminalAt (tableOf w) (p .block) ≡ for init test (unlessNone update) l f
+    → c ≡ continuesAt (eqb update 65535) test update → f < blockCount w → n ≡ unlessTaken (or (has S f) (has H f)) f
+    → Turns w S H p en f c l n (λ v. forMade (tableOf w) (visitValueBlock (tableOf w) (127 - p .depth)) init test (unlessNone update) (blockWord w (p .block) 9) (noneMade v))
+for-turns-at w S H p en init test update l f c n q o h z = rw (o ∙ sym (continue-is test update)) (for-turns w S H p en init test (unlessNone update) l f n q h z)
 
 -- ---- value statements
 

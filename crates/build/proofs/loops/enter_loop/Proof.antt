@@ -49,7 +49,7 @@ traverse-block-requires c κs = search needs
 
 -- src/loops.rt:134:1
 returns-3 : tie.Need-returns-3
-returns-3 c = rw (eq-eqb _ _ (c .before .before .before .before .before .before .if1 .left), sym (c .before .before .before .before .before .loop-is-taken .ensures) ∙ c .before .before .before .before .if2 .left) (cc)
+returns-3 c = rw (eq-eqb _ _ (c .before .before .before .before .before .before .if1 .left), sym (c .before .before .before .before .before .loop-is-taken .ensures) ∙ c .before .before .before .before .if2 .left) (rw (c .before .before .before .frame-of .ensures, c .before .schedule-loop .ensures) at (c .traverse-block .ensures))
 
 pub enter-loop-spec : {M : Type 1} → statement M
 enter-loop-spec =

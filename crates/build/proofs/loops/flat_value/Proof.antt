@@ -17,7 +17,7 @@ use Rattle.value.proofs.walk.visit_value_block.Reads as visit-value-block-reads
 
 -- src/loops.rt:88:9
 returns : tie.Need-returns
-returns c = more-refused (c .before .before .before .before .args .before) _ (c .if1 .taken) (c .before .before .before .before .pre .2)
+returns c = more-refused (c .before .before .before .before .args .before) _ (c .if1 .taken) (c .before .before .before .before .pre .1 .1)
 
 -- src/loops.rt:90:9
 block-word-requires : tie.Need-block-word-requires
@@ -45,7 +45,7 @@ returns-2 c = rw (← (c .before .before .before .before .before .before .before
 
 -- src/loops.rt:96:9
 value-block-result-to-sequence-requires : tie.Need-value-block-result-to-sequence-requires
-value-block-result-to-sequence-requires c κs = record { promise = c .before .before .before .before .before .before .before .before .before .before .before .before .before .pre .0 .promise; place = c .before .before .before .before .before .visit-value-block .ensures .found (c .before .if2 .left) .place; there = c .before .before .before .before .before .visit-value-block .ensures .found (c .before .if2 .left) .ends .there; more = omega (arith, c .before .before .before .before .before .visit-value-block .ensures .found (c .before .if2 .left) .more); room = omega (arith, c .before .before .before .before .before .visit-value-block .ensures .numbers .paid, c .before .before .before .before .before .visit-value-block .ensures .numbers .visits, c .before .before .before .before .before .before .before .before .before .before .before .before .before .pre .2 .paid, c .before .before .before .before .before .before .before .before .before .before .before .before .before .pre .2 .visits, c .before .before .before .before .before .before .before .before .before .before .before .before .before .pre .0 .rows, c .before .before .before .before .before .before .before .before .before .before .before .before .before .pre .0 .visits) }
+value-block-result-to-sequence-requires c κs = record { promise = c .before .before .before .before .before .before .before .before .before .before .before .before .before .pre .0 .promise; place = c .before .before .before .before .before .visit-value-block .ensures .found (c .before .if2 .left) .place; there = c .before .before .before .before .before .visit-value-block .ensures .found (c .before .if2 .left) .ends .there; more = omega (arith, c .before .before .before .before .before .visit-value-block .ensures .found (c .before .if2 .left) .more); room = omega (arith, c .before .before .before .before .before .visit-value-block .ensures .numbers .paid, c .before .before .before .before .before .visit-value-block .ensures .numbers .visits, c .before .before .before .before .before .before .before .before .before .before .before .before .before .pre .1 .1 .paid, c .before .before .before .before .before .before .before .before .before .before .before .before .before .pre .1 .1 .visits, c .before .before .before .before .before .before .before .before .before .before .before .before .before .pre .0 .rows, c .before .before .before .before .before .before .before .before .before .before .before .before .before .pre .0 .visits) }
 
 -- src/loops.rt:81:1
 same-length-2 : tie.Need-same-length-2

@@ -13,11 +13,11 @@ no-values-requires c κs = search needs
 
 -- src/loops.rt:248:9
 flat-value-requires : tie.Need-flat-value-requires
-flat-value-requires c κs = (c .before .before .before .before .pre .0, c .before .before .before .before .pre .1, nothing-spent (c .before .before .before .before .args .words .now) (c .before .before .before .before .args .p) _ (c .before .before .before .before .pre .0) (c .no-values .ensures))
+flat-value-requires c κs = (c .before .before .before .before .pre .0, (c .before .before .before .before .pre .1 .0, nothing-spent (c .before .before .before .before .args .words .now) (c .before .before .before .before .args .p) _ (c .before .before .before .before .pre .0) (c .no-values .ensures)))
 
 -- src/loops.rt:249:5
 flat-value-requires-2 : tie.Need-flat-value-requires-2
-flat-value-requires-2 c κs = (c .before .before .before .before .before .before .before .before .pre .0, c .before .before .before .before .before .before .before .before .pre .2, first-spent (c .before .before .before .before .no-values .ensures) (c .before .before .before .flat-value .ensures .spent))
+flat-value-requires-2 c κs = (c .before .before .before .before .before .before .before .before .pre .0, (c .before .before .before .before .before .before .before .before .pre .1 .1, first-spent (c .before .before .before .before .before .before .before .before .args .p) (c .before .before .before .before .no-values .ensures) (c .before .before .before .flat-value .ensures .spent)))
 
 -- src/loops.rt:242:1
 same-length : tie.Need-same-length

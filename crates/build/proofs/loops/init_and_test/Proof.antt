@@ -14,11 +14,11 @@ no-values-requires c κs = search needs
 
 -- src/loops.rt:204:9
 flat-value-requires : tie.Need-flat-value-requires
-flat-value-requires c κs = (c .before .before .before .before .pre .0, c .before .before .before .before .pre .1, nothing-spent (c .before .before .before .before .args .words .now) (c .before .before .before .before .args .p) _ (c .before .before .before .before .pre .0) (c .no-values .ensures))
+flat-value-requires c κs = (c .before .before .before .before .pre .0, (c .before .before .before .before .pre .1 .0, nothing-spent (c .before .before .before .before .args .words .now) (c .before .before .before .before .args .p) _ (c .before .before .before .before .pre .0) (c .no-values .ensures)))
 
 -- src/loops.rt:205:5
 plain-value-requires : tie.Need-plain-value-requires
-plain-value-requires c κs = (c .before .before .before .before .before .before .before .before .pre .0, c .before .before .before .before .before .before .before .before .pre .2, first-spent (c .before .before .before .before .no-values .ensures) (c .before .before .before .flat-value .ensures .spent))
+plain-value-requires c κs = (c .before .before .before .before .before .before .before .before .pre .0, (c .before .before .before .before .before .before .before .before .pre .1 .1, first-spent (c .before .before .before .before .before .before .before .before .args .p) (c .before .before .before .before .no-values .ensures) (c .before .before .before .flat-value .ensures .spent)))
 
 -- src/loops.rt:198:1
 same-length : tie.Need-same-length
@@ -26,7 +26,7 @@ same-length c = search needs
 
 -- src/loops.rt:198:1
 returns : tie.Need-returns
-returns c = record { made = c .before .before .plain-value .ensures .made _ _ (first-made _ (c .before .before .before .before .before .before .before .no-values .ensures) (c .before .before .before .before .before .before .flat-value .ensures)); spent = second-spent (c .before .before .before .before .before .before .before .no-values .ensures) (c .before .before .before .before .before .before .flat-value .ensures .spent) (c .before .before .plain-value .ensures .spent) }
+returns c = record { made = c .before .before .plain-value .ensures .made _ _ (first-made _ (c .before .before .before .before .before .before .before .no-values .ensures) (c .before .before .before .before .before .before .flat-value .ensures)); spent = second-spent (c .before .before .before .before .before .before .before .before .before .before .before .args .p) (c .before .before .before .before .before .before .before .no-values .ensures) (c .before .before .before .before .before .before .flat-value .ensures .spent) (c .before .before .plain-value .ensures .spent) }
 
 pub init-and-test-spec : {M : Type 1} → statement M
 init-and-test-spec =

@@ -13,7 +13,7 @@ use Rattle.value.proofs.walk.visit_value_block.Reads as visit-value-block-reads
 
 -- src/loops.rt:73:9
 returns : tie.Need-returns
-returns c = more-refused (c .before .before .before .before .args .before) _ (c .if1 .taken) (c .before .before .before .before .pre .2)
+returns c = more-refused (c .before .before .before .before .args .before) _ (c .if1 .taken) (c .before .before .before .before .pre .1 .1)
 
 -- src/loops.rt:75:9
 block-word-requires : tie.Need-block-word-requires

@@ -46,11 +46,11 @@ no-values-requires c κs = search needs
 
 -- src/loops.rt:165:5
 enter-loop-requires : tie.Need-enter-loop-requires
-enter-loop-requires c κs = let h = few-loop-blocks (c .before .before .before .before .before .before .before .before .args .words .now) (c .before .before .before .before .before .before .before .before .args .p) (c .before .before .before .before .before .before .before .before .pre .0) (do-while-blocks (c .before .before .before .before .before .before .before .before .args .words .now) (c .before .before .before .before .before .before .before .before .args .p) (c .before .before .before .before .before .before .before .before .pre .0) (c .before .before .before .before .before .before .block-word .result) (c .before .before .before .before .before .block-word2 .result) (c .before .before .before .before .block-word3 .result) (c .before .before .before .before .before .before .before .before .pre .1) (c .before .before .before .before .before .before .block-word .ensures) (c .before .before .before .before .before .block-word2 .ensures) (c .before .before .before .before .block-word3 .ensures)) in (c .before .before .before .before .before .before .before .before .pre .0 .depth, h .0, h .1, h .2)
+enter-loop-requires c κs = let h = few-loop-blocks (c .before .before .before .before .before .before .before .before .args .words .now) (c .before .before .before .before .before .before .before .before .args .p) (c .before .before .before .before .before .before .before .before .pre .0) (do-while-blocks (c .before .before .before .before .before .before .before .before .args .words .now) (c .before .before .before .before .before .before .before .before .args .p) (c .before .before .before .before .before .before .before .before .pre .0) (c .before .before .before .before .before .before .block-word .result) (c .before .before .before .before .before .block-word2 .result) (c .before .before .before .before .block-word3 .result) (c .before .before .before .before .before .before .before .before .pre .1) (c .before .before .before .before .before .before .block-word .ensures) (c .before .before .before .before .before .block-word2 .ensures) (c .before .before .before .before .block-word3 .ensures)) in (c .before .before .before .before .before .before .before .before .pre .0 .depth, (h .0, (h .1, h .2)))
 
 -- src/loops.rt:152:1
 returns-2 : tie.Need-returns-2
-returns-2 c = loop-entered (c .before .before .before .before .before .before .before .before .before .args .words .now) (c .before .before .before .before .before .before .before .before .before .args .scheduled .now) (c .before .before .before .before .before .before .before .before .before .args .catch-handlers .now) (c .before .before .before .before .before .before .before .before .before .args .p) (c .before .before .before .before .before .before .before .before .before .pre .0) (c .before .before .before .before .before .block-word3 .result) (c .before .before .before .before .before .before .block-word2 .result) (c .before .before .before .before .before .before .before .block-word .result) (c .before .before .unless-scheduled .result) _ _ _ (do-while-turns (c .before .before .before .before .before .before .before .before .before .args .words .now) (c .before .before .before .before .before .before .before .before .before .args .scheduled .now) (c .before .before .before .before .before .before .before .before .before .args .catch-handlers .now) (c .before .before .before .before .before .before .before .before .before .args .p) (c .before .before .before .before .before .before .before .before .before .pre .0) (c .before .before .before .before .before .before .before .block-word .result) (c .before .before .before .before .before .before .block-word2 .result) (c .before .before .before .before .before .block-word3 .result) _ (do-while-ends (c .before .before .before .before .before .before .before .before .before .args .words .now) (c .before .before .before .before .before .before .before .before .before .args .p) (c .before .before .before .before .before .before .before .before .before .pre .0) (c .before .before .before .before .before .before .before .block-word .result) (c .before .before .before .before .before .before .block-word2 .result) (c .before .before .before .before .before .block-word3 .result) (c .before .before .before .before .before .before .before .before .before .pre .1) (c .before .before .before .before .before .before .before .block-word .ensures) (c .before .before .before .before .before .before .block-word2 .ensures) (c .before .before .before .before .before .block-word3 .ensures)) ((do-while-blocks (c .before .before .before .before .before .before .before .before .before .args .words .now) (c .before .before .before .before .before .before .before .before .before .args .p) (c .before .before .before .before .before .before .before .before .before .pre .0) (c .before .before .before .before .before .before .before .block-word .result) (c .before .before .before .before .before .before .block-word2 .result) (c .before .before .before .before .before .block-word3 .result) (c .before .before .before .before .before .before .before .before .before .pre .1) (c .before .before .before .before .before .before .before .block-word .ensures) (c .before .before .before .before .before .before .block-word2 .ensures) (c .before .before .before .before .before .block-word3 .ensures)) .0) (c .before .before .unless-scheduled .ensures)) (do-while-blocks (c .before .before .before .before .before .before .before .before .before .args .words .now) (c .before .before .before .before .before .before .before .before .before .args .p) (c .before .before .before .before .before .before .before .before .before .pre .0) (c .before .before .before .before .before .before .before .block-word .result) (c .before .before .before .before .before .before .block-word2 .result) (c .before .before .before .before .before .block-word3 .result) (c .before .before .before .before .before .before .before .before .before .pre .1) (c .before .before .before .before .before .before .before .block-word .ensures) (c .before .before .before .before .before .before .block-word2 .ensures) (c .before .before .before .before .before .block-word3 .ensures)) (sym (c .before .before .before .before .continues-scheduled .ensures) ∙ c .before .before .before .if1 .left) (no-values-made (c .before .before .before .before .before .before .before .before .before .args .p) _ _ (c .before .no-values .ensures)) (c .enter-loop .ensures)
+returns-2 c = λ b. loop-entered (c .before .before .before .before .before .before .before .before .before .args .words .now) (c .before .before .before .before .before .before .before .before .before .args .scheduled .now) (c .before .before .before .before .before .before .before .before .before .args .catch-handlers .now) (c .before .before .before .before .before .before .before .before .before .args .p) (c .before .before .before .before .before .before .before .before .before .pre .0) (c .before .before .before .before .before .block-word3 .result) (c .before .before .before .before .before .before .block-word2 .result) (c .before .before .before .before .before .before .before .block-word .result) (c .before .before .unless-scheduled .result) _ _ _ (do-while-turns (c .before .before .before .before .before .before .before .before .before .args .words .now) (c .before .before .before .before .before .before .before .before .before .args .scheduled .now) (c .before .before .before .before .before .before .before .before .before .args .catch-handlers .now) (c .before .before .before .before .before .before .before .before .before .args .p) (c .before .before .before .before .before .before .before .before .before .pre .0) (c .before .before .before .before .before .before .before .block-word .result) (c .before .before .before .before .before .before .block-word2 .result) (c .before .before .before .before .before .block-word3 .result) _ (do-while-ends (c .before .before .before .before .before .before .before .before .before .args .words .now) (c .before .before .before .before .before .before .before .before .before .args .p) (c .before .before .before .before .before .before .before .before .before .pre .0) (c .before .before .before .before .before .before .before .block-word .result) (c .before .before .before .before .before .before .block-word2 .result) (c .before .before .before .before .before .block-word3 .result) (c .before .before .before .before .before .before .before .before .before .pre .1) (c .before .before .before .before .before .before .before .block-word .ensures) (c .before .before .before .before .before .before .block-word2 .ensures) (c .before .before .before .before .before .block-word3 .ensures)) ((do-while-blocks (c .before .before .before .before .before .before .before .before .before .args .words .now) (c .before .before .before .before .before .before .before .before .before .args .p) (c .before .before .before .before .before .before .before .before .before .pre .0) (c .before .before .before .before .before .before .before .block-word .result) (c .before .before .before .before .before .before .block-word2 .result) (c .before .before .before .before .before .block-word3 .result) (c .before .before .before .before .before .before .before .before .before .pre .1) (c .before .before .before .before .before .before .before .block-word .ensures) (c .before .before .before .before .before .before .block-word2 .ensures) (c .before .before .before .before .before .block-word3 .ensures)) .0) (c .before .before .unless-scheduled .ensures)) (do-while-blocks (c .before .before .before .before .before .before .before .before .before .args .words .now) (c .before .before .before .before .before .before .before .before .before .args .p) (c .before .before .before .before .before .before .before .before .before .pre .0) (c .before .before .before .before .before .before .before .block-word .result) (c .before .before .before .before .before .before .block-word2 .result) (c .before .before .before .before .before .block-word3 .result) (c .before .before .before .before .before .before .before .before .before .pre .1) (c .before .before .before .before .before .before .before .block-word .ensures) (c .before .before .before .before .before .before .block-word2 .ensures) (c .before .before .before .before .before .block-word3 .ensures)) (sym (c .before .before .before .before .continues-scheduled .ensures) ∙ c .before .before .before .if1 .left) (no-values-made (c .before .before .before .before .before .before .before .before .before .args .p) b _ (c .before .no-values .ensures)) (c .enter-loop .ensures)
 
 pub visit-do-while-spec : {M : Type 1} → statement M
 visit-do-while-spec =

@@ -47,11 +47,11 @@ no-values-requires c κs = search needs
 
 -- src/loops.rt:282:9
 flat-value-requires : tie.Need-flat-value-requires
-flat-value-requires c κs = (c .before .before .before .before .before .before .before .before .before .before .pre .0, (for-in-blocks (c .before .before .before .before .before .before .before .before .before .before .args .words .now) (c .before .before .before .before .before .before .before .before .before .before .args .p) (c .before .before .before .before .before .before .before .before .before .before .pre .0) (c .before .before .before .before .before .before .before .block-word .result) (c .before .before .before .before .before .before .block-word2 .result) (c .before .before .before .before .before .block-word3 .result) (c .before .before .before .before .before .before .before .before .before .before .pre .1) (c .before .before .before .before .before .before .before .block-word .ensures) (c .before .before .before .before .before .before .block-word2 .ensures) (c .before .before .before .before .before .block-word3 .ensures)) .1, nothing-spent (c .before .before .before .before .before .before .before .before .before .before .args .words .now) (c .before .before .before .before .before .before .before .before .before .before .args .p) _ (c .before .before .before .before .before .before .before .before .before .before .pre .0) (c .no-values .ensures))
+flat-value-requires c κs = (c .before .before .before .before .before .before .before .before .before .before .pre .0, ((for-in-blocks (c .before .before .before .before .before .before .before .before .before .before .args .words .now) (c .before .before .before .before .before .before .before .before .before .before .args .p) (c .before .before .before .before .before .before .before .before .before .before .pre .0) (c .before .before .before .before .before .before .before .block-word .result) (c .before .before .before .before .before .before .block-word2 .result) (c .before .before .before .before .before .block-word3 .result) (c .before .before .before .before .before .before .before .before .before .before .pre .1) (c .before .before .before .before .before .before .before .block-word .ensures) (c .before .before .before .before .before .before .block-word2 .ensures) (c .before .before .before .before .before .block-word3 .ensures)) .1, nothing-spent (c .before .before .before .before .before .before .before .before .before .before .args .words .now) (c .before .before .before .before .before .before .before .before .before .before .args .p) _ (c .before .before .before .before .before .before .before .before .before .before .pre .0) (c .no-values .ensures)))
 
 -- src/loops.rt:284:5
 enter-loop-requires : tie.Need-enter-loop-requires
-enter-loop-requires c κs = let h = few-loop-blocks (c .before .before .before .before .before .before .before .before .before .before .before .before .before .args .words .now) (c .before .before .before .before .before .before .before .before .before .before .before .before .before .args .p) (c .before .before .before .before .before .before .before .before .before .before .before .before .before .pre .0) (for-in-blocks (c .before .before .before .before .before .before .before .before .before .before .before .before .before .args .words .now) (c .before .before .before .before .before .before .before .before .before .before .before .before .before .args .p) (c .before .before .before .before .before .before .before .before .before .before .before .before .before .pre .0) (c .before .before .before .before .before .before .before .before .before .before .block-word .result) (c .before .before .before .before .before .before .before .before .before .block-word2 .result) (c .before .before .before .before .before .before .before .before .block-word3 .result) (c .before .before .before .before .before .before .before .before .before .before .before .before .before .pre .1) (c .before .before .before .before .before .before .before .before .before .before .block-word .ensures) (c .before .before .before .before .before .before .before .before .before .block-word2 .ensures) (c .before .before .before .before .before .before .before .before .block-word3 .ensures)) in (c .before .before .before .before .before .before .before .before .before .before .before .before .before .pre .0 .depth, h .0, h .1, h .2)
+enter-loop-requires c κs = let h = few-loop-blocks (c .before .before .before .before .before .before .before .before .before .before .before .before .before .args .words .now) (c .before .before .before .before .before .before .before .before .before .before .before .before .before .args .p) (c .before .before .before .before .before .before .before .before .before .before .before .before .before .pre .0) (for-in-blocks (c .before .before .before .before .before .before .before .before .before .before .before .before .before .args .words .now) (c .before .before .before .before .before .before .before .before .before .before .before .before .before .args .p) (c .before .before .before .before .before .before .before .before .before .before .before .before .before .pre .0) (c .before .before .before .before .before .before .before .before .before .before .block-word .result) (c .before .before .before .before .before .before .before .before .before .block-word2 .result) (c .before .before .before .before .before .before .before .before .block-word3 .result) (c .before .before .before .before .before .before .before .before .before .before .before .before .before .pre .1) (c .before .before .before .before .before .before .before .before .before .before .block-word .ensures) (c .before .before .before .before .before .before .before .before .before .block-word2 .ensures) (c .before .before .before .before .before .before .before .before .block-word3 .ensures)) in (c .before .before .before .before .before .before .before .before .before .before .before .before .before .pre .0 .depth, (h .0, (h .1, h .2)))
 
 -- src/loops.rt:270:1
 same-length : tie.Need-same-length

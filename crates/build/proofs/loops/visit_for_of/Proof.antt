@@ -46,11 +46,11 @@ unless-scheduled-requires c κs = let h = few-loop-blocks (c .before .before .be
 
 -- src/loops.rt:265:9
 for-of-values-requires : tie.Need-for-of-values-requires
-for-of-values-requires c κs = (c .before .before .before .before .before .before .before .before .before .before .pre .0, (for-of-blocks (c .before .before .before .before .before .before .before .before .before .before .args .words .now) (c .before .before .before .before .before .before .before .before .before .before .args .p) (c .before .before .before .before .before .before .before .before .before .before .pre .0) (c .before .before .before .before .before .before .before .block-word .result) (c .before .before .before .before .before .before .block-word2 .result) (c .before .before .before .before .before .block-word3 .result) (c .before .before .before .before .block-word4 .result) (c .before .before .before .before .before .before .before .before .before .before .pre .1) (c .before .before .before .before .before .before .before .block-word .ensures) (c .before .before .before .before .before .before .block-word2 .ensures) (c .before .before .before .before .before .block-word3 .ensures) (c .before .before .before .before .block-word4 .ensures)) .1, (for-of-test (c .before .before .before .before .before .before .before .before .before .before .args .words .now) (c .before .before .before .before .before .before .before .before .before .before .args .p) (c .before .before .before .before .before .before .before .before .before .before .pre .0) (c .before .before .before .before .before .before .before .block-word .result) (c .before .before .before .before .before .before .block-word2 .result) (c .before .before .before .before .before .block-word3 .result) (c .before .before .before .before .block-word4 .result) (c .before .before .before .before .before .before .before .before .before .before .pre .1) (c .before .before .before .before .before .before .before .block-word .ensures) (c .before .before .before .before .before .before .block-word2 .ensures) (c .before .before .before .before .before .block-word3 .ensures) (c .before .before .before .before .block-word4 .ensures)))
+for-of-values-requires c κs = (c .before .before .before .before .before .before .before .before .before .before .pre .0, ((for-of-blocks (c .before .before .before .before .before .before .before .before .before .before .args .words .now) (c .before .before .before .before .before .before .before .before .before .before .args .p) (c .before .before .before .before .before .before .before .before .before .before .pre .0) (c .before .before .before .before .before .before .before .block-word .result) (c .before .before .before .before .before .before .block-word2 .result) (c .before .before .before .before .before .block-word3 .result) (c .before .before .before .before .block-word4 .result) (c .before .before .before .before .before .before .before .before .before .before .pre .1) (c .before .before .before .before .before .before .before .block-word .ensures) (c .before .before .before .before .before .before .block-word2 .ensures) (c .before .before .before .before .before .block-word3 .ensures) (c .before .before .before .before .block-word4 .ensures)) .1, (for-of-test (c .before .before .before .before .before .before .before .before .before .before .args .words .now) (c .before .before .before .before .before .before .before .before .before .before .args .p) (c .before .before .before .before .before .before .before .before .before .before .pre .0) (c .before .before .before .before .before .before .before .block-word .result) (c .before .before .before .before .before .before .block-word2 .result) (c .before .before .before .before .before .block-word3 .result) (c .before .before .before .before .block-word4 .result) (c .before .before .before .before .before .before .before .before .before .before .pre .1) (c .before .before .before .before .before .before .before .block-word .ensures) (c .before .before .before .before .before .before .block-word2 .ensures) (c .before .before .before .before .before .block-word3 .ensures) (c .before .before .before .before .block-word4 .ensures))))
 
 -- src/loops.rt:267:5
 enter-loop-requires : tie.Need-enter-loop-requires
-enter-loop-requires c κs = let h = few-loop-blocks (c .before .before .before .before .before .before .before .before .before .before .before .before .before .args .words .now) (c .before .before .before .before .before .before .before .before .before .before .before .before .before .args .p) (c .before .before .before .before .before .before .before .before .before .before .before .before .before .pre .0) (for-of-blocks (c .before .before .before .before .before .before .before .before .before .before .before .before .before .args .words .now) (c .before .before .before .before .before .before .before .before .before .before .before .before .before .args .p) (c .before .before .before .before .before .before .before .before .before .before .before .before .before .pre .0) (c .before .before .before .before .before .before .before .before .before .before .block-word .result) (c .before .before .before .before .before .before .before .before .before .block-word2 .result) (c .before .before .before .before .before .before .before .before .block-word3 .result) (c .before .before .before .before .before .before .before .block-word4 .result) (c .before .before .before .before .before .before .before .before .before .before .before .before .before .pre .1) (c .before .before .before .before .before .before .before .before .before .before .block-word .ensures) (c .before .before .before .before .before .before .before .before .before .block-word2 .ensures) (c .before .before .before .before .before .before .before .before .block-word3 .ensures) (c .before .before .before .before .before .before .before .block-word4 .ensures)) in (c .before .before .before .before .before .before .before .before .before .before .before .before .before .pre .0 .depth, h .0, h .1, h .2)
+enter-loop-requires c κs = let h = few-loop-blocks (c .before .before .before .before .before .before .before .before .before .before .before .before .before .args .words .now) (c .before .before .before .before .before .before .before .before .before .before .before .before .before .args .p) (c .before .before .before .before .before .before .before .before .before .before .before .before .before .pre .0) (for-of-blocks (c .before .before .before .before .before .before .before .before .before .before .before .before .before .args .words .now) (c .before .before .before .before .before .before .before .before .before .before .before .before .before .args .p) (c .before .before .before .before .before .before .before .before .before .before .before .before .before .pre .0) (c .before .before .before .before .before .before .before .before .before .before .block-word .result) (c .before .before .before .before .before .before .before .before .before .block-word2 .result) (c .before .before .before .before .before .before .before .before .block-word3 .result) (c .before .before .before .before .before .before .before .block-word4 .result) (c .before .before .before .before .before .before .before .before .before .before .before .before .before .pre .1) (c .before .before .before .before .before .before .before .before .before .before .block-word .ensures) (c .before .before .before .before .before .before .before .before .before .block-word2 .ensures) (c .before .before .before .before .before .before .before .before .block-word3 .ensures) (c .before .before .before .before .before .before .before .block-word4 .ensures)) in (c .before .before .before .before .before .before .before .before .before .before .before .before .before .pre .0 .depth, (h .0, (h .1, h .2)))
 
 -- src/loops.rt:252:1
 same-length : tie.Need-same-length

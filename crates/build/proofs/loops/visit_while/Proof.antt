@@ -28,7 +28,7 @@ block-word-requires-3 c κs = search needs
 
 -- src/loops.rt:176:8
 block-word-requires-4 : tie.Need-block-word-requires-4
-block-word-requires-4 c κs = (c .before .before .before .before .before .pre .0 .promise .sized, (while-blocks (c .before .before .before .before .before .args .words .now) (c .before .before .before .before .before .args .p) (c .before .before .before .before .before .pre .0) (c .before .before .block-word .result) (c .before .block-word2 .result) (c .block-word3 .result) (c .before .before .before .before .before .pre .1) (c .before .before .block-word .ensures) (c .before .block-word2 .ensures) (c .block-word3 .ensures)) .0, omega arith)
+block-word-requires-4 c κs = (c .before .before .before .before .before .pre .0 .promise .sized, ((while-blocks (c .before .before .before .before .before .args .words .now) (c .before .before .before .before .before .args .p) (c .before .before .before .before .before .pre .0) (c .before .before .block-word .result) (c .before .block-word2 .result) (c .block-word3 .result) (c .before .before .before .before .before .pre .1) (c .before .before .block-word .ensures) (c .before .block-word2 .ensures) (c .block-word3 .ensures)) .0, omega arith))
 
 -- src/loops.rt:177:9
 refuse-requires : tie.Need-refuse-requires
@@ -60,11 +60,11 @@ no-values-requires c κs = search needs
 
 -- src/loops.rt:183:9
 plain-value-requires : tie.Need-plain-value-requires
-plain-value-requires c κs = (c .before .before .before .before .before .before .before .before .before .before .before .before .pre .0, (while-blocks (c .before .before .before .before .before .before .before .before .before .before .before .before .args .words .now) (c .before .before .before .before .before .before .before .before .before .before .before .before .args .p) (c .before .before .before .before .before .before .before .before .before .before .before .before .pre .0) (c .before .before .before .before .before .before .before .before .before .block-word .result) (c .before .before .before .before .before .before .before .before .block-word2 .result) (c .before .before .before .before .before .before .before .block-word3 .result) (c .before .before .before .before .before .before .before .before .before .before .before .before .pre .1) (c .before .before .before .before .before .before .before .before .before .block-word .ensures) (c .before .before .before .before .before .before .before .before .block-word2 .ensures) (c .before .before .before .before .before .before .before .block-word3 .ensures)) .1, nothing-spent (c .before .before .before .before .before .before .before .before .before .before .before .before .args .words .now) (c .before .before .before .before .before .before .before .before .before .before .before .before .args .p) _ (c .before .before .before .before .before .before .before .before .before .before .before .before .pre .0) (c .no-values .ensures))
+plain-value-requires c κs = (c .before .before .before .before .before .before .before .before .before .before .before .before .pre .0, ((while-blocks (c .before .before .before .before .before .before .before .before .before .before .before .before .args .words .now) (c .before .before .before .before .before .before .before .before .before .before .before .before .args .p) (c .before .before .before .before .before .before .before .before .before .before .before .before .pre .0) (c .before .before .before .before .before .before .before .before .before .block-word .result) (c .before .before .before .before .before .before .before .before .block-word2 .result) (c .before .before .before .before .before .before .before .block-word3 .result) (c .before .before .before .before .before .before .before .before .before .before .before .before .pre .1) (c .before .before .before .before .before .before .before .before .before .block-word .ensures) (c .before .before .before .before .before .before .before .before .block-word2 .ensures) (c .before .before .before .before .before .before .before .block-word3 .ensures)) .1, nothing-spent (c .before .before .before .before .before .before .before .before .before .before .before .before .args .words .now) (c .before .before .before .before .before .before .before .before .before .before .before .before .args .p) _ (c .before .before .before .before .before .before .before .before .before .before .before .before .pre .0) (c .no-values .ensures)))
 
 -- src/loops.rt:185:5
 enter-loop-requires : tie.Need-enter-loop-requires
-enter-loop-requires c κs = let h = few-loop-blocks (c .before .before .before .before .before .before .before .before .before .before .before .before .before .before .before .args .words .now) (c .before .before .before .before .before .before .before .before .before .before .before .before .before .before .before .args .p) (c .before .before .before .before .before .before .before .before .before .before .before .before .before .before .before .pre .0) (while-blocks (c .before .before .before .before .before .before .before .before .before .before .before .before .before .before .before .args .words .now) (c .before .before .before .before .before .before .before .before .before .before .before .before .before .before .before .args .p) (c .before .before .before .before .before .before .before .before .before .before .before .before .before .before .before .pre .0) (c .before .before .before .before .before .before .before .before .before .before .before .before .block-word .result) (c .before .before .before .before .before .before .before .before .before .before .before .block-word2 .result) (c .before .before .before .before .before .before .before .before .before .before .block-word3 .result) (c .before .before .before .before .before .before .before .before .before .before .before .before .before .before .before .pre .1) (c .before .before .before .before .before .before .before .before .before .before .before .before .block-word .ensures) (c .before .before .before .before .before .before .before .before .before .before .before .block-word2 .ensures) (c .before .before .before .before .before .before .before .before .before .before .block-word3 .ensures)) in (c .before .before .before .before .before .before .before .before .before .before .before .before .before .before .before .pre .0 .depth, h .0, h .1, h .2)
+enter-loop-requires c κs = let h = few-loop-blocks (c .before .before .before .before .before .before .before .before .before .before .before .before .before .before .before .args .words .now) (c .before .before .before .before .before .before .before .before .before .before .before .before .before .before .before .args .p) (c .before .before .before .before .before .before .before .before .before .before .before .before .before .before .before .pre .0) (while-blocks (c .before .before .before .before .before .before .before .before .before .before .before .before .before .before .before .args .words .now) (c .before .before .before .before .before .before .before .before .before .before .before .before .before .before .before .args .p) (c .before .before .before .before .before .before .before .before .before .before .before .before .before .before .before .pre .0) (c .before .before .before .before .before .before .before .before .before .before .before .before .block-word .result) (c .before .before .before .before .before .before .before .before .before .before .before .block-word2 .result) (c .before .before .before .before .before .before .before .before .before .before .block-word3 .result) (c .before .before .before .before .before .before .before .before .before .before .before .before .before .before .before .pre .1) (c .before .before .before .before .before .before .before .before .before .before .before .before .block-word .ensures) (c .before .before .before .before .before .before .before .before .before .before .before .block-word2 .ensures) (c .before .before .before .before .before .before .before .before .before .before .block-word3 .ensures)) in (c .before .before .before .before .before .before .before .before .before .before .before .before .before .before .before .pre .0 .depth, (h .0, (h .1, h .2)))
 
 -- src/loops.rt:168:1
 same-length : tie.Need-same-length
