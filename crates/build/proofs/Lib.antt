@@ -1,3 +1,5 @@
 pub mod PlanLaws
 pub mod StepLaws
 pub mod VisitLaws
+pub mod RowPlanLaws
+pub mod JumpLaws

@@ -2,3 +2,5 @@
 mod plan;
 mod fallthrough;
 mod nested;
+mod leaf;
+mod jump;
