@@ -3,3 +3,4 @@ pub mod StepLaws
 pub mod VisitLaws
 pub mod RowPlanLaws
 pub mod JumpLaws
+pub mod GotoLaws

@@ -5,7 +5,7 @@ use mathlib.Core.Bool.{Bool, true, false}
 use mathlib.Core.List.{List, [], _∷_, _++_}
 use mathlib.Core.Option.{Option, none, some}
 use lib.Dec.{eqb}
-use Rattle.definition.specs.Context.{Flags, getBreakTarget, getContinueTarget}
+use Rattle.definition.specs.Context.{Flags, isScheduled, getBreakTarget, getContinueTarget}
 use Rattle.definition.specs.Context as definition
 use Rattle.definition.specs.Machine.{jumpOut, added}
 use Rattle.definition.specs.Result.{Result, ok, refused, _>>=_}
@@ -16,7 +16,13 @@ use Rattle.control.specs.declared.Resolved.the-variants.{Nothing, Found}
 use Rattle.control.specs.Abstraction.{resolvedOf}
 use Rattle.rows.specs.Rows.{Holds}
 use Rattle.rows.specs.Stack.{pushed}
+use Rattle.table.specs.Words.{blockWord}
 use Rattle.build.specs.declared.jump.Jumped.{Jumped}
+use Rattle.build.specs.declared.plan.Position.{Position}
+use Rattle.build.specs.declared.plan.Plan.{Plan}
+use Rattle.build.specs.declared.plan.Change.the-variants as plan
+use Rattle.build.specs.Plans.{leaving, refusing}
+use Rattle.build.specs.Planned.{Seen}
 
 -- the target that was found is one of the 1,024 blocks
 abbrev pub FoundBelow : Resolved → Type 0
@@ -46,3 +52,24 @@ breakOutcome at block id resolved cx = breakResolved at block id cx (resolvedOf 
 
 abbrev pub continueOutcome : (block id : ℕ) → Resolved → definition.Context → Result (Option Statement)
 continueOutcome block id resolved cx = continueResolved block id cx (resolvedOf resolved) >>= λ statement. ok (some statement)
+
+-- ---- Goto and Branch
+
+abbrev pub afterJumpBy : Bool → Position → Jumped → Plan
+afterJumpBy true p jump = leaving 65535 (p .depth) (p .count + jump .count) (jump .rows) (p .visits) plan.Nothing
+afterJumpBy false p jump = refusing p (jump .code) (jump .at)
+
+abbrev pub afterJump : Position → Jumped → Plan
+afterJump p jump = afterJumpBy (eqb (jump .code) 0) p jump
+
+-- what a Goto sees: the search found what the stack has
+pub record GotoSeen (words : List ℕ) (p : Position) (scopes : Flags) (resolved : Resolved) (cx : definition.Context) : Type 0 where
+  pub seen : JumpSeen scopes (p .visits) cx
+  pub breaks : blockWord words (p .block) 4 ≡ 0 → resolvedOf resolved ≡ getBreakTarget cx (blockWord words (p .block) 3)
+  pub continues : blockWord words (p .block) 4 ≡ 1 → resolvedOf resolved ≡ getContinueTarget cx (blockWord words (p .block) 3)
+
+-- what a Branch sees: where its consequent is scheduled, the search found what the stack has
+pub record BranchSeen (words : List ℕ) (p : Position) (scheduledSet handlerSet scopes : Flags) (resolved : Resolved) (cx : definition.Context) : Type 0 where
+  pub seen : JumpSeen scopes (p .visits) cx
+  pub sets : Seen scheduledSet handlerSet (p .visits) cx
+  pub breaks : isScheduled cx (blockWord words (p .block) 4) ≡ true → resolvedOf resolved ≡ getBreakTarget cx (blockWord words (p .block) 4)

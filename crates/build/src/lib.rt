@@ -4,3 +4,4 @@ mod fallthrough;
 mod nested;
 mod leaf;
 mod jump;
+mod branch;
