@@ -4,3 +4,4 @@ pub mod VisitLaws
 pub mod RowPlanLaws
 pub mod JumpLaws
 pub mod GotoLaws
+pub mod CloseLaws

@@ -5,3 +5,4 @@ mod nested;
 mod leaf;
 mod jump;
 mod branch;
+mod close;
