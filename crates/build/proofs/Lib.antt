@@ -5,3 +5,4 @@ pub mod RowPlanLaws
 pub mod JumpLaws
 pub mod GotoLaws
 pub mod CloseLaws
+pub mod ResumeLaws

@@ -21,7 +21,7 @@ use Rattle.build.specs.declared.plan.Change.{Change}
 use Rattle.build.specs.declared.plan.Change.the-variants.{Nothing, Unschedule}
 use Rattle.build.specs.declared.plan.Plan.{Plan}
 use Rattle.build.specs.declared.close.Columns.{Columns}
-use Rattle.build.specs.Plans.{frameOf}
+use Rattle.build.specs.Plans.{frameOf, refusing, nesting, second}
 use Rattle.build.specs.Planned.{Seen, Planned, SameVisits}
 
 -- what holds of a position and the innermost frame
@@ -62,3 +62,17 @@ chooseStep words frame frames rows cx =
 -- a planner with a frame in hand
 abbrev pub PlannedFor : (List machine.Frame → List Row → definition.Context → Result State) → (definition.Context → Type 0) → Position → Frame → List ℕ → Plan → List ℕ → Type 0
 PlannedFor step On p frame buffer plan buffer′ = Planned step On (frameOf frame ∷ []) (p .depth) (p .rows) buffer plan buffer′
+
+-- an alternate that must not be scheduled
+abbrev pub alternating : Bool → Position → Frame → (block code at : ℕ) → Plan
+alternating true p frame block code at = refusing p code at
+alternating false p frame block code at = nesting block (second frame) (p .depth) (p .rows) (p .visits) 65535 65535 Nothing
+
+-- of a Switch: the case that is awaited, and the cases that are left
+pub record AtCase (words : List ℕ) (frame : Frame) : Type 0 where
+  pub switch : blockWord words (frame .block) 2 ≡ 7
+  pub case : blockWord words (frame .block) 4 + frame .left < caseCount words
+
+pub record AtCases (words : List ℕ) (frame : Frame) : Type 0 where
+  pub switch : blockWord words (frame .block) 2 ≡ 7
+  pub cases : blockWord words (frame .block) 4 + frame .left ≤ caseCount words

@@ -6,3 +6,4 @@ mod leaf;
 mod jump;
 mod branch;
 mod close;
+mod resume;
