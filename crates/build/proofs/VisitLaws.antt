@@ -83,7 +83,7 @@ unfolding Label
 label-below n (inl q) e = absurd (let z : _≡_ {A = Bool} true false = sym (eq-eqb n 65535 q) ∙ e in let o : _≡_ {A = ℕ} 0 1 = cc in omega arith)
 label-below n (inr h) e = h
 
-named-if : (n : ℕ) → Label n → NamedChange 0 (scheduleIf (eqb n 65535) n)
+pub named-if : (n : ℕ) → Label n → NamedChange 0 (scheduleIf (eqb n 65535) n)
 named-if n l = at (eqb n 65535) (λ e. label-below n l e)
   where
     at : (y : Bool) → (y ≡ false → n < 1024) → NamedChange 0 (scheduleIf y n)
@@ -327,3 +327,6 @@ module _ (w : List ℕ) (S H : Flags) (p : Position) (en : Entered w p) where
 pub continuation-below : (w : List ℕ) (p : Position) → Entered w p → blockWord w (p .block) 2 ≡ 18 → blockWord w (p .block) 3 < blockCount w
 unfolding terminalOf
 continuation-below w p en code = ranges w (en .promise) (p .block) (en .block) _ (end-by w (p .block) (en .block) 18 code)
+
+pub taken-most : (S H : Flags) (f n : ℕ) → n ≡ unlessTaken (or (has S f) (has H f)) f → f < 1024 → n ≤ 65535
+taken-most S H f n e h = rw e (label-most (unlessTaken (or (has S f) (has H f)) f) (label-taken (or (has S f) (has H f)) f h))

@@ -1,4 +1,6 @@
 pub mod Plans
 pub mod Planned
+pub mod Jumps
+pub mod Resumes
 pub mod Driver
 pub mod Loops

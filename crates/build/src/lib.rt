@@ -2,4 +2,9 @@
 mod plan;
 mod fallthrough;
 mod nested;
+mod leaf;
+mod jump;
+mod branch;
+mod close;
+mod resume;
 mod loops;

@@ -1,0 +1,35 @@
+use native.Mathlib.Omega.{arith}
+use mathlib.Core.Path.{_≡_, refl, sym, _∙_, ap}
+use borrow.Author.Needs.{needs}
+use Rattle.build.proofs.resume.alternate.Statement.{statement}
+use Rattle.build.proofs.resume.alternate.Tie as tie
+use Rattle.build.proofs.resume.alternate.Reads as reads
+use Rattle.build.proofs.resume.alternate.Lts as lts
+use Rattle.build.proofs.plan.refuse.Reads as refuse-reads
+use Rattle.build.proofs.plan.second_part.Reads as second-part-reads
+use Rattle.build.proofs.plan.traverse_block.Reads as traverse-block-reads
+
+-- src/resume.rt:30:9
+refuse-requires : tie.Need-refuse-requires
+refuse-requires c κs = search needs
+
+-- src/resume.rt:30:9
+returns : tie.Need-returns
+returns c = rw (c .before .if1 .taken) (c .refuse .ensures)
+
+-- src/resume.rt:32:9
+second-part-requires : tie.Need-second-part-requires
+second-part-requires c κs = search needs
+
+-- src/resume.rt:33:5
+traverse-block-requires : tie.Need-traverse-block-requires
+traverse-block-requires c κs = search needs
+
+-- src/resume.rt:26:1
+returns-2 : tie.Need-returns-2
+returns-2 c = rw (c .before .before .if1 .left, ← (c .before .second-part .ensures)) (c .traverse-block .ensures)
+
+pub alternate-spec : {M : Type 1} → statement M
+alternate-spec =
+    tie.close
+    (tie.spec refuse-requires returns second-part-requires traverse-block-requires returns-2)
