@@ -492,57 +492,38 @@ module _ (S H : Flags) (v : ℕ) (C : definition.Context) (seen : Seen S H v C) 
       by true e q = rw (q, none-is)
       by false e q = rw (q, some-is f (λ z. omega arith), ne-eqb f 65535 (λ z. omega arith)) (id-taken f after C (ap (λ (z : Flags). has z f) (seen .scheduled) ∙ or-left (has S f) (has H f) e))
 
-value-turn : (t : Table) (visit : VisitValueBlock) (e : Terminal) (at : ℕ) (block : Block) (f : ℕ) (F : List machine.Frame) (R : List Row) (count : ℕ) (C : definition.Context) → valueFallthrough e ≡ some f
-    → terminalTurn t visit e at block F R count C ≡ valueTurn t visit e at block f F R count C
-unfolding terminalTurn
-value-turn t visit absent at block f F R count C q = absurd (no-some q)
-value-turn t visit unreachable at block f F R count C q = absurd (no-some q)
-value-turn t visit (throw value) at block f F R count C q = absurd (no-some q)
-value-turn t visit (return value) at block f F R count C q = absurd (no-some q)
-value-turn t visit (goto target variant) at block f F R count C q = absurd (no-some q)
-value-turn t visit (if test consequent alternate fallthrough) at block f F R count C q = absurd (no-some q)
-value-turn t visit (branch test consequent alternate) at block f F R count C q = absurd (no-some q)
-value-turn t visit (switch test first number fallthrough) at block f F R count C q = absurd (no-some q)
-value-turn t visit (do-while loop test fallthrough) at block f F R count C q = absurd (no-some q)
-value-turn t visit (while test loop fallthrough) at block f F R count C q = absurd (no-some q)
-value-turn t visit (for init test update loop fallthrough) at block f F R count C q = absurd (no-some q)
-value-turn t visit (for-of init test loop fallthrough) at block f F R count C q = absurd (no-some q)
-value-turn t visit (for-in init loop fallthrough) at block f F R count C q = absurd (no-some q)
-value-turn t visit (logical operator test fallthrough) at block f F R count C q = ap (λ (z : ℕ). valueTurn t visit (logical operator test fallthrough) at block z F R count C) (some-same q)
-value-turn t visit (ternary test fallthrough) at block f F R count C q = ap (λ (z : ℕ). valueTurn t visit (ternary test fallthrough) at block z F R count C) (some-same q)
-value-turn t visit (optional chain test fallthrough) at block f F R count C q = ap (λ (z : ℕ). valueTurn t visit (optional chain test fallthrough) at block z F R count C) (some-same q)
-value-turn t visit (label body fallthrough) at block f F R count C q = absurd (no-some q)
-value-turn t visit (sequence body fallthrough) at block f F R count C q = ap (λ (z : ℕ). valueTurn t visit (sequence body fallthrough) at block z F R count C) (some-same q)
-value-turn t visit (maybe-throw continuation) at block f F R count C q = absurd (no-some q)
-value-turn t visit (try body handler fallthrough binding) at block f F R count C q = absurd (no-some q)
-value-turn t visit (scope pruned body fallthrough number) at block f F R count C q = absurd (no-some q)
+-- a terminal with such a fallthrough: its turn, and the fallthrough's range
+pub record ValueTerminal (e : Terminal) (f : ℕ) : Type 0 where
+  pub turns : (t : Table) (visit : VisitValueBlock) (at : ℕ) (block : Block) (F : List machine.Frame) (R : List Row) (count : ℕ) (C : definition.Context) → terminalTurn t visit e at block F R count C ≡ valueTurn t visit e at block f F R count C
+  pub below : (blocks places cases : ℕ) → InRange blocks places cases e → f < blocks
 
-value-below : (blocks places cases : ℕ) (e : Terminal) (f : ℕ) → valueFallthrough e ≡ some f → InRange blocks places cases e → f < blocks
-value-below blocks places cases absent f q r = absurd (no-some q)
-value-below blocks places cases unreachable f q r = absurd (no-some q)
-value-below blocks places cases (throw value) f q r = absurd (no-some q)
-value-below blocks places cases (return value) f q r = absurd (no-some q)
-value-below blocks places cases (goto target variant) f q r = absurd (no-some q)
-value-below blocks places cases (if test consequent alternate fallthrough) f q r = absurd (no-some q)
-value-below blocks places cases (branch test consequent alternate) f q r = absurd (no-some q)
-value-below blocks places cases (switch test first number fallthrough) f q r = absurd (no-some q)
-value-below blocks places cases (do-while loop test fallthrough) f q r = absurd (no-some q)
-value-below blocks places cases (while test loop fallthrough) f q r = absurd (no-some q)
-value-below blocks places cases (for init test update loop fallthrough) f q r = absurd (no-some q)
-value-below blocks places cases (for-of init test loop fallthrough) f q r = absurd (no-some q)
-value-below blocks places cases (for-in init loop fallthrough) f q r = absurd (no-some q)
-value-below blocks places cases (logical operator test fallthrough) f q r = omega (arith, some-same q, r .2)
-value-below blocks places cases (ternary test fallthrough) f q r = omega (arith, some-same q, r .1)
-value-below blocks places cases (optional chain test fallthrough) f q r = omega (arith, some-same q, r .2)
-value-below blocks places cases (label body fallthrough) f q r = absurd (no-some q)
-value-below blocks places cases (sequence body fallthrough) f q r = omega (arith, some-same q, r .1)
-value-below blocks places cases (maybe-throw continuation) f q r = absurd (no-some q)
-value-below blocks places cases (try body handler fallthrough binding) f q r = absurd (no-some q)
-value-below blocks places cases (scope pruned body fallthrough number) f q r = absurd (no-some q)
+value-terminal : (e : Terminal) (f : ℕ) → valueFallthrough e ≡ some f → ValueTerminal e f
+unfolding terminalTurn
+value-terminal absent f q = absurd (no-some q)
+value-terminal unreachable f q = absurd (no-some q)
+value-terminal (throw value) f q = absurd (no-some q)
+value-terminal (return value) f q = absurd (no-some q)
+value-terminal (goto target variant) f q = absurd (no-some q)
+value-terminal (if test consequent alternate fallthrough) f q = absurd (no-some q)
+value-terminal (branch test consequent alternate) f q = absurd (no-some q)
+value-terminal (switch test first number fallthrough) f q = absurd (no-some q)
+value-terminal (do-while loop test fallthrough) f q = absurd (no-some q)
+value-terminal (while test loop fallthrough) f q = absurd (no-some q)
+value-terminal (for init test update loop fallthrough) f q = absurd (no-some q)
+value-terminal (for-of init test loop fallthrough) f q = absurd (no-some q)
+value-terminal (for-in init loop fallthrough) f q = absurd (no-some q)
+value-terminal (logical operator test fallthrough) f q = record { turns = λ t visit at block F R count C. ap (λ (z : ℕ). valueTurn t visit (logical operator test fallthrough) at block z F R count C) (some-same q); below = λ blocks places cases r. omega (arith, some-same q, r .2) }
+value-terminal (ternary test fallthrough) f q = record { turns = λ t visit at block F R count C. ap (λ (z : ℕ). valueTurn t visit (ternary test fallthrough) at block z F R count C) (some-same q); below = λ blocks places cases r. omega (arith, some-same q, r .1) }
+value-terminal (optional chain test fallthrough) f q = record { turns = λ t visit at block F R count C. ap (λ (z : ℕ). valueTurn t visit (optional chain test fallthrough) at block z F R count C) (some-same q); below = λ blocks places cases r. omega (arith, some-same q, r .2) }
+value-terminal (label body fallthrough) f q = absurd (no-some q)
+value-terminal (sequence body fallthrough) f q = record { turns = λ t visit at block F R count C. ap (λ (z : ℕ). valueTurn t visit (sequence body fallthrough) at block z F R count C) (some-same q); below = λ blocks places cases r. omega (arith, some-same q, r .1) }
+value-terminal (maybe-throw continuation) f q = absurd (no-some q)
+value-terminal (try body handler fallthrough binding) f q = absurd (no-some q)
+value-terminal (scope pruned body fallthrough number) f q = absurd (no-some q)
 
 module _ (w : List ℕ) (S H : Flags) (p : Position) (en : Entered w p) (f : ℕ) (q : valueFallthrough (terminalAt (tableOf w) (p .block)) ≡ some f) where
   pub fallthrough-below : f < blockCount w
-  fallthrough-below = value-below (blockCount w) (placeCount w) (caseCount w) (terminalAt (tableOf w) (p .block)) f q (in-range w (en .promise) (p .block) (en .block))
+  fallthrough-below = value-terminal (terminalAt (tableOf w) (p .block)) f q .below (blockCount w) (placeCount w) (caseCount w) (in-range w (en .promise) (p .block) (en .block))
 
   abbrev outcome : Result ValueTerminalResult
   outcome = visitValueBlockTerminal (tableOf w) (visitValueBlock (tableOf w) (127 - p .depth)) (terminalAt (tableOf w) (p .block)) (blockAt (tableOf w) (p .block) .id) (blockAt (tableOf w) (p .block) .span) (p .visits) (p .block)
@@ -554,7 +535,7 @@ module _ (w : List ℕ) (S H : Flags) (p : Position) (en : Entered w p) (f : ℕ
 
   value-step : (F : List machine.Frame) (R : List Row) (C : definition.Context) → Seen S H (p .visits) C → terminalStep w p F R C ≡ outcome >>= left F R C
   unfolding valueTurn left
-  value-step F R C seen = value-turn (tableOf w) (visitValueBlock (tableOf w) (127 - p .depth)) (terminalAt (tableOf w) (p .block)) (p .block) (blockAt (tableOf w) (p .block)) f F R (p .count) C q ∙ rw (seen .visits)
+  value-step F R C seen = value-terminal (terminalAt (tableOf w) (p .block)) f q .turns (tableOf w) (visitValueBlock (tableOf w) (127 - p .depth)) (p .block) (blockAt (tableOf w) (p .block)) F R (p .count) C ∙ rw (seen .visits)
 
   module _ {m : ℕ} {b b₁ : List ℕ} {r : ValueResult} (v : Met w terminalResult outcome (record { rows = p .rows; visits = p .visits }) m b r b₁) where
     pub value-statement-refused : (plan : Plan) (b′ : List ℕ) → (r .code ≡ 0 → ⊥) → plan ≡ refusing (afterValues p (valuesOf r)) (r .code) (r .at) → PlannedRows w S H p b plan b′
