@@ -1,98 +1,87 @@
--- What a block's jump looks for.
-use Prim.Native.Nat.{ℕ, zero, suc, _<_, _≤_}
+-- What a jump comes to.
+use Prim.Native.Nat.{ℕ, zero, suc, _+_, _≤_, _<_}
 use native.Mathlib.Omega.{arith}
 use mathlib.Core.Path.{_≡_, refl, sym, ap, _∙_, subst}
 use mathlib.Core.Bool.{Bool, true, false}
-use mathlib.Core.List.{List}
+use mathlib.Core.List.{List, [], _∷_, _++_, append-nil}
 use mathlib.Core.Option.{Option, none, some}
-use Rattle.table.specs.Words.{blockCount, placeCount, caseCount, blockWord}
-use Rattle.table.specs.Promise.{Promise, InRange}
-use Rattle.table.specs.Table.{Terminal, Variant, absent, unreachable, throw, return, goto, if, branch, switch, do-while, while, for, for-of, for-in, logical, ternary, optional, label, sequence, maybe-throw, try, scope, Break, Continue, Try, codeOf, tableOf, terminalOf, terminalAt, variantOf}
-use Rattle.table.proofs.RangeLaws.{in-range}
-use Rattle.definition.specs.Context.{Flags, or, has, isScheduled, getBreakTarget, getContinueTarget}
+use lib.Dec.{eqb}
+use lib.ListN.{getD}
+use Rattle.definition.specs.Context.{Flags, has}
 use Rattle.definition.specs.Context as definition
-use Rattle.build.specs.declared.search.Jump.{Jump}
-use Rattle.build.specs.declared.search.Jump.the-variants.{Nothing}
-use Rattle.build.specs.declared.search.Jump.the-variants as jump
-use Rattle.build.specs.Driver.{Resolves, foundBy, Searches}
-use Rattle.build.proofs.StepLaws.{end-by, code-at}
+use Rattle.definition.specs.Machine.{stmtOut}
+use Rattle.definition.specs.Result.{Result, ok, refused, _>>=_}
+use Rattle.definition.specs.Statement.{breakResolved, breakToScope, continueResolved}
+use Rattle.definition.specs.Tree.{Row, row, Kind, implicit, labeled, unlabeled, kindNumber, BREAK, CONTINUE, Statement}
+use Rattle.control.specs.declared.Resolution.{Resolution}
+use Rattle.control.specs.declared.Resolved.the-variants.{Nothing, Found}
+use Rattle.control.specs.Abstraction.{kindOf, resolutionOf}
+use Rattle.rows.specs.Rows.{Holds, Written}
+use Rattle.rows.specs.Stack as stack
+use Rattle.build.specs.declared.jump.Jumped.{Jumped}
+use Rattle.build.specs.Jumps.{JumpSeen, JumpMet, breakOutcome, continueOutcome}
+use Rattle.build.proofs.RowPlanLaws.{row-held}
 
--- a terminal that is no jump
-quiet : (e : Terminal) (cx : definition.Context) (found : Option definition.Resolution) → (codeOf e ≡ 4 → ⊥) → (codeOf e ≡ 6 → ⊥) → Resolves e cx found
-quiet absent cx found f g = tt
-quiet unreachable cx found f g = tt
-quiet (throw value) cx found f g = tt
-quiet (return value) cx found f g = tt
-quiet (goto target variant) cx found f g = absurd (f refl)
-quiet (if test consequent alternate fallthrough) cx found f g = tt
-quiet (branch test consequent alternate) cx found f g = absurd (g refl)
-quiet (switch test first number fallthrough) cx found f g = tt
-quiet (do-while loop test fallthrough) cx found f g = tt
-quiet (while test loop fallthrough) cx found f g = tt
-quiet (for init test update loop fallthrough) cx found f g = tt
-quiet (for-of init test loop fallthrough) cx found f g = tt
-quiet (for-in init loop fallthrough) cx found f g = tt
-quiet (logical operator test fallthrough) cx found f g = tt
-quiet (ternary test fallthrough) cx found f g = tt
-quiet (optional chain test fallthrough) cx found f g = tt
-quiet (label body fallthrough) cx found f g = tt
-quiet (sequence body fallthrough) cx found f g = tt
-quiet (maybe-throw continuation) cx found f g = tt
-quiet (try body handler fallthrough binding) cx found f g = tt
-quiet (scope pruned body fallthrough number) cx found f g = tt
+-- no row
+bare : (n : ℕ) (b : List ℕ) → (before : List Row) → Holds b n (stack.pushed before []) → Holds b n (stack.pushed (before ++ []) [])
+bare n b before h = rw (append-nil before) h
 
-module _ (w : List ℕ) (b : ℕ) (pr : Promise w) (below : b < blockCount w) where
-  pub goto-target : blockWord w b 2 ≡ 4 → blockWord w b 3 < 1024
-  unfolding terminalOf
-  goto-target code = let r : blockWord w b 3 < blockCount w = subst (λ (z : Terminal). InRange (blockCount w) (placeCount w) (caseCount w) z) (end-by w b below 4 code) (in-range w pr b below) in omega (arith, r, pr .sized .limited .blocks)
+pub break-none : (at block id : ℕ) (O : Flags) (v n : ℕ) (b : List ℕ) (r : Jumped) → r ≡ record { code = 20; at = block; rows = n; count = 0 } → JumpMet (breakOutcome at block id Nothing) O v n b r b
+unfolding breakResolved
+break-none at block id O v n b r e = subst (λ (z : Jumped). JumpMet (breakOutcome at block id Nothing) O v n b z b) (sym e)
+    (record { statement = none; same = λ C s. ap (λ (k : ℕ). refused 20 block k) (s .visits); held = λ z. absurd (omega (arith, z)); count = λ z. absurd (omega (arith, z)); most = omega arith })
 
-  pub branch-consequent : blockWord w b 2 ≡ 6 → blockWord w b 4 < 1024
-  unfolding terminalOf
-  branch-consequent code =
-      let r : InRange (blockCount w) (placeCount w) (caseCount w) (branch (blockWord w b 3) (blockWord w b 4) (blockWord w b 5)) = subst (λ (z : Terminal). InRange (blockCount w) (placeCount w) (caseCount w) z) (end-by w b below 6 code) (in-range w pr b below) in
-      omega (arith, r .1, pr .sized .limited .blocks)
+scoped-break : (at id : ℕ) (O : Flags) (v : ℕ) (found : Resolution) (block : ℕ) (C : definition.Context) → getD O (found .target) false ≡ true → JumpSeen O v C
+    → breakOutcome at block id (Found found) C ≡ breakToScope (kindOf (found .kind)) at (C .visits)
+unfolding breakResolved has
+scoped-break at id O v found block C h s =
+    ap (λ (y : Bool). elim y [ true ↦ breakToScope (kindOf (found .kind)) at (C .visits) | false ↦ ok (some (BREAK (found .target) id (kindOf (found .kind)))) ]) (ap (λ (l : Flags). getD l (found .target) false) (s .scopeFallthroughs) ∙ h)
 
-module _ (w : List ℕ) (S H : Flags) (b : ℕ) (pr : Promise w) (below : b < blockCount w) where
-  pub no-jump : (blockWord w b 2 ≡ 4 → ⊥) → (blockWord w b 2 ≡ 6 → ⊥) → Searches w S H b Nothing
-  no-jump f g = record { resolves = λ cx s h. quiet (terminalAt (tableOf w) b) cx none (λ e. f (sym (code-at w b pr below) ∙ e)) (λ e. g (sym (code-at w b pr below) ∙ e)) }
+pub break-scope : (at id : ℕ) (O : Flags) (v n : ℕ) (found : Resolution) (b : List ℕ) (r : Jumped) → getD O (found .target) false ≡ true → kindNumber (kindOf (found .kind)) ≡ 0
+    → r ≡ record { code = 0; at = 0; rows = n; count = 0 } → (block : ℕ) → JumpMet (breakOutcome at block id (Found found)) O v n b r b
+break-scope at id O v n found b r h k e block = subst (λ (z : Jumped). JumpMet (breakOutcome at block id (Found found)) O v n b z b) (sym e)
+    (record { statement = none; same = λ C s. scoped-break at id O v found block C h s ∙ silent (kindOf (found .kind)) (C .visits) k; held = λ _. bare n b; count = λ _. refl; most = omega arith })
+  where
+    silent : (k : Kind) (w : ℕ) → kindNumber k ≡ 0 → breakToScope k at w ≡ ok none
+    silent implicit w q = unfold breakToScope in refl
+    silent labeled w q = absurd (omega (arith, q))
+    silent unlabeled w q = absurd (omega (arith, q))
 
-  -- ---- Goto
+pub break-out : (at id : ℕ) (O : Flags) (v n : ℕ) (found : Resolution) (b : List ℕ) (r : Jumped) → getD O (found .target) false ≡ true → (kindNumber (kindOf (found .kind)) ≡ 0 → ⊥)
+    → r ≡ record { code = 22; at = at; rows = n; count = 0 } → (block : ℕ) → JumpMet (breakOutcome at block id (Found found)) O v n b r b
+break-out at id O v n found b r h k e block = subst (λ (z : Jumped). JumpMet (breakOutcome at block id (Found found)) O v n b z b) (sym e)
+    (record { statement = none; same = λ C s. scoped-break at id O v found block C h s ∙ loud (kindOf (found .kind)) (C .visits) k ∙ ap (λ (w : ℕ). refused 22 at w) (s .visits); held = λ z. absurd (omega (arith, z)); count = λ z. absurd (omega (arith, z)); most = omega arith })
+  where
+    loud : (k : Kind) (w : ℕ) → (kindNumber k ≡ 0 → ⊥) → breakToScope k at w ≡ refused 22 at w
+    loud implicit w q = absurd (q refl)
+    loud labeled w q = unfold breakToScope in refl
+    loud unlabeled w q = unfold breakToScope in refl
 
-  module _ (code : blockWord w b 2 ≡ 4) where
-    goto-at : (v : Variant) → variantOf (blockWord w b 4) ≡ v → terminalAt (tableOf w) b ≡ goto (blockWord w b 3) v
-    unfolding terminalOf
-    goto-at v e = end-by w b below 4 code ∙ ap (goto (blockWord w b 3)) e
+pub break-row : (at id : ℕ) (O : Flags) (v n n′ : ℕ) (found : Resolution) (op target number : ℕ) (b b′ : List ℕ) (r : Jumped) → getD O (found .target) false ≡ false
+    → op ≡ 24 → target ≡ found .target → number ≡ kindNumber (kindOf (found .kind)) → Written b n (row op target id number 0 0) b′ n′
+    → r ≡ record { code = 0; at = 0; rows = n′; count = 1 } → (block : ℕ) → JumpMet (breakOutcome at block id (Found found)) O v n b r b′
+unfolding breakResolved has stmtOut
+break-row at id O v n n′ found op target number b b′ r h o t k w e block = subst (λ (z : Jumped). JumpMet (breakOutcome at block id (Found found)) O v n b z b′) (sym e) (record {
+  statement = some (BREAK (found .target) id (kindOf (found .kind)));
+  same = λ C s. ap (λ (y : Bool). elim y [ true ↦ breakToScope (kindOf (found .kind)) at (C .visits) | false ↦ ok (some (BREAK (found .target) id (kindOf (found .kind)))) ]) (ap (λ (l : Flags). getD l (found .target) false) (s .scopeFallthroughs) ∙ h);
+  held = λ _. row-held b b′ n n′ (row 24 (found .target) id (kindNumber (kindOf (found .kind))) 0 0) (rw (o, t, k) at w);
+  count = λ _. refl;
+  most = omega (arith, w .count);
+})
 
-    pub goto-breaks : (n : ℕ) → n ≡ blockWord w b 3 → blockWord w b 4 ≡ 0 → Searches w S H b (jump.Break n)
-    unfolding variantOf
-    goto-breaks n s e = record { resolves = λ cx _ _. subst (λ (z : Terminal). Resolves z cx (getBreakTarget cx n)) (sym (goto-at Break (ap variantOf e))) (ap (getBreakTarget cx) s) }
+pub continue-none : (block id : ℕ) (n : ℕ) (b : List ℕ) (r : Jumped) → r ≡ record { code = 21; at = block; rows = n; count = 0 } → (v : ℕ) (O : Flags) → JumpMet (continueOutcome block id Nothing) O v n b r b
+unfolding continueResolved _>>=_
+continue-none block id n b r e v O = subst (λ (z : Jumped). JumpMet (continueOutcome block id Nothing) O v n b z b) (sym e)
+    (record { statement = none; same = λ C s. ap (λ (k : ℕ). refused 21 block k) (s .visits); held = λ z. absurd (omega (arith, z)); count = λ z. absurd (omega (arith, z)); most = omega arith })
 
-    pub goto-continues : (n : ℕ) → n ≡ blockWord w b 3 → blockWord w b 4 ≡ 1 → Searches w S H b (jump.Continue n)
-    unfolding variantOf
-    goto-continues n s e = record { resolves = λ cx _ _. subst (λ (z : Terminal). Resolves z cx (getContinueTarget cx n)) (sym (goto-at Continue (ap variantOf e))) (ap (getContinueTarget cx) s) }
-
-    is-try : (n : ℕ) → (n ≡ 0 → ⊥) → (n ≡ 1 → ⊥) → variantOf n ≡ Try
-    unfolding variantOf
-    is-try zero f g = absurd (f refl)
-    is-try (suc zero) f g = absurd (g refl)
-    is-try (suc (suc n)) f g = refl
-
-    pub goto-tries : (blockWord w b 4 ≡ 0 → ⊥) → (blockWord w b 4 ≡ 1 → ⊥) → Searches w S H b Nothing
-    goto-tries f g = record { resolves = λ cx _ _. subst (λ (z : Terminal). Resolves z cx none) (sym (goto-at Try (is-try (blockWord w b 4) f g))) tt }
-
-  -- ---- Branch
-
-  module _ (code : blockWord w b 2 ≡ 6) where
-    branch-at : terminalAt (tableOf w) b ≡ branch (blockWord w b 3) (blockWord w b 4) (blockWord w b 5)
-    unfolding terminalOf
-    branch-at = end-by w b below 6 code
-
-    pub branch-breaks : (n : ℕ) → n ≡ blockWord w b 4 → Searches w S H b (jump.Break n)
-    branch-breaks n s = record { resolves = λ cx _ _. subst (λ (z : Terminal). Resolves z cx (getBreakTarget cx n)) (sym branch-at) (λ _. ap (getBreakTarget cx) s) }
-
-    pub branch-goes : or (has S (blockWord w b 4)) (has H (blockWord w b 4)) ≡ false → Searches w S H b Nothing
-    unfolding isScheduled
-    branch-goes e = record { resolves = λ cx s h. subst (λ (z : Terminal). Resolves z cx none) (sym branch-at) (λ q. absurd (differ (sym q ∙ rw (s, h) e))) }
-      where
-        differ : _≡_ {A = Bool} true false → ⊥
-        differ e = let o : _≡_ {A = ℕ} 0 1 = ap (λ (y : Bool). elim y [ true ↦ 0 | false ↦ 1 ]) e in omega arith
+pub continue-row : (id n n′ : ℕ) (found : Resolution) (op target number : ℕ) (b b′ : List ℕ) (r : Jumped)
+    → op ≡ 25 → target ≡ found .target → number ≡ kindNumber (kindOf (found .kind)) → Written b n (row op target id number 0 0) b′ n′
+    → r ≡ record { code = 0; at = 0; rows = n′; count = 1 } → (block v : ℕ) (O : Flags) → JumpMet (continueOutcome block id (Found found)) O v n b r b′
+unfolding continueResolved _>>=_ stmtOut
+continue-row id n n′ found op target number b b′ r o t k w e block v O = subst (λ (z : Jumped). JumpMet (continueOutcome block id (Found found)) O v n b z b′) (sym e) (record {
+  statement = some (CONTINUE (found .target) id (kindOf (found .kind)));
+  same = λ C s. refl;
+  held = λ _. row-held b b′ n n′ (row 25 (found .target) id (kindNumber (kindOf (found .kind))) 0 0) (rw (o, t, k) at w);
+  count = λ _. refl;
+  most = omega (arith, w .count);
+})

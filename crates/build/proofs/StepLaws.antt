@@ -135,6 +135,18 @@ pub into-free : (block code at : ℕ) (fr : machine.Frame) (F : List machine.Fra
 unfolding into refuseIf _>>=_
 into-free block code at fr F R C e = rw e
 
+-- whether a block is scheduled once the label is
+pub busy-with : (S H : Flags) (v n block : ℕ) (C : definition.Context) → Label n → block < 1024 → Seen S H v C → isScheduled (scheduledIf (unlessNone n) C) block ≡ or (eqb block n) (or (has S block) (has H block))
+unfolding Label
+busy-with S H v n block C (inl e) k seen =
+    ap (λ (z : Option ℕ). isScheduled (scheduledIf z C) block) (ap unlessNone e ∙ none-is) ∙ seen-scheduled S H v C seen block
+    ∙ sym (ap (λ (y : Bool). or y (or (has S block) (has H block))) (ne-eqb block n (λ q. omega arith)))
+busy-with S H v n block C (inr h) k seen =
+    ap (λ (z : Option ℕ). isScheduled (scheduledIf z C) block) (some-is n (λ q. omega arith)) ∙ scheduled-push n block C (wide h) ∙ ap (λ (y : Bool). or (eqb block n) y) (seen-scheduled S H v C seen block)
+  where
+    wide : n < 1024 → n < length (C .scheduled)
+    wide h = rw (seen .scheduled) (omega (arith, seen .wide))
+
 -- what `enclose` plans is what the machine does
 pub enclose-same : (S H : Flags) (p : Position) (n block code at : ℕ) (F : List machine.Frame) (R : List Row) (C : definition.Context)
     → Label n → block < 1024 → (code ≡ 0 → ⊥) → Seen S H (p .visits) C → length F ≡ p .depth
@@ -149,14 +161,7 @@ enclose-same S H p n block code at F R C l k nz seen d = by (or (eqb block n) (o
     D = scheduledIf (unlessNone n) C
 
     busy : isScheduled D block ≡ or (eqb block n) (or (has S block) (has H block))
-    busy = unfold Label in elim l [
-      | inl e ↦ ap (λ (z : Option ℕ). isScheduled (scheduledIf z C) block) (ap unlessNone e ∙ none-is) ∙ seen-scheduled S H (p .visits) C seen block
-          ∙ sym (ap (λ (y : Bool). or y (or (has S block) (has H block))) (ne-eqb block n (λ q. omega arith)))
-      | inr h ↦ ap (λ (z : Option ℕ). isScheduled (scheduledIf z C) block) (some-is n (λ q. omega arith)) ∙ scheduled-push n block C (wide h) ∙ ap (λ (y : Bool). or (eqb block n) y) (seen-scheduled S H (p .visits) C seen block)
-    ]
-      where
-        wide : n < 1024 → n < length (C .scheduled)
-        wide h = rw (seen .scheduled) (omega (arith, seen .wide))
+    busy = busy-with S H (p .visits) n block C l k seen
 
     visits : (z : Option ℕ) → scheduledIf z C .visits ≡ p .visits
     visits none = seen .visits

@@ -64,7 +64,7 @@ missing-same w S H p pr f h e k F R C seen =
     ap (λ (z : Result (Option ℕ)). turn (z >>= k C)) (label-missing w pr S H (p .visits) C seen f h e) ∙ turn-refused 10 f (C .visits) ∙ ap (λ (v : ℕ). halt (rejected 10 f v)) (seen .visits)
     ∙ sym (refuse-applied p 10 f F R C (λ z. omega arith))
 
-reach-same : (w : List ℕ) (S H : Flags) (p : Position) → Promise w → (f n : ℕ) → f < blockCount w → f < 1024 → (blockWord w f 2 ≡ 0 → ⊥)
+pub reach-same : (w : List ℕ) (S H : Flags) (p : Position) → Promise w → (f n : ℕ) → f < blockCount w → f < 1024 → (blockWord w f 2 ≡ 0 → ⊥)
     → n ≡ unlessTaken (or (eqb (blockWord w f 2) 1) (or (has S f) (has H f))) f → (k : Option ℕ → Result State) (C : definition.Context) → Seen S H (p .visits) C
     → turn (unlessUnreachable (tableOf w) C f >>= k) ≡ turn (k (unlessNone n))
 unfolding _>>=_
@@ -83,7 +83,7 @@ unfolding Label
 label-below n (inl q) e = absurd (let z : _≡_ {A = Bool} true false = sym (eq-eqb n 65535 q) ∙ e in let o : _≡_ {A = ℕ} 0 1 = cc in omega arith)
 label-below n (inr h) e = h
 
-named-if : (n : ℕ) → Label n → NamedChange 0 (scheduleIf (eqb n 65535) n)
+pub named-if : (n : ℕ) → Label n → NamedChange 0 (scheduleIf (eqb n 65535) n)
 named-if n l = at (eqb n 65535) (λ e. label-below n l e)
   where
     at : (y : Bool) → (y ≡ false → n < 1024) → NamedChange 0 (scheduleIf y n)
@@ -112,7 +112,7 @@ module _ (w : List ℕ) (S H : Flags) (p : Position) (en : Entered w p) where
   Asks e g k = (F : List machine.Frame) (R : List Row) (C : definition.Context)
       → terminalTurn (tableOf w) (visitValueBlock (tableOf w) (127 - p .depth)) e (p .block) (blockAt (tableOf w) (p .block)) F R (p .count) C ≡ unlessUnreachable (tableOf w) C g >>= k F R C
 
-  reached-missing : (e : Terminal) (g : ℕ) (k : Rest) (f : ℕ) (plan : Plan) → At e → Asks e g k → g < blockCount w → f ≡ g → blockWord w f 2 ≡ 0 → plan ≡ refusing p 10 f → PlannedBare w S H p plan
+  pub reached-missing : (e : Terminal) (g : ℕ) (k : Rest) (f : ℕ) (plan : Plan) → At e → Asks e g k → g < blockCount w → f ≡ g → blockWord w f 2 ≡ 0 → plan ≡ refusing p 10 f → PlannedBare w S H p plan
   reached-missing e g k f plan q asks h s z r = rw r (bare-planned w S H p (refusing p 10 f) (λ _. refl) (λ F R C d seen.
       ap turn (step-by w p e F R C q ∙ asks F R C)
       ∙ missing-same w S H p (en .promise) g h (ap (λ (y : ℕ). blockWord w y 2) (sym s) ∙ z) (λ D taken. k F R D taken) F R C seen ∙ ap (λ (y : ℕ). applied (refusing p 10 y) F R C) (sym s))
@@ -328,3 +328,6 @@ module _ (w : List ℕ) (S H : Flags) (p : Position) (en : Entered w p) where
 pub continuation-below : (w : List ℕ) (p : Position) → Entered w p → blockWord w (p .block) 2 ≡ 18 → blockWord w (p .block) 3 < blockCount w
 unfolding terminalOf
 continuation-below w p en code = ranges w (en .promise) (p .block) (en .block) _ (end-by w (p .block) (en .block) 18 code)
+
+pub taken-most : (S H : Flags) (f n : ℕ) → n ≡ unlessTaken (or (has S f) (has H f)) f → f < 1024 → n ≤ 65535
+taken-most S H f n e h = rw e (label-most (unlessTaken (or (has S f) (has H f)) f) (label-taken (or (has S f) (has H f)) f h))

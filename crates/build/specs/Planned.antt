@@ -94,3 +94,6 @@ pub record Entered (words : List ℕ) (p : Position) : Type 0 where
 -- a planner that puts out no row
 abbrev pub PlannedBare : List ℕ → Flags → Flags → Position → Plan → Type 0
 PlannedBare words scheduledSet handlerSet p plan = (buffer : List ℕ) → Planned (terminalStep words p) (Seen scheduledSet handlerSet (p .visits)) [] (p .depth) (p .rows) buffer plan buffer
+
+abbrev pub SameVisits : Position → definition.Context → Type 0
+SameVisits p cx = cx .visits ≡ p .visits

@@ -20,6 +20,7 @@ use crate::plan::Plan;
 use crate::plan::Position;
 
 ghost use mathlib.Core.Path.{_≡_};
+ghost use Prim.Native.Nat.{_≤_};
 ghost use Rattle.table.specs.Words.{blockWord};
 ghost use Rattle.build.specs.Planned.{Entered, PlannedBare};
 
@@ -92,4 +93,17 @@ pub fn visit_maybe_throw<'a>(words: &[u32], scheduled: &'a [bool; 1024], catch_h
 {
     let next = unless_scheduled(scheduled, catch_handlers, block_word(words, p.block, 3));
     leave(next, p.depth, p.count, p.rows, p.visits, Change::Nothing)
+}
+
+pub fn visit_scope<'a>(words: &[u32], scheduled: &'a [bool; 1024], catch_handlers: &'a [bool; 1024], p: Position) -> Plan
+    requires { ⌜ Entered (now words) p ⌝ }
+    requires { ⌜ 20 ≤ blockWord (now words) (p .block) 2 ⌝ }
+    ensures { λ r. ⌜ PlannedBare (now (words .entry)) (now (scheduled .entry)) (now («catch_handlers» .entry)) p r ⌝ }
+{
+    let fallthrough = block_word(words, p.block, 4);
+    let label = unless_scheduled(scheduled, catch_handlers, fallthrough);
+    let body = block_word(words, p.block, 3);
+    let busy = scheduled_at(scheduled, catch_handlers, body);
+    let plan = enclose(busy, p, label, body, 18, p.block);
+    with_scope(plan, label)
 }

@@ -1,5 +1,5 @@
 use mathlib.Core.Path.{sym, _∙_}
-use Rattle.build.proofs.JumpLaws.{no-jump}
+use Rattle.build.proofs.SearchLaws.{no-jump}
 use borrow.Author.Needs.{needs}
 use Rattle.build.proofs.search.block_jump.Statement.{statement}
 use Rattle.build.proofs.search.block_jump.Tie as tie

@@ -1,6 +1,6 @@
 use mathlib.Core.Path.{sym, _∙_}
 use native.Mathlib.Omega.{arith}
-use Rattle.build.proofs.JumpLaws.{branch-consequent, branch-breaks, branch-goes}
+use Rattle.build.proofs.SearchLaws.{branch-consequent, branch-breaks, branch-goes}
 use borrow.Author.Needs.{needs}
 use Rattle.build.proofs.search.branch_jump.Statement.{statement}
 use Rattle.build.proofs.search.branch_jump.Tie as tie

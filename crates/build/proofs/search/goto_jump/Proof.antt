@@ -1,6 +1,6 @@
 use mathlib.Core.Path.{sym, _∙_}
 use native.Mathlib.Omega.{arith}
-use Rattle.build.proofs.JumpLaws.{goto-target, goto-breaks, goto-continues, goto-tries}
+use Rattle.build.proofs.SearchLaws.{goto-target, goto-breaks, goto-continues, goto-tries}
 use borrow.Author.Needs.{needs}
 use Rattle.build.proofs.search.goto_jump.Statement.{statement}
 use Rattle.build.proofs.search.goto_jump.Tie as tie
