@@ -48,7 +48,7 @@ getD-beyond [] i d h = refl
 getD-beyond (x ∷ xs) zero d h = absurd (omega arith)
 getD-beyond (x ∷ xs) (suc i) d h = getD-beyond xs i d (omega arith)
 
-length-rows : (first count : ℕ) → length (rowsFrom first count) ≡ count
+pub length-rows : (first count : ℕ) → length (rowsFrom first count) ≡ count
 length-rows first zero = refl
 length-rows first (suc n) = ap suc (length-rows (suc first) n)
 

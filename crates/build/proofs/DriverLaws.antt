@@ -9,7 +9,7 @@ use mathlib.Core.Option.{Option, none, some}
 use lib.Dec.{eqb}
 use lib.ListN.{length, drop, getD, set, length-set, length-replicate}
 use lib.Seq.{getD-set-same, getD-set-other}
-use borrow.Author.Tests.{eq-eqb, ne-eqb}
+use borrow.Author.Tests.{eq-eqb, ne-eqb, eqb-true}
 use Rattle.table.specs.Words.{blockCount, entryWord}
 use Rattle.table.specs.Promise.{Promise}
 use Rattle.table.specs.Table.{Table, tableOf, terminalAt, unlessNone}
@@ -24,10 +24,12 @@ use Rattle.definition.proofs.Invariant.{Checked, Below, Frames, Framed, Sound, 
 use Rattle.definition.proofs.Invariant as invariant
 use Rattle.control.specs.declared.Context.{Context}
 use Rattle.control.specs.declared.Resolved.{Resolved}
-use Rattle.control.specs.Abstraction.{contextOf, resolvedOf, stackOf, noEntry}
-use Rattle.control.specs.Contract.{Bounded, Room, Created}
+use Rattle.control.specs.declared.Entry.{Entry}
+use Rattle.control.specs.declared.Resolved.the-variants as resolved
+use Rattle.control.specs.Abstraction.{contextOf, resolvedOf, resolutionOf, targetOf, stackOf, noEntry}
+use Rattle.control.specs.Contract.{Bounded, Named, Room, Created}
 use Rattle.definition.proofs.Tools.{length-none}
-use Rattle.control.proofs.ContextLaws.{stack-length}
+use Rattle.control.proofs.ContextLaws.{stack-length, named-block}
 use Rattle.rows.specs.Rows.{Holds}
 use Rattle.rows.specs.Stack.{pushed}
 use Rattle.rows.proofs.StackLaws.{length-pushed}
@@ -39,12 +41,25 @@ use Rattle.build.specs.declared.plan.Change.{Change}
 use Rattle.build.specs.declared.plan.Change.the-variants.{Nothing, Schedule, ScheduleLoop, TakeId, Unschedule}
 use Rattle.build.specs.declared.plan.Plan.{Plan}
 use Rattle.build.specs.declared.search.Jump.{Jump}
+use Rattle.build.specs.declared.search.Jump.the-variants as search
 use Rattle.build.specs.declared.driver.Walked.{Walked}
 use Rattle.build.specs.Plans.{frameOf, noFrame, framesOf, stateAt, scheduledLoop, idTaken, changed, handled, scoped, within, kept, contextAfter, onward, applied}
 use Rattle.build.specs.Planned.{NamedChange, entriesOnTop, deepest, Nested, Fitting}
+use Rattle.build.specs.Jumps.{FoundBelow}
 use Rattle.build.specs.Driver.{Resolves, foundBy, Searches, Shown, inHand, FrameFits, StageFits, Ready, emitting, PlannedTurn, visitedBlock, emitted, withMarks, Whole, Changeable, Applicable, Applied, slot, isHalt, Reported}
 use Rattle.build.proofs.PlanLaws.{none-is, some-is}
 use Rattle.build.proofs.ApplyLaws.{marks}
+
+abbrev target-or : Option definition.Resolution → ℕ
+target-or none = 0
+target-or (some r) = r .target
+
+abbrev is-some : Option definition.Resolution → ℕ
+is-some none = 0
+is-some (some r) = 1
+
+none-some : {r : definition.Resolution} → none ≡ some r → ⊥
+none-some e = let o : _≡_ {A = ℕ} 0 1 = ap is-some e in omega arith
 
 unlike : _≡_ {A = Bool} false true → ⊥
 unlike e = let o : _≡_ {A = ℕ} 0 1 = ap (λ (y : Bool). elim y [ true ↦ 1 | false ↦ 0 ]) e in omega arith
@@ -192,6 +207,36 @@ pub found-jump : (w : List ℕ) (cx : Context) (p : Position) (jump : Jump) (fou
 unfolding contextOf
 found-jump w cx p jump found S R e =
     subst (λ (z : Option definition.Resolution). Resolves (terminalAt (tableOf w) (p .block)) (contextOf (p .visits) cx) z) (sym (R (p .visits))) (S e .resolves (contextOf (p .visits) cx) refl refl)
+
+-- its target is one of the 1,024 blocks, as every entry's is
+break-below : (entries : List Entry) (n b : ℕ) (top above : Bool) → ((k : ℕ) → k < n → Named (getD entries k noEntry .target)) → (r : definition.Resolution) → definition.breakTargetFrom (stackOf entries n) b top above ≡ some r → r .target < 1024
+unfolding stackOf definition.breakTargetFrom
+break-below entries zero b top above named r e = absurd (none-some e)
+break-below entries (suc n) b top above named r e = at (eqb (definition.targetBlock (targetOf (getD entries n noEntry .target))) b) refl e
+  where
+    at : (y : Bool) → eqb (definition.targetBlock (targetOf (getD entries n noEntry .target))) b ≡ y
+        → elim y [ true ↦ some (record { target = b; kind = definition.breakKind (definition.isLoop (targetOf (getD entries n noEntry .target))) top above }) | false ↦ definition.breakTargetFrom (stackOf entries n) b false (definition.or above (definition.isLoop (targetOf (getD entries n noEntry .target)))) ] ≡ some r
+        → r .target < 1024
+    at true q h = let t : b ≡ r .target = ap target-or (h) in omega (arith, t, eqb-true _ _ q, named-block (getD entries n noEntry .target) (named n (omega arith)))
+    at false q h = break-below entries n b false (definition.or above (definition.isLoop (targetOf (getD entries n noEntry .target)))) (λ k l. named k (omega arith)) r h
+
+continue-below : (entries : List Entry) (n b : ℕ) (top above : Bool) → ((k : ℕ) → k < n → Named (getD entries k noEntry .target)) → (r : definition.Resolution) → definition.continueTargetFrom (stackOf entries n) b top above ≡ some r → r .target < 1024
+unfolding stackOf definition.continueTargetFrom
+continue-below entries zero b top above named r e = absurd (none-some e)
+continue-below entries (suc n) b top above named r e = at (definition.continuesAt (targetOf (getD entries n noEntry .target)) b) e
+  where
+    at : (y : Bool)
+        → elim y [ true ↦ some (record { target = definition.targetBlock (targetOf (getD entries n noEntry .target)); kind = definition.continueKind top above }) | false ↦ definition.continueTargetFrom (stackOf entries n) b false (definition.or above (definition.isLoop (targetOf (getD entries n noEntry .target)))) ] ≡ some r
+        → r .target < 1024
+    at true h = let t : definition.targetBlock (targetOf (getD entries n noEntry .target)) ≡ r .target = ap target-or (h) in omega (arith, t, named-block (getD entries n noEntry .target) (named n (omega arith)))
+    at false h = continue-below entries n b false (definition.or above (definition.isLoop (targetOf (getD entries n noEntry .target)))) (λ k l. named k (omega arith)) r h
+
+pub found-below : (cx : Context) (jump : Jump) (found : Resolved) → Whole cx → ((visits : ℕ) → resolvedOf found ≡ foundBy jump (contextOf visits cx)) → FoundBelow found
+unfolding contextOf definition.getBreakTarget definition.getContinueTarget
+found-below cx jump resolved.Nothing h e = tt
+found-below cx search.Nothing (resolved.Found r) h e = absurd (none-some (sym (e 0)))
+found-below cx (search.Break b) (resolved.Found r) h e = break-below (cx .stack) (cx .len) b true false (h .bounded .named) (resolutionOf r) (sym (e 0))
+found-below cx (search.Continue b) (resolved.Found r) h e = continue-below (cx .stack) (cx .len) b true false (h .bounded .named) (resolutionOf r) (sym (e 0))
 
 module _ (w : List ℕ) (pr : Promise w) (ck : Checked (tableOf w)) where
   -- where the loop begins

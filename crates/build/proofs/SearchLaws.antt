@@ -59,7 +59,7 @@ module _ (w : List ℕ) (S H : Flags) (b : ℕ) (pr : Promise w) (below : b < bl
   -- ---- Goto
 
   module _ (code : blockWord w b 2 ≡ 4) where
-    goto-at : (v : Variant) → variantOf (blockWord w b 4) ≡ v → terminalAt (tableOf w) b ≡ goto (blockWord w b 3) v
+    pub goto-at : (v : Variant) → variantOf (blockWord w b 4) ≡ v → terminalAt (tableOf w) b ≡ goto (blockWord w b 3) v
     unfolding terminalOf
     goto-at v e = end-by w b below 4 code ∙ ap (goto (blockWord w b 3)) e
 
@@ -83,7 +83,7 @@ module _ (w : List ℕ) (S H : Flags) (b : ℕ) (pr : Promise w) (below : b < bl
   -- ---- Branch
 
   module _ (code : blockWord w b 2 ≡ 6) where
-    branch-at : terminalAt (tableOf w) b ≡ branch (blockWord w b 3) (blockWord w b 4) (blockWord w b 5)
+    pub branch-at : terminalAt (tableOf w) b ≡ branch (blockWord w b 3) (blockWord w b 4) (blockWord w b 5)
     unfolding terminalOf
     branch-at = end-by w b below 6 code
 

@@ -33,7 +33,7 @@ use Rattle.build.specs.declared.search.Jump.the-variants.{Nothing}
 use Rattle.build.specs.declared.search.Jump.the-variants as jump
 use Rattle.build.specs.declared.driver.Walked.{Walked}
 use Rattle.build.specs.Plans.{frameOf, stateAt, applied, changed, handled, scoped}
-use Rattle.build.specs.Planned.{Fitting}
+use Rattle.build.specs.Planned.{Seen, Fitting}
 
 -- ---- jumps
 
@@ -83,6 +83,22 @@ pub record Shown (words : List ℕ) (emittedSet scheduledSet handlerSet scopeSet
   pub visits : cx .visits ≡ p .visits
   pub wide : length scheduledSet ≡ 1024
   pub jump : p .stage ≡ Visit → Resolves (terminalAt (tableOf words) (p .block)) cx (resolvedOf resolved)
+
+-- the same at the terminal of a block that is entered
+pub record AtTerminal (words : List ℕ) (scheduledSet handlerSet scopeSet : Flags) (p : Position) (resolved : Resolved) (cx : definition.Context) : Type 0 where
+  pub seen : Seen scheduledSet handlerSet (p .visits) cx
+  pub scopes : cx .scopeFallthroughs ≡ scopeSet
+  pub jump : Resolves (terminalAt (tableOf words) (p .block)) cx (resolvedOf resolved)
+
+-- what holds of a position where a block is visited
+pub record Visits (words : List ℕ) (p : Position) : Type 0 where
+  pub promise : Promise words
+  pub stage : p .stage ≡ Visit
+  pub block : p .block < blockCount words
+  pub depth : p .depth ≤ 128
+  pub visits : p .visits ≤ 8192
+  pub rows : p .rows ≤ 67239936
+  pub count : p .count ≤ p .rows
 
 -- the frame in hand: none where a block is visited, or where no frame is left
 abbrev pub inHand : Stage → (depth : ℕ) → Frame → List machine.Frame

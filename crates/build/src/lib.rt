@@ -17,6 +17,7 @@ mod leaf;
 mod jump;
 mod branch;
 mod loops;
+mod visit;
 mod resume;
 mod search;
 mod turn;

@@ -10,7 +10,7 @@ use Rattle.definition.specs.Build.{Report}
 use Rattle.build.specs.declared.plan.Position.{Position}
 use Rattle.build.specs.declared.plan.Frame.{Frame}
 use Rattle.build.specs.Driver.{Reported}
-use Rattle.build.proofs.DriverLaws.{Walking, turnsLeft, walking-start, frame-read, found-jump, ready, shallow, visit-below, refused-reported, accepted-reported, applicable, slot-below, walking-again, turns-lower}
+use Rattle.build.proofs.DriverLaws.{Walking, turnsLeft, walking-start, frame-read, found-jump, found-below, ready, shallow, visit-below, refused-reported, accepted-reported, applicable, slot-below, walking-again, turns-lower}
 use Rattle.build.proofs.driver.walk.Statement.{statement}
 use Rattle.build.proofs.driver.walk.Tie as tie
 use Rattle.build.proofs.driver.walk.Reads as reads
@@ -90,10 +90,11 @@ resolve-requires c κs = c .before .before .before .before .before .before .loop
 -- src/driver.rt:99:13
 plan-turn-requires : tie.Need-plan-turn-requires Inv-loop μ-loop
 plan-turn-requires c κs =
-    let at-innermost = c .before .before .before .before .before .before .before .before .before .before .before .before in
+    let at-resolve = c .before .before .before .before .before .before in
+    let at-innermost = at-resolve .before .before .before .before .before .before in
     let at-loop = at-innermost .before in
     let at-entry = at-loop .before .before .before .before .before .before in
-    ready _ (at-entry .pre) (checked-table _ (at-entry .pre)) _ _ _ _ (at-loop .loop .inv .walking) _ (frame-read _ (at-entry .pre) (checked-table _ (at-entry .pre)) _ _ _ _ (at-loop .loop .inv .walking) _ (at-innermost .innermost .ensures))
+    (ready _ (at-entry .pre) (checked-table _ (at-entry .pre)) _ _ _ _ (at-loop .loop .inv .walking) _ (frame-read _ (at-entry .pre) (checked-table _ (at-entry .pre)) _ _ _ _ (at-loop .loop .inv .walking) _ (at-innermost .innermost .ensures)), found-below _ _ (at-resolve .resolve .result) (at-loop .loop .inv .walking .whole) (at-resolve .resolve .ensures))
 
 -- src/driver.rt:101:13
 rejected-requires : tie.Need-rejected-requires Inv-loop μ-loop
