@@ -212,24 +212,24 @@ found-jump w cx p jump found S R e =
 break-below : (entries : List Entry) (n b : ℕ) (top above : Bool) → ((k : ℕ) → k < n → Named (getD entries k noEntry .target)) → (r : definition.Resolution) → definition.breakTargetFrom (stackOf entries n) b top above ≡ some r → r .target < 1024
 unfolding stackOf definition.breakTargetFrom
 break-below entries zero b top above named r e = absurd (none-some e)
-break-below entries (suc n) b top above named r e = at (eqb (definition.targetBlock (targetOf (getD entries n noEntry .target))) b) refl e
+break-below entries (suc n) b top above named r e = at (eqb (definition.targetBlock (targetOf (getD entries n noEntry .target))) b) refl e (λ t a h. break-below entries n b t a (λ k l. named k (omega arith)) r h)
   where
     at : (y : Bool) → eqb (definition.targetBlock (targetOf (getD entries n noEntry .target))) b ≡ y
         → elim y [ true ↦ some (record { target = b; kind = definition.breakKind (definition.isLoop (targetOf (getD entries n noEntry .target))) top above }) | false ↦ definition.breakTargetFrom (stackOf entries n) b false (definition.or above (definition.isLoop (targetOf (getD entries n noEntry .target)))) ] ≡ some r
-        → r .target < 1024
-    at true q h = let t : b ≡ r .target = ap target-or (h) in omega (arith, t, eqb-true _ _ q, named-block (getD entries n noEntry .target) (named n (omega arith)))
-    at false q h = break-below entries n b false (definition.or above (definition.isLoop (targetOf (getD entries n noEntry .target)))) (λ k l. named k (omega arith)) r h
+        → ((t a : Bool) → definition.breakTargetFrom (stackOf entries n) b t a ≡ some r → r .target < 1024) → r .target < 1024
+    at true q h again = let t : b ≡ r .target = ap target-or (h) in let same : definition.targetBlock (targetOf (getD entries n noEntry .target)) ≡ b = eqb-true _ _ q in omega (arith, t, same, named-block (getD entries n noEntry .target) (named n (omega arith)))
+    at false q h again = again false (definition.or above (definition.isLoop (targetOf (getD entries n noEntry .target)))) h
 
 continue-below : (entries : List Entry) (n b : ℕ) (top above : Bool) → ((k : ℕ) → k < n → Named (getD entries k noEntry .target)) → (r : definition.Resolution) → definition.continueTargetFrom (stackOf entries n) b top above ≡ some r → r .target < 1024
 unfolding stackOf definition.continueTargetFrom
 continue-below entries zero b top above named r e = absurd (none-some e)
-continue-below entries (suc n) b top above named r e = at (definition.continuesAt (targetOf (getD entries n noEntry .target)) b) e
+continue-below entries (suc n) b top above named r e = at (definition.continuesAt (targetOf (getD entries n noEntry .target)) b) e (λ t a h. continue-below entries n b t a (λ k l. named k (omega arith)) r h)
   where
     at : (y : Bool)
         → elim y [ true ↦ some (record { target = definition.targetBlock (targetOf (getD entries n noEntry .target)); kind = definition.continueKind top above }) | false ↦ definition.continueTargetFrom (stackOf entries n) b false (definition.or above (definition.isLoop (targetOf (getD entries n noEntry .target)))) ] ≡ some r
-        → r .target < 1024
-    at true h = let t : definition.targetBlock (targetOf (getD entries n noEntry .target)) ≡ r .target = ap target-or (h) in omega (arith, t, named-block (getD entries n noEntry .target) (named n (omega arith)))
-    at false h = continue-below entries n b false (definition.or above (definition.isLoop (targetOf (getD entries n noEntry .target)))) (λ k l. named k (omega arith)) r h
+        → ((t a : Bool) → definition.continueTargetFrom (stackOf entries n) b t a ≡ some r → r .target < 1024) → r .target < 1024
+    at true h again = let t : definition.targetBlock (targetOf (getD entries n noEntry .target)) ≡ r .target = ap target-or (h) in omega (arith, t, named-block (getD entries n noEntry .target) (named n (omega arith)))
+    at false h again = again false (definition.or above (definition.isLoop (targetOf (getD entries n noEntry .target)))) h
 
 pub found-below : (cx : Context) (jump : Jump) (found : Resolved) → Whole cx → ((visits : ℕ) → resolvedOf found ≡ foundBy jump (contextOf visits cx)) → FoundBelow found
 unfolding contextOf definition.getBreakTarget definition.getContinueTarget
@@ -514,6 +514,9 @@ module _ (w : List ℕ) (pr : Promise w) (ck : Checked (tableOf w)) where
             pub turns-lower : turnsLeft (plan .position) A′ r < turnsLeft p A cx
             turns-lower =
                 let lower : potential (stateOf (plan .position) A′ after r) < potential (stateOf p A (I .rows) cx) = going-lower (tableOf w) ck (stateOf p A (I .rows) cx) _ (I .going) (leads ∙ ap going arrived) in
-                omega (arith, lower,
-                no-rows (plan .position .stage) (plan .position .block) (framesOf A′ (plan .position .depth)) after (plan .position .count) (contextOf (plan .position .visits) r),
-                no-rows (p .stage) (p .block) (framesOf A (p .depth)) (I .rows) (p .count) C)
+                omega (
+                  arith,
+                  lower,
+                  no-rows (plan .position .stage) (plan .position .block) (framesOf A′ (plan .position .depth)) after (plan .position .count) (contextOf (plan .position .visits) r),
+                  no-rows (p .stage) (p .block) (framesOf A (p .depth)) (I .rows) (p .count) C,
+                )

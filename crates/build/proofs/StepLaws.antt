@@ -96,7 +96,6 @@ unfolding isScheduled
 seen-scheduled S H v C seen x = rw (seen .scheduled, seen .handlers)
 
 module _ (ws : List ℕ) (pr : Promise ws) (S H : Flags) (v : ℕ) (C : definition.Context) (seen : Seen S H v C) where
-
   pub label-scheduled : (f : ℕ) → f < 1024 → unlessScheduled C f ≡ unlessNone (unlessTaken (or (has S f) (has H f)) f)
   unfolding unlessScheduled
   label-scheduled f h = rw (seen-scheduled S H v C seen f, unlessScheduled) (at (or (has S f) (has H f)))

@@ -1,11 +1,10 @@
 // A plan, applied to the Context: the sets are marked, and the stack is changed.
-use control::insert;
-use control::Context;
 use crate::fallthrough::narrow;
 use crate::plan::Change;
-use crate::plan::Plan;
 use crate::plan::NONE;
-
+use crate::plan::Plan;
+use control::Context;
+use control::insert;
 ghost use mathlib.Core.Path.{_≡_};
 ghost use Prim.Native.Nat.{_≤_, _<_};
 ghost use Rattle.table.specs.Table.{unlessNone};
@@ -75,7 +74,11 @@ fn change_stack(cx: Context, change: Change) -> Context
     match change {
         Change::Nothing => cx,
         Change::Schedule(target) => store(cx.schedule(target)),
-        Change::ScheduleLoop { fallthrough, continue_block, loop_block } => store(cx.schedule_loop(fallthrough, continue_block, loop_block)),
+        Change::ScheduleLoop {
+            fallthrough,
+            continue_block,
+            loop_block,
+        } => store(cx.schedule_loop(fallthrough, continue_block, loop_block)),
         Change::TakeId => take_id(cx),
         Change::Unschedule => take_off(cx),
     }

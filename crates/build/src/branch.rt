@@ -1,22 +1,21 @@
 // Goto and Branch.
-use control::Resolved;
-use rows::put;
-use rows::BLOCK;
-use table::words::block_word;
 use crate::fallthrough::scheduled_at;
+use crate::jump::Jumped;
 use crate::jump::visit_break;
 use crate::jump::visit_continue;
-use crate::jump::Jumped;
+use crate::plan::Change;
+use crate::plan::NONE;
+use crate::plan::Plan;
+use crate::plan::Position;
 use crate::plan::frame_of;
 use crate::plan::leave;
 use crate::plan::refuse;
 use crate::plan::second_part;
 use crate::plan::traverse_block;
-use crate::plan::Change;
-use crate::plan::Plan;
-use crate::plan::Position;
-use crate::plan::NONE;
-
+use control::Resolved;
+use rows::BLOCK;
+use rows::put;
+use table::words::block_word;
 ghost use mathlib.Core.Path.{_≡_};
 ghost use mathlib.Core.List.{[]};
 ghost use mathlib.Core.Bool.{true};
@@ -34,10 +33,23 @@ fn after_jump(p: Position, jump: Jumped) -> Plan
     if jump.code != 0 {
         return refuse(p, jump.code, jump.at);
     }
-    leave(NONE, p.depth, p.count + jump.count, jump.rows, p.visits, Change::Nothing)
+    leave(
+        NONE,
+        p.depth,
+        p.count + jump.count,
+        jump.rows,
+        p.visits,
+        Change::Nothing,
+    )
 }
 
-pub fn visit_goto(words: &[u32], tree: &mut [u32], scopes: &[bool; 1024], p: Position, resolved: Resolved) -> Plan
+pub fn visit_goto(
+    words: &[u32],
+    tree: &mut [u32],
+    scopes: &[bool; 1024],
+    p: Position,
+    resolved: Resolved,
+) -> Plan
     requires { ⌜ Entered (now words) p ⌝ }
     requires { ⌜ blockWord (now words) (p .block) 2 ≡ 4 ⌝ }
     requires { ⌜ FoundBelow resolved ⌝ }
@@ -47,7 +59,16 @@ pub fn visit_goto(words: &[u32], tree: &mut [u32], scopes: &[bool; 1024], p: Pos
     let variant = block_word(words, p.block, 4);
     let id = block_word(words, p.block, 8);
     if variant == 0 {
-        let jump = visit_break(tree, scopes, p.block, p.visits, p.rows, target, id, resolved);
+        let jump = visit_break(
+            tree,
+            scopes,
+            p.block,
+            p.visits,
+            p.rows,
+            target,
+            id,
+            resolved,
+        );
         return after_jump(p, jump);
     }
     if variant == 1 {
@@ -76,7 +97,16 @@ fn branch_break<'a>(
     let consequent = block_word(words, p.block, 4);
     let alternate = block_word(words, p.block, 5);
     let id = block_word(words, p.block, 8);
-    let jump = visit_break(tree, scopes, p.block, p.visits, p.rows, consequent, id, resolved);
+    let jump = visit_break(
+        tree,
+        scopes,
+        p.block,
+        p.visits,
+        p.rows,
+        consequent,
+        id,
+        resolved,
+    );
     if jump.code != 0 {
         return refuse(p, jump.code, jump.at);
     }
@@ -87,7 +117,14 @@ fn branch_break<'a>(
     }
     let frame = frame_of(p, NONE, 0);
     let second = second_part(frame);
-    traverse_block(alternate, second, p.depth + 1, rows, p.visits, Change::Nothing)
+    traverse_block(
+        alternate,
+        second,
+        p.depth + 1,
+        rows,
+        p.visits,
+        Change::Nothing,
+    )
 }
 
 // A Branch's consequent, or a break in its place where it is scheduled.
@@ -111,5 +148,12 @@ pub fn visit_branch<'a>(
         return branch_break(words, tree, scheduled, catch_handlers, scopes, p, resolved);
     }
     let frame = frame_of(p, NONE, 0);
-    traverse_block(consequent, frame, p.depth + 1, p.rows, p.visits, Change::Nothing)
+    traverse_block(
+        consequent,
+        frame,
+        p.depth + 1,
+        p.rows,
+        p.visits,
+        Change::Nothing,
+    )
 }

@@ -1,16 +1,15 @@
 // The loop over the Context by value and the frames: each turn is planned, and its plan applied.
-use control::Context;
-use table::words::entry;
 use crate::apply::apply_plan;
-use crate::plan::no_frame;
+use crate::plan::NONE;
 use crate::plan::Plan;
 use crate::plan::Position;
 use crate::plan::Stage;
-use crate::plan::NONE;
+use crate::plan::no_frame;
 use crate::search::jump_at;
 use crate::search::resolve;
 use crate::turn::plan_turn;
-
+use control::Context;
+use table::words::entry;
 ghost use mathlib.Core.Path.{_≡_};
 ghost use Prim.Native.Nat.{_-_, _≤_};
 ghost use Rattle.table.specs.Table.{tableOf};
@@ -75,13 +74,23 @@ fn rejected(plan: Plan) -> Walked
     ensures { λ r. ⌜ (r .code ≡ plan .code) × (r .at ≡ plan .at) × (r .visits ≡ plan .position .visits) ⌝ }
 {
     let position = plan.position;
-    Walked { code: plan.code, at: plan.at, rows: 0, visits: position.visits }
+    Walked {
+        code: plan.code,
+        at: plan.at,
+        rows: 0,
+        visits: position.visits,
+    }
 }
 
 fn accepted(p: Position) -> Walked
     ensures { λ r. ⌜ (r .code ≡ 0) × (r .at ≡ 0) × (r .visits ≡ p .visits) × (r .rows ≡ p .rows) ⌝ }
 {
-    Walked { code: 0, at: 0, rows: p.rows, visits: p.visits }
+    Walked {
+        code: 0,
+        at: 0,
+        rows: p.rows,
+        visits: p.visits,
+    }
 }
 
 pub fn walk(words: &[u32], tree: &mut [u32]) -> Walked
@@ -91,12 +100,29 @@ pub fn walk(words: &[u32], tree: &mut [u32]) -> Walked
     let mut cx = Context::new();
     let none = no_frame();
     let mut frames = [none; 129];
-    let mut p = Position { block: entry(words), depth: 0, count: 0, rows: 0, visits: 0, stage: Stage::Visit };
+    let mut p = Position {
+        block: entry(words),
+        depth: 0,
+        count: 0,
+        rows: 0,
+        visits: 0,
+        stage: Stage::Visit,
+    };
     loop {
         let frame = frames[innermost(p.depth)];
         let jump = jump_at(words, &cx.scheduled, &cx.catch_handlers, p);
         let resolved = resolve(cx, jump);
-        let plan = plan_turn(words, tree, &cx.emitted, &cx.scheduled, &cx.catch_handlers, &cx.scope_fallthroughs, p, frame, resolved);
+        let plan = plan_turn(
+            words,
+            tree,
+            &cx.emitted,
+            &cx.scheduled,
+            &cx.catch_handlers,
+            &cx.scope_fallthroughs,
+            p,
+            frame,
+            resolved,
+        );
         if plan.code != 0 {
             return rejected(plan);
         }

@@ -1,15 +1,14 @@
 // Fallthroughs and nested blocks, by the sets: which label a statement has, and whether a block that it would nest is scheduled.
-use control::is_scheduled;
-use control::ControlFlowTarget;
-use table::words::block_word;
+use crate::plan::Change;
+use crate::plan::NONE;
+use crate::plan::Plan;
+use crate::plan::Position;
 use crate::plan::frame_of;
 use crate::plan::refuse;
 use crate::plan::traverse_block;
-use crate::plan::Change;
-use crate::plan::Plan;
-use crate::plan::Position;
-use crate::plan::NONE;
-
+use control::ControlFlowTarget;
+use control::is_scheduled;
+use table::words::block_word;
 ghost use mathlib.Core.Path.{_≡_};
 ghost use Prim.Native.Nat.{_+_, _≤_, _<_};
 ghost use lib.Dec.{eqb};
@@ -26,7 +25,11 @@ pub fn narrow(block: u32) -> u16
     block as u16
 }
 
-pub fn scheduled_at<'a>(scheduled: &'a [bool; 1024], catch_handlers: &'a [bool; 1024], block: u32) -> bool
+pub fn scheduled_at<'a>(
+    scheduled: &'a [bool; 1024],
+    catch_handlers: &'a [bool; 1024],
+    block: u32,
+) -> bool
     requires { ⌜ block < 1024 ⌝ }
     ensures { λ r. ⌜ r ≡ or (has (now (scheduled .entry)) block) (has (now («catch_handlers» .entry)) block) ⌝ }
 {
@@ -43,11 +46,18 @@ fn unless_taken(taken: bool, fallthrough: u32) -> u32
 }
 
 // The fallthrough, where it is taken: it is not scheduled.
-pub fn unless_scheduled<'a>(scheduled: &'a [bool; 1024], catch_handlers: &'a [bool; 1024], fallthrough: u32) -> u32
+pub fn unless_scheduled<'a>(
+    scheduled: &'a [bool; 1024],
+    catch_handlers: &'a [bool; 1024],
+    fallthrough: u32,
+) -> u32
     requires { ⌜ fallthrough < 1024 ⌝ }
     ensures { λ r. ⌜ r ≡ unlessTaken (or (has (now (scheduled .entry)) fallthrough) (has (now («catch_handlers» .entry)) fallthrough)) fallthrough ⌝ }
 {
-    unless_taken(scheduled_at(scheduled, catch_handlers, fallthrough), fallthrough)
+    unless_taken(
+        scheduled_at(scheduled, catch_handlers, fallthrough),
+        fallthrough,
+    )
 }
 
 fn either(first: bool, second: bool) -> bool
@@ -92,7 +102,9 @@ pub fn schedule_if(label: u32) -> Change
     if label == NONE {
         return Change::Nothing;
     }
-    Change::Schedule(ControlFlowTarget::If { block: narrow(label) })
+    Change::Schedule(ControlFlowTarget::If {
+        block: narrow(label),
+    })
 }
 
 pub fn schedule_switch(label: u32) -> Change
@@ -102,7 +114,9 @@ pub fn schedule_switch(label: u32) -> Change
     if label == NONE {
         return Change::Nothing;
     }
-    Change::Schedule(ControlFlowTarget::Switch { block: narrow(label) })
+    Change::Schedule(ControlFlowTarget::Switch {
+        block: narrow(label),
+    })
 }
 
 // A statement with a label and one nested block that must not be scheduled: If's consequent, Label's and a scope's block.
@@ -117,5 +131,12 @@ pub fn enclose(busy: bool, p: Position, label: u32, block: u32, code: u32, at: u
         return refuse(p, code, at);
     }
     let frame = frame_of(p, label, entries_of(label));
-    traverse_block(block, frame, p.depth + 1, p.rows, p.visits, schedule_if(label))
+    traverse_block(
+        block,
+        frame,
+        p.depth + 1,
+        p.rows,
+        p.visits,
+        schedule_if(label),
+    )
 }

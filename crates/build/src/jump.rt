@@ -1,10 +1,9 @@
 // The Rust's visit_break and visit_continue. The driver has searched the stack for the target.
 use control::Resolution;
 use control::Resolved;
-use rows::put;
 use rows::BREAK;
 use rows::CONTINUE;
-
+use rows::put;
 ghost use mathlib.Core.Path.{_≡_};
 ghost use Prim.Native.Nat.{ℕ, _<_};
 ghost use Rattle.definition.specs.Context.{Flags};
@@ -20,7 +19,15 @@ pub struct Jumped {
 }
 
 // A break to a scope fallthrough gives no row if Implicit, else 22.
-fn break_to_found(tree: &mut [u32], scopes: &[bool; 1024], at: u32, visits: u32, rows: u32, id: u32, found: Resolution) -> Jumped
+fn break_to_found(
+    tree: &mut [u32],
+    scopes: &[bool; 1024],
+    at: u32,
+    visits: u32,
+    rows: u32,
+    id: u32,
+    found: Resolution,
+) -> Jumped
     requires { ⌜ found .target < 1024 ⌝ }
     requires { ⌜ rows < 1000000000 ⌝ }
     ensures { λ r. ⌜ ((block : ℕ) → JumpMet (breakOutcome at block id (Found found)) (now (scopes .entry)) visits rows (now (tree .entry)) r (now (tree .exit))) ⌝ }
@@ -31,21 +38,50 @@ fn break_to_found(tree: &mut [u32], scopes: &[bool; 1024], at: u32, visits: u32,
     let place = target as usize;
     if scopes[place] {
         if number == 0 {
-            return Jumped { code: 0, at: 0, rows: rows, count: 0 };
+            return Jumped {
+                code: 0,
+                at: 0,
+                rows: rows,
+                count: 0,
+            };
         }
-        return Jumped { code: 22, at: at, rows: rows, count: 0 };
+        return Jumped {
+            code: 22,
+            at: at,
+            rows: rows,
+            count: 0,
+        };
     }
     let after = put(tree, rows, BREAK, target as u32, id, number, 0, 0);
-    Jumped { code: 0, at: 0, rows: after, count: 1 }
+    Jumped {
+        code: 0,
+        at: 0,
+        rows: after,
+        count: 1,
+    }
 }
 
-pub fn visit_break(tree: &mut [u32], scopes: &[bool; 1024], at: u32, visits: u32, rows: u32, target: u32, id: u32, resolved: Resolved) -> Jumped
+pub fn visit_break(
+    tree: &mut [u32],
+    scopes: &[bool; 1024],
+    at: u32,
+    visits: u32,
+    rows: u32,
+    target: u32,
+    id: u32,
+    resolved: Resolved,
+) -> Jumped
     requires { ⌜ FoundBelow resolved ⌝ }
     requires { ⌜ rows < 1000000000 ⌝ }
     ensures { λ r. ⌜ JumpMet (breakOutcome at target id resolved) (now (scopes .entry)) visits rows (now (tree .entry)) r (now (tree .exit)) ⌝ }
 {
     match resolved {
-        Resolved::Nothing => Jumped { code: 20, at: target, rows: rows, count: 0 },
+        Resolved::Nothing => Jumped {
+            code: 20,
+            at: target,
+            rows: rows,
+            count: 0,
+        },
         Resolved::Found(found) => break_to_found(tree, scopes, at, visits, rows, id, found),
     }
 }
@@ -58,15 +94,31 @@ fn continue_to_found(tree: &mut [u32], rows: u32, id: u32, found: Resolution) ->
     let kind = found.kind;
     let number = kind.number();
     let after = put(tree, rows, CONTINUE, target as u32, id, number, 0, 0);
-    Jumped { code: 0, at: 0, rows: after, count: 1 }
+    Jumped {
+        code: 0,
+        at: 0,
+        rows: after,
+        count: 1,
+    }
 }
 
-pub fn visit_continue(tree: &mut [u32], rows: u32, target: u32, id: u32, resolved: Resolved) -> Jumped
+pub fn visit_continue(
+    tree: &mut [u32],
+    rows: u32,
+    target: u32,
+    id: u32,
+    resolved: Resolved,
+) -> Jumped
     requires { ⌜ rows < 1000000000 ⌝ }
     ensures { λ r. ⌜ ((visits : ℕ) (scopes : Flags) → JumpMet (continueOutcome target id resolved) scopes visits rows (now (tree .entry)) r (now (tree .exit))) ⌝ }
 {
     match resolved {
-        Resolved::Nothing => Jumped { code: 21, at: target, rows: rows, count: 0 },
+        Resolved::Nothing => Jumped {
+            code: 21,
+            at: target,
+            rows: rows,
+            count: 0,
+        },
         Resolved::Found(found) => continue_to_found(tree, rows, id, found),
     }
 }

@@ -1,12 +1,11 @@
 // Throw and Return.
-use rows::put;
-use table::words::block_word;
-use crate::plan::leave;
 use crate::plan::Change;
+use crate::plan::NONE;
 use crate::plan::Plan;
 use crate::plan::Position;
-use crate::plan::NONE;
-
+use crate::plan::leave;
+use rows::put;
+use table::words::block_word;
 ghost use mathlib.Core.Path.{_≡_};
 ghost use mathlib.Core.List.{[]};
 ghost use Rattle.table.specs.Words.{blockWord};

@@ -1,28 +1,27 @@
 // build_reactive_function: words of a block table in, rows of the tree out, or a refusal with its place.
+use crate::driver::Walked;
+use crate::driver::walk;
 use rows::clear;
 use table::check;
-use crate::driver::walk;
-use crate::driver::Walked;
-
 ghost use mathlib.Core.Path.{_≡_};
 ghost use lib.ListN.{length};
 ghost use Rattle.definition.specs.Build.{Report, refusal, outcomeOf, built};
 ghost use Rattle.build.specs.Driver.{Reported};
 ghost use Rattle.build.specs.Entry.{outcome};
 
-mod plan;
-mod fallthrough;
-mod nested;
-mod leaf;
-mod jump;
+mod apply;
 mod branch;
+mod driver;
+mod fallthrough;
+mod jump;
+mod leaf;
 mod loops;
-mod visit;
+mod nested;
+mod plan;
 mod resume;
 mod search;
 mod turn;
-mod apply;
-mod driver;
+mod visit;
 
 // Paper 01, "Result and refusals": code (0 accepted), at, rows, visits.
 pub struct Outcome {
@@ -37,7 +36,12 @@ fn refuse(tree: &mut [u32], code: u32, at: u32, rows: u32, visits: u32) -> Outco
     ensures { λ r. ⌜ outcome r (now (tree .exit)) ≡ refusal code at rows visits (length (now (tree .entry))) ⌝ }
 {
     clear(tree, 0);
-    Outcome { code: code, at: at, rows: rows, visits: visits }
+    Outcome {
+        code: code,
+        at: at,
+        rows: rows,
+        visits: visits,
+    }
 }
 
 // Accepted, the buffer holds the rows, then zeros; 40 where they do not fit.
@@ -52,7 +56,12 @@ fn finish(tree: &mut [u32], walked: Walked) -> Outcome
         return refuse(tree, 40, 0, walked.rows, walked.visits);
     }
     clear(tree, rows * 6);
-    Outcome { code: 0, at: 0, rows: walked.rows, visits: walked.visits }
+    Outcome {
+        code: 0,
+        at: 0,
+        rows: walked.rows,
+        visits: walked.visits,
+    }
 }
 
 pub fn build_reactive_function(words: &[u32], tree: &mut [u32]) -> Outcome
@@ -68,7 +77,13 @@ pub fn build_reactive_function(words: &[u32], tree: &mut [u32]) -> Outcome
 
 // The same for callers in C or Rust: the code, and the other three words by reference.
 #[no_mangle]
-pub extern "C" fn veerynickel_build(words: &[u32], tree: &mut [u32], at: &mut u32, rows: &mut u32, visits: &mut u32) -> u32
+pub extern "C" fn veerynickel_build(
+    words: &[u32],
+    tree: &mut [u32],
+    at: &mut u32,
+    rows: &mut u32,
+    visits: &mut u32,
+) -> u32
     ensures { λ r. ⌜ record { code = r; at = now (at .exit); rows = now (rows .exit); visits = now (visits .exit); buffer = now (tree .exit) } ≡ built (now (words .entry)) (length (now (tree .entry))) ⌝ }
 {
     let built = build_reactive_function(words, tree);

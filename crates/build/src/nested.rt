@@ -1,5 +1,4 @@
 // Terminals with nested blocks and no values, and MaybeThrow: what they do is decided by the sets alone.
-use table::words::block_word;
 use crate::fallthrough::enclose;
 use crate::fallthrough::entries_of;
 use crate::fallthrough::schedule_if;
@@ -7,6 +6,10 @@ use crate::fallthrough::schedule_switch;
 use crate::fallthrough::scheduled_at;
 use crate::fallthrough::unless_scheduled;
 use crate::fallthrough::unless_unreachable;
+use crate::plan::Change;
+use crate::plan::Frame;
+use crate::plan::Plan;
+use crate::plan::Position;
 use crate::plan::choose;
 use crate::plan::frame_of;
 use crate::plan::leave;
@@ -14,17 +17,18 @@ use crate::plan::refuse;
 use crate::plan::traverse_block;
 use crate::plan::with_handler;
 use crate::plan::with_scope;
-use crate::plan::Change;
-use crate::plan::Frame;
-use crate::plan::Plan;
-use crate::plan::Position;
-
+use table::words::block_word;
 ghost use mathlib.Core.Path.{_≡_};
 ghost use Prim.Native.Nat.{_≤_};
 ghost use Rattle.table.specs.Words.{blockWord};
 ghost use Rattle.build.specs.Planned.{Entered, PlannedBare};
 
-pub fn visit_if<'a>(words: &[u32], scheduled: &'a [bool; 1024], catch_handlers: &'a [bool; 1024], p: Position) -> Plan
+pub fn visit_if<'a>(
+    words: &[u32],
+    scheduled: &'a [bool; 1024],
+    catch_handlers: &'a [bool; 1024],
+    p: Position,
+) -> Plan
     requires { ⌜ Entered (now words) p ⌝ }
     requires { ⌜ blockWord (now words) (p .block) 2 ≡ 5 ⌝ }
     ensures { λ r. ⌜ PlannedBare (now (words .entry)) (now (scheduled .entry)) (now («catch_handlers» .entry)) p r ⌝ }
@@ -39,7 +43,12 @@ pub fn visit_if<'a>(words: &[u32], scheduled: &'a [bool; 1024], catch_handlers: 
     enclose(busy, p, label, consequent, 12, consequent)
 }
 
-pub fn visit_label<'a>(words: &[u32], scheduled: &'a [bool; 1024], catch_handlers: &'a [bool; 1024], p: Position) -> Plan
+pub fn visit_label<'a>(
+    words: &[u32],
+    scheduled: &'a [bool; 1024],
+    catch_handlers: &'a [bool; 1024],
+    p: Position,
+) -> Plan
     requires { ⌜ Entered (now words) p ⌝ }
     requires { ⌜ blockWord (now words) (p .block) 2 ≡ 16 ⌝ }
     ensures { λ r. ⌜ PlannedBare (now (words .entry)) (now (scheduled .entry)) (now («catch_handlers» .entry)) p r ⌝ }
@@ -54,7 +63,12 @@ pub fn visit_label<'a>(words: &[u32], scheduled: &'a [bool; 1024], catch_handler
     enclose(busy, p, label, body, 17, p.block)
 }
 
-pub fn visit_switch<'a>(words: &[u32], scheduled: &'a [bool; 1024], catch_handlers: &'a [bool; 1024], p: Position) -> Plan
+pub fn visit_switch<'a>(
+    words: &[u32],
+    scheduled: &'a [bool; 1024],
+    catch_handlers: &'a [bool; 1024],
+    p: Position,
+) -> Plan
     requires { ⌜ Entered (now words) p ⌝ }
     requires { ⌜ blockWord (now words) (p .block) 2 ≡ 7 ⌝ }
     ensures { λ r. ⌜ PlannedBare (now (words .entry)) (now (scheduled .entry)) (now («catch_handlers» .entry)) p r ⌝ }
@@ -65,11 +79,24 @@ pub fn visit_switch<'a>(words: &[u32], scheduled: &'a [bool; 1024], catch_handle
     }
     let label = unless_unreachable(words, scheduled, catch_handlers, fallthrough);
     let number = block_word(words, p.block, 5);
-    let frame = Frame { block: p.block, label: label, entries: entries_of(label), left: number, built: 0, count: p.count, second: false };
+    let frame = Frame {
+        block: p.block,
+        label: label,
+        entries: entries_of(label),
+        left: number,
+        built: 0,
+        count: p.count,
+        second: false,
+    };
     choose(frame, p.depth + 1, p.rows, p.visits, schedule_switch(label))
 }
 
-pub fn visit_try<'a>(words: &[u32], scheduled: &'a [bool; 1024], catch_handlers: &'a [bool; 1024], p: Position) -> Plan
+pub fn visit_try<'a>(
+    words: &[u32],
+    scheduled: &'a [bool; 1024],
+    catch_handlers: &'a [bool; 1024],
+    p: Position,
+) -> Plan
     requires { ⌜ Entered (now words) p ⌝ }
     requires { ⌜ blockWord (now words) (p .block) 2 ≡ 19 ⌝ }
     ensures { λ r. ⌜ PlannedBare (now (words .entry)) (now (scheduled .entry)) (now («catch_handlers» .entry)) p r ⌝ }
@@ -82,11 +109,23 @@ pub fn visit_try<'a>(words: &[u32], scheduled: &'a [bool; 1024], catch_handlers:
     let body = block_word(words, p.block, 3);
     let handler = block_word(words, p.block, 4);
     let frame = frame_of(p, label, entries_of(label));
-    let plan = traverse_block(body, frame, p.depth + 1, p.rows, p.visits, schedule_if(label));
+    let plan = traverse_block(
+        body,
+        frame,
+        p.depth + 1,
+        p.rows,
+        p.visits,
+        schedule_if(label),
+    );
     with_handler(plan, handler)
 }
 
-pub fn visit_maybe_throw<'a>(words: &[u32], scheduled: &'a [bool; 1024], catch_handlers: &'a [bool; 1024], p: Position) -> Plan
+pub fn visit_maybe_throw<'a>(
+    words: &[u32],
+    scheduled: &'a [bool; 1024],
+    catch_handlers: &'a [bool; 1024],
+    p: Position,
+) -> Plan
     requires { ⌜ Entered (now words) p ⌝ }
     requires { ⌜ blockWord (now words) (p .block) 2 ≡ 18 ⌝ }
     ensures { λ r. ⌜ PlannedBare (now (words .entry)) (now (scheduled .entry)) (now («catch_handlers» .entry)) p r ⌝ }
@@ -95,7 +134,12 @@ pub fn visit_maybe_throw<'a>(words: &[u32], scheduled: &'a [bool; 1024], catch_h
     leave(next, p.depth, p.count, p.rows, p.visits, Change::Nothing)
 }
 
-pub fn visit_scope<'a>(words: &[u32], scheduled: &'a [bool; 1024], catch_handlers: &'a [bool; 1024], p: Position) -> Plan
+pub fn visit_scope<'a>(
+    words: &[u32],
+    scheduled: &'a [bool; 1024],
+    catch_handlers: &'a [bool; 1024],
+    p: Position,
+) -> Plan
     requires { ⌜ Entered (now words) p ⌝ }
     requires { ⌜ 20 ≤ blockWord (now words) (p .block) 2 ⌝ }
     ensures { λ r. ⌜ PlannedBare (now (words .entry)) (now (scheduled .entry)) (now («catch_handlers» .entry)) p r ⌝ }

@@ -1,6 +1,20 @@
 // Where a nested list has ended: the statement's next part, or its end.
+use crate::fallthrough::narrow;
+use crate::fallthrough::scheduled_at;
+use crate::plan::Change;
+use crate::plan::Frame;
+use crate::plan::NONE;
+use crate::plan::Plan;
+use crate::plan::Position;
+use crate::plan::Stage;
+use crate::plan::accept;
+use crate::plan::choose;
+use crate::plan::leave;
+use crate::plan::pop;
+use crate::plan::refuse;
+use crate::plan::second_part;
+use crate::plan::traverse_block;
 use control::ControlFlowTarget;
-use rows::put;
 use rows::BLOCK;
 use rows::CASE;
 use rows::DOWHILE;
@@ -14,26 +28,11 @@ use rows::SCOPE;
 use rows::SWITCH;
 use rows::TRY;
 use rows::WHILE;
+use rows::put;
 use table::words::block_word;
 use table::words::case_word;
 use value::result::Tally;
 use value::walk::visit_value_block;
-use crate::fallthrough::narrow;
-use crate::fallthrough::scheduled_at;
-use crate::plan::accept;
-use crate::plan::choose;
-use crate::plan::leave;
-use crate::plan::pop;
-use crate::plan::refuse;
-use crate::plan::second_part;
-use crate::plan::traverse_block;
-use crate::plan::Change;
-use crate::plan::Frame;
-use crate::plan::Plan;
-use crate::plan::Position;
-use crate::plan::Stage;
-use crate::plan::NONE;
-
 ghost use mathlib.Core.Path.{_≡_};
 ghost use Prim.Native.Nat.{_+_, _≤_, _<_};
 ghost use lib.Dec.{eqb};
@@ -90,19 +89,97 @@ fn closing_row(words: &[u32], frame: Frame) -> ClosingRow
     let alternate = flag(frame.second);
     let update = has_update(third);
     match block_word(words, frame.block, 2) {
-        5 => ClosingRow { op: IF, a: test, b: alternate, c: id, d: frame.label },
-        6 => ClosingRow { op: IF, a: test, b: alternate, c: id, d: frame.label },
-        7 => ClosingRow { op: SWITCH, a: test, b: frame.built, c: id, d: frame.label },
-        8 => ClosingRow { op: DOWHILE, a: id, b: frame.label, c: 0, d: 0 },
-        9 => ClosingRow { op: WHILE, a: id, b: frame.label, c: 0, d: 0 },
-        10 => ClosingRow { op: FOR, a: id, b: frame.label, c: update, d: 0 },
-        11 => ClosingRow { op: FOROF, a: id, b: frame.label, c: span, d: 0 },
-        12 => ClosingRow { op: FORIN, a: id, b: frame.label, c: span, d: 0 },
-        16 => ClosingRow { op: LABEL, a: id, b: frame.label, c: 0, d: 0 },
-        19 => ClosingRow { op: TRY, a: id, b: frame.label, c: binding, d: 0 },
-        20 => ClosingRow { op: SCOPE, a: third, b: 0, c: 0, d: 0 },
-        21 => ClosingRow { op: PRUNED, a: third, b: 0, c: 0, d: 0 },
-        _ => ClosingRow { op: 0, a: 0, b: 0, c: 0, d: 0 },
+        5 => ClosingRow {
+            op: IF,
+            a: test,
+            b: alternate,
+            c: id,
+            d: frame.label,
+        },
+        6 => ClosingRow {
+            op: IF,
+            a: test,
+            b: alternate,
+            c: id,
+            d: frame.label,
+        },
+        7 => ClosingRow {
+            op: SWITCH,
+            a: test,
+            b: frame.built,
+            c: id,
+            d: frame.label,
+        },
+        8 => ClosingRow {
+            op: DOWHILE,
+            a: id,
+            b: frame.label,
+            c: 0,
+            d: 0,
+        },
+        9 => ClosingRow {
+            op: WHILE,
+            a: id,
+            b: frame.label,
+            c: 0,
+            d: 0,
+        },
+        10 => ClosingRow {
+            op: FOR,
+            a: id,
+            b: frame.label,
+            c: update,
+            d: 0,
+        },
+        11 => ClosingRow {
+            op: FOROF,
+            a: id,
+            b: frame.label,
+            c: span,
+            d: 0,
+        },
+        12 => ClosingRow {
+            op: FORIN,
+            a: id,
+            b: frame.label,
+            c: span,
+            d: 0,
+        },
+        16 => ClosingRow {
+            op: LABEL,
+            a: id,
+            b: frame.label,
+            c: 0,
+            d: 0,
+        },
+        19 => ClosingRow {
+            op: TRY,
+            a: id,
+            b: frame.label,
+            c: binding,
+            d: 0,
+        },
+        20 => ClosingRow {
+            op: SCOPE,
+            a: third,
+            b: 0,
+            c: 0,
+            d: 0,
+        },
+        21 => ClosingRow {
+            op: PRUNED,
+            a: third,
+            b: 0,
+            c: 0,
+            d: 0,
+        },
+        _ => ClosingRow {
+            op: 0,
+            a: 0,
+            b: 0,
+            c: 0,
+            d: 0,
+        },
     }
 }
 
@@ -121,12 +198,27 @@ pub fn close_statement(words: &[u32], tree: &mut [u32], p: Position, frame: Fram
     ensures { λ r. ⌜ PlannedClose (now (words .entry)) p frame (now (tree .entry)) r (now (tree .exit)) ⌝ }
 {
     if frame.entries >= 2 {
-        let rest = Frame { block: frame.block, label: frame.label, entries: frame.entries - 1, left: frame.left, built: frame.built, count: frame.count, second: frame.second };
+        let rest = Frame {
+            block: frame.block,
+            label: frame.label,
+            entries: frame.entries - 1,
+            left: frame.left,
+            built: frame.built,
+            count: frame.count,
+            second: frame.second,
+        };
         return pop(rest, p.depth, p.rows, p.visits);
     }
     let last = closing_row(words, frame);
     let rows = put(tree, p.rows, last.op, last.a, last.b, last.c, last.d, 0);
-    leave(frame.label, p.depth - 1, frame.count + 1, rows, p.visits, unschedule_if(frame.entries))
+    leave(
+        frame.label,
+        p.depth - 1,
+        frame.count + 1,
+        rows,
+        p.visits,
+        unschedule_if(frame.entries),
+    )
 }
 
 // A second part that must not be scheduled.
@@ -145,7 +237,14 @@ fn alternate<'a>(
     if scheduled_at(scheduled, catch_handlers, block) {
         return refuse(p, code, at);
     }
-    traverse_block(block, second_part(frame), p.depth, p.rows, p.visits, Change::Nothing)
+    traverse_block(
+        block,
+        second_part(frame),
+        p.depth,
+        p.rows,
+        p.visits,
+        Change::Nothing,
+    )
 }
 
 fn resume_if<'a>(
@@ -198,7 +297,14 @@ fn resume_try(words: &[u32], tree: &mut [u32], p: Position, frame: Frame) -> Pla
         return close_statement(words, tree, p, frame);
     }
     let handler = block_word(words, frame.block, 4);
-    traverse_block(handler, second_part(frame), p.depth, p.rows, p.visits, Change::Nothing)
+    traverse_block(
+        handler,
+        second_part(frame),
+        p.depth,
+        p.rows,
+        p.visits,
+        Change::Nothing,
+    )
 }
 
 // A case is built: its CASE row, and its entry.
@@ -209,8 +315,18 @@ fn resume_switch(words: &[u32], tree: &mut [u32], p: Position, frame: Frame) -> 
 {
     let case = block_word(words, frame.block, 4) + frame.left;
     let rows = put(tree, p.rows, CASE, case_word(words, case, 0), 0, 0, 0, 0);
-    let target = ControlFlowTarget::Case { block: narrow(case_word(words, case, 1)) };
-    let built = Frame { block: frame.block, label: frame.label, entries: frame.entries + 1, left: frame.left, built: frame.built + 1, count: frame.count, second: frame.second };
+    let target = ControlFlowTarget::Case {
+        block: narrow(case_word(words, case, 1)),
+    };
+    let built = Frame {
+        block: frame.block,
+        label: frame.label,
+        entries: frame.entries + 1,
+        left: frame.left,
+        built: frame.built + 1,
+        count: frame.count,
+        second: frame.second,
+    };
     choose(built, p.depth, rows, p.visits, Change::Schedule(target))
 }
 
@@ -221,10 +337,20 @@ fn resume_do_while(words: &[u32], tree: &mut [u32], p: Position, frame: Frame) -
 {
     let test = block_word(words, frame.block, 4);
     let span = block_word(words, frame.block, 9);
-    let tally = Tally { rows: p.rows, visits: p.visits };
+    let tally = Tally {
+        rows: p.rows,
+        visits: p.visits,
+    };
     let tested = visit_value_block(words, tree, tally, 128 - p.depth, test, NONE, span);
     let then = tested.tally;
-    let after = Position { block: p.block, depth: p.depth, count: p.count, rows: then.rows, visits: then.visits, stage: Stage::Ended };
+    let after = Position {
+        block: p.block,
+        depth: p.depth,
+        count: p.count,
+        rows: then.rows,
+        visits: then.visits,
+        stage: Stage::Ended,
+    };
     if tested.code != 0 {
         return refuse(after, tested.code, tested.at);
     }
@@ -270,7 +396,14 @@ pub fn resume<'a>(
     if p.depth == 0 {
         return accept(rows, p.visits);
     }
-    let after = Position { block: p.block, depth: p.depth, count: 0, rows: rows, visits: p.visits, stage: Stage::Ended };
+    let after = Position {
+        block: p.block,
+        depth: p.depth,
+        count: 0,
+        rows: rows,
+        visits: p.visits,
+        stage: Stage::Ended,
+    };
     resume_statement(words, tree, scheduled, catch_handlers, after, frame)
 }
 
@@ -292,7 +425,15 @@ pub fn choose_case<'a>(
     }
     let left = frame.left - 1;
     let block = case_word(words, block_word(words, frame.block, 4) + left, 1);
-    let rest = Frame { block: frame.block, label: frame.label, entries: frame.entries, left: left, built: frame.built, count: frame.count, second: frame.second };
+    let rest = Frame {
+        block: frame.block,
+        label: frame.label,
+        entries: frame.entries,
+        left: left,
+        built: frame.built,
+        count: frame.count,
+        second: frame.second,
+    };
     if scheduled_at(scheduled, catch_handlers, block) {
         if block != block_word(words, frame.block, 6) {
             return refuse(p, 14, frame.block);

@@ -1,12 +1,11 @@
 // What a block's jump looks for on the stack, and what it finds there. The driver searches before a turn is planned: a planner does not see the stack.
-use control::Context;
-use control::Resolved;
-use table::words::block_word;
 use crate::fallthrough::narrow;
 use crate::fallthrough::scheduled_at;
 use crate::plan::Position;
 use crate::plan::Stage;
-
+use control::Context;
+use control::Resolved;
+use table::words::block_word;
 ghost use mathlib.Core.Path.{_≡_};
 ghost use Prim.Native.Nat.{ℕ, _≤_, _<_};
 ghost use Rattle.table.specs.Words.{blockCount, blockWord};
@@ -33,7 +32,12 @@ pub fn resolve(cx: Context, jump: Jump) -> Resolved
     }
 }
 
-fn goto_jump<'a>(words: &[u32], scheduled: &'a [bool; 1024], catch_handlers: &'a [bool; 1024], block: u32) -> Jump
+fn goto_jump<'a>(
+    words: &[u32],
+    scheduled: &'a [bool; 1024],
+    catch_handlers: &'a [bool; 1024],
+    block: u32,
+) -> Jump
     requires { ⌜ Promise (now words) ⌝ }
     requires { ⌜ block < blockCount (now words) ⌝ }
     requires { ⌜ blockWord (now words) block 2 ≡ 4 ⌝ }
@@ -48,7 +52,12 @@ fn goto_jump<'a>(words: &[u32], scheduled: &'a [bool; 1024], catch_handlers: &'a
 }
 
 // A Branch jumps where its consequent is scheduled.
-fn branch_jump<'a>(words: &[u32], scheduled: &'a [bool; 1024], catch_handlers: &'a [bool; 1024], block: u32) -> Jump
+fn branch_jump<'a>(
+    words: &[u32],
+    scheduled: &'a [bool; 1024],
+    catch_handlers: &'a [bool; 1024],
+    block: u32,
+) -> Jump
     requires { ⌜ Promise (now words) ⌝ }
     requires { ⌜ block < blockCount (now words) ⌝ }
     requires { ⌜ blockWord (now words) block 2 ≡ 6 ⌝ }
@@ -61,7 +70,12 @@ fn branch_jump<'a>(words: &[u32], scheduled: &'a [bool; 1024], catch_handlers: &
     Jump::Nothing
 }
 
-fn block_jump<'a>(words: &[u32], scheduled: &'a [bool; 1024], catch_handlers: &'a [bool; 1024], block: u32) -> Jump
+fn block_jump<'a>(
+    words: &[u32],
+    scheduled: &'a [bool; 1024],
+    catch_handlers: &'a [bool; 1024],
+    block: u32,
+) -> Jump
     requires { ⌜ Promise (now words) ⌝ }
     requires { ⌜ block < blockCount (now words) ⌝ }
     ensures { λ r. ⌜ Searches (now (words .entry)) (now (scheduled .entry)) (now («catch_handlers» .entry)) block r ⌝ }
@@ -73,7 +87,12 @@ fn block_jump<'a>(words: &[u32], scheduled: &'a [bool; 1024], catch_handlers: &'
     }
 }
 
-pub fn jump_at<'a>(words: &[u32], scheduled: &'a [bool; 1024], catch_handlers: &'a [bool; 1024], p: Position) -> Jump
+pub fn jump_at<'a>(
+    words: &[u32],
+    scheduled: &'a [bool; 1024],
+    catch_handlers: &'a [bool; 1024],
+    p: Position,
+) -> Jump
     requires { ⌜ Promise (now words) ⌝ }
     requires { ⌜ (p .stage ≡ Visit → p .block < blockCount (now words)) ⌝ }
     ensures { λ r. ⌜ (p .stage ≡ Visit → Searches (now (words .entry)) (now (scheduled .entry)) (now («catch_handlers» .entry)) (p .block) r) ⌝ }

@@ -1,15 +1,14 @@
 // A turn of the walk: the visit of a block, the end of a nested list, a Switch's next case, or an entry that comes off the stack.
-use control::Resolved;
-use crate::plan::refuse;
 use crate::plan::Frame;
 use crate::plan::Plan;
 use crate::plan::Position;
 use crate::plan::Stage;
+use crate::plan::refuse;
 use crate::resume::choose_case;
 use crate::resume::close_statement;
 use crate::resume::resume;
 use crate::visit::visit_block;
-
+use control::Resolved;
 ghost use Rattle.build.specs.Jumps.{FoundBelow};
 ghost use Rattle.build.specs.Driver.{Ready, Shown, PlannedTurn};
 
@@ -30,7 +29,16 @@ pub fn plan_turn<'a>(
 {
     let stage = p.stage;
     match stage {
-        Stage::Visit => visit_block(words, tree, emitted, scheduled, catch_handlers, scopes, p, resolved),
+        Stage::Visit => visit_block(
+            words,
+            tree,
+            emitted,
+            scheduled,
+            catch_handlers,
+            scopes,
+            p,
+            resolved,
+        ),
         Stage::Ended => resume(words, tree, scheduled, catch_handlers, p, frame),
         Stage::Choose => choose_case(words, tree, scheduled, catch_handlers, p, frame),
         Stage::Pop => close_statement(words, tree, p, frame),

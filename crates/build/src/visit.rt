@@ -1,7 +1,4 @@
 // The visit of a block: its instructions, and what its terminal gives. The Rust's visit_block, one block at a time.
-use control::Resolved;
-use table::words::block_word;
-use value::instructions::put_instructions;
 use crate::branch::visit_branch;
 use crate::branch::visit_goto;
 use crate::leaf::visit_return;
@@ -18,14 +15,16 @@ use crate::nested::visit_maybe_throw;
 use crate::nested::visit_scope;
 use crate::nested::visit_switch;
 use crate::nested::visit_try;
-use crate::plan::leave;
-use crate::plan::refuse;
 use crate::plan::Change;
+use crate::plan::NONE;
 use crate::plan::Plan;
 use crate::plan::Position;
 use crate::plan::Stage;
-use crate::plan::NONE;
-
+use crate::plan::leave;
+use crate::plan::refuse;
+use control::Resolved;
+use table::words::block_word;
+use value::instructions::put_instructions;
 ghost use mathlib.Core.Path.{_≡_};
 ghost use mathlib.Core.List.{[]};
 ghost use Rattle.table.specs.Words.{blockWord};
@@ -34,7 +33,15 @@ ghost use Rattle.build.specs.Jumps.{FoundBelow};
 ghost use Rattle.build.specs.Planned.{Entered, Planned, terminalStep};
 ghost use Rattle.build.specs.Driver.{AtTerminal, Visits, Shown, PlannedTurn};
 
-fn visit_terminal<'a>(words: &[u32], tree: &mut [u32], scheduled: &'a [bool; 1024], catch_handlers: &'a [bool; 1024], scopes: &'a [bool; 1024], p: Position, resolved: Resolved) -> Plan
+fn visit_terminal<'a>(
+    words: &[u32],
+    tree: &mut [u32],
+    scheduled: &'a [bool; 1024],
+    catch_handlers: &'a [bool; 1024],
+    scopes: &'a [bool; 1024],
+    p: Position,
+    resolved: Resolved,
+) -> Plan
     requires { ⌜ Entered (now words) p ⌝ }
     requires { ⌜ FoundBelow resolved ⌝ }
     requires { ⌜ (blockWord (now words) (p .block) 2 ≡ 0 → ⊥) ⌝ }
@@ -53,11 +60,39 @@ fn visit_terminal<'a>(words: &[u32], tree: &mut [u32], scheduled: &'a [bool; 102
         10 => visit_for(words, tree, scheduled, catch_handlers, p),
         11 => visit_for_of(words, tree, scheduled, catch_handlers, p),
         12 => visit_for_in(words, tree, scheduled, catch_handlers, p),
-        13 => visit_value(words, tree, scheduled, catch_handlers, p, block_word(words, p.block, 5)), // Logical
-        14 => visit_value(words, tree, scheduled, catch_handlers, p, block_word(words, p.block, 4)), // Ternary
-        15 => visit_value(words, tree, scheduled, catch_handlers, p, block_word(words, p.block, 5)), // Optional
+        13 => visit_value(
+            words,
+            tree,
+            scheduled,
+            catch_handlers,
+            p,
+            block_word(words, p.block, 5),
+        ), // Logical
+        14 => visit_value(
+            words,
+            tree,
+            scheduled,
+            catch_handlers,
+            p,
+            block_word(words, p.block, 4),
+        ), // Ternary
+        15 => visit_value(
+            words,
+            tree,
+            scheduled,
+            catch_handlers,
+            p,
+            block_word(words, p.block, 5),
+        ), // Optional
         16 => visit_label(words, scheduled, catch_handlers, p),
-        17 => visit_value(words, tree, scheduled, catch_handlers, p, block_word(words, p.block, 4)), // Sequence
+        17 => visit_value(
+            words,
+            tree,
+            scheduled,
+            catch_handlers,
+            p,
+            block_word(words, p.block, 4),
+        ), // Sequence
         18 => visit_maybe_throw(words, scheduled, catch_handlers, p),
         19 => visit_try(words, scheduled, catch_handlers, p),
         _ => visit_scope(words, scheduled, catch_handlers, p), // Scope, PrunedScope
@@ -87,7 +122,14 @@ pub fn visit_block<'a>(
         return refuse(p, 31, block);
     }
     let visits = p.visits + 1;
-    let begun = Position { block: block, depth: p.depth, count: p.count, rows: p.rows, visits: visits, stage: Stage::Visit };
+    let begun = Position {
+        block: block,
+        depth: p.depth,
+        count: p.count,
+        rows: p.rows,
+        visits: visits,
+        stage: Stage::Visit,
+    };
     if block_word(words, block, 2) == 0 {
         return refuse(begun, 10, block);
     }
@@ -96,6 +138,21 @@ pub fn visit_block<'a>(
     }
     let count = block_word(words, block, 1);
     let rows = put_instructions(words, tree, p.rows, block_word(words, block, 0), count);
-    let entered = Position { block: block, depth: p.depth, count: p.count + count, rows: rows, visits: visits, stage: Stage::Visit };
-    visit_terminal(words, tree, scheduled, catch_handlers, scopes, entered, resolved)
+    let entered = Position {
+        block: block,
+        depth: p.depth,
+        count: p.count + count,
+        rows: rows,
+        visits: visits,
+        stage: Stage::Visit,
+    };
+    visit_terminal(
+        words,
+        tree,
+        scheduled,
+        catch_handlers,
+        scopes,
+        entered,
+        resolved,
+    )
 }

@@ -1,7 +1,7 @@
 // Runs word lists through the check and compares code and place with those stored beside each list.
 // A line of the input: code, place, then the words as pairs of a value and how often it stands there. README: how the lists were made.
-use libc::{STDIN_FILENO, STDOUT_FILENO};
-
+use libc::STDIN_FILENO;
+use libc::STDOUT_FILENO;
 ghost use Prim.Native.Nat.{_<_, _≤_};
 ghost use lib.ListN.{length};
 ghost use Rattle.table_cases.specs.Text.{Read, Line};

@@ -126,9 +126,9 @@ module _ {file : List ℕ} {first second : Form → Form} {c r : Cursor} {b b′
     near = k .near;
     stopped = λ words next a. let (new, a′) = h .reached words (second next) a g in k .stopped (words ++ new) next a′;
     reached = λ words next a e.
-      let (new, a′) = h .reached words (second next) a g in
-      let (more, a″) = k .reached (words ++ new) next a′ e in
-      (new ++ more, rw (append-assoc words new more) at a″);
+        let (new, a′) = h .reached words (second next) a g in
+        let (more, a″) = k .reached (words ++ new) next a′ e in
+        (new ++ more, rw (append-assoc words new more) at a″);
   }
 
   -- the first was refused
@@ -156,7 +156,7 @@ head-stored {file} {r} {next} {head} {buffer} e p h =
     let H = e .at .holds in
     let six : r .count ≡ 6 = omega (arith, H .counted, e .long) in
     let same : head ≡ e .numbers =
-        sym (take-all 6 head (omega arith)) ∙ rw six at (H .held) ∙ take-all (length head) (e .numbers) (omega (arith, e .long)) in
+    sym (take-all 6 head (omega arith)) ∙ rw six at (H .held) ∙ take-all (length head) (e .numbers) (omega (arith, e .long)) in
     record {
       reached = subst (λ (l : List ℕ). Reached file (r .at) l (next l)) (sym same) (e .at .reached);
       holds = subst (λ (k : ℕ). Holds buffer k head) (p ∙ sym six) h;

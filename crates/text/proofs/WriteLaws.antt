@@ -56,7 +56,7 @@ unfolding line
 line-open ns i p =
     let m : length (drop (suc i) ns) ≡ length ns - suc i = length-drop (suc i) ns in
     let e : after (drop (suc i) ns) ≡ ending (eqb (i + 1) (length ns)) =
-        after-ending (drop (suc i) ns) ∙ ap (λ (b : Bool). ending b) (last-number (length (drop (suc i) ns)) i (length ns) (omega arith)) in
+    after-ending (drop (suc i) ns) ∙ ap (λ (b : Bool). ending b) (last-number (length (drop (suc i) ns)) i (length ns) (omega arith)) in
     rw (drop-cons ns i 0 p, e, add-one i)
 
 pub line-done : (ns : List ℕ) (i : ℕ) → length ns ≤ i → line (drop i ns) ≡ []

@@ -193,7 +193,14 @@ fn read_rows(file: &[u8], from: Cursor, width: usize, lines: u32, words: &mut [u
 }
 
 // Reads a table: its line of names, then its lines.
-fn read_table(file: &[u8], from: Cursor, names: &[u8], width: usize, lines: u32, words: &mut [u32]) -> Cursor
+fn read_table(
+    file: &[u8],
+    from: Cursor,
+    names: &[u8],
+    width: usize,
+    lines: u32,
+    words: &mut [u32],
+) -> Cursor
     requires { ⌜ Near (now file) from ⌝ }
     ensures { λ r. ⌜ PartRead (now (file .entry)) (table (now (names .entry)) width lines) from (now (words .entry)) r (now (words .exit)) ⌝ }
 {
@@ -210,11 +217,25 @@ fn read_tables(file: &[u8], from: Cursor, head: &[u32], words: &mut [u32]) -> Cu
     requires { ⌜ length (now head) ≡ 6 ⌝ }
     ensures { λ r. ⌜ PartRead (now (file .entry)) (tables (now (head .entry))) from (now (words .entry)) r (now (words .exit)) ⌝ }
 {
-    let blocks = read_table(file, from, b"first count code a b c d e id span\n", 10, head[1], words);
+    let blocks = read_table(
+        file,
+        from,
+        b"first count code a b c d e id span\n",
+        10,
+        head[1],
+        words,
+    );
     if blocks.refused {
         return blocks;
     }
-    let instructions = read_table(file, blocks, b"id lvalue code p q span\n", 6, head[2], words);
+    let instructions = read_table(
+        file,
+        blocks,
+        b"id lvalue code p q span\n",
+        6,
+        head[2],
+        words,
+    );
     if instructions.refused {
         return instructions;
     }
@@ -233,7 +254,11 @@ fn read_tables(file: &[u8], from: Cursor, head: &[u32], words: &mut [u32]) -> Cu
 fn read_file(file: &[u8], words: &mut [u32]) -> Cursor
     ensures { λ r. ⌜ FileRead (now (file .entry)) r (now (words .exit)) ⌝ }
 {
-    let names = read_names(file, cursor_at(0, 0), b"entry blocks instructions cases places identifiers\n");
+    let names = read_names(
+        file,
+        cursor_at(0, 0),
+        b"entry blocks instructions cases places identifiers\n",
+    );
     if names.refused {
         return names;
     }

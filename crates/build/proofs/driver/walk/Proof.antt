@@ -91,10 +91,11 @@ resolve-requires c κs = c .before .before .before .before .before .before .loop
 plan-turn-requires : tie.Need-plan-turn-requires Inv-loop μ-loop
 plan-turn-requires c κs =
     let at-resolve = c .before .before .before .before .before .before in
-    let at-innermost = at-resolve .before .before .before .before .before .before in
+    let at-jump-at = at-resolve .before in
+    let at-innermost = at-jump-at .before .before .before .before .before in
     let at-loop = at-innermost .before in
     let at-entry = at-loop .before .before .before .before .before .before in
-    (ready _ (at-entry .pre) (checked-table _ (at-entry .pre)) _ _ _ _ (at-loop .loop .inv .walking) _ (frame-read _ (at-entry .pre) (checked-table _ (at-entry .pre)) _ _ _ _ (at-loop .loop .inv .walking) _ (at-innermost .innermost .ensures)), found-below _ _ (at-resolve .resolve .result) (at-loop .loop .inv .walking .whole) (at-resolve .resolve .ensures))
+    (ready _ (at-entry .pre) (checked-table _ (at-entry .pre)) _ _ _ _ (at-loop .loop .inv .walking) _ (frame-read _ (at-entry .pre) (checked-table _ (at-entry .pre)) _ _ _ _ (at-loop .loop .inv .walking) _ (at-innermost .innermost .ensures)), found-below _ (at-jump-at .jump-at .result) (at-resolve .resolve .result) (at-loop .loop .inv .walking .whole) (at-resolve .resolve .ensures))
 
 -- src/driver.rt:101:13
 rejected-requires : tie.Need-rejected-requires Inv-loop μ-loop

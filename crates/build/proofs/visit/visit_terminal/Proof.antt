@@ -1,3 +1,7 @@
+use mathlib.Core.Path.{_≡_, refl, sym, _∙_}
+use Rattle.build.proofs.VisitLaws.{unreachable-left}
+use Rattle.build.proofs.ResumeLaws.{planned-as}
+use Rattle.build.proofs.TerminalLaws.{goto-seen, branch-seen, logical-fallthrough, ternary-fallthrough, optional-fallthrough, sequence-fallthrough, twenty}
 use borrow.Author.Needs.{needs}
 use Rattle.build.proofs.visit.visit_terminal.Statement.{statement}
 use Rattle.build.proofs.visit.visit_terminal.Tie as tie
@@ -80,7 +84,11 @@ block-word-requires-2 c κs = search needs
 
 -- src/visit.rt:56:15
 visit-value-requires : tie.Need-visit-value-requires
-visit-value-requires c κs = ?
+visit-value-requires c κs =
+    let at-match = c .before .before in
+    let at-block-word = at-match .before in
+    let at-entry = at-block-word .before .before .before in
+    (at-entry .pre .0, logical-fallthrough _ _ (at-entry .pre .0 .block) _ (sym (at-block-word .block-word .ensures) ∙ at-match .match .keys13) (c .block-word2 .ensures))
 
 -- src/visit.rt:57:70
 block-word-requires-3 : tie.Need-block-word-requires-3
@@ -88,7 +96,11 @@ block-word-requires-3 c κs = search needs
 
 -- src/visit.rt:57:15
 visit-value-requires-2 : tie.Need-visit-value-requires-2
-visit-value-requires-2 c κs = ?
+visit-value-requires-2 c κs =
+    let at-match = c .before .before in
+    let at-block-word = at-match .before in
+    let at-entry = at-block-word .before .before .before in
+    (at-entry .pre .0, ternary-fallthrough _ _ (at-entry .pre .0 .block) _ (sym (at-block-word .block-word .ensures) ∙ at-match .match .keys14) (c .block-word3 .ensures))
 
 -- src/visit.rt:58:70
 block-word-requires-4 : tie.Need-block-word-requires-4
@@ -96,7 +108,11 @@ block-word-requires-4 c κs = search needs
 
 -- src/visit.rt:58:15
 visit-value-requires-3 : tie.Need-visit-value-requires-3
-visit-value-requires-3 c κs = ?
+visit-value-requires-3 c κs =
+    let at-match = c .before .before in
+    let at-block-word = at-match .before in
+    let at-entry = at-block-word .before .before .before in
+    (at-entry .pre .0, optional-fallthrough _ _ (at-entry .pre .0 .block) _ (sym (at-block-word .block-word .ensures) ∙ at-match .match .keys15) (c .block-word4 .ensures))
 
 -- src/visit.rt:59:15
 visit-label-requires : tie.Need-visit-label-requires
@@ -108,7 +124,11 @@ block-word-requires-5 c κs = search needs
 
 -- src/visit.rt:60:15
 visit-value-requires-4 : tie.Need-visit-value-requires-4
-visit-value-requires-4 c κs = ?
+visit-value-requires-4 c κs =
+    let at-match = c .before .before in
+    let at-block-word = at-match .before in
+    let at-entry = at-block-word .before .before .before in
+    (at-entry .pre .0, sequence-fallthrough _ _ (at-entry .pre .0 .block) _ (sym (at-block-word .block-word .ensures) ∙ at-match .match .keys17) (c .block-word5 .ensures))
 
 -- src/visit.rt:61:15
 visit-maybe-throw-requires : tie.Need-visit-maybe-throw-requires
@@ -120,11 +140,18 @@ visit-try-requires c κs = search needs
 
 -- src/visit.rt:63:14
 visit-scope-requires : tie.Need-visit-scope-requires
-visit-scope-requires c κs = ?
+visit-scope-requires c κs =
+    let at-block-word = c .before in
+    let at-entry = at-block-word .before .before .before in
+    (at-entry .pre .0, twenty _ (λ e. at-entry .pre .1 .1 e) (λ e. c .match .rest .0 .0 .0 .0 .0 .0 .0 .0 .0 .0 .0 .0 .0 .0 .0 .0 .0 .0 .1 (at-block-word .block-word .ensures ∙ e)) (λ e. c .match .rest .0 .0 .0 .0 .0 .0 .0 .0 .0 .0 .0 .0 .0 .0 .0 .0 .0 .1 (at-block-word .block-word .ensures ∙ e)) (λ e. c .match .rest .0 .0 .0 .0 .0 .0 .0 .0 .0 .0 .0 .0 .0 .0 .0 .0 .1 (at-block-word .block-word .ensures ∙ e)) (λ e. c .match .rest .0 .0 .0 .0 .0 .0 .0 .0 .0 .0 .0 .0 .0 .0 .0 .1 (at-block-word .block-word .ensures ∙ e)) (λ e. c .match .rest .0 .0 .0 .0 .0 .0 .0 .0 .0 .0 .0 .0 .0 .0 .1 (at-block-word .block-word .ensures ∙ e)) (λ e. c .match .rest .0 .0 .0 .0 .0 .0 .0 .0 .0 .0 .0 .0 .0 .1 (at-block-word .block-word .ensures ∙ e)) (λ e. c .match .rest .0 .0 .0 .0 .0 .0 .0 .0 .0 .0 .0 .0 .1 (at-block-word .block-word .ensures ∙ e)) (λ e. c .match .rest .0 .0 .0 .0 .0 .0 .0 .0 .0 .0 .0 .1 (at-block-word .block-word .ensures ∙ e)) (λ e. c .match .rest .0 .0 .0 .0 .0 .0 .0 .0 .0 .0 .1 (at-block-word .block-word .ensures ∙ e)) (λ e. c .match .rest .0 .0 .0 .0 .0 .0 .0 .0 .0 .1 (at-block-word .block-word .ensures ∙ e)) (λ e. c .match .rest .0 .0 .0 .0 .0 .0 .0 .0 .1 (at-block-word .block-word .ensures ∙ e)) (λ e. c .match .rest .0 .0 .0 .0 .0 .0 .0 .1 (at-block-word .block-word .ensures ∙ e)) (λ e. c .match .rest .0 .0 .0 .0 .0 .0 .1 (at-block-word .block-word .ensures ∙ e)) (λ e. c .match .rest .0 .0 .0 .0 .0 .1 (at-block-word .block-word .ensures ∙ e)) (λ e. c .match .rest .0 .0 .0 .0 .1 (at-block-word .block-word .ensures ∙ e)) (λ e. c .match .rest .0 .0 .0 .1 (at-block-word .block-word .ensures ∙ e)) (λ e. c .match .rest .0 .0 .1 (at-block-word .block-word .ensures ∙ e)) (λ e. c .match .rest .0 .1 (at-block-word .block-word .ensures ∙ e)) (λ e. c .match .rest .1 (at-block-word .block-word .ensures ∙ e)))
 
 -- src/visit.rt:37:1
 returns : tie.Need-returns
-returns c = ?
+returns c =
+    let at-match = c .before in
+    let at-block-word = at-match .before in
+    let at-entry = at-block-word .before .before .before in
+    planned-as (λ F R C. refl) (λ C o. o .seen) (unreachable-left _ _ _ _ (at-entry .pre .0) _ (sym (at-block-word .block-word .ensures) ∙ at-match .match .keys1) (c .leave .ensures) _)
 
 -- src/visit.rt:37:1
 same-length : tie.Need-same-length
@@ -132,7 +159,7 @@ same-length c = search needs
 
 -- src/visit.rt:37:1
 returns-2 : tie.Need-returns-2
-returns-2 c = ?
+returns-2 c = planned-as (λ F R C. refl) (λ C o. o .seen .visits) (c .before .before .visit-throw .ensures)
 
 -- src/visit.rt:37:1
 same-length-2 : tie.Need-same-length-2
@@ -140,7 +167,7 @@ same-length-2 c = search needs
 
 -- src/visit.rt:37:1
 returns-3 : tie.Need-returns-3
-returns-3 c = ?
+returns-3 c = planned-as (λ F R C. refl) (λ C o. o .seen .visits) (c .before .before .visit-return .ensures)
 
 -- src/visit.rt:37:1
 same-length-3 : tie.Need-same-length-3
@@ -148,11 +175,16 @@ same-length-3 c = search needs
 
 -- src/visit.rt:37:1
 returns-4 : tie.Need-returns-4
-returns-4 c = ?
+returns-4 c =
+    let at-visit-goto = c .before .before in
+    let at-match = at-visit-goto .before .before in
+    let at-block-word = at-match .before in
+    let at-entry = at-block-word .before .before .before in
+    planned-as (λ F R C. refl) (λ C o. goto-seen _ _ _ _ _ _ (at-entry .pre .0 .promise) (at-entry .pre .0 .block) C o (sym (at-block-word .block-word .ensures) ∙ at-match .match .keys4)) (at-visit-goto .visit-goto .ensures)
 
 -- src/visit.rt:37:1
 returns-5 : tie.Need-returns-5
-returns-5 c = ?
+returns-5 c = planned-as (λ F R C. refl) (λ C o. o .seen) (c .visit-if .ensures _)
 
 -- src/visit.rt:37:1
 same-length-4 : tie.Need-same-length-4
@@ -160,15 +192,20 @@ same-length-4 c = search needs
 
 -- src/visit.rt:37:1
 returns-6 : tie.Need-returns-6
-returns-6 c = ?
+returns-6 c =
+    let at-visit-branch = c .before .before in
+    let at-match = at-visit-branch .before .before in
+    let at-block-word = at-match .before in
+    let at-entry = at-block-word .before .before .before in
+    planned-as (λ F R C. refl) (λ C o. branch-seen _ _ _ _ _ _ (at-entry .pre .0 .promise) (at-entry .pre .0 .block) C o (sym (at-block-word .block-word .ensures) ∙ at-match .match .keys6)) (at-visit-branch .visit-branch .ensures)
 
 -- src/visit.rt:37:1
 returns-7 : tie.Need-returns-7
-returns-7 c = ?
+returns-7 c = planned-as (λ F R C. refl) (λ C o. o .seen) (c .visit-switch .ensures _)
 
 -- src/visit.rt:37:1
 returns-8 : tie.Need-returns-8
-returns-8 c = ?
+returns-8 c = planned-as (λ F R C. refl) (λ C o. o .seen) (c .visit-do-while .ensures _)
 
 -- src/visit.rt:37:1
 same-length-5 : tie.Need-same-length-5
@@ -176,7 +213,7 @@ same-length-5 c = search needs
 
 -- src/visit.rt:37:1
 returns-9 : tie.Need-returns-9
-returns-9 c = ?
+returns-9 c = planned-as (λ F R C. refl) (λ C o. o .seen) (c .before .before .visit-while .ensures)
 
 -- src/visit.rt:37:1
 same-length-6 : tie.Need-same-length-6
@@ -184,7 +221,7 @@ same-length-6 c = search needs
 
 -- src/visit.rt:37:1
 returns-10 : tie.Need-returns-10
-returns-10 c = ?
+returns-10 c = planned-as (λ F R C. refl) (λ C o. o .seen) (c .before .before .visit-for .ensures)
 
 -- src/visit.rt:37:1
 same-length-7 : tie.Need-same-length-7
@@ -192,7 +229,7 @@ same-length-7 c = search needs
 
 -- src/visit.rt:37:1
 returns-11 : tie.Need-returns-11
-returns-11 c = ?
+returns-11 c = planned-as (λ F R C. refl) (λ C o. o .seen) (c .before .before .visit-for-of .ensures)
 
 -- src/visit.rt:37:1
 same-length-8 : tie.Need-same-length-8
@@ -200,7 +237,7 @@ same-length-8 c = search needs
 
 -- src/visit.rt:37:1
 returns-12 : tie.Need-returns-12
-returns-12 c = ?
+returns-12 c = planned-as (λ F R C. refl) (λ C o. o .seen) (c .before .before .visit-for-in .ensures)
 
 -- src/visit.rt:37:1
 same-length-9 : tie.Need-same-length-9
@@ -208,7 +245,7 @@ same-length-9 c = search needs
 
 -- src/visit.rt:37:1
 returns-13 : tie.Need-returns-13
-returns-13 c = ?
+returns-13 c = planned-as (λ F R C. refl) (λ C o. o .seen) (c .before .before .visit-value .ensures)
 
 -- src/visit.rt:37:1
 same-length-10 : tie.Need-same-length-10
@@ -216,7 +253,7 @@ same-length-10 c = search needs
 
 -- src/visit.rt:37:1
 returns-14 : tie.Need-returns-14
-returns-14 c = ?
+returns-14 c = planned-as (λ F R C. refl) (λ C o. o .seen) (c .before .before .visit-value2 .ensures)
 
 -- src/visit.rt:37:1
 same-length-11 : tie.Need-same-length-11
@@ -224,11 +261,11 @@ same-length-11 c = search needs
 
 -- src/visit.rt:37:1
 returns-15 : tie.Need-returns-15
-returns-15 c = ?
+returns-15 c = planned-as (λ F R C. refl) (λ C o. o .seen) (c .before .before .visit-value3 .ensures)
 
 -- src/visit.rt:37:1
 returns-16 : tie.Need-returns-16
-returns-16 c = ?
+returns-16 c = planned-as (λ F R C. refl) (λ C o. o .seen) (c .visit-label .ensures _)
 
 -- src/visit.rt:37:1
 same-length-12 : tie.Need-same-length-12
@@ -236,19 +273,19 @@ same-length-12 c = search needs
 
 -- src/visit.rt:37:1
 returns-17 : tie.Need-returns-17
-returns-17 c = ?
+returns-17 c = planned-as (λ F R C. refl) (λ C o. o .seen) (c .before .before .visit-value4 .ensures)
 
 -- src/visit.rt:37:1
 returns-18 : tie.Need-returns-18
-returns-18 c = ?
+returns-18 c = planned-as (λ F R C. refl) (λ C o. o .seen) (c .visit-maybe-throw .ensures _)
 
 -- src/visit.rt:37:1
 returns-19 : tie.Need-returns-19
-returns-19 c = ?
+returns-19 c = planned-as (λ F R C. refl) (λ C o. o .seen) (c .visit-try .ensures _)
 
 -- src/visit.rt:37:1
 returns-20 : tie.Need-returns-20
-returns-20 c = ?
+returns-20 c = planned-as (λ F R C. refl) (λ C o. o .seen) (c .visit-scope .ensures _)
 
 pub visit-terminal-spec : {M : Type 1} → statement M
 visit-terminal-spec =

@@ -59,7 +59,6 @@ loop-again c =
     let at-loop-test = at-put-word .before .before .before in
     let at-loop = at-loop-test .before in
     let at-entry = at-loop .before .before .before in
-    
     let I = at-loop .loop .inv in
     let e = at-put-word .put-word .ensures in
     record {
@@ -77,7 +76,6 @@ returns : tie.Need-returns Inv-loop μ-loop
 returns c =
     let at-loop = c .before in
     let at-entry = at-loop .before .before .before in
-    
     let I = at-loop .loop .inv in
     let e : at-loop .loop .i ≡ length (at-entry .args .source .now) = omega (arith, I .most, c .loop-test .left) in
     rw (take-length (at-entry .args .source .now)) at (rw e at (I .holds))

@@ -17,10 +17,10 @@ returns : tie.Need-returns
 returns c =
     let at-digit-value = c .before in
     record {
-  most = omega arith;
-  more = λ h. absurd (omega arith);
-  none = λ e d f. omega (arith, at-digit-value .digit-value .ensures .only d (f .small) (f .shown), c .if1 .taken);
-}
+      most = omega arith;
+      more = λ h. absurd (omega arith);
+      none = λ e d f. omega (arith, at-digit-value .digit-value .ensures .only d (f .small) (f .shown), c .if1 .taken);
+    }
 
 -- src/read.rt:43:9
 returns-2 : tie.Need-returns-2
@@ -57,10 +57,10 @@ returns-4 : tie.Need-returns-4
 returns-4 c =
     let at-digit-value = c .before .before .before in
     record {
-  most = omega arith;
-  more = λ h. absurd (omega arith);
-  none = λ e d f. omega (arith, at-digit-value .digit-value .ensures .only d (f .small) (f .shown), c .if3 .left, f .fits);
-}
+      most = omega arith;
+      more = λ h. absurd (omega arith);
+      none = λ e d f. omega (arith, at-digit-value .digit-value .ensures .only d (f .small) (f .shown), c .if3 .left, f .fits);
+    }
 
 pub extended-spec : {M : Type 1} → statement M
 extended-spec =

@@ -54,9 +54,7 @@ returns-2 c =
     let at-if2 = at-clear-words2 .before .before in
     let at-read-file = at-if2 .before .before .before in
     let at-if1 = at-read-file .before .before in
-    
-    let R = at-read-file .read-file .ensures in
-    (
+    let R = at-read-file .read-file .ensures in (
       inr (refl, at-if1 .if1 .left, stopped-refused _ _ (R .stopped (at-if2 .if2 .taken))),
       cleared-zeros (at-read-file .read-file .last .1 .0) _ _ (at-read-file .read-file .kept .1 .0) (at-clear-words2 .clear-words2 .ensures),
     )
@@ -77,10 +75,8 @@ returns-3 c =
     let at-if2 = at-if3 .before .before in
     let at-read-file = at-if2 .before .before .before in
     let at-if1 = at-read-file .before .before in
-    
     let R = at-read-file .read-file .ensures in
-    let (words, text, holds) = R .reached (at-if2 .if2 .left) in
-    (
+    let (words, text, holds) = R .reached (at-if2 .if2 .left) in (
       words,
       record { short = at-if1 .if1 .left; good = text-good _ words text },
       omega (arith, holds .counted, at-if3 .if3 .taken, at-read-file .read-file .kept .1 .0),
@@ -103,10 +99,8 @@ returns-4 c =
     let at-if2 = at-if3 .before .before in
     let at-read-file = at-if2 .before .before .before in
     let at-if1 = at-read-file .before .before in
-    
     let R = at-read-file .read-file .ensures in
-    let (words, text, holds) = R .reached (at-if2 .if2 .left) in
-    (
+    let (words, text, holds) = R .reached (at-if2 .if2 .left) in (
       words,
       record { short = at-if1 .if1 .left; good = text-good _ words text },
       holds .counted,

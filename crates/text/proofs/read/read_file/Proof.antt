@@ -40,7 +40,6 @@ returns c =
     let at-read-names = c .before in
     let at-cursor-at = at-read-names .before .before in
     let at-entry = at-cursor-at .before .before .before in
-    
     let file = at-entry .args .file .now in
     let N = rw (at-cursor-at .cursor-at .ensures) at (at-read-names .read-names .ensures) in
     record {
@@ -65,11 +64,10 @@ returns-2 c =
     let at-read-names = at-if1 .before in
     let at-cursor-at = at-read-names .before .before in
     let at-entry = at-cursor-at .before .before .before in
-    
     let file = at-entry .args .file .now in
     let N = rw (at-cursor-at .cursor-at .ensures) at (at-read-names .read-names .ensures) in
     let A : At file (replicate 6 0) (at-read-names .read-names .result .at) (at-read-names .read-names .result .count) [] headed =
-        record { reached = N .reached [] headed (begun file) (at-if1 .if1 .left); holds = rw (N .count (at-if1 .if1 .left)) (holds-none (replicate 6 0)) } in
+    record { reached = N .reached [] headed (begun file) (at-if1 .if1 .left); holds = rw (N .count (at-if1 .if1 .left)) (holds-none (replicate 6 0)) } in
     let R = at-read-row .read-row .ensures in
     record {
       near = R .near;
@@ -108,11 +106,10 @@ returns-3 c =
     let at-read-names = at-if1 .before in
     let at-cursor-at = at-read-names .before .before in
     let at-entry = at-cursor-at .before .before .before in
-    
     let file = at-entry .args .file .now in
     let N = rw (at-cursor-at .cursor-at .ensures) at (at-read-names .read-names .ensures) in
     let A : At file (replicate 6 0) (at-read-names .read-names .result .at) (at-read-names .read-names .result .count) [] headed =
-        record { reached = N .reached [] headed (begun file) (at-if1 .if1 .left); holds = rw (N .count (at-if1 .if1 .left)) (holds-none (replicate 6 0)) } in
+    record { reached = N .reached [] headed (begun file) (at-if1 .if1 .left); holds = rw (N .count (at-if1 .if1 .left)) (holds-none (replicate 6 0)) } in
     let S = head-stored (at-read-row .read-row .ensures .reached [] (λ head. tables head finished) A (at-if2 .if2 .left)) (at-read-row .read-row .kept .1 .1 .1 .0) (at-put-words .put-words .ensures) in
     let T = at-read-tables .read-tables .ensures in
     record {
@@ -142,11 +139,10 @@ returns-4 c =
     let at-read-names = at-if1 .before in
     let at-cursor-at = at-read-names .before .before in
     let at-entry = at-cursor-at .before .before .before in
-    
     let file = at-entry .args .file .now in
     let N = rw (at-cursor-at .cursor-at .ensures) at (at-read-names .read-names .ensures) in
     let A : At file (replicate 6 0) (at-read-names .read-names .result .at) (at-read-names .read-names .result .count) [] headed =
-        record { reached = N .reached [] headed (begun file) (at-if1 .if1 .left); holds = rw (N .count (at-if1 .if1 .left)) (holds-none (replicate 6 0)) } in
+    record { reached = N .reached [] headed (begun file) (at-if1 .if1 .left); holds = rw (N .count (at-if1 .if1 .left)) (holds-none (replicate 6 0)) } in
     let S = head-stored (at-read-row .read-row .ensures .reached [] (λ head. tables head finished) A (at-if2 .if2 .left)) (at-read-row .read-row .kept .1 .1 .1 .0) (at-put-words .put-words .ensures) in
     let T = at-read-tables .read-tables .ensures in
     let F = T .reached _ finished S (at-if3 .if3 .left) in
@@ -172,11 +168,10 @@ returns-5 c =
     let at-read-names = at-if1 .before in
     let at-cursor-at = at-read-names .before .before in
     let at-entry = at-cursor-at .before .before .before in
-    
     let file = at-entry .args .file .now in
     let N = rw (at-cursor-at .cursor-at .ensures) at (at-read-names .read-names .ensures) in
     let A : At file (replicate 6 0) (at-read-names .read-names .result .at) (at-read-names .read-names .result .count) [] headed =
-        record { reached = N .reached [] headed (begun file) (at-if1 .if1 .left); holds = rw (N .count (at-if1 .if1 .left)) (holds-none (replicate 6 0)) } in
+    record { reached = N .reached [] headed (begun file) (at-if1 .if1 .left); holds = rw (N .count (at-if1 .if1 .left)) (holds-none (replicate 6 0)) } in
     let S = head-stored (at-read-row .read-row .ensures .reached [] (λ head. tables head finished) A (at-if2 .if2 .left)) (at-read-row .read-row .kept .1 .1 .1 .0) (at-put-words .put-words .ensures) in
     let T = at-read-tables .read-tables .ensures in
     let F = T .reached _ finished S (at-if3 .if3 .left) in

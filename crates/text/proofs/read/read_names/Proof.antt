@@ -32,7 +32,6 @@ abbrev μ-loop : tie.MeasureT-loop
 loop-holds : tie.Need-loop-holds Inv-loop μ-loop
 loop-holds c =
     let at-entry = c .before .before in
-    
     let a = at-entry .args in
     record { most = omega arith; near = omega (arith, at-entry .pre .within); here = λ words next h. rw (add-zero (a .from .at)) h }
 
@@ -50,7 +49,6 @@ returns c =
     let at-if1 = c .before in
     let at-loop-test = at-if1 .before in
     let at-loop = at-loop-test .before in
-    
     let I = at-loop .loop .inv in
     names-refused (c .cursor-refused .ensures) (I .near)
     (λ words next h. name-missing _ _ words _ _ next (at-loop-test .loop-test .taken) (I .here words next h) (omega (arith, I .near, at-if1 .if1 .taken)))
@@ -74,7 +72,6 @@ returns-2 c =
     let at-if1 = at-if2 .before .before .before in
     let at-loop-test = at-if1 .before in
     let at-loop = at-loop-test .before in
-    
     let I = at-loop .loop .inv in
     names-refused (c .cursor-refused2 .ensures) (I .near)
     (λ words next h. name-other _ _ words _ _ next (at-loop-test .loop-test .taken) (I .here words next h) (at-if1 .if1 .left) (at-if2 .if2 .taken))
@@ -94,7 +91,6 @@ loop-again c =
     let at-loop-test = at-if1 .before in
     let at-loop = at-loop-test .before in
     let at-entry = at-loop .before .before .before in
-    
     let I = at-loop .loop .inv in
     let a = at-entry .args in
     record {
@@ -117,7 +113,6 @@ returns-3 c =
     let at-loop-test = c .before in
     let at-loop = at-loop-test .before in
     let at-entry = at-loop .before .before .before in
-    
     let I = at-loop .loop .inv in
     names-at (c .cursor-at .ensures) (I .near) (omega (arith, at-entry .pre .few))
     (λ words next h. rw (names-done _ (at-loop .loop .i) next (at-loop-test .loop-test .left)) at (I .here words next h))

@@ -59,7 +59,6 @@ returns-2 c =
     let at-digit-value = at-if2 .before in
     let at-if1 = at-digit-value .before .before in
     let at-entry = at-if1 .before .before in
-    
     let D = at-digit-value .digit-value in
     let full = at-if2 .if2 .taken in
     number-refused (c .number-refused2 .ensures) (at-entry .pre)
@@ -80,7 +79,6 @@ loop-holds c =
     let at-digit-value = at-if2 .before in
     let at-if1 = at-digit-value .before .before in
     let at-entry = at-if1 .before .before in
-    
     let D = at-digit-value .digit-value in
     let small : D .result < 10 = omega (arith, D .ensures .most, at-if2 .if2 .left) in
     let inside : at-entry .args .start < length (at-entry .args .file .now) = omega (arith, at-entry .pre, at-if1 .if1 .left) in
@@ -105,7 +103,6 @@ returns-3 c =
     let at-loop-test = c .before .before in
     let at-loop = at-loop-test .before in
     let at-ending-byte = at-loop .before in
-    
     let I = at-loop .loop .inv in
     record {
       within = omega (arith, at-loop-test .loop-test .taken);
@@ -131,7 +128,6 @@ returns-4 c =
     let at-loop-test = at-if3 .before .before in
     let at-loop = at-loop-test .before in
     let at-ending-byte = at-loop .before in
-    
     let I = at-loop .loop .inv in
     let E = at-extended .extended in
     let full = at-if4 .if4 .taken in
@@ -157,7 +153,6 @@ loop-again c =
     let at-extended = c .before in
     let at-loop-test = at-extended .before .before .before in
     let at-loop = at-loop-test .before in
-    
     let I = at-loop .loop .inv in
     let E = at-extended .extended in
     let fits : E .result < 2 ^ 32 = omega (arith, E .ensures .most, c .if4 .left) in
@@ -178,7 +173,6 @@ returns-5 : tie.Need-returns-5 Inv-loop μ-loop
 returns-5 c =
     let at-loop-test = c .before in
     let at-loop = at-loop-test .before in
-    
     let I = at-loop .loop .inv in
     number-refused (c .number-refused4 .ensures) (I .near)
     (λ words next h. digit-missing _ _ words _ _ next (I .here words next h) (omega (arith, I .near, at-loop-test .loop-test .left)))

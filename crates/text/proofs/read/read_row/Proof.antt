@@ -41,14 +41,14 @@ loop-holds : tie.Need-loop-holds Inv-loop μ-loop
 loop-holds c =
     let at-entry = c .before .before in
     record {
-  most = omega arith;
-  near = at-entry .pre .within;
-  few = at-entry .pre .few;
-  long = refl;
-  numbers = [];
-  many = refl;
-  here = λ before next h. rw (append-nil before, sub-zero (at-entry .args .width)) h;
-}
+      most = omega arith;
+      near = at-entry .pre .within;
+      few = at-entry .pre .few;
+      long = refl;
+      numbers = [];
+      many = refl;
+      here = λ before next h. rw (append-nil before, sub-zero (at-entry .args .width)) h;
+    }
 
 -- src/read.rt:153:39
 add-read-number : tie.Need-add-read-number Inv-loop μ-loop
@@ -73,7 +73,6 @@ returns c =
     let at-read-number = at-if1 .before in
     let at-loop-test = at-read-number .before in
     let at-loop = at-loop-test .before in
-    
     let I = at-loop .loop .inv in
     let N = at-read-number .read-number .ensures in
     row-refused (c .cursor-refused .ensures) (N .within) (λ before next h. N .stopped _ _ (rw (row-open _ _ _ next (at-loop-test .loop-test .taken)) at (I .here before next h .reached)) (at-if1 .if1 .taken))
@@ -102,7 +101,6 @@ loop-again c =
     let at-read-number = at-if1 .before in
     let at-loop-test = at-read-number .before in
     let at-loop = at-loop-test .before in
-    
     let I = at-loop .loop .inv in
     let N = at-read-number .read-number .ensures in
     let n = at-read-number .read-number .result .value in
@@ -114,11 +112,11 @@ loop-again c =
       numbers = I .numbers ++ (n ∷ []);
       many = length-append (I .numbers) (n ∷ []) ∙ ap (λ (k : ℕ). k + 1) (I .many);
       here = λ before next h.
-        let a = I .here before next h in
-        rw (sym (append-assoc before (I .numbers) (n ∷ []))) (record {
-          reached = N .reached _ _ (rw (row-open _ _ _ next (at-loop-test .loop-test .taken)) at (a .reached)) (at-if1 .if1 .left);
-          holds = rw (at-put-word .put-word .ensures) (holds-put _ _ _ _ (a .holds));
-        });
+          let a = I .here before next h in
+          rw (sym (append-assoc before (I .numbers) (n ∷ []))) (record {
+            reached = N .reached _ _ (rw (row-open _ _ _ next (at-loop-test .loop-test .taken)) at (a .reached)) (at-if1 .if1 .left);
+            holds = rw (at-put-word .put-word .ensures) (holds-put _ _ _ _ (a .holds));
+          });
     }
 
 -- src/read.rt:162:5
@@ -134,15 +132,14 @@ returns-2 : tie.Need-returns-2 Inv-loop μ-loop
 returns-2 c =
     let at-loop-test = c .before in
     let at-loop = at-loop-test .before in
-    
     let I = at-loop .loop .inv in
     row-at (c .cursor-at .ensures) (I .near) (I .few) (λ before next h.
-      let a = I .here before next h in
-      record {
-        numbers = I .numbers;
-        long = omega (arith, I .many, I .most, at-loop-test .loop-test .left);
-        at = record { reached = rw (row-done _ (at-loop .loop .i) _ next (at-loop-test .loop-test .left)) at (a .reached); holds = a .holds };
-      })
+    let a = I .here before next h in
+    record {
+      numbers = I .numbers;
+      long = omega (arith, I .many, I .most, at-loop-test .loop-test .left);
+      at = record { reached = rw (row-done _ (at-loop .loop .i) _ next (at-loop-test .loop-test .left)) at (a .reached); holds = a .holds };
+    })
 
 pub read-row-spec : {M : Type 1} → statement M
 read-row-spec =

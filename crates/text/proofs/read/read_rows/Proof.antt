@@ -36,11 +36,11 @@ loop-holds : tie.Need-loop-holds Inv-loop μ-loop
 loop-holds c =
     let at-entry = c .before .before in
     record {
-  most = omega arith;
-  near = record { within = at-entry .pre .within; few = at-entry .pre .few };
-  long = refl;
-  here = λ before next h. ([], rw (append-nil before, sub-zero (at-entry .args .lines)) h);
-}
+      most = omega arith;
+      near = record { within = at-entry .pre .within; few = at-entry .pre .few };
+      long = refl;
+      here = λ before next h. ([], rw (append-nil before, sub-zero (at-entry .args .lines)) h);
+    }
 
 -- src/read.rt:175:32
 cursor-at-requires : tie.Need-cursor-at-requires Inv-loop μ-loop
@@ -67,14 +67,13 @@ returns c =
     let at-cursor-at = at-read-row .before .before in
     let at-loop-test = at-cursor-at .before in
     let at-loop = at-loop-test .before in
-    
     let I = at-loop .loop .inv in
     let R = rw (at-cursor-at .cursor-at .ensures) at (at-read-row .read-row .ensures) in
     record {
       near = R .near;
       stopped = λ before next h g.
-        let (new, a) = I .here before next h in
-        R .stopped (before ++ new) _ (rw (rows-open _ _ (at-loop .loop .i) next (at-loop-test .loop-test .taken)) at a) g;
+          let (new, a) = I .here before next h in
+          R .stopped (before ++ new) _ (rw (rows-open _ _ (at-loop .loop .i) next (at-loop-test .loop-test .taken)) at a) g;
       reached = λ before next h g. absurd (true-false (sym (c .if1 .taken) ∙ g));
     }
 
@@ -93,7 +92,6 @@ loop-again c =
     let at-cursor-at = at-read-row .before .before in
     let at-loop-test = at-cursor-at .before in
     let at-loop = at-loop-test .before in
-    
     let I = at-loop .loop .inv in
     let R = rw (at-cursor-at .cursor-at .ensures) at (at-read-row .read-row .ensures) in
     record {
@@ -101,9 +99,9 @@ loop-again c =
       near = record { within = R .near .within; few = R .near .few };
       long = at-read-row .read-row .kept .1 .1 .1 .0 ∙ I .long;
       here = λ before next h.
-        let (new, a) = I .here before next h in
-        let e = R .reached (before ++ new) _ (rw (rows-open _ _ (at-loop .loop .i) next (at-loop-test .loop-test .taken)) at a) (c .if1 .left) in
-        (new ++ e .numbers, rw (append-assoc before new (e .numbers)) at (e .at));
+          let (new, a) = I .here before next h in
+          let e = R .reached (before ++ new) _ (rw (rows-open _ _ (at-loop .loop .i) next (at-loop-test .loop-test .taken)) at a) (c .if1 .left) in
+          (new ++ e .numbers, rw (append-assoc before new (e .numbers)) at (e .at));
     }
 
 -- src/read.rt:183:5
@@ -119,7 +117,6 @@ returns-2 : tie.Need-returns-2 Inv-loop μ-loop
 returns-2 c =
     let at-loop-test = c .before in
     let at-loop = at-loop-test .before in
-    
     let I = at-loop .loop .inv in
     part-at (c .cursor-at2 .ensures) (I .near .within) (I .near .few)
     (λ before next h. rw (rows-done _ _ (at-loop .loop .i) next (at-loop-test .loop-test .left)) at (I .here before next h))

@@ -34,7 +34,6 @@ returns : tie.Need-returns
 unfolding tables
 returns c =
     let at-read-table = c .before .before .before in
-    
     part-stops (at-read-table .read-table .ensures) (c .if1 .taken)
 
 -- src/read.rt:208:49
@@ -60,7 +59,6 @@ returns-2 c =
     let at-read-table2 = c .before .before .before in
     let at-if1 = at-read-table2 .before .before .before .before in
     let at-read-table = at-if1 .before .before .before in
-    
     part-then (at-read-table .read-table .ensures) (at-if1 .if1 .left) (
     part-stops (at-read-table2 .read-table2 .ensures) (c .if2 .taken))
 
@@ -89,7 +87,6 @@ returns-3 c =
     let at-read-table2 = at-if2 .before .before .before in
     let at-if1 = at-read-table2 .before .before .before .before in
     let at-read-table = at-if1 .before .before .before in
-    
     part-then (at-read-table .read-table .ensures) (at-if1 .if1 .left) (
     part-then (at-read-table2 .read-table2 .ensures) (at-if2 .if2 .left) (
     part-stops (at-read-table3 .read-table3 .ensures) (c .if3 .taken)))
@@ -113,7 +110,6 @@ same-length-4 c =
     let at-read-table3 = at-read-table4 .before .before .before .before .before .before .before in
     let at-read-table2 = at-read-table3 .before .before .before .before .before .before .before in
     let at-read-table = at-read-table2 .before .before .before .before .before .before .before in
-    
     at-read-table4 .read-table4 .kept .1 .1 .1 .1 .1 .0
     ∙ at-read-table3 .read-table3 .kept .1 .1 .1 .1 .1 .0
     ∙ at-read-table2 .read-table2 .kept .1 .1 .1 .1 .1 .0
@@ -130,7 +126,6 @@ returns-4 c =
     let at-read-table2 = at-if2 .before .before .before in
     let at-if1 = at-read-table2 .before .before .before .before in
     let at-read-table = at-if1 .before .before .before in
-    
     part-then (at-read-table .read-table .ensures) (at-if1 .if1 .left) (
     part-then (at-read-table2 .read-table2 .ensures) (at-if2 .if2 .left) (
     part-then (at-read-table3 .read-table3 .ensures) (at-if3 .if3 .left) (
@@ -156,7 +151,6 @@ same-length-5 c =
     let at-read-table3 = at-read-table4 .before .before .before .before .before .before .before in
     let at-read-table2 = at-read-table3 .before .before .before .before .before .before .before in
     let at-read-table = at-read-table2 .before .before .before .before .before .before .before in
-    
     at-read-table5 .read-table5 .kept .1 .1 .1 .1 .1 .0
     ∙ at-read-table4 .read-table4 .kept .1 .1 .1 .1 .1 .0
     ∙ at-read-table3 .read-table3 .kept .1 .1 .1 .1 .1 .0
@@ -176,7 +170,6 @@ returns-5 c =
     let at-read-table2 = at-if2 .before .before .before in
     let at-if1 = at-read-table2 .before .before .before .before in
     let at-read-table = at-if1 .before .before .before in
-    
     part-then (at-read-table .read-table .ensures) (at-if1 .if1 .left) (
     part-then (at-read-table2 .read-table2 .ensures) (at-if2 .if2 .left) (
     part-then (at-read-table3 .read-table3 .ensures) (at-if3 .if3 .left) (

@@ -32,10 +32,8 @@ returns c =
     let at-clear-bytes = c .before .before in
     let at-if1 = at-clear-bytes .before .before in
     let at-write-result = at-if1 .before .before .before in
-    
     let W = at-write-result .write-result in
-    let h = W .ensures [] (holds-none _) in
-    (
+    let h = W .ensures [] (holds-none _) in (
       over-answer _ _ (W .last .0) _ _ (W .kept .0) h (at-if1 .if1 .taken),
       over-lent _ _ _ _ _ (W .kept .0) h (at-if1 .if1 .taken) (at-clear-bytes .clear-bytes .ensures),
     )
@@ -54,10 +52,8 @@ returns-2 c =
     let at-clear-bytes2 = c .before .before in
     let at-if1 = at-clear-bytes2 .before .before in
     let at-write-result = at-if1 .before .before .before in
-    
     let W = at-write-result .write-result in
-    let h = W .ensures [] (holds-none _) in
-    (
+    let h = W .ensures [] (holds-none _) in (
       fits-answer _ _ (W .last .0) _ _ (W .kept .0) h (at-if1 .if1 .left),
       fits-lent _ _ _ _ _ (W .kept .0) h (at-if1 .if1 .left) (at-clear-bytes2 .clear-bytes2 .ensures),
     )

@@ -75,7 +75,6 @@ add-at c =
     let at-loop-test = at-shared-slice-known2 .before .before in
     let at-loop = at-loop-test .before in
     let at-entry = at-loop .before .before .before in
-    
     let n = getD (at-entry .args .numbers .now) (at-loop .loop .i) 0 in
     omega (arith, at-entry .pre, at-loop .loop .inv .room, at-loop-test .loop-test .taken, at-write-number .write-number .ensures .long, decimal-ten n (at-shared-slice-known2 .shared-slice-known2 .given (at-loop .loop .i) .fits))
 
@@ -97,7 +96,6 @@ loop-again c =
     let at-loop-test = at-shared-slice-known2 .before .before in
     let at-loop = at-loop-test .before in
     let at-entry = at-loop .before .before .before in
-    
     let I = at-loop .loop .inv in
     let numbers = at-entry .args .numbers .now in
     let n = getD numbers (at-loop .loop .i) 0 in
@@ -119,7 +117,6 @@ returns : tie.Need-returns Inv-loop μ-loop
 returns c =
     let at-loop = c .before in
     let at-entry = at-loop .before .before .before in
-    
     let I = at-loop .loop .inv in
     let e = sym (append-nil (I .text)) ∙ rw (line-done (at-entry .args .numbers .now) (at-loop .loop .i) (c .loop-test .left)) at (I .rest) in
     rw e at (I .wrote)

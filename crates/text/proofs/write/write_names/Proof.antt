@@ -63,7 +63,6 @@ loop-again c =
     let at-loop-test = at-put-byte .before .before .before in
     let at-loop = at-loop-test .before in
     let at-entry = at-loop .before .before .before in
-    
     let I = at-loop .loop .inv in
     let e = at-put-byte .put-byte .ensures in
     let names = at-entry .args .names .now in
@@ -90,7 +89,6 @@ returns : tie.Need-returns Inv-loop μ-loop
 returns c =
     let at-loop = c .before in
     let at-entry = at-loop .before .before .before in
-    
     let I = at-loop .loop .inv in
     let names = at-entry .args .names .now in
     let e : take (at-loop .loop .i) names ≡ names = take-all (at-loop .loop .i) names (c .loop-test .left) in

@@ -51,7 +51,6 @@ write-names-requires-2 c κs =
     let at-write-line = c .before .before .before .before .before in
     let at-write-names = at-write-line .before .before .before .before .before in
     let at-entry = at-write-names .before .before .before .before .before in
-    
     let f = at-entry .fits in
     let a = at-entry .args in
     let l = line-most (a .code ∷ a .at ∷ a .rows ∷ a .visits ∷ []) (f .code .fits, (f .at .fits, (f .rows .fits, (f .visits .fits, tt)))) in
@@ -74,7 +73,6 @@ returns-2 c =
     let at-write-line = at-if1 .before .before .before in
     let at-write-names = at-write-line .before .before .before .before .before in
     let at-entry = at-write-names .before .before .before .before .before in
-    
     rw (printed-accepted _ _ _ _ (at-entry .args .tree .now) (at-if1 .if1 .left))
     (wrote-some (at-write-names .write-names .ensures) (wrote-some (at-write-line .write-line .ensures) (wrote-some (at-write-names2 .write-names2 .ensures) (at-write-rows .write-rows .ensures))))
 

@@ -33,7 +33,7 @@ abbrev μ-loop : tie.MeasureT-loop
 
 -- src/write.rt:70:5
 loop-holds : tie.Need-loop-holds Inv-loop μ-loop
-loop-holds c = 
+loop-holds c =
     let rows = length (c .before .before .args .tree .now) / 6 in
     record { most = omega arith; long = refl; text = []; rest = rw (sub-zero rows) refl; wrote = wrote-none _ _ }
 
@@ -45,7 +45,6 @@ same-length c = c .before .before .loop .inv .long
 returns : tie.Need-returns Inv-loop μ-loop
 returns c =
     let at-loop = c .before .before in
-    
     let I = at-loop .loop .inv in
     wrote-part (I .text) _ _ (I .wrote) (I .rest) (λ p. absurd (omega (arith, p, c .if1 .taken)))
 
@@ -80,7 +79,6 @@ write-line-requires c κs =
     let at-loop-test = at-if1 .before in
     let at-loop = at-loop-test .before in
     let at-entry = at-loop .before .before .before in
-    
     let tree = at-entry .args .tree .now in
     let i = at-loop .loop .i in
     let six : i * 6 + 6 - i * 6 ≡ 6 = omega arith in
@@ -102,7 +100,6 @@ loop-again c =
     let at-loop-test = at-write-line .before .before .before .before in
     let at-loop = at-loop-test .before in
     let at-entry = at-loop .before .before .before in
-    
     let I = at-loop .loop .inv in
     let tree = at-entry .args .tree .now in
     let i = at-loop .loop .i in
@@ -123,7 +120,6 @@ same-length-2 c = c .before .loop .inv .long
 returns-2 : tie.Need-returns-2 Inv-loop μ-loop
 returns-2 c =
     let at-loop = c .before in
-    
     let I = at-loop .loop .inv in
     wrote-part (I .text) _ _ (I .wrote) (I .rest) (λ p. tree-done _ (at-loop .loop .i) _ (c .loop-test .left))
 
