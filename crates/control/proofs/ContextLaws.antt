@@ -161,3 +161,8 @@ module _ (cx : Context) (last : Entry) (top : Last cx last) where
     id = refl;
     bounded = λ bounded. record { most = omega (arith, bounded .most); named = λ k below. bounded .named k (omega arith) };
   }
+
+  -- the machine takes the last entry off whatever its id
+  pub pops : (visits : ℕ) → machine.unscheduled (contextOf visits cx) ≡ contextOf visits (withoutLast (unscheduledBy (targetOf (last .target)) (cx .scheduled)) cx)
+  unfolding contextOf popped
+  pops visits = unscheduled-top (contextOf visits cx) (entryOf last) (stackOf (cx .stack) (cx .len - 1)) (stack-last (cx .stack) (cx .len) last (top .nonempty) (top .read))

@@ -152,7 +152,7 @@ Sound t (popping frame frames rows cx) = Framed t 1 frame × Frames t frames × 
 
 -- ---- the stack
 
-marks-below : (s : Flags) → marks s ≤ length s
+pub marks-below : (s : Flags) → marks s ≤ length s
 marks-below [] = le-refl 0
 marks-below (true ∷ s) = omega (arith, marks-below s)
 marks-below (false ∷ s) = omega (arith, marks-below s)
