@@ -82,7 +82,6 @@ module _ {p : Position} {o : Result Made} {b₀ b : List ℕ} {before : Values} 
 
   module _ {w : List ℕ} {x : Tally} {n : ℕ} {r : ValueResult} {b₁ : List ℕ} (visit : VisitValueBlock) (form : ValueBlockResult → Value) (block span : ℕ)
       (e : before .code ≡ 0) (v : Met w blockResult (visit block (unlessNone 65535) span (before .visits)) x n b r b₁) where
-
     -- one value more was refused
     pub value-refused : (b′ : List ℕ) → (r .code ≡ 0 → ⊥) → Makes p (o >>= valueMade visit form block span) b₀ (valuesOf r) b′
     unfolding valueMade

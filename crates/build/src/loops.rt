@@ -1,27 +1,26 @@
 // Loops, whose values are made before their body, and value terminals as statements.
+use crate::fallthrough::narrow;
+use crate::fallthrough::scheduled_at;
+use crate::fallthrough::unless_scheduled;
+use crate::fallthrough::unless_unreachable;
+use crate::plan::Change;
+use crate::plan::NONE;
+use crate::plan::Plan;
+use crate::plan::Position;
+use crate::plan::Stage;
+use crate::plan::frame_of;
+use crate::plan::leave;
+use crate::plan::refuse;
+use crate::plan::traverse_block;
 use control::continue_block_is_scheduled;
-use rows::put;
 use rows::INSTR;
+use rows::put;
 use table::words::block_word;
 use value::result::Tally;
 use value::result::ValueResult;
 use value::sequence::value_block_result_to_sequence;
 use value::walk::visit_value_block;
 use value::walk::visit_value_block_terminal;
-use crate::fallthrough::narrow;
-use crate::fallthrough::scheduled_at;
-use crate::fallthrough::unless_scheduled;
-use crate::fallthrough::unless_unreachable;
-use crate::plan::frame_of;
-use crate::plan::leave;
-use crate::plan::refuse;
-use crate::plan::traverse_block;
-use crate::plan::Change;
-use crate::plan::Plan;
-use crate::plan::Position;
-use crate::plan::Stage;
-use crate::plan::NONE;
-
 ghost use mathlib.Core.Path.{_≡_};
 ghost use mathlib.Core.Option.{some};
 ghost use Prim.Native.Nat.{_-_, _≤_, _<_};
@@ -53,13 +52,23 @@ fn values_of(result: ValueResult) -> Values
     ensures { λ r. ⌜ r ≡ valuesOf result ⌝ }
 {
     let tally = result.tally;
-    Values { code: result.code, at: result.at, rows: tally.rows, visits: tally.visits }
+    Values {
+        code: result.code,
+        at: result.at,
+        rows: tally.rows,
+        visits: tally.visits,
+    }
 }
 
 fn no_values(p: Position) -> Values
     ensures { λ r. ⌜ r ≡ noValues p ⌝ }
 {
-    Values { code: 0, at: 0, rows: p.rows, visits: p.visits }
+    Values {
+        code: 0,
+        at: 0,
+        rows: p.rows,
+        visits: p.visits,
+    }
 }
 
 // One value more, as it is.
@@ -73,7 +82,10 @@ fn plain_value(words: &[u32], tree: &mut [u32], p: Position, before: Values, blo
         return before;
     }
     let span = block_word(words, p.block, 9);
-    let tally = Tally { rows: before.rows, visits: before.visits };
+    let tally = Tally {
+        rows: before.rows,
+        visits: before.visits,
+    };
     values_of(visit_value_block(words, tree, tally, 127 - p.depth, block, NONE, span))
 }
 
@@ -88,14 +100,22 @@ fn flat_value(words: &[u32], tree: &mut [u32], p: Position, before: Values, bloc
         return before;
     }
     let span = block_word(words, p.block, 9);
-    let tally = Tally { rows: before.rows, visits: before.visits };
+    let tally = Tally {
+        rows: before.rows,
+        visits: before.visits,
+    };
     let result = visit_value_block(words, tree, tally, 127 - p.depth, block, NONE, span);
     if result.code != 0 {
         return values_of(result);
     }
     let rows = value_block_result_to_sequence(words, tree, result, span);
     let after = result.tally;
-    Values { code: 0, at: 0, rows: rows, visits: after.visits }
+    Values {
+        code: 0,
+        at: 0,
+        rows: rows,
+        visits: after.visits,
+    }
 }
 
 // schedule_loop's test, refused 15.
@@ -107,7 +127,12 @@ fn continues_scheduled(scheduled: &[bool; 1024], fallthrough: u32, continue_bloc
     continue_block_is_scheduled(scheduled, narrow(fallthrough), narrow(continue_block))
 }
 
-fn loop_is_taken<'a>(scheduled: &'a [bool; 1024], catch_handlers: &'a [bool; 1024], loop_block: u32, fallthrough: u32) -> bool
+fn loop_is_taken<'a>(
+    scheduled: &'a [bool; 1024],
+    catch_handlers: &'a [bool; 1024],
+    loop_block: u32,
+    fallthrough: u32,
+) -> bool
     requires { ⌜ «loop_block» < 1024 ⌝ }
     ensures { λ r. ⌜ r ≡ loopTaken (now (scheduled .entry)) (now («catch_handlers» .entry)) «loop_block» fallthrough ⌝ }
 {
@@ -131,25 +156,55 @@ fn schedule_loop(blocks: Loop) -> Change
 }
 
 // The body of a loop whose values are made.
-fn enter_loop<'a>(scheduled: &'a [bool; 1024], catch_handlers: &'a [bool; 1024], p: Position, values: Values, blocks: Loop) -> Plan
+fn enter_loop<'a>(
+    scheduled: &'a [bool; 1024],
+    catch_handlers: &'a [bool; 1024],
+    p: Position,
+    values: Values,
+    blocks: Loop,
+) -> Plan
     requires { ⌜ p .depth < 128 ⌝ }
     requires { ⌜ blocks .fallthrough < 1024 ⌝ }
     requires { ⌜ blocks .«continue_block» < 1024 ⌝ }
     requires { ⌜ blocks .«loop_block» < 1024 ⌝ }
     ensures { λ r. ⌜ r ≡ enteringLoop (eqb (values .code) 0) (loopTaken (now (scheduled .entry)) (now («catch_handlers» .entry)) (blocks .«loop_block») (blocks .fallthrough)) p values blocks ⌝ }
 {
-    let after = Position { block: p.block, depth: p.depth, count: p.count, rows: values.rows, visits: values.visits, stage: Stage::Visit };
+    let after = Position {
+        block: p.block,
+        depth: p.depth,
+        count: p.count,
+        rows: values.rows,
+        visits: values.visits,
+        stage: Stage::Visit,
+    };
     if values.code != 0 {
         return refuse(after, values.code, values.at);
     }
-    if loop_is_taken(scheduled, catch_handlers, blocks.loop_block, blocks.fallthrough) {
+    if loop_is_taken(
+        scheduled,
+        catch_handlers,
+        blocks.loop_block,
+        blocks.fallthrough,
+    ) {
         return refuse(after, 16, p.block);
     }
     let frame = frame_of(p, blocks.label, 1);
-    traverse_block(blocks.loop_block, frame, p.depth + 1, values.rows, values.visits, schedule_loop(blocks))
+    traverse_block(
+        blocks.loop_block,
+        frame,
+        p.depth + 1,
+        values.rows,
+        values.visits,
+        schedule_loop(blocks),
+    )
 }
 
-pub fn visit_do_while<'a>(words: &[u32], scheduled: &'a [bool; 1024], catch_handlers: &'a [bool; 1024], p: Position) -> Plan
+pub fn visit_do_while<'a>(
+    words: &[u32],
+    scheduled: &'a [bool; 1024],
+    catch_handlers: &'a [bool; 1024],
+    p: Position,
+) -> Plan
     requires { ⌜ Entered (now words) p ⌝ }
     requires { ⌜ blockWord (now words) (p .block) 2 ≡ 8 ⌝ }
     ensures { λ r. ⌜ PlannedBare (now (words .entry)) (now (scheduled .entry)) (now («catch_handlers» .entry)) p r ⌝ }
@@ -161,11 +216,22 @@ pub fn visit_do_while<'a>(words: &[u32], scheduled: &'a [bool; 1024], catch_hand
         return refuse(p, 15, test);
     }
     let label = unless_scheduled(scheduled, catch_handlers, fallthrough);
-    let blocks = Loop { fallthrough: fallthrough, label: label, continue_block: test, loop_block: loop_block };
+    let blocks = Loop {
+        fallthrough: fallthrough,
+        label: label,
+        continue_block: test,
+        loop_block: loop_block,
+    };
     enter_loop(scheduled, catch_handlers, p, no_values(p), blocks)
 }
 
-pub fn visit_while<'a>(words: &[u32], tree: &mut [u32], scheduled: &'a [bool; 1024], catch_handlers: &'a [bool; 1024], p: Position) -> Plan
+pub fn visit_while<'a>(
+    words: &[u32],
+    tree: &mut [u32],
+    scheduled: &'a [bool; 1024],
+    catch_handlers: &'a [bool; 1024],
+    p: Position,
+) -> Plan
     requires { ⌜ Entered (now words) p ⌝ }
     requires { ⌜ blockWord (now words) (p .block) 2 ≡ 9 ⌝ }
     ensures { λ r. ⌜ PlannedRows (now (words .entry)) (now (scheduled .entry)) (now («catch_handlers» .entry)) p (now (tree .entry)) r (now (tree .exit)) ⌝ }
@@ -181,7 +247,12 @@ pub fn visit_while<'a>(words: &[u32], tree: &mut [u32], scheduled: &'a [bool; 10
     }
     let label = unless_unreachable(words, scheduled, catch_handlers, fallthrough);
     let values = plain_value(words, tree, p, no_values(p), test);
-    let blocks = Loop { fallthrough: fallthrough, label: label, continue_block: test, loop_block: loop_block };
+    let blocks = Loop {
+        fallthrough: fallthrough,
+        label: label,
+        continue_block: test,
+        loop_block: loop_block,
+    };
     enter_loop(scheduled, catch_handlers, p, values, blocks)
 }
 
@@ -205,7 +276,14 @@ fn init_and_test(words: &[u32], tree: &mut [u32], p: Position, init: u32, test: 
     plain_value(words, tree, p, first, test)
 }
 
-fn for_values(words: &[u32], tree: &mut [u32], p: Position, init: u32, test: u32, update: u32) -> Values
+fn for_values(
+    words: &[u32],
+    tree: &mut [u32],
+    p: Position,
+    init: u32,
+    test: u32,
+    update: u32,
+) -> Values
     requires { ⌜ Entered (now words) p ⌝ }
     requires { ⌜ init < blockCount (now words) ⌝ }
     requires { ⌜ test < blockCount (now words) ⌝ }
@@ -219,7 +297,13 @@ fn for_values(words: &[u32], tree: &mut [u32], p: Position, init: u32, test: u32
     plain_value(words, tree, p, tested, update)
 }
 
-pub fn visit_for<'a>(words: &[u32], tree: &mut [u32], scheduled: &'a [bool; 1024], catch_handlers: &'a [bool; 1024], p: Position) -> Plan
+pub fn visit_for<'a>(
+    words: &[u32],
+    tree: &mut [u32],
+    scheduled: &'a [bool; 1024],
+    catch_handlers: &'a [bool; 1024],
+    p: Position,
+) -> Plan
     requires { ⌜ Entered (now words) p ⌝ }
     requires { ⌜ blockWord (now words) (p .block) 2 ≡ 10 ⌝ }
     ensures { λ r. ⌜ PlannedRows (now (words .entry)) (now (scheduled .entry)) (now («catch_handlers» .entry)) p (now (tree .entry)) r (now (tree .exit)) ⌝ }
@@ -235,7 +319,12 @@ pub fn visit_for<'a>(words: &[u32], tree: &mut [u32], scheduled: &'a [bool; 1024
     }
     let label = unless_scheduled(scheduled, catch_handlers, fallthrough);
     let values = for_values(words, tree, p, init, test, update);
-    let blocks = Loop { fallthrough: fallthrough, label: label, continue_block: continue_block, loop_block: loop_block };
+    let blocks = Loop {
+        fallthrough: fallthrough,
+        label: label,
+        continue_block: continue_block,
+        loop_block: loop_block,
+    };
     enter_loop(scheduled, catch_handlers, p, values, blocks)
 }
 
@@ -249,7 +338,13 @@ fn for_of_values(words: &[u32], tree: &mut [u32], p: Position, init: u32, test: 
     flat_value(words, tree, p, first, test)
 }
 
-pub fn visit_for_of<'a>(words: &[u32], tree: &mut [u32], scheduled: &'a [bool; 1024], catch_handlers: &'a [bool; 1024], p: Position) -> Plan
+pub fn visit_for_of<'a>(
+    words: &[u32],
+    tree: &mut [u32],
+    scheduled: &'a [bool; 1024],
+    catch_handlers: &'a [bool; 1024],
+    p: Position,
+) -> Plan
     requires { ⌜ Entered (now words) p ⌝ }
     requires { ⌜ blockWord (now words) (p .block) 2 ≡ 11 ⌝ }
     ensures { λ r. ⌜ PlannedRows (now (words .entry)) (now (scheduled .entry)) (now («catch_handlers» .entry)) p (now (tree .entry)) r (now (tree .exit)) ⌝ }
@@ -263,11 +358,22 @@ pub fn visit_for_of<'a>(words: &[u32], tree: &mut [u32], scheduled: &'a [bool; 1
     }
     let label = unless_scheduled(scheduled, catch_handlers, fallthrough);
     let values = for_of_values(words, tree, p, init, test);
-    let blocks = Loop { fallthrough: fallthrough, label: label, continue_block: init, loop_block: loop_block };
+    let blocks = Loop {
+        fallthrough: fallthrough,
+        label: label,
+        continue_block: init,
+        loop_block: loop_block,
+    };
     enter_loop(scheduled, catch_handlers, p, values, blocks)
 }
 
-pub fn visit_for_in<'a>(words: &[u32], tree: &mut [u32], scheduled: &'a [bool; 1024], catch_handlers: &'a [bool; 1024], p: Position) -> Plan
+pub fn visit_for_in<'a>(
+    words: &[u32],
+    tree: &mut [u32],
+    scheduled: &'a [bool; 1024],
+    catch_handlers: &'a [bool; 1024],
+    p: Position,
+) -> Plan
     requires { ⌜ Entered (now words) p ⌝ }
     requires { ⌜ blockWord (now words) (p .block) 2 ≡ 12 ⌝ }
     ensures { λ r. ⌜ PlannedRows (now (words .entry)) (now (scheduled .entry)) (now («catch_handlers» .entry)) p (now (tree .entry)) r (now (tree .exit)) ⌝ }
@@ -280,7 +386,12 @@ pub fn visit_for_in<'a>(words: &[u32], tree: &mut [u32], scheduled: &'a [bool; 1
     }
     let label = unless_scheduled(scheduled, catch_handlers, fallthrough);
     let values = flat_value(words, tree, p, no_values(p), init);
-    let blocks = Loop { fallthrough: fallthrough, label: label, continue_block: init, loop_block: loop_block };
+    let blocks = Loop {
+        fallthrough: fallthrough,
+        label: label,
+        continue_block: init,
+        loop_block: loop_block,
+    };
     enter_loop(scheduled, catch_handlers, p, values, blocks)
 }
 
@@ -308,13 +419,30 @@ pub fn visit_value<'a>(
 {
     let label = unless_scheduled(scheduled, catch_handlers, fallthrough);
     let span = block_word(words, p.block, 9);
-    let tally = Tally { rows: p.rows, visits: p.visits };
+    let tally = Tally {
+        rows: p.rows,
+        visits: p.visits,
+    };
     let result = visit_value_block_terminal(words, tree, tally, 127 - p.depth, p.block);
     let after = result.tally;
     if result.code != 0 {
-        let position = Position { block: p.block, depth: p.depth, count: p.count, rows: after.rows, visits: after.visits, stage: Stage::Visit };
+        let position = Position {
+            block: p.block,
+            depth: p.depth,
+            count: p.count,
+            rows: after.rows,
+            visits: after.visits,
+            stage: Stage::Visit,
+        };
         return refuse(position, result.code, result.at);
     }
     let rows = put(tree, after.rows, INSTR, result.id, result.place, span, 0, 0);
-    leave(label, p.depth, p.count + 1, rows, after.visits, take_id(label))
+    leave(
+        label,
+        p.depth,
+        p.count + 1,
+        rows,
+        after.visits,
+        take_id(label),
+    )
 }
