@@ -1,6 +1,6 @@
 -- Over any checked table: the tree that the build makes is well-formed. A label is a fallthrough, so a block; and an alternate that is not
 -- present is empty.
-use mathlib.Core.Path.{_≡_, refl, subst}
+use mathlib.Core.Path.{_≡_, refl, ap, subst}
 use Prim.Native.Nat.{ℕ, zero, suc, _<_}
 use native.Mathlib.Omega.{arith}
 use mathlib.Core.List.{List, [], _∷_}
@@ -17,7 +17,7 @@ use Rattle.definition.specs.Statement.{BlockResult, TerminalResult, Trav
 use Rattle.definition.specs.Plain.{fallthroughOf}
 use Rattle.definition.specs.Reading.{BelowNone, EmptyUnless, WellFormedStatement, WellFormed, WellFormedCases}
 use Rattle.definition.proofs.Grow.{Good, good-bind, good-unless, Any, any}
-use Rattle.definition.proofs.Ranged.{Ranged, bindingOf}
+use Rattle.definition.proofs.Ranged.{Ranged}
 
 good-pick : {A : Type 0} (P : A → Type 0) (y : Bool) (a b : Result A) → Good P a → Good P b → Good P (elim y [ true ↦ a | false ↦ b ])
 good-pick P true a b f g = f
@@ -139,7 +139,7 @@ module _ (t : Table) (values : VisitValueBlock) (inner : TraverseBlock) (wf : Wa
 
   -- a terminal whose fallthrough and binding, if it has them, are below 65,535
   abbrev Small : Terminal → Type 0
-  Small m = ((f : ℕ) → fallthroughOf m ≡ some f → f < largest) × ((n : ℕ) → bindingOf m ≡ some n → n < largest)
+  Small m = ((f : ℕ) → fallthroughOf m ≡ some f → f < largest) × ((b h f n : ℕ) → m ≡ try b h f (some n) → n < largest)
 
   binding-formed : (o : Option ℕ) → ((n : ℕ) → o ≡ some n → n < largest) → BelowNone o
   binding-formed none h = tt
@@ -201,7 +201,7 @@ module _ (t : Table) (values : VisitValueBlock) (inner : TraverseBlock) (wf : Wa
       good-bind Any FormedStep _ _ (any (scheduleIf g c)) (λ c₁ _.
       good-bind FormedBlock FormedStep _ _ (wf x (scheduleCatchHandler h c₁)) (λ r p.
       good-bind FormedBlock FormedStep _ _ (wf h (r .context)) (λ z p₁.
-      good-bind Any FormedStep _ _ (any (unscheduleIf g (c .nextId) (z .context))) (λ c₂ _. (q, binding-formed n (s .1), p, p₁))))))
+      good-bind Any FormedStep _ _ (any (unscheduleIf g (c .nextId) (z .context))) (λ c₂ _. (q, binding-formed n (λ i e. s .1 x h f i (ap (try x h f) e)), p, p₁))))))
   terminal-formed (scope p x f n) at k c s =
       good-bind Any FormedStep _ _ (any (scheduleIf (unlessScheduled c f) c)) (λ c₁ _.
       enclosed-formed x 18 at (unlessScheduled c f) c (markScopeFallthroughIf (unlessScheduled c f) c₁) (SCOPE p n) (λ z h. h))
@@ -225,7 +225,7 @@ next-formed t at again s (some n) c w h =
     good-bind FormedBlock FormedBlock _ _ (w n c) (λ r q. instructions-formed t (instructionRowsAt t at) (followedBy s (r .statements)) (followed-formed s (r .statements) h q))
 
 module _ (t : Table) (rg : Ranged t) where
-  small : (b : ℕ) → ((f : ℕ) → fallthroughOf (terminalAt t b) ≡ some f → f < largest) × ((n : ℕ) → bindingOf (terminalAt t b) ≡ some n → n < largest)
+  small : (b : ℕ) → ((f : ℕ) → fallthroughOf (terminalAt t b) ≡ some f → f < largest) × ((x h f n : ℕ) → terminalAt t b ≡ try x h f (some n) → n < largest)
   small b = ((λ f e. omega (arith, rg .fallthroughs b f e, rg .few)), rg .bindings b)
 
   chain-formed : (values : VisitValueBlock) (inner : TraverseBlock) → WalkFormed inner → (n : ℕ) → WalkFormed (visitBlock t values inner n)

@@ -1,9 +1,9 @@
 -- Laws of the answers: from the form to the good files, and that there is one answer.
-use mathlib.Core.Path.{_≡_, refl, sym, ap, ap₂, subst, _∙_}
+use mathlib.Core.Path.{_≡_, refl, sym, ap, ap₂, _∙_}
 use mathlib.Core.Bool.{Bool, true, false}
 use mathlib.Core.List.{List, [], _∷_, _++_, append-assoc}
-use mathlib.Core.Logic.{_⊎_, inl, inr, ⊎-elim}
-use Prim.Native.Nat.{ℕ, zero, suc, _+_, _-_, _*_, _≤_, _<_}
+use mathlib.Core.Logic.{⊎-elim}
+use Prim.Native.Nat.{ℕ, _+_, _-_, _*_, _≤_, _<_}
 use native.Mathlib.Omega.{arith}
 use lib.Dec.{ltb}
 use lib.ListN.{length, take, drop, length-append}
@@ -39,7 +39,7 @@ viable-shorter : (file : List ℕ) (i j : ℕ) → i ≤ j → Viable (take j fi
 viable-shorter file i j p v =
     let k : j ≡ i + (j - i) = omega arith in
     let e : take j file ++ v .rest ≡ take i file ++ (take (j - i) (drop i file) ++ v .rest) =
-        ap (λ (n : ℕ). take n file ++ v .rest) k ∙ rw (take-add i (j - i) file) (append-assoc (take i file) (take (j - i) (drop i file)) (v .rest)) in
+    ap (λ (n : ℕ). take n file ++ v .rest) k ∙ rw (take-add i (j - i) file) (append-assoc (take i file) (take (j - i) (drop i file)) (v .rest)) in
     record { rest = take (j - i) (drop i file) ++ v .rest; words = v .words; good = rw e at (v .good) }
 
 not-before : (file : List ℕ) (i j : ℕ) → Refused file i → Refused file j → i < j → ⊥
@@ -102,7 +102,13 @@ pub good-room : (file words : List ℕ) → Good file words → length words * 2
 good-room file words g =
     let t = g .tables in
     rw (g .text, g .word) (simp length-append (omega (
-      arith, line-room (t .head), lines-room (t .blocks), lines-room (t .instructions), lines-room (t .cases), lines-room (t .places), lines-room (t .identifiers),
+      arith,
+      line-room (t .head),
+      lines-room (t .blocks),
+      lines-room (t .instructions),
+      lines-room (t .cases),
+      lines-room (t .places),
+      lines-room (t .identifiers),
     )))
 
 pub room-enough : (file lent : List ℕ) (room : ℕ) → 16384 ≤ room → Answered file room lent NoRoom → ⊥

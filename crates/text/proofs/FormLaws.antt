@@ -2,10 +2,9 @@
 use mathlib.Core.Path.{_≡_, refl, sym, ap, ap₂, subst, _∙_}
 use mathlib.Core.Bool.{Bool, true, false}
 use mathlib.Core.List.{List, [], _∷_, _++_, append-nil, append-assoc}
-use mathlib.Core.Logic.{_⊎_, inl, inr, ⊎-elim}
+use mathlib.Core.Logic.{inl, inr, ⊎-elim}
 use Prim.Native.Nat.{ℕ, zero, suc, _+_, _*_, _/_, _%_, _^_, _≤_, _<_}
 use native.Mathlib.Omega.{arith}
-use native.Mathlib.Nat.{suc-inj}
 use lib.Dec.{ltb}
 use lib.ListN.{length, getD}
 use lib.Seq.{append-snoc}
@@ -74,16 +73,16 @@ module _ (last : Bool) (next : ℕ → Form) where
       ⊎-elim
       (λ w. record { n = v; small = p; rest = bytes; more = w .1 .0; shown = rw (w .0); kept = w .1 .1; text = w .1 .2 })
       (λ w.
-        let r = digits-out (v * 10 + w .0) (w .4) bytes words (w .5) in
-        record {
-          n = r .n;
-          small = r .small;
-          rest = r .rest;
-          more = r .more;
-          shown = rw (w .2) (sym (append-snoc (decimal v) (48 + w .0) bytes) ∙ rw (← (decimal-next v (w .0) (w .3) (w .1))) (r .shown));
-          kept = r .kept;
-          text = r .text;
-        })
+      let r = digits-out (v * 10 + w .0) (w .4) bytes words (w .5) in
+      record {
+        n = r .n;
+        small = r .small;
+        rest = r .rest;
+        more = r .more;
+        shown = rw (w .2) (sym (append-snoc (decimal v) (48 + w .0) bytes) ∙ rw (← (decimal-next v (w .0) (w .3) (w .1))) (r .shown));
+        kept = r .kept;
+        text = r .text;
+      })
       t
 
   field-out : (bytes words : List ℕ) → Text (field last next) bytes words → Number bytes words
@@ -105,7 +104,7 @@ unfolding row line
 row-in [] before next bytes words p t = rw (append-nil before) at t
 row-in (n ∷ ns) before next bytes words p t =
     let rest : Text (row (length ns) (before ++ (n ∷ [])) next) (line ns ++ bytes) (ns ++ words) =
-        row-in ns (before ++ (n ∷ [])) next bytes words (p .1) (rw (append-snoc before n ns) t) in
+    row-in ns (before ++ (n ∷ [])) next bytes words (p .1) (rw (append-snoc before n ns) t) in
     rw (append-assoc (decimal n) (after ns ∷ line ns) bytes, after-ending ns)
     (field-in (isZero (length ns)) (λ k. row (length ns) (before ++ (k ∷ [])) next) n (p .0) (line ns ++ bytes) (ns ++ words) rest)
 
@@ -301,13 +300,13 @@ text-one (digits v last next) [] us vs t u = absurd t
 text-one (digits v last next) (c ∷ bytes) us vs t u =
     ⊎-elim
     (λ a. ⊎-elim
-      (λ b. a .1 .1 ∙ ap (λ (l : List ℕ). v ∷ l) (text-one (next v) bytes (a .1 .0) (b .1 .0) (a .1 .2) (b .1 .2)) ∙ sym (b .1 .1))
-      (λ b. absurd (omega (arith, a .0, b .2, ending-low last)))
-      u)
+    (λ b. a .1 .1 ∙ ap (λ (l : List ℕ). v ∷ l) (text-one (next v) bytes (a .1 .0) (b .1 .0) (a .1 .2) (b .1 .2)) ∙ sym (b .1 .1))
+    (λ b. absurd (omega (arith, a .0, b .2, ending-low last)))
+    u)
     (λ a. ⊎-elim
-      (λ b. absurd (omega (arith, b .0, a .2, ending-low last)))
-      (λ b.
-        let same : b .0 ≡ a .0 = omega (arith, a .2, b .2) in
-        text-one (digits (v * 10 + a .0) last next) bytes us vs (a .5) (subst (λ (d : ℕ). Text (digits (v * 10 + d) last next) bytes vs) same (b .5)))
-      u)
+    (λ b. absurd (omega (arith, b .0, a .2, ending-low last)))
+    (λ b.
+    let same : b .0 ≡ a .0 = omega (arith, a .2, b .2) in
+    text-one (digits (v * 10 + a .0) last next) bytes us vs (a .5) (subst (λ (d : ℕ). Text (digits (v * 10 + d) last next) bytes vs) same (b .5)))
+    u)
     t

@@ -1,19 +1,20 @@
 -- Laws of reading a part of the file.
-use mathlib.Core.Path.{_≡_, refl, sym, ap, subst, _∙_}
-use mathlib.Core.Bool.{Bool, true, false}
+use mathlib.Core.Path.{_≡_, refl, sym, subst, _∙_}
+use mathlib.Core.Bool.{true, false}
 use mathlib.Core.List.{List, [], _∷_, _++_, append-nil, append-assoc}
 use Prim.Native.Nat.{ℕ, zero, suc, _+_, _-_, _≤_, _<_}
 use native.Mathlib.Omega.{arith}
 use native.Mathlib.Numerals.{add-one}
 use lib.Dec.{eqb}
-use lib.ListN.{length, take, drop, getD, drop-of-length-le}
+use lib.ListN.{length, drop, getD, drop-of-length-le}
 use lib.Seq.{drop-cons, take-all}
 use borrow.Author.Tests.{eq-eqb, ne-eqb}
 use Rattle.text.specs.Lent.{Holds}
 use Rattle.text.specs.File.{headNames}
 use Rattle.text.specs.Form.{Form, byte, field, literal, row, rows, tables, whole, finished, isZero}
-use Rattle.text.specs.Steps.{Reached, Stopped, Near, At, NamesRead, PartRead, RowEnd, RowRead, cursorAt, cursorRefused}
-use Rattle.text.specs.declared.read.Cursor.{Cursor}
+use Rattle.text.specs.Steps.{Reached, Stopped, At, NamesRead, PartRead, RowEnd, RowRead, HeadRead, cursorAt, cursorRefused}
+use Rattle.text.specs.declared.table.Cursor.{Cursor}
+use Rattle.text.proofs.LentLaws.{holds-none}
 use Rattle.text.proofs.StepLaws.{reached-none, byte-taken, byte-other, byte-missing, true-false, false-true}
 
 -- ---- a line of names
@@ -126,9 +127,9 @@ module _ {file : List ℕ} {first second : Form → Form} {c r : Cursor} {b b′
     near = k .near;
     stopped = λ words next a. let (new, a′) = h .reached words (second next) a g in k .stopped (words ++ new) next a′;
     reached = λ words next a e.
-      let (new, a′) = h .reached words (second next) a g in
-      let (more, a″) = k .reached (words ++ new) next a′ e in
-      (new ++ more, rw (append-assoc words new more) at a″);
+        let (new, a′) = h .reached words (second next) a g in
+        let (more, a″) = k .reached (words ++ new) next a′ e in
+        (new ++ more, rw (append-assoc words new more) at a″);
   }
 
   -- the first was refused
@@ -139,25 +140,45 @@ module _ {file : List ℕ} {first second : Form → Form} {c r : Cursor} {b b′
     reached = λ words next a e. absurd (true-false (sym g ∙ e));
   }
 
--- ---- the file
+-- ---- the head
 
 -- what comes after the head's names
-abbrev pub headed : Form
+abbrev headed : Form
 headed = row 6 [] λ head. tables head finished
 
-pub begun : (file : List ℕ) → Reached file 0 [] (literal headNames headed)
+begun : (file : List ℕ) → Reached file 0 [] (literal headNames headed)
 unfolding whole
 begun file = reached-none file
 
--- the head was read into six words, which were then stored in the buffer
-pub head-stored : {file : List ℕ} {r : Cursor} {next : List ℕ → Form} {head buffer : List ℕ} → RowEnd file 6 [] next r head → length head ≡ 6 → Holds buffer (length head) head
-    → At file buffer (r .at) (r .count) head (next head)
-head-stored {file} {r} {next} {head} {buffer} e p h =
-    let H = e .at .holds in
-    let six : r .count ≡ 6 = omega (arith, H .counted, e .long) in
-    let same : head ≡ e .numbers =
-        sym (take-all 6 head (omega arith)) ∙ rw six at (H .held) ∙ take-all (length head) (e .numbers) (omega (arith, e .long)) in
-    record {
-      reached = subst (λ (l : List ℕ). Reached file (r .at) l (next l)) (sym same) (e .at .reached);
-      holds = subst (λ (k : ℕ). Holds buffer k head) (p ∙ sym six) h;
-    }
+-- the six words that a row of six numbers was read into are its numbers
+six-words : {file : List ℕ} {at count : ℕ} (next : List ℕ → Form) (head numbers : List ℕ) → length head ≡ 6 → length numbers ≡ 6
+    → At file head at count numbers (next numbers) → At file head at count head (next head)
+six-words {file} {at} {count} next head numbers p q a =
+    let H = a .holds in
+    let six : count ≡ 6 = omega (arith, H .counted) in
+    let same : numbers ≡ head =
+    sym (take-all (length head) numbers (omega arith)) ∙ sym (rw six at (H .held)) ∙ take-all 6 head (omega arith) in
+    subst (λ (l : List ℕ). At file head at count l (next l)) same a
+
+module _ {file : List ℕ} {n : Cursor} (h : NamesRead file headNames (cursorAt 0 0) n) where
+  pub head-names : (head : List ℕ) → n .refused ≡ true → HeadRead file n head
+  head-names head g = record {
+    near = h .near;
+    stopped = λ e. h .stopped [] headed (begun file) e;
+    reached = λ e. absurd (true-false (sym g ∙ e));
+  }
+
+  pub head-row : {r : Cursor} {head head′ : List ℕ} → n .refused ≡ false → length head′ ≡ 6 → RowRead file 6 n head r head′ → HeadRead file r head′
+  head-row {r} {head} {head′} g p k =
+      let a : At file head (n .at) (n .count) [] headed =
+      record { reached = h .reached [] headed (begun file) g; holds = rw (h .count g) (holds-none head) } in
+      record {
+        near = k .near;
+        stopped = λ e. k .stopped [] (λ l. tables l finished) a e;
+        reached = λ e. let w = k .reached [] (λ l. tables l finished) a e in six-words (λ l. tables l finished) head′ (w .numbers) p (w .long) (w .at);
+      }
+
+-- the same words in another buffer
+pub stored-too : {file buffer : List ℕ} {at count : ℕ} {words : List ℕ} {next : Form} (buffer′ : List ℕ) → At file buffer at count words next → Holds buffer′ (length words) words
+    → At file buffer′ at count words next
+stored-too {words = words} buffer′ a h = record { reached = a .reached; holds = subst (λ (k : ℕ). Holds buffer′ k words) (a .holds .counted) h }

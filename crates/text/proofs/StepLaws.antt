@@ -2,15 +2,15 @@
 use mathlib.Core.Path.{_≡_, refl, sym, ap, subst, _∙_}
 use mathlib.Core.Bool.{Bool, true, false}
 use mathlib.Core.List.{List, [], _∷_, _++_, append-nil, append-assoc}
-use mathlib.Core.Logic.{_⊎_, inl, inr, ⊎-elim}
-use Prim.Native.Nat.{ℕ, zero, suc, _+_, _*_, _^_, _≤_, _<_}
+use mathlib.Core.Logic.{inl, inr, ⊎-elim}
+use Prim.Native.Nat.{ℕ, suc, _+_, _*_, _^_, _≤_, _<_}
 use native.Mathlib.Omega.{arith}
 use native.Mathlib.Numerals.{add-one}
 use lib.ListN.{length, take, drop, getD}
 use lib.Seq.{take-suc, take-length, split-at, append-snoc}
 use Rattle.text.specs.Form.{Form, finished, byte, field, digits, ending, Text, whole}
 use Rattle.text.specs.Steps.{Reached, Stopped, NumberRead, numberRefused}
-use Rattle.text.specs.declared.read.Number.{Number}
+use Rattle.text.specs.declared.number.Number.{Number}
 
 -- at first all of the file is to come
 pub reached-none : (file : List ℕ) → Reached file 0 [] whole
@@ -42,9 +42,9 @@ module _ (file : List ℕ) (at : ℕ) (words : List ℕ) (form : Form) (h : Reac
     advance new next s = record {
       sound = λ bytes more t. rw (front bytes, append-assoc words new more) (h .sound (getD file at 0 ∷ bytes) (new ++ more) (s .sound bytes more t));
       only = λ bytes all t.
-        let u = h .only (getD file at 0 ∷ bytes) all (rw (front bytes) at t) in
-        let w = s .only bytes (u .0) (u .2) in
-        (w .0, u .1 ∙ ap (λ (l : List ℕ). words ++ l) (w .1) ∙ sym (append-assoc words new (w .0)), w .2);
+          let u = h .only (getD file at 0 ∷ bytes) all (rw (front bytes) at t) in
+          let w = s .only bytes (u .0) (u .2) in
+          (w .0, u .1 ∙ ap (λ (l : List ℕ). words ++ l) (w .1) ∙ sym (append-assoc words new (w .0)), w .2);
     }
 
     -- a step that completes no word
@@ -104,8 +104,8 @@ module _ (file : List ℕ) (at : ℕ) (words : List ℕ) (last : Bool) (rest : �
   first-taken d p q e = advance-in file at words (field last rest) h p (digits d last rest) (record {
     sound = λ bytes more t. (d, q, e, t);
     only = λ bytes all t.
-      let same : t .0 ≡ d = omega (arith, t .2, e) in
-      (all, refl, subst (λ (k : ℕ). Text (digits k last rest) bytes all) same (t .3));
+        let same : t .0 ≡ d = omega (arith, t .2, e) in
+        (all, refl, subst (λ (k : ℕ). Text (digits k last rest) bytes all) same (t .3));
   })
 
   pub first-other : at < length file → ((d : ℕ) → d < 10 → getD file at 0 ≡ 48 + d → ⊥) → Stopped file at
@@ -128,12 +128,12 @@ module _ (file : List ℕ) (at : ℕ) (words : List ℕ) (v : ℕ) (last : Bool)
   digit-taken d p q e r m = advance-in file at words (digits v last rest) h p (digits (v * 10 + d) last rest) (record {
     sound = λ bytes more t. inr (d, q, e, r, m, t);
     only = λ bytes all t.
-      ⊎-elim
-      (λ w. absurd (omega (arith, w .0, e, ending-low last)))
-      (λ w.
+        ⊎-elim
+        (λ w. absurd (omega (arith, w .0, e, ending-low last)))
+        (λ w.
         let same : w .0 ≡ d = omega (arith, w .2, e) in
         (all, refl, subst (λ (k : ℕ). Text (digits (v * 10 + k) last rest) bytes all) same (w .5)))
-      t;
+        t;
   })
 
   pub end-taken : at < length file → getD file at 0 ≡ ending last → Reached file (at + 1) (words ++ (v ∷ [])) (rest v)
@@ -141,10 +141,10 @@ module _ (file : List ℕ) (at : ℕ) (words : List ℕ) (v : ℕ) (last : Bool)
   end-taken p e = advance file at words (digits v last rest) h p (v ∷ []) (rest v) (record {
     sound = λ bytes more t. inl (e, (more, refl, t));
     only = λ bytes all t.
-      ⊎-elim
-      (λ w. (w .1 .0, w .1 .1, w .1 .2))
-      (λ w. absurd (omega (arith, w .2, e, ending-low last)))
-      t;
+        ⊎-elim
+        (λ w. (w .1 .0, w .1 .1, w .1 .2))
+        (λ w. absurd (omega (arith, w .2, e, ending-low last)))
+        t;
   })
 
   -- a byte that is neither the end nor a digit that may follow

@@ -1,15 +1,15 @@
 -- Laws of writing text into a lent buffer.
-use mathlib.Core.Path.{_≡_, refl, sym, ap, subst, _∙_}
-use mathlib.Core.Bool.{Bool, true, false}
+use mathlib.Core.Path.{_≡_, refl, sym, ap, _∙_}
+use mathlib.Core.Bool.{Bool}
 use mathlib.Core.List.{List, [], _∷_, _++_, append-nil, append-assoc}
 use Prim.Native.Nat.{ℕ, zero, suc, _+_, _-_, _*_, _/_, _^_, _≤_, _<_}
 use native.Mathlib.Omega.{arith}
 use native.Mathlib.Nat.{add-zero}
 use native.Mathlib.Numerals.{add-one}
-use lib.Dec.{eqb, leb}
+use lib.Dec.{eqb}
 use borrow.Author.Tests.{le-leb, lt-leb}
-use lib.ListN.{length, take, drop, getD, set, replicate, length-append, length-drop, drop-of-length-le}
-use lib.Seq.{drop-cons, drop-drop}
+use lib.ListN.{length, take, drop, getD, set, replicate, length-append, length-take, length-drop, drop-of-length-le}
+use lib.Seq.{drop-cons, drop-drop, getD-drop, take-nil}
 use Rattle.text.specs.Decimal.{decimal}
 use Rattle.text.specs.Line.{after, line, lines}
 use Rattle.text.specs.Form.{ending}
@@ -56,7 +56,7 @@ unfolding line
 line-open ns i p =
     let m : length (drop (suc i) ns) ≡ length ns - suc i = length-drop (suc i) ns in
     let e : after (drop (suc i) ns) ≡ ending (eqb (i + 1) (length ns)) =
-        after-ending (drop (suc i) ns) ∙ ap (λ (b : Bool). ending b) (last-number (length (drop (suc i) ns)) i (length ns) (omega arith)) in
+    after-ending (drop (suc i) ns) ∙ ap (λ (b : Bool). ending b) (last-number (length (drop (suc i) ns)) i (length ns) (omega arith)) in
     rw (drop-cons ns i 0 p, e, add-one i)
 
 pub line-done : (ns : List ℕ) (i : ℕ) → length ns ≤ i → line (drop i ns) ≡ []
@@ -151,3 +151,44 @@ module _ (text b′ b″ : List ℕ) (end room : ℕ) (long : length b′ ≡ ro
   pub over-lent : length b′ < end → b″ ≡ take 0 b′ ++ replicate (length b′ - 0) 0 → b″ ≡ lentOf room text
   unfolding lentOf
   over-lent p e = rw (lt-leb (length text) room (over p)) (cleared-zeros b′ b″ room long e)
+
+-- ---- room
+
+-- each word has 32 bits, as the words of a slice have
+abbrev pub Narrow : List ℕ → Type 0
+Narrow words = (i : ℕ) → getD words i 0 < 2 ^ 32
+
+narrow-words : (words : List ℕ) → Narrow words → Words words
+narrow-words [] p = tt
+narrow-words (w ∷ words) p = (p 0, narrow-words words (λ i. p (suc i)))
+
+narrow-take : (n : ℕ) (words : List ℕ) → Narrow words → Narrow (take n words)
+narrow-take n [] p i = rw (take-nil {A = ℕ} n) (p i)
+narrow-take zero (w ∷ words) p i = omega arith
+narrow-take (suc n) (w ∷ words) p zero = p 0
+narrow-take (suc n) (w ∷ words) p (suc i) = narrow-take n words (λ k. p (suc k)) i
+
+narrow-drop : (n : ℕ) (words : List ℕ) → Narrow words → Narrow (drop n words)
+narrow-drop n words p i = rw (getD-drop n words i 0) (p (n + i))
+
+tree-most : (count : ℕ) (words : List ℕ) → Narrow words → length (lines (rowsOf count words)) ≤ count * 66
+unfolding rowsOf lines
+tree-most zero words p = omega arith
+tree-most (suc count) words p =
+    let l : length (take 6 words) ≤ 6 = rw (length-take 6 words) (omega arith) in
+    simp length-append (omega (arith, line-most (take 6 words) (narrow-words (take 6 words) (narrow-take 6 words p)), tree-most count (drop 6 words) (narrow-drop 6 words p)))
+
+-- 77 bytes for the lines of a result, and 66 for each row, are enough
+pub printed-most : (code at rows visits : ℕ) (tree : List ℕ) → Words (code ∷ at ∷ rows ∷ visits ∷ []) → Narrow tree
+    → length (printed code at rows visits tree) ≤ 77 + length tree / 6 * 66
+unfolding printed treeLines
+printed-most zero at rows visits tree p q =
+    simp length-append (omega (arith, line-most (zero ∷ at ∷ rows ∷ visits ∷ []) p, tree-most (length tree / 6) tree q))
+printed-most (suc code) at rows visits tree p q =
+    simp length-append (omega (arith, line-most (suc code ∷ at ∷ rows ∷ visits ∷ []) p))
+
+-- so much room is never too little
+pub written-fits : (room code at rows visits : ℕ) (tree : List ℕ) → Words (code ∷ at ∷ rows ∷ visits ∷ []) → Narrow tree → 77 + length tree / 6 * 66 ≤ room
+    → writtenOf room (printed code at rows visits tree) ≡ Bytes (length (printed code at rows visits tree))
+unfolding writtenOf
+written-fits room code at rows visits tree p q r = rw (le-leb (length (printed code at rows visits tree)) room (omega (arith, printed-most code at rows visits tree p q)))

@@ -9,3 +9,4 @@ pub mod Form
 pub mod Steps
 pub mod Answer
 pub mod Printed
+pub mod Samples

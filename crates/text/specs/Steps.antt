@@ -5,9 +5,9 @@ use mathlib.Core.List.{List, [], _∷_, _++_}
 use Prim.Native.Nat.{ℕ, _+_, _*_, _^_, _≤_, _<_}
 use lib.ListN.{length, take}
 use Rattle.text.specs.Lent.{Holds}
-use Rattle.text.specs.Form.{Form, field, literal, row, rows, whole, Text}
-use Rattle.text.specs.declared.read.Cursor.{Cursor}
-use Rattle.text.specs.declared.read.Number.{Number}
+use Rattle.text.specs.Form.{Form, field, finished, literal, row, tables, whole, Text}
+use Rattle.text.specs.declared.table.Cursor.{Cursor}
+use Rattle.text.specs.declared.number.Number.{Number}
 
 -- after the first `at` bytes, which have these words, what is left of the file is of the form `next`, and of no other
 pub record Reached (file : List ℕ) (at : ℕ) (words : List ℕ) (next : Form) : Type 0 where
@@ -90,6 +90,12 @@ pub record RowRead (file : List ℕ) (width : ℕ) (c : Cursor) (buffer : List �
   pub stopped : (words : List ℕ) (next : List ℕ → Form) → At file buffer (c .at) (c .count) words (row width [] next) → r .refused ≡ true → Stopped file (r .at)
   pub reached : (words : List ℕ) (next : List ℕ → Form) → At file buffer (c .at) (c .count) words (row width [] next) → r .refused ≡ false
       → RowEnd file width words next r buffer′
+
+-- what reading the head into six words gives: they are its numbers
+pub record HeadRead (file : List ℕ) (r : Cursor) (head : List ℕ) : Type 0 where
+  pub near : Near file r
+  pub stopped : r .refused ≡ true → Stopped file (r .at)
+  pub reached : r .refused ≡ false → At file head (r .at) (r .count) head (tables head finished)
 
 -- what reading the whole file gives
 pub record FileRead (file : List ℕ) (r : Cursor) (buffer : List ℕ) : Type 0 where

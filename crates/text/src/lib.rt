@@ -1,4 +1,6 @@
 // The text form of paper 01, "Samples": a file's bytes read as words, and a result written as lines.
-pub mod lent;
+mod lent;
+mod number;
 pub mod read;
+mod table;
 pub mod write;

@@ -7,7 +7,7 @@ ghost use Rattle.text.specs.Line.{line, lines};
 ghost use Rattle.text.specs.Printed.{printed, rowsOf, writtenOf, lentOf, Wrote, WroteSome};
 use crate::lent::clear_bytes;
 use crate::lent::put_byte;
-use crate::read::ending_byte;
+use crate::number::ending_byte;
 
 // What writing a result gives.
 pub enum Written {

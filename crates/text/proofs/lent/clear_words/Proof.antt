@@ -5,8 +5,6 @@ use lib.ListN.{length, length-set}
 use Rattle.text.proofs.LentLaws.{Cleared, cleared-none, cleared-more, cleared-all}
 use Rattle.text.proofs.lent.clear_words.Statement.{statement}
 use Rattle.text.proofs.lent.clear_words.Tie as tie
-use Rattle.text.proofs.lent.clear_words.Reads as reads
-use Rattle.text.proofs.lent.clear_words.Lts as lts
 
 abbrev Inv-loop : tie.InvT-loop
 Inv-loop words₀ from i₀ words i = Cleared words₀ from words i
@@ -14,37 +12,29 @@ Inv-loop words₀ from i₀ words i = Cleared words₀ from words i
 abbrev μ-loop : tie.MeasureT-loop
 μ-loop words₀ from i₀ words i = length words - i
 
--- src/lent.rt:31:5
 loop-holds : tie.Need-loop-holds Inv-loop μ-loop
 loop-holds c = cleared-none (c .args .words .now) (c .args .from) (c .pre)
 
--- src/lent.rt:32:9
 mul-words : tie.Need-mul-words Inv-loop μ-loop
 mul-words c = search needs
 
--- src/lent.rt:32:9
 slice-write-words : tie.Need-slice-write-words Inv-loop μ-loop
 slice-write-words c = search needs
 
--- src/lent.rt:33:9
 add-i : tie.Need-add-i Inv-loop μ-loop
 add-i c = search needs
 
--- src/lent.rt:31:5
 loop-less : tie.Need-loop-less Inv-loop μ-loop
 loop-less c = simp length-set (omega arith)
 
--- src/lent.rt:31:5
 loop-again : tie.Need-loop-again Inv-loop μ-loop
 loop-again c =
     let at-loop = c .before in
     cleared-more _ _ _ _ (at-loop .loop .inv) (c .loop-test .taken)
 
--- src/lent.rt:26:1
 same-length : tie.Need-same-length Inv-loop μ-loop
 same-length c = search needs
 
--- src/lent.rt:26:1
 returns : tie.Need-returns Inv-loop μ-loop
 returns c =
     let at-loop = c .before in

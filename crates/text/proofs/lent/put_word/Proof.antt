@@ -3,26 +3,19 @@ use lib.Seq.{set-out}
 use borrow.Author.Needs.{needs}
 use Rattle.text.proofs.lent.put_word.Statement.{statement}
 use Rattle.text.proofs.lent.put_word.Tie as tie
-use Rattle.text.proofs.lent.put_word.Reads as reads
-use Rattle.text.proofs.lent.put_word.Lts as lts
 
--- src/lent.rt:12:9
 mul-words : tie.Need-mul-words
 mul-words c = search needs
 
--- src/lent.rt:12:9
 slice-write-words : tie.Need-slice-write-words
 slice-write-words c = search needs
 
--- src/lent.rt:8:1
 same-length : tie.Need-same-length
 same-length c = search needs
 
--- src/lent.rt:8:1
 returns : tie.Need-returns
 returns c = search needs
 
--- src/lent.rt:8:1
 returns-2 : tie.Need-returns-2
 returns-2 c = sym (set-out _ _ _ (c .if1 .left))
 

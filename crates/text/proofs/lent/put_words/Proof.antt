@@ -1,10 +1,9 @@
 use borrow.Author.Needs.{needs}
 use native.Mathlib.Omega.{arith}
-use mathlib.Core.Path.{_≡_, refl, sym, ap, subst, _∙_}
-use mathlib.Core.Bool.{Bool}
-use mathlib.Core.List.{List, [], _∷_, _++_, append-nil, append-assoc}
-use Prim.Native.Nat.{ℕ, _+_, _-_, _≤_, _<_}
-use lib.ListN.{length, take, drop, getD}
+use mathlib.Core.Path.{_≡_, refl}
+use mathlib.Core.List.{List}
+use Prim.Native.Nat.{ℕ, _-_, _≤_}
+use lib.ListN.{length, take, getD}
 use native.Mathlib.Numerals.{add-one}
 use lib.ListN.{length-set}
 use lib.Seq.{take-suc, take-length}
@@ -12,9 +11,6 @@ use Rattle.text.specs.Lent.{Holds}
 use Rattle.text.proofs.LentLaws.{holds-none, holds-put}
 use Rattle.text.proofs.lent.put_words.Statement.{statement}
 use Rattle.text.proofs.lent.put_words.Tie as tie
-use Rattle.text.proofs.lent.put_words.Reads as reads
-use Rattle.text.proofs.lent.put_words.Lts as lts
-use Rattle.text.proofs.lent.put_word.Reads as put-word-reads
 
 -- the first i words were stored
 record Run (words₀ source words : List ℕ) (i : ℕ) : Type 0 where
@@ -28,38 +24,30 @@ Inv-loop words₀ source i₀ words i = Run words₀ source words i
 abbrev μ-loop : tie.MeasureT-loop
 μ-loop words₀ source i₀ words i = length source - i
 
--- src/lent.rt:22:5
 loop-holds : tie.Need-loop-holds Inv-loop μ-loop
 loop-holds c = record { most = omega arith; long = refl; holds = holds-none (c .before .before .args .words .now) }
 
--- src/lent.rt:23:28
 mul-put-word : tie.Need-mul-put-word Inv-loop μ-loop
 mul-put-word c = search needs
 
--- src/lent.rt:23:28
 shared-slice-read-put-word : tie.Need-shared-slice-read-put-word Inv-loop μ-loop
 shared-slice-read-put-word c = search needs
 
--- src/lent.rt:23:9
 put-word-requires : tie.Need-put-word-requires Inv-loop μ-loop
 put-word-requires c κs = search needs
 
--- src/lent.rt:24:9
 add-i : tie.Need-add-i Inv-loop μ-loop
 add-i c = search needs
 
--- src/lent.rt:22:5
 loop-less : tie.Need-loop-less Inv-loop μ-loop
 loop-less c = omega arith
 
--- src/lent.rt:22:5
 loop-again : tie.Need-loop-again Inv-loop μ-loop
 loop-again c =
     let at-put-word = c .before .before in
     let at-loop-test = at-put-word .before .before .before in
     let at-loop = at-loop-test .before in
     let at-entry = at-loop .before .before .before in
-    
     let I = at-loop .loop .inv in
     let e = at-put-word .put-word .ensures in
     record {
@@ -68,16 +56,13 @@ loop-again c =
       holds = rw (e, add-one (at-loop .loop .i), take-suc (at-entry .args .source .now) (at-loop .loop .i) 0 (at-loop-test .loop-test .taken)) (rw (add-one (at-loop .loop .i)) at (holds-put (at-loop .loop .words) (at-loop .loop .i) (getD (at-entry .args .source .now) (at-loop .loop .i) 0) _ (I .holds)));
     }
 
--- src/lent.rt:18:1
 same-length : tie.Need-same-length Inv-loop μ-loop
 same-length c = c .before .loop .inv .long
 
--- src/lent.rt:18:1
 returns : tie.Need-returns Inv-loop μ-loop
 returns c =
     let at-loop = c .before in
     let at-entry = at-loop .before .before .before in
-    
     let I = at-loop .loop .inv in
     let e : at-loop .loop .i ≡ length (at-entry .args .source .now) = omega (arith, I .most, c .loop-test .left) in
     rw (take-length (at-entry .args .source .now)) at (rw e at (I .holds))

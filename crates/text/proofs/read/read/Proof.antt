@@ -1,75 +1,54 @@
 use borrow.Author.Needs.{needs}
 use native.Mathlib.Omega.{arith}
-use mathlib.Core.Path.{_≡_, refl, sym, ap, subst, _∙_}
-use mathlib.Core.Bool.{Bool}
-use mathlib.Core.List.{List, [], _∷_, _++_, append-nil, append-assoc}
-use Prim.Native.Nat.{ℕ, _+_, _-_, _≤_, _<_}
-use lib.ListN.{length, take, drop, getD}
+use mathlib.Core.Path.{refl}
 use mathlib.Core.Logic.{inl, inr}
 use Rattle.text.proofs.LentLaws.{cleared-zeros, cleared-padded}
 use Rattle.text.proofs.FormLaws.{text-good}
 use Rattle.text.proofs.AnswerLaws.{stopped-refused}
 use Rattle.text.proofs.read.read.Statement.{statement}
 use Rattle.text.proofs.read.read.Tie as tie
-use Rattle.text.proofs.read.read.Reads as reads
-use Rattle.text.proofs.read.read.Lts as lts
-use Rattle.text.proofs.lent.clear_words.Reads as clear-words-reads
-use Rattle.text.proofs.read.read_file.Reads as read-file-reads
 
--- src/read.rt:261:9
 clear-words-requires : tie.Need-clear-words-requires
 clear-words-requires c κs = search needs
 
--- src/read.rt:262:9
 same-length : tie.Need-same-length
 same-length c = search needs
 
--- src/read.rt:262:9
 returns : tie.Need-returns
 returns c =
     let at-clear-words = c .before .before in
     let at-if1 = at-clear-words .before .before in
     (inl (refl, refl, at-if1 .if1 .taken), cleared-zeros (c .before .before .before .before .before .before .before .args .words .now) _ _ refl (at-clear-words .clear-words .ensures))
 
--- src/read.rt:264:9
 read-file-requires : tie.Need-read-file-requires
 read-file-requires c κs = search needs
 
--- src/read.rt:266:9
 clear-words-requires-2 : tie.Need-clear-words-requires-2
 clear-words-requires-2 c κs = search needs
 
--- src/read.rt:269:17
 cast-t14 : tie.Need-cast-t14
 cast-t14 c = search needs
 
--- src/read.rt:267:9
 same-length-2 : tie.Need-same-length-2
 same-length-2 c = search needs
 
--- src/read.rt:267:9
 returns-2 : tie.Need-returns-2
 returns-2 c =
     let at-clear-words2 = c .before .before .before in
     let at-if2 = at-clear-words2 .before .before in
     let at-read-file = at-if2 .before .before .before in
     let at-if1 = at-read-file .before .before in
-    
-    let R = at-read-file .read-file .ensures in
-    (
+    let R = at-read-file .read-file .ensures in (
       inr (refl, at-if1 .if1 .left, stopped-refused _ _ (R .stopped (at-if2 .if2 .taken))),
       cleared-zeros (at-read-file .read-file .last .1 .0) _ _ (at-read-file .read-file .kept .1 .0) (at-clear-words2 .clear-words2 .ensures),
     )
 
--- src/read.rt:273:9
 clear-words-requires-3 : tie.Need-clear-words-requires-3
 clear-words-requires-3 c κs = search needs
 
--- src/read.rt:274:9
 same-length-3 : tie.Need-same-length-3
 same-length-3 c = search needs
 
--- src/read.rt:274:9
 returns-3 : tie.Need-returns-3
 returns-3 c =
     let at-clear-words3 = c .before .before in
@@ -77,25 +56,20 @@ returns-3 c =
     let at-if2 = at-if3 .before .before in
     let at-read-file = at-if2 .before .before .before in
     let at-if1 = at-read-file .before .before in
-    
     let R = at-read-file .read-file .ensures in
-    let (words, text, holds) = R .reached (at-if2 .if2 .left) in
-    (
+    let (words, text, holds) = R .reached (at-if2 .if2 .left) in (
       words,
       record { short = at-if1 .if1 .left; good = text-good _ words text },
       omega (arith, holds .counted, at-if3 .if3 .taken, at-read-file .read-file .kept .1 .0),
       cleared-zeros (at-read-file .read-file .last .1 .0) _ _ (at-read-file .read-file .kept .1 .0) (at-clear-words3 .clear-words3 .ensures),
     )
 
--- src/read.rt:276:5
 clear-words-requires-4 : tie.Need-clear-words-requires-4
 clear-words-requires-4 c κs = search needs
 
--- src/read.rt:257:1
 same-length-4 : tie.Need-same-length-4
 same-length-4 c = search needs
 
--- src/read.rt:257:1
 returns-4 : tie.Need-returns-4
 returns-4 c =
     let at-clear-words4 = c .before .before in
@@ -103,10 +77,8 @@ returns-4 c =
     let at-if2 = at-if3 .before .before in
     let at-read-file = at-if2 .before .before .before in
     let at-if1 = at-read-file .before .before in
-    
     let R = at-read-file .read-file .ensures in
-    let (words, text, holds) = R .reached (at-if2 .if2 .left) in
-    (
+    let (words, text, holds) = R .reached (at-if2 .if2 .left) in (
       words,
       record { short = at-if1 .if1 .left; good = text-good _ words text },
       holds .counted,

@@ -32,53 +32,42 @@ write-number-below t =
 abbrev calls : ℕ → write-number-lts.Claims
 calls t = (put-byte-reads.Asked, put-byte-reads.Learnt, write-number-below t, write-number.Post)
 
--- src/write.rt:26:35
 write-number-cast-put-byte : (t : ℕ) → write-number-lts.Need-cast-put-byte (calls t) (write-number-at t) write-number.Post
 write-number-cast-put-byte t c = search needs
 
--- src/write.rt:26:30
 write-number-add-put-byte : (t : ℕ) → write-number-lts.Need-add-put-byte (calls t) (write-number-at t) write-number.Post
 write-number-add-put-byte t c = search needs
 
--- src/write.rt:26:9
 write-number-put-byte-requires : (t : ℕ) → write-number-lts.Need-put-byte-requires (calls t) (write-number-at t) write-number.Post
 write-number-put-byte-requires t c κs = search needs
 
--- src/write.rt:27:16
 write-number-add-result : (t : ℕ) → write-number-lts.Need-add-result (calls t) (write-number-at t) write-number.Post
 write-number-add-result t c = omega (arith, c .before .before .before .before .before .before .pre .1)
 
--- src/write.rt:27:9
 write-number-same-length : (t : ℕ) → write-number-lts.Need-same-length (calls t) (write-number-at t) write-number.Post
 write-number-same-length t c = c .before .before .put-byte .kept .0
 
--- src/write.rt:27:9
 write-number-returns : (t : ℕ) → write-number-lts.Need-returns (calls t) (write-number-at t) write-number.Post
 write-number-returns t c =
     let at-put-byte = c .before .before in
     let at-if1 = at-put-byte .before .before in
     rw (at-put-byte .put-byte .ensures, decimal-small _ (at-if1 .if1 .taken)) (wrote-byte _ _ _)
 
--- src/write.rt:29:9
 write-number-write-number-requires : (t : ℕ) → write-number-lts.Need-write-number-requires (calls t) (write-number-at t) write-number.Post
 write-number-write-number-requires t c κs =
     let at-if1 = c .before in
     let at-entry = at-if1 .before .before in
     (omega (arith, at-entry .pre .0, at-if1 .if1 .left), at-entry .pre .1)
 
--- src/write.rt:30:28
 write-number-cast-put-byte-2 : (t : ℕ) → write-number-lts.Need-cast-put-byte-2 (calls t) (write-number-at t) write-number.Post
 write-number-cast-put-byte-2 t c = search needs
 
--- src/write.rt:30:23
 write-number-add-put-byte-2 : (t : ℕ) → write-number-lts.Need-add-put-byte-2 (calls t) (write-number-at t) write-number.Post
 write-number-add-put-byte-2 t c = search needs
 
--- src/write.rt:30:5
 write-number-put-byte-requires-2 : (t : ℕ) → write-number-lts.Need-put-byte-requires-2 (calls t) (write-number-at t) write-number.Post
 write-number-put-byte-requires-2 t c κs = search needs
 
--- src/write.rt:31:5
 write-number-add-result-2 : (t : ℕ) → write-number-lts.Need-add-result-2 (calls t) (write-number-at t) write-number.Post
 write-number-add-result-2 t c =
     let at-write-number = c .before .before .before .before .before .before in
@@ -86,14 +75,12 @@ write-number-add-result-2 t c =
     let at-entry = at-if1 .before .before in
     omega (arith, at-entry .pre .1, at-write-number .write-number .ensures .long, decimal-nine (at-entry .args .n) (at-if1 .if1 .left) (at-entry .fits .n .fits))
 
--- src/write.rt:21:1
 write-number-same-length-2 : (t : ℕ) → write-number-lts.Need-same-length-2 (calls t) (write-number-at t) write-number.Post
 write-number-same-length-2 t c =
     let at-put-byte2 = c .before .before in
     let at-write-number = at-put-byte2 .before .before .before .before in
     at-put-byte2 .put-byte2 .kept .0 ∙ at-write-number .write-number .kept .0
 
--- src/write.rt:21:1
 write-number-returns-2 : (t : ℕ) → write-number-lts.Need-returns-2 (calls t) (write-number-at t) write-number.Post
 write-number-returns-2 t c =
     let at-put-byte2 = c .before .before in

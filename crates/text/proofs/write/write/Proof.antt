@@ -1,63 +1,43 @@
 use borrow.Author.Needs.{needs}
-use native.Mathlib.Omega.{arith}
-use mathlib.Core.Path.{_≡_, refl, sym, ap, subst, _∙_}
-use mathlib.Core.Bool.{Bool}
-use mathlib.Core.List.{List, [], _∷_, _++_, append-nil, append-assoc}
-use Prim.Native.Nat.{ℕ, _+_, _-_, _≤_, _<_}
-use lib.ListN.{length, take, drop, getD}
+use mathlib.Core.List.{[]}
 use Rattle.text.proofs.LentLaws.{holds-none}
 use Rattle.text.proofs.WriteLaws.{fits-answer, fits-lent, over-answer, over-lent}
 use Rattle.text.proofs.write.write.Statement.{statement}
 use Rattle.text.proofs.write.write.Tie as tie
-use Rattle.text.proofs.write.write.Reads as reads
-use Rattle.text.proofs.write.write.Lts as lts
-use Rattle.text.proofs.lent.clear_bytes.Reads as clear-bytes-reads
-use Rattle.text.proofs.write.write_result.Reads as write-result-reads
 
--- src/write.rt:102:9
 write-result-requires : tie.Need-write-result-requires
 write-result-requires c κs = search needs
 
--- src/write.rt:104:9
 clear-bytes-requires : tie.Need-clear-bytes-requires
 clear-bytes-requires c κs = search needs
 
--- src/write.rt:105:9
 same-length : tie.Need-same-length
 same-length c = search needs
 
--- src/write.rt:105:9
 returns : tie.Need-returns
 returns c =
     let at-clear-bytes = c .before .before in
     let at-if1 = at-clear-bytes .before .before in
     let at-write-result = at-if1 .before .before .before in
-    
     let W = at-write-result .write-result in
-    let h = W .ensures [] (holds-none _) in
-    (
+    let h = W .ensures [] (holds-none _) in (
       over-answer _ _ (W .last .0) _ _ (W .kept .0) h (at-if1 .if1 .taken),
       over-lent _ _ _ _ _ (W .kept .0) h (at-if1 .if1 .taken) (at-clear-bytes .clear-bytes .ensures),
     )
 
--- src/write.rt:107:5
 clear-bytes-requires-2 : tie.Need-clear-bytes-requires-2
 clear-bytes-requires-2 c κs = search needs
 
--- src/write.rt:98:1
 same-length-2 : tie.Need-same-length-2
 same-length-2 c = search needs
 
--- src/write.rt:98:1
 returns-2 : tie.Need-returns-2
 returns-2 c =
     let at-clear-bytes2 = c .before .before in
     let at-if1 = at-clear-bytes2 .before .before in
     let at-write-result = at-if1 .before .before .before in
-    
     let W = at-write-result .write-result in
-    let h = W .ensures [] (holds-none _) in
-    (
+    let h = W .ensures [] (holds-none _) in (
       fits-answer _ _ (W .last .0) _ _ (W .kept .0) h (at-if1 .if1 .left),
       fits-lent _ _ _ _ _ (W .kept .0) h (at-if1 .if1 .left) (at-clear-bytes2 .clear-bytes2 .ensures),
     )

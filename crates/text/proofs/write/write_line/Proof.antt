@@ -1,10 +1,9 @@
 use borrow.Author.Needs.{needs}
 use native.Mathlib.Omega.{arith}
-use mathlib.Core.Path.{_≡_, refl, sym, ap, subst, _∙_}
-use mathlib.Core.Bool.{Bool}
-use mathlib.Core.List.{List, [], _∷_, _++_, append-nil, append-assoc}
-use Prim.Native.Nat.{ℕ, _+_, _-_, _*_, _≤_, _<_}
-use lib.ListN.{length, take, drop, getD}
+use mathlib.Core.Path.{_≡_, refl, sym, _∙_}
+use mathlib.Core.List.{List, [], _∷_, _++_, append-nil}
+use Prim.Native.Nat.{ℕ, _+_, _-_, _*_, _≤_}
+use lib.ListN.{length, drop, getD}
 use lib.Dec.{eqb}
 use Rattle.text.specs.Decimal.{decimal}
 use Rattle.text.specs.Line.{line}
@@ -14,11 +13,6 @@ use Rattle.text.proofs.DecimalLaws.{decimal-ten}
 use Rattle.text.proofs.WriteLaws.{wrote-none, wrote-byte, wrote-then, line-more, line-done}
 use Rattle.text.proofs.write.write_line.Statement.{statement}
 use Rattle.text.proofs.write.write_line.Tie as tie
-use Rattle.text.proofs.write.write_line.Reads as reads
-use Rattle.text.proofs.write.write_line.Lts as lts
-use Rattle.text.proofs.lent.put_byte.Reads as put-byte-reads
-use Rattle.text.proofs.read.ending_byte.Reads as ending-byte-reads
-use Rattle.text.proofs.write.write_number.Reads as write-number-reads
 
 -- the first i numbers were written
 record Run (out₀ : List ℕ) (start : ℕ) (numbers out : List ℕ) (at i : ℕ) : Type 0 where
@@ -35,19 +29,15 @@ Inv-loop out₀ start numbers at₀ i₀ out at i = Run out₀ start numbers out
 abbrev μ-loop : tie.MeasureT-loop
 μ-loop out₀ start numbers at₀ i₀ out at i = length numbers - i
 
--- src/write.rt:41:5
 loop-holds : tie.Need-loop-holds Inv-loop μ-loop
 loop-holds c = record { most = omega arith; long = refl; room = omega arith; text = []; rest = refl; wrote = wrote-none _ _ }
 
--- src/write.rt:42:41
 mul-write-number : tie.Need-mul-write-number Inv-loop μ-loop
 mul-write-number c = search needs
 
--- src/write.rt:42:41
 shared-slice-read-write-number : tie.Need-shared-slice-read-write-number Inv-loop μ-loop
 shared-slice-read-write-number c = search needs
 
--- src/write.rt:42:13
 write-number-requires : tie.Need-write-number-requires Inv-loop μ-loop
 write-number-requires c κs =
     let at-loop-test = c .before .before in
@@ -55,19 +45,15 @@ write-number-requires c κs =
     let at-entry = at-loop .before .before .before in
     omega (arith, at-entry .pre, at-loop .loop .inv .room, at-loop-test .loop-test .taken)
 
--- src/write.rt:43:40
 add-ending-byte : tie.Need-add-ending-byte Inv-loop μ-loop
 add-ending-byte c = search needs
 
--- src/write.rt:43:28
 ending-byte-requires : tie.Need-ending-byte-requires Inv-loop μ-loop
 ending-byte-requires c κs = search needs
 
--- src/write.rt:43:9
 put-byte-requires : tie.Need-put-byte-requires Inv-loop μ-loop
 put-byte-requires c κs = search needs
 
--- src/write.rt:44:14
 add-at : tie.Need-add-at Inv-loop μ-loop
 add-at c =
     let at-write-number = c .before .before .before .before .before .before .before in
@@ -75,19 +61,15 @@ add-at c =
     let at-loop-test = at-shared-slice-known2 .before .before in
     let at-loop = at-loop-test .before in
     let at-entry = at-loop .before .before .before in
-    
     let n = getD (at-entry .args .numbers .now) (at-loop .loop .i) 0 in
     omega (arith, at-entry .pre, at-loop .loop .inv .room, at-loop-test .loop-test .taken, at-write-number .write-number .ensures .long, decimal-ten n (at-shared-slice-known2 .shared-slice-known2 .given (at-loop .loop .i) .fits))
 
--- src/write.rt:45:9
 add-i : tie.Need-add-i Inv-loop μ-loop
 add-i c = search needs
 
--- src/write.rt:41:5
 loop-less : tie.Need-loop-less Inv-loop μ-loop
 loop-less c = omega arith
 
--- src/write.rt:41:5
 loop-again : tie.Need-loop-again Inv-loop μ-loop
 loop-again c =
     let at-put-byte = c .before .before in
@@ -97,7 +79,6 @@ loop-again c =
     let at-loop-test = at-shared-slice-known2 .before .before in
     let at-loop = at-loop-test .before in
     let at-entry = at-loop .before .before .before in
-    
     let I = at-loop .loop .inv in
     let numbers = at-entry .args .numbers .now in
     let n = getD numbers (at-loop .loop .i) 0 in
@@ -110,16 +91,13 @@ loop-again c =
       wrote = wrote-then (I .wrote) (wrote-then (at-write-number .write-number .ensures) (rw (at-put-byte .put-byte .ensures, at-ending-byte .ending-byte .ensures) (wrote-byte _ _ _)));
     }
 
--- src/write.rt:35:1
 same-length : tie.Need-same-length Inv-loop μ-loop
 same-length c = c .before .loop .inv .long
 
--- src/write.rt:35:1
 returns : tie.Need-returns Inv-loop μ-loop
 returns c =
     let at-loop = c .before in
     let at-entry = at-loop .before .before .before in
-    
     let I = at-loop .loop .inv in
     let e = sym (append-nil (I .text)) ∙ rw (line-done (at-entry .args .numbers .now) (at-loop .loop .i) (c .loop-test .left)) at (I .rest) in
     rw e at (I .wrote)

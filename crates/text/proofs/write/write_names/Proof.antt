@@ -1,10 +1,9 @@
 use borrow.Author.Needs.{needs}
 use native.Mathlib.Omega.{arith}
-use mathlib.Core.Path.{_≡_, refl, sym, ap, subst, _∙_}
-use mathlib.Core.Bool.{Bool}
-use mathlib.Core.List.{List, [], _∷_, _++_, append-nil, append-assoc}
-use Prim.Native.Nat.{ℕ, _+_, _-_, _≤_, _<_}
-use lib.ListN.{length, take, drop, getD}
+use mathlib.Core.Path.{_≡_, refl, sym}
+use mathlib.Core.List.{List}
+use Prim.Native.Nat.{ℕ, _+_, _-_, _≤_}
+use lib.ListN.{length, take}
 use native.Mathlib.Numerals.{add-one}
 use native.Mathlib.Nat.{add-zero, add-assoc}
 use lib.ListN.{length-set}
@@ -13,9 +12,6 @@ use Rattle.text.specs.Printed.{Wrote}
 use Rattle.text.proofs.WriteLaws.{wrote-none, wrote-byte, wrote-then}
 use Rattle.text.proofs.write.write_names.Statement.{statement}
 use Rattle.text.proofs.write.write_names.Tie as tie
-use Rattle.text.proofs.write.write_names.Reads as reads
-use Rattle.text.proofs.write.write_names.Lts as lts
-use Rattle.text.proofs.lent.put_byte.Reads as put-byte-reads
 
 -- the first i bytes were written
 record Run (out₀ : List ℕ) (start : ℕ) (names out : List ℕ) (i : ℕ) : Type 0 where
@@ -29,41 +25,33 @@ Inv-loop out₀ start names i₀ out i = Run out₀ start names out i
 abbrev μ-loop : tie.MeasureT-loop
 μ-loop out₀ start names i₀ out i = length names - i
 
--- src/write.rt:56:5
 loop-holds : tie.Need-loop-holds Inv-loop μ-loop
 loop-holds c = record { most = omega arith; long = refl; wrote = rw (add-zero (c .before .before .args .start)) (wrote-none _ _) }
 
--- src/write.rt:57:23
 add-put-byte : tie.Need-add-put-byte Inv-loop μ-loop
 add-put-byte c =
     let at-loop = c .before .before in
     let at-entry = at-loop .before .before .before in
     omega (arith, at-entry .pre, at-loop .loop .inv .most)
 
--- src/write.rt:57:34
 shared-slice-read-put-byte : tie.Need-shared-slice-read-put-byte Inv-loop μ-loop
 shared-slice-read-put-byte c = search needs
 
--- src/write.rt:57:9
 put-byte-requires : tie.Need-put-byte-requires Inv-loop μ-loop
 put-byte-requires c κs = search needs
 
--- src/write.rt:58:9
 add-i : tie.Need-add-i Inv-loop μ-loop
 add-i c = search needs
 
--- src/write.rt:56:5
 loop-less : tie.Need-loop-less Inv-loop μ-loop
 loop-less c = omega arith
 
--- src/write.rt:56:5
 loop-again : tie.Need-loop-again Inv-loop μ-loop
 loop-again c =
     let at-put-byte = c .before .before in
     let at-loop-test = at-put-byte .before .before .before in
     let at-loop = at-loop-test .before in
     let at-entry = at-loop .before .before .before in
-    
     let I = at-loop .loop .inv in
     let e = at-put-byte .put-byte .ensures in
     let names = at-entry .args .names .now in
@@ -74,23 +62,19 @@ loop-again c =
           (wrote-then (I .wrote) (wrote-byte _ _ _));
     }
 
--- src/write.rt:60:5
 add-result : tie.Need-add-result Inv-loop μ-loop
 add-result c =
     let at-loop = c .before in
     let at-entry = at-loop .before .before .before in
     omega (arith, at-entry .pre, at-loop .loop .inv .most)
 
--- src/write.rt:51:1
 same-length : tie.Need-same-length Inv-loop μ-loop
 same-length c = c .before .loop .inv .long
 
--- src/write.rt:51:1
 returns : tie.Need-returns Inv-loop μ-loop
 returns c =
     let at-loop = c .before in
     let at-entry = at-loop .before .before .before in
-    
     let I = at-loop .loop .inv in
     let names = at-entry .args .names .now in
     let e : take (at-loop .loop .i) names ≡ names = take-all (at-loop .loop .i) names (c .loop-test .left) in

@@ -1,71 +1,50 @@
 use borrow.Author.Needs.{needs}
 use native.Mathlib.Omega.{arith}
-use mathlib.Core.Path.{_≡_, refl, sym, ap, subst, _∙_}
-use mathlib.Core.Bool.{Bool}
-use mathlib.Core.List.{List, [], _∷_, _++_, append-nil, append-assoc}
-use Prim.Native.Nat.{ℕ, _+_, _-_, _≤_, _<_}
-use lib.ListN.{length, take, drop, getD}
+use mathlib.Core.List.{[], _∷_}
 use Rattle.text.proofs.WriteLaws.{wrote-then, wrote-some, wrote-all, line-most, printed-refused, printed-accepted}
 use Rattle.text.proofs.write.write_result.Statement.{statement}
 use Rattle.text.proofs.write.write_result.Tie as tie
-use Rattle.text.proofs.write.write_result.Reads as reads
-use Rattle.text.proofs.write.write_result.Lts as lts
-use Rattle.text.proofs.write.write_line.Reads as write-line-reads
-use Rattle.text.proofs.write.write_names.Reads as write-names-reads
-use Rattle.text.proofs.write.write_rows.Reads as write-rows-reads
 
--- src/write.rt:86:37
 slice-aggregate-write-names : tie.Need-slice-aggregate-write-names
 slice-aggregate-write-names c = search needs
 
--- src/write.rt:86:9
 write-names-requires : tie.Need-write-names-requires
 write-names-requires c κs = search needs
 
--- src/write.rt:88:39
 slice-aggregate-write-line : tie.Need-slice-aggregate-write-line
 slice-aggregate-write-line c = search needs
 
--- src/write.rt:88:9
 write-line-requires : tie.Need-write-line-requires
 write-line-requires c κs = search needs
 
--- src/write.rt:90:9
 same-length : tie.Need-same-length
 same-length c = search needs
 
--- src/write.rt:90:9
 returns : tie.Need-returns
 returns c =
     let at-write-line = c .before .before .before in
     let at-write-names = at-write-line .before .before .before .before .before in
     rw (printed-refused _ _ _ _ _ (c .if1 .taken)) (wrote-all (wrote-then (at-write-names .write-names .ensures) (at-write-line .write-line .ensures)))
 
--- src/write.rt:92:45
 slice-aggregate-write-names-2 : tie.Need-slice-aggregate-write-names-2
 slice-aggregate-write-names-2 c = search needs
 
--- src/write.rt:92:9
 write-names-requires-2 : tie.Need-write-names-requires-2
 write-names-requires-2 c κs =
     let at-write-line = c .before .before .before .before .before in
     let at-write-names = at-write-line .before .before .before .before .before in
     let at-entry = at-write-names .before .before .before .before .before in
-    
     let f = at-entry .fits in
     let a = at-entry .args in
     let l = line-most (a .code ∷ a .at ∷ a .rows ∷ a .visits ∷ []) (f .code .fits, (f .at .fits, (f .rows .fits, (f .visits .fits, tt)))) in
     omega (arith, l, at-write-names .write-names .ensures .long, at-write-line .write-line .ensures .long)
 
--- src/write.rt:93:5
 write-rows-requires : tie.Need-write-rows-requires
 write-rows-requires c κs = search needs
 
--- src/write.rt:83:1
 same-length-2 : tie.Need-same-length-2
 same-length-2 c = search needs
 
--- src/write.rt:83:1
 returns-2 : tie.Need-returns-2
 returns-2 c =
     let at-write-rows = c .before .before in
@@ -74,7 +53,6 @@ returns-2 c =
     let at-write-line = at-if1 .before .before .before in
     let at-write-names = at-write-line .before .before .before .before .before in
     let at-entry = at-write-names .before .before .before .before .before in
-    
     rw (printed-accepted _ _ _ _ (at-entry .args .tree .now) (at-if1 .if1 .left))
     (wrote-some (at-write-names .write-names .ensures) (wrote-some (at-write-line .write-line .ensures) (wrote-some (at-write-names2 .write-names2 .ensures) (at-write-rows .write-rows .ensures))))
 

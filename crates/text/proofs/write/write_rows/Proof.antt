@@ -1,10 +1,9 @@
 use borrow.Author.Needs.{needs}
 use native.Mathlib.Omega.{arith}
-use mathlib.Core.Path.{_≡_, refl, sym, ap, subst, _∙_}
-use mathlib.Core.Bool.{Bool}
-use mathlib.Core.List.{List, [], _∷_, _++_, append-nil, append-assoc}
-use Prim.Native.Nat.{ℕ, _+_, _-_, _*_, _/_, _≤_, _<_}
-use lib.ListN.{length, take, drop, getD}
+use mathlib.Core.Path.{_≡_, refl, _∙_}
+use mathlib.Core.List.{List, [], _++_}
+use Prim.Native.Nat.{ℕ, _+_, _-_, _*_, _/_, _≤_}
+use lib.ListN.{length, take, drop}
 use native.Mathlib.Nat.{sub-zero}
 use lib.ListN.{length-drop}
 use lib.Seq.{length-take-le}
@@ -13,9 +12,6 @@ use Rattle.text.specs.Printed.{Wrote, rowsOf}
 use Rattle.text.proofs.WriteLaws.{wrote-none, wrote-then, wrote-part, tree-more, tree-done}
 use Rattle.text.proofs.write.write_rows.Statement.{statement}
 use Rattle.text.proofs.write.write_rows.Tie as tie
-use Rattle.text.proofs.write.write_rows.Reads as reads
-use Rattle.text.proofs.write.write_rows.Lts as lts
-use Rattle.text.proofs.write.write_line.Reads as write-line-reads
 
 -- the first i rows were written
 record Run (out₀ : List ℕ) (start : ℕ) (tree : List ℕ) (rows : ℕ) (out : List ℕ) (at i : ℕ) : Type 0 where
@@ -31,78 +27,62 @@ Inv-loop out₀ start tree rows at₀ i₀ out at i = Run out₀ start tree rows
 abbrev μ-loop : tie.MeasureT-loop
 μ-loop out₀ start tree rows at₀ i₀ out at i = rows - i
 
--- src/write.rt:70:5
 loop-holds : tie.Need-loop-holds Inv-loop μ-loop
-loop-holds c = 
+loop-holds c =
     let rows = length (c .before .before .args .tree .now) / 6 in
     record { most = omega arith; long = refl; text = []; rest = rw (sub-zero rows) refl; wrote = wrote-none _ _ }
 
--- src/write.rt:72:13
 same-length : tie.Need-same-length Inv-loop μ-loop
 same-length c = c .before .before .loop .inv .long
 
--- src/write.rt:72:13
 returns : tie.Need-returns Inv-loop μ-loop
 returns c =
     let at-loop = c .before .before in
-    
     let I = at-loop .loop .inv in
     wrote-part (I .text) _ _ (I .wrote) (I .rest) (λ p. absurd (omega (arith, p, c .if1 .taken)))
 
--- src/write.rt:74:21
 mul-first : tie.Need-mul-first Inv-loop μ-loop
 mul-first c = omega (arith, c .before .loop-test .taken)
 
--- src/write.rt:75:19
 add-end : tie.Need-add-end Inv-loop μ-loop
 add-end c = omega (arith, c .before .loop-test .taken)
 
--- src/write.rt:76:34
 mul-write-line : tie.Need-mul-write-line Inv-loop μ-loop
 mul-write-line c = search needs
 
--- src/write.rt:76:34
 sub-write-line : tie.Need-sub-write-line Inv-loop μ-loop
 sub-write-line c = search needs
 
--- src/write.rt:76:34
 part-write-line-start : tie.Need-part-write-line-start Inv-loop μ-loop
 part-write-line-start c = search needs
 
--- src/write.rt:76:34
 part-write-line-end : tie.Need-part-write-line-end Inv-loop μ-loop
 part-write-line-end c = search needs
 
--- src/write.rt:76:9
 write-line-requires : tie.Need-write-line-requires Inv-loop μ-loop
 write-line-requires c κs =
     let at-if1 = c .before .before in
     let at-loop-test = at-if1 .before in
     let at-loop = at-loop-test .before in
     let at-entry = at-loop .before .before .before in
-    
     let tree = at-entry .args .tree .now in
     let i = at-loop .loop .i in
     let six : i * 6 + 6 - i * 6 ≡ 6 = omega arith in
     let l : length (take 6 (drop (i * 6) tree)) ≡ 6 = length-take-le 6 (drop (i * 6) tree) (rw (length-drop (i * 6) tree) (omega (arith, at-loop-test .loop-test .taken))) in
     rw (six, l) (omega (arith, at-if1 .if1 .left, at-loop .loop .inv .long, at-entry .good .0))
 
--- src/write.rt:77:9
 add-i : tie.Need-add-i Inv-loop μ-loop
 add-i c = search needs
 
--- src/write.rt:70:5
 loop-less : tie.Need-loop-less Inv-loop μ-loop
 loop-less c = omega arith
 
--- src/write.rt:70:5
 loop-again : tie.Need-loop-again Inv-loop μ-loop
 loop-again c =
     let at-write-line = c .before .before in
     let at-loop-test = at-write-line .before .before .before .before in
     let at-loop = at-loop-test .before in
     let at-entry = at-loop .before .before .before in
-    
     let I = at-loop .loop .inv in
     let tree = at-entry .args .tree .now in
     let i = at-loop .loop .i in
@@ -115,15 +95,12 @@ loop-again c =
       wrote = wrote-then (I .wrote) (rw six at (at-write-line .write-line .ensures));
     }
 
--- src/write.rt:64:1
 same-length-2 : tie.Need-same-length-2 Inv-loop μ-loop
 same-length-2 c = c .before .loop .inv .long
 
--- src/write.rt:64:1
 returns-2 : tie.Need-returns-2 Inv-loop μ-loop
 returns-2 c =
     let at-loop = c .before in
-    
     let I = at-loop .loop .inv in
     wrote-part (I .text) _ _ (I .wrote) (I .rest) (λ p. tree-done _ (at-loop .loop .i) _ (c .loop-test .left))
 

@@ -1,0 +1,133 @@
+use borrow.Author.Needs.{needs}
+use native.Mathlib.Omega.{arith}
+use mathlib.Core.Path.{_≡_, refl, sym, ap, subst, _∙_}
+use mathlib.Core.Bool.{Bool}
+use mathlib.Core.List.{List, [], _∷_, _++_, append-nil, append-assoc}
+use Prim.Native.Nat.{ℕ, _+_, _-_, _≤_, _<_}
+use lib.ListN.{length, take, drop, getD}
+use Rattle.text.specs.Form.{finished}
+use Rattle.text.proofs.StepLaws.{finished-good, finished-more, true-false}
+use Rattle.text.proofs.PartLaws.{stored-too}
+use Rattle.text.proofs.table.read_file.Statement.{statement}
+use Rattle.text.proofs.table.read_file.Tie as tie
+use Rattle.text.proofs.table.read_file.Reads as reads
+use Rattle.text.proofs.table.read_file.Lts as lts
+use Rattle.text.proofs.lent.put_words.Reads as put-words-reads
+use Rattle.text.proofs.table.cursor_refused.Reads as cursor-refused-reads
+use Rattle.text.proofs.table.read_head.Reads as read-head-reads
+use Rattle.text.proofs.table.read_tables.Reads as read-tables-reads
+
+-- src/table.rt:153:34
+slice-aggregate-read-head : tie.Need-slice-aggregate-read-head
+slice-aggregate-read-head c = search needs
+
+-- src/table.rt:153:9
+read-head-requires : tie.Need-read-head-requires
+read-head-requires c κs = search needs
+
+-- src/table.rt:155:9
+returns : tie.Need-returns
+returns c =
+    let at-read-head = c .before .before in
+    let H = at-read-head .read-head .ensures in
+    record { near = H .near; stopped = H .stopped; reached = λ g. absurd (true-false (sym (c .if1 .taken) ∙ g)) }
+
+-- src/table.rt:157:22
+slice-aggregate-put-words : tie.Need-slice-aggregate-put-words
+slice-aggregate-put-words c = search needs
+
+-- src/table.rt:157:5
+put-words-requires : tie.Need-put-words-requires
+put-words-requires c κs = search needs
+
+-- src/table.rt:158:41
+slice-aggregate-read-tables : tie.Need-slice-aggregate-read-tables
+slice-aggregate-read-tables c = search needs
+
+-- src/table.rt:158:9
+read-tables-requires : tie.Need-read-tables-requires
+read-tables-requires c κs = search needs
+
+-- src/table.rt:160:9
+same-length : tie.Need-same-length
+same-length c = search needs
+
+-- src/table.rt:160:9
+returns-2 : tie.Need-returns-2
+returns-2 c =
+    let at-read-tables = c .before .before .before in
+    let at-put-words = at-read-tables .before .before .before .before .before in
+    let at-if1 = at-put-words .before .before .before in
+    let at-read-head = at-if1 .before .before in
+    let H = at-read-head .read-head .ensures in
+    let S = stored-too _ (H .reached (at-if1 .if1 .left)) (at-put-words .put-words .ensures) in
+    let T = at-read-tables .read-tables .ensures in
+    record { near = T .near; stopped = T .stopped _ finished S; reached = λ g. absurd (true-false (sym (c .if2 .taken) ∙ g)) }
+
+-- src/table.rt:163:9
+cursor-refused-requires : tie.Need-cursor-refused-requires
+cursor-refused-requires c κs = search needs
+
+-- src/table.rt:163:9
+same-length-2 : tie.Need-same-length-2
+same-length-2 c = search needs
+
+-- src/table.rt:163:9
+returns-3 : tie.Need-returns-3
+returns-3 c =
+    let at-if3 = c .before in
+    let at-if2 = at-if3 .before .before in
+    let at-read-tables = at-if2 .before .before .before in
+    let at-put-words = at-read-tables .before .before .before .before .before in
+    let at-if1 = at-put-words .before .before .before in
+    let at-read-head = at-if1 .before .before in
+    let H = at-read-head .read-head .ensures in
+    let S = stored-too _ (H .reached (at-if1 .if1 .left)) (at-put-words .put-words .ensures) in
+    let T = at-read-tables .read-tables .ensures in
+    let F = T .reached _ finished S (at-if2 .if2 .left) in
+    rw (c .cursor-refused .ensures) (record {
+      near = record { within = T .near .within; few = omega arith };
+      stopped = λ g. finished-more _ _ _ (F .1 .reached) (at-if3 .if3 .taken);
+      reached = λ g. absurd (true-false g);
+    })
+
+-- src/table.rt:149:1
+same-length-3 : tie.Need-same-length-3
+same-length-3 c = search needs
+
+-- src/table.rt:149:1
+returns-4 : tie.Need-returns-4
+returns-4 c =
+    let at-if2 = c .before .before in
+    let at-read-tables = at-if2 .before .before .before in
+    let at-put-words = at-read-tables .before .before .before .before .before in
+    let at-if1 = at-put-words .before .before .before in
+    let at-read-head = at-if1 .before .before in
+    let H = at-read-head .read-head .ensures in
+    let S = stored-too _ (H .reached (at-if1 .if1 .left)) (at-put-words .put-words .ensures) in
+    let T = at-read-tables .read-tables .ensures in
+    let F = T .reached _ finished S (at-if2 .if2 .left) in
+    record {
+      near = T .near;
+      stopped = λ g. absurd (true-false (sym g ∙ at-if2 .if2 .left));
+      reached = λ g. (_, finished-good _ _ _ (F .1 .reached) (omega (arith, T .near .within, c .if3 .left)), F .1 .holds);
+    }
+
+pub read-file-spec : {M : Type 1} → statement M
+read-file-spec =
+    tie.close
+    (tie.spec
+    slice-aggregate-read-head
+    read-head-requires
+    returns
+    slice-aggregate-put-words
+    put-words-requires
+    slice-aggregate-read-tables
+    read-tables-requires
+    same-length
+    returns-2
+    cursor-refused-requires
+    same-length-2
+    returns-3
+    same-length-3
+    returns-4)
