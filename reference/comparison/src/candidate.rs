@@ -1,47 +1,60 @@
-//! The seam for the proved library: with the feature `candidate` the comparison and the vectors run
-//! it too, on every table, and hold every word of its answer against the reference or the model.
+//! The seams for the proved libraries. With the feature `candidate` the comparison and the vectors
+//! run the build, with `candidate-check` the comparison runs the check, on every table, and hold
+//! their answers against the reference or the model.
 //!
-//! The archive `libbuild.a` is looked for in the folder that the variable CANDIDATE_DIR names when
-//! the feature is built. It exports one function, as declared here.
+//! The archives `libbuild.a` and `libtable.a` are looked for in the folder that the variable
+//! CANDIDATE_DIR names when the feature is built. Each exports the function declared here. Slices go
+//! over as a pointer and a length.
 
 use crate::model::Outcome;
 
 pub type Candidate = fn(&[u32], &mut [u32]) -> Outcome;
 
+/// Code and place.
+pub type CandidateCheck = fn(&[u32]) -> (u32, u32);
+
 #[cfg(not(feature = "candidate"))]
 pub const CANDIDATE: Option<Candidate> = None;
 
 #[cfg(feature = "candidate")]
-pub const CANDIDATE: Option<Candidate> = Some(linked);
+pub const CANDIDATE: Option<Candidate> = Some(build);
+
+#[cfg(not(feature = "candidate-check"))]
+pub const CANDIDATE_CHECK: Option<CandidateCheck> = None;
+
+#[cfg(feature = "candidate-check")]
+pub const CANDIDATE_CHECK: Option<CandidateCheck> = Some(check);
 
 #[cfg(feature = "candidate")]
-#[link(name = "build", kind = "static")]
-unsafe extern "C" {
-    /// Slices go over as a pointer and a length. The result takes code, at, rows and visits.
-    fn veerynickel_build(
-        words: *const u32,
-        word_count: usize,
-        buffer: *mut u32,
-        buffer_length: usize,
-        result: *mut u32,
-        result_length: usize,
-    );
-}
-
-#[cfg(feature = "candidate")]
-fn linked(words: &[u32], buffer: &mut [u32]) -> Outcome {
-    let mut result = [0; 4];
-    // SAFETY: the three are valid for their lengths and do not overlap.
-    unsafe {
-        veerynickel_build(
-            words.as_ptr(),
-            words.len(),
-            buffer.as_mut_ptr(),
-            buffer.len(),
-            result.as_mut_ptr(),
-            result.len(),
+fn build(words: &[u32], buffer: &mut [u32]) -> Outcome {
+    #[link(name = "build", kind = "static")]
+    unsafe extern "C" {
+        /// The result takes code, at, rows and visits.
+        fn veerynickel_build(
+            words: *const u32,
+            word_count: usize,
+            buffer: *mut u32,
+            buffer_length: usize,
+            result: *mut u32,
+            result_length: usize,
         );
     }
+    let mut result = [0; 4];
+    let (to, length) = (buffer.as_mut_ptr(), buffer.len());
+    // SAFETY: the three are valid for their lengths and do not overlap.
+    unsafe { veerynickel_build(words.as_ptr(), words.len(), to, length, result.as_mut_ptr(), 4) };
     let [code, at, rows, visits] = result;
     Outcome { code, at, rows, visits }
+}
+
+#[cfg(feature = "candidate-check")]
+fn check(words: &[u32]) -> (u32, u32) {
+    #[link(name = "table", kind = "static")]
+    unsafe extern "C" {
+        fn table_check(words: *const u32, word_count: usize, at: *mut u32) -> u32;
+    }
+    let mut at = 0;
+    // SAFETY: the words are valid for their length, and `at` is apart from them.
+    let code = unsafe { table_check(words.as_ptr(), words.len(), &mut at) };
+    (code, at)
 }

@@ -12,9 +12,28 @@ pub const CODES: [u32; 27] = [
 ];
 
 const ENDS: [&str; 22] = [
-    "no such block", "Unreachable", "Throw", "Return", "Goto", "If", "Branch", "Switch", "DoWhile",
-    "While", "For", "ForOf", "ForIn", "Logical", "Ternary", "Optional", "Label", "Sequence",
-    "MaybeThrow", "Try", "Scope", "PrunedScope",
+    "no such block",
+    "Unreachable",
+    "Throw",
+    "Return",
+    "Goto",
+    "If",
+    "Branch",
+    "Switch",
+    "DoWhile",
+    "While",
+    "For",
+    "ForOf",
+    "ForIn",
+    "Logical",
+    "Ternary",
+    "Optional",
+    "Label",
+    "Sequence",
+    "MaybeThrow",
+    "Try",
+    "Scope",
+    "PrunedScope",
 ];
 
 const OPS: [&str; 26] = [
@@ -32,6 +51,8 @@ const DEPTHS: [u32; 9] = [1, 2, 4, 8, 16, 32, 64, 127, 128];
 pub struct Coverage {
     pub tables: u64,
     pub compared: u64,
+    /// Block runs compared with tree runs.
+    pub runs: u64,
     pub differences: u64,
     families: [u64; FAMILIES.len()],
     accepted: [u64; FAMILIES.len()],
@@ -89,6 +110,7 @@ impl Coverage {
     pub fn add(&mut self, other: &Coverage) {
         self.tables += other.tables;
         self.compared += other.compared;
+        self.runs += other.runs;
         self.differences += other.differences;
         add(&mut self.families, &other.families);
         add(&mut self.accepted, &other.accepted);
@@ -118,8 +140,8 @@ impl Coverage {
             need(self.statement_ends[end], format!("{name} in the statement walk"));
             need(self.value_ends[end], format!("{name} in the value walk"));
         }
-        for op in 1..OPS.len() {
-            need(self.ops[op], OPS[op].to_string());
+        for (op, name) in OPS.iter().enumerate().skip(1) {
+            need(self.ops[op], name.to_string());
         }
         for (kind, name) in KINDS.iter().enumerate() {
             need(self.breaks[kind], format!("BREAK {name}"));
@@ -147,7 +169,8 @@ impl Coverage {
                 })
                 .collect(),
         );
-        let codes = CODES.iter().zip(self.codes).map(|(code, count)| format!("| {code} | {count} |"));
+        let codes =
+            CODES.iter().zip(self.codes).map(|(code, count)| format!("| {code} | {count} |"));
         table("| code | tables |", codes.collect());
         let ends = ENDS.iter().enumerate().map(|(at, name)| {
             format!("| {at} {name} | {} | {} |", self.statement_ends[at], self.value_ends[at])
@@ -155,9 +178,10 @@ impl Coverage {
         table("| end | statement visits | value visits |", ends.collect());
         let ops = (1..OPS.len()).map(|op| format!("| {op} {} | {} |", OPS[op], self.ops[op]));
         table("| op | rows |", ops.collect());
-        let kinds = KINDS.iter().enumerate().map(|(at, name)| {
-            format!("| {name} | {} | {} |", self.breaks[at], self.continues[at])
-        });
+        let kinds = KINDS
+            .iter()
+            .enumerate()
+            .map(|(at, name)| format!("| {name} | {} | {} |", self.breaks[at], self.continues[at]));
         table("| kind | BREAK | CONTINUE |", kinds.collect());
         let depths = DEPTHS.iter().zip(self.depths);
         table(

@@ -7,5 +7,6 @@ pub mod generate;
 pub mod model;
 pub mod reference;
 pub mod rng;
+pub mod runs;
 pub mod select;
 pub mod vector;

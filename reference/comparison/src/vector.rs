@@ -81,7 +81,12 @@ pub fn from_bytes(bytes: &[u8]) -> Vec<Vector> {
         let [length, code, at, rows, visits] = [(); 5].map(|()| next());
         let outcome = Outcome { code, at, rows, visits };
         let shown = if code == 0 { rows as usize * ROW_WORDS } else { 0 };
-        Vector { words, length: length as usize, outcome, rows: (0..shown).map(|_| next()).collect() }
+        Vector {
+            words,
+            length: length as usize,
+            outcome,
+            rows: (0..shown).map(|_| next()).collect(),
+        }
     });
     let vectors = vectors.collect();
     assert!(rest.next().is_none(), "nothing after the last vector");

@@ -7,12 +7,14 @@ use std::sync::atomic::{AtomicU64, Ordering};
 use std::thread;
 use std::time::Instant;
 
-use comparison::candidate::{CANDIDATE, Candidate};
+use comparison::candidate::{CANDIDATE, CANDIDATE_CHECK, Candidate};
 use comparison::coverage::Coverage;
 use comparison::generate::{Generated, generate};
+use comparison::model::table::Table;
 use comparison::model::{self, Outcome};
 use comparison::reference;
 use comparison::rng::Rng;
+use comparison::runs::{block_run, is_plain, tree_run};
 
 /// A run this long meets everything.
 const LONG_ENOUGH: u64 = 100_000;
@@ -57,11 +59,17 @@ fn main() -> ExitCode {
     for what in &missing {
         println!("never met: {what}");
     }
-    let compared = if CANDIDATE.is_some() { "model and candidate" } else { "model" };
+    let compared = match (CANDIDATE, CANDIDATE_CHECK) {
+        (None, None) => "model",
+        (None, Some(_)) => "model and proved check",
+        (Some(_), None) => "model and proved build",
+        (Some(_), Some(_)) => "model, proved check and proved build",
+    };
     println!(
-        "seed {seed}: {} tables, {} walked by the reference, {compared} with {} differences, {} not met, {seconds:.1} s, {:.0} tables/s",
+        "seed {seed}: {} tables, {} walked by the reference, {} runs of plain tables, {compared} with {} differences, {} not met, {seconds:.1} s, {:.0} tables/s",
         total.tables,
         total.compared,
+        total.runs,
         total.differences,
         missing.len(),
         total.tables as f64 / seconds,
@@ -73,10 +81,26 @@ fn main() -> ExitCode {
 fn compare(seed: u64, number: u64, coverage: &mut Coverage) {
     let Generated { family, words } = generate(seed, number);
     let mut lent = Rng::new(seed ^ number.rotate_left(32));
-    let expected = match model::check::check(&words) {
+    let checked = model::check::check(&words);
+    if let Some(check) = CANDIDATE_CHECK {
+        let expected =
+            checked.as_ref().map_or_else(|refusal| (refusal.code, refusal.at), |_| (0, 0));
+        let answer = check(&words);
+        if answer != expected {
+            coverage.differences += 1;
+            println!("table {number} differs in its check: {words:?}");
+            println!("  expected {expected:?}, candidate {answer:?}");
+        }
+    }
+    let expected = match checked {
         Ok(table) => {
             let (walked, seen) = reference::walk(&table);
             coverage.walk(&words, &seen);
+            if let Ok(rows) = &walked.result
+                && is_plain(&table)
+            {
+                compare_runs(number, &table, rows, &mut lent, coverage);
+            }
             let rows = walked.result.as_ref().map_or(0, Vec::len);
             let mut buffer = vec![0; buffer_length(rows, &mut lent)];
             let expected = (model::finish(&walked, &mut buffer), buffer);
@@ -92,6 +116,28 @@ fn compare(seed: u64, number: u64, coverage: &mut Coverage) {
     coverage.answer(family, expected.0, &expected.1);
     if let Some(candidate) = CANDIDATE {
         compare_with("candidate", candidate, number, &words, &expected, coverage);
+    }
+}
+
+/// The block run and the tree run of an accepted plain table, with the same random answers.
+fn compare_runs(
+    number: u64,
+    table: &Table,
+    rows: &[model::Row],
+    rng: &mut Rng,
+    coverage: &mut Coverage,
+) {
+    for _ in 0..4 {
+        let yes = rng.pick(&[20, 50, 80]);
+        let answers: Vec<bool> = (0..rng.below(60)).map(|_| rng.percent(yes)).collect();
+        let (blocks, tree) = (block_run(table, &answers), tree_run(rows, &answers));
+        coverage.runs += 1;
+        if blocks != tree {
+            coverage.differences += 1;
+            println!("table {number} differs in its runs: {:?} {answers:?}", table.words);
+            println!("  blocks {blocks:?}");
+            println!("  tree {tree:?}");
+        }
     }
 }
 

@@ -1,17 +1,20 @@
 //! `vectors make FILE` writes the fixed list of tables and answers; `vectors check FILE` makes it
-//! again and compares byte for byte, and replays it on the model and the candidate.
+//! again and compares byte for byte, and replays it on the model and the candidate; `vectors replay
+//! FILE` only replays it.
 
 use std::collections::BTreeSet;
 use std::fs;
 use std::process::ExitCode;
 use std::slice;
 
-use comparison::candidate::CANDIDATE;
+use comparison::candidate::{CANDIDATE, Candidate};
 use comparison::generate::{corners, limits, words};
 use comparison::model;
 use comparison::reference;
 use comparison::select::choose;
 use comparison::vector::{Vector, from_bytes, to_bytes};
+
+const USAGE: &str = "make FILE, check FILE or replay FILE";
 
 /// Vectors that take more are left to the comparison.
 const MOST_BYTES: usize = 18_000;
@@ -20,17 +23,24 @@ fn main() -> ExitCode {
     reference::install_panic_hook();
     let mut arguments = std::env::args().skip(1);
     let (verb, file) = (arguments.next(), arguments.next());
-    let file = file.expect("make FILE, or check FILE");
-    let bytes = reference::on_large_stack(|| to_bytes(&make()));
-    match verb.as_deref() {
+    let file = file.expect(USAGE);
+    let made = || reference::on_large_stack(|| to_bytes(&make()));
+    let good = match verb.as_deref() {
         Some("make") => {
+            let bytes = made();
             fs::write(&file, &bytes).expect("written");
             println!("{file}: {} vectors, {} bytes", from_bytes(&bytes).len(), bytes.len());
-            ExitCode::SUCCESS
+            true
         }
-        Some("check") => check(&file, &bytes),
-        _ => panic!("make FILE, or check FILE"),
-    }
+        Some("check") => {
+            let same = fs::read(&file).expect("the stored vectors") == made();
+            println!("vectors: made again {}", if same { "the same" } else { "NOT THE SAME" });
+            replay(&file) && same
+        }
+        Some("replay") => replay(&file),
+        _ => panic!("{USAGE}"),
+    };
+    if good { ExitCode::SUCCESS } else { ExitCode::FAILURE }
 }
 
 /// The corners by hand, those at the limits, the word lists, and tables chosen for what they show.
@@ -55,26 +65,20 @@ fn make() -> Vec<Vector> {
     vectors.filter(|vector| to_bytes(slice::from_ref(vector)).len() < MOST_BYTES).collect()
 }
 
-fn check(file: &str, made: &[u8]) -> ExitCode {
+fn replay(file: &str) -> bool {
     let stored = fs::read(file).expect("the stored vectors");
     let vectors = from_bytes(&stored);
-    let same = stored == made;
-    let replays = [Some(model::build as fn(&[u32], &mut [u32]) -> _), CANDIDATE];
-    let differences: usize = replays
+    let builds = [Some(model::build as Candidate), CANDIDATE];
+    let differences: usize = builds
         .into_iter()
         .flatten()
         .map(|build| vectors.iter().filter(|vector| !replays_on(build, vector)).count())
         .sum();
-    println!(
-        "vectors: {}, {} bytes, made again {}, {differences} differences",
-        vectors.len(),
-        stored.len(),
-        if same { "the same" } else { "NOT THE SAME" }
-    );
-    if same && differences == 0 { ExitCode::SUCCESS } else { ExitCode::FAILURE }
+    println!("vectors: {}, {} bytes, {differences} differences", vectors.len(), stored.len());
+    differences == 0
 }
 
-fn replays_on(build: fn(&[u32], &mut [u32]) -> model::Outcome, vector: &Vector) -> bool {
+fn replays_on(build: Candidate, vector: &Vector) -> bool {
     let mut buffer = vec![7; vector.length];
     let outcome = build(&vector.words, &mut buffer);
     let (rows, after) = buffer.split_at(vector.rows.len());

@@ -10,14 +10,14 @@ type BlockSpec<'s> = (u32, u32, u32, &'s [u32]);
 /// places 0 and 2 have identifier 0, unnamed; place 1 has identifier 1, named; place 3 has 2, unnamed.
 fn table(blocks: &[BlockSpec], cases: &[[u32; 2]]) -> Vec<u32> {
     let instructions = vec![
-        [30, 0, 0, 0, 0, 50],   // 0: other
-        [31, 1, 0, 0, 0, 0],    // 1: other
-        [32, 1, 1, 0, 0, 52],   // 2: loads another identifier than its own
-        [33, 0, 1, 2, 0, 53],   // 3: loads its own identifier by another place
-        [34, 3, 2, 0, 1, 54],   // 4: stores to an unnamed identifier
-        [35, 3, 2, 0, 2, 55],   // 5: stores an identifier to itself, unnamed
-        [36, 3, 2, 1, 0, 56],   // 6: stores to a named identifier
-        [37, 0, 2, 3, 0, 0],    // 7: stores to an unnamed identifier
+        [30, 0, 0, 0, 0, 50], // 0: other
+        [31, 1, 0, 0, 0, 0],  // 1: other
+        [32, 1, 1, 0, 0, 52], // 2: loads another identifier than its own
+        [33, 0, 1, 2, 0, 53], // 3: loads its own identifier by another place
+        [34, 3, 2, 0, 1, 54], // 4: stores to an unnamed identifier
+        [35, 3, 2, 0, 2, 55], // 5: stores an identifier to itself, unnamed
+        [36, 3, 2, 1, 0, 56], // 6: stores to a named identifier
+        [37, 0, 2, 3, 0, 0],  // 7: stores to an unnamed identifier
     ];
     let rows = blocks.iter().zip(0..).map(|((first, count, code, operands), number)| {
         let mut row = [*first, *count, *code, 0, 0, 0, 0, 0, 10 + number, 20 + number];
@@ -175,12 +175,7 @@ fn scheduling() -> Vec<(&'static str, Vec<u32>)> {
         (
             "Branch to the scope's end: an empty BLOCK",
             table(
-                &[
-                    (0, 0, 21, &[1, 2, 5]),
-                    (0, 0, 6, &[0, 2, 3]),
-                    (0, 0, 3, &[0]),
-                    (0, 1, 3, &[1]),
-                ],
+                &[(0, 0, 21, &[1, 2, 5]), (0, 0, 6, &[0, 2, 3]), (0, 0, 3, &[0]), (0, 1, 3, &[1])],
                 &[],
             ),
         ),
@@ -262,11 +257,11 @@ fn scheduling() -> Vec<(&'static str, Vec<u32>)> {
             "a MaybeThrow stops at a scheduled continuation",
             table(&[(0, 0, 16, &[1, 2]), (0, 1, 18, &[2]), (0, 0, 3, &[0])], &[]),
         ),
+        ("a Label whose block is its end: 17", table(&[(0, 0, 16, &[1, 1]), (0, 0, 3, &[0])], &[])),
         (
-            "a Label whose block is its end: 17",
-            table(&[(0, 0, 16, &[1, 1]), (0, 0, 3, &[0])], &[]),
+            "a Scope whose block is its end: 18",
+            table(&[(0, 0, 20, &[1, 1, 3]), (0, 0, 3, &[0])], &[]),
         ),
-        ("a Scope whose block is its end: 18", table(&[(0, 0, 20, &[1, 1, 3]), (0, 0, 3, &[0])], &[])),
         (
             "a scope inside a scope with one end",
             table(
@@ -276,6 +271,34 @@ fn scheduling() -> Vec<(&'static str, Vec<u32>)> {
                     (0, 0, 4, &[3, 0]),
                     (0, 0, 3, &[0]),
                 ],
+                &[],
+            ),
+        ),
+        (
+            "a loop's continue block can be walked into after the loop",
+            table(
+                &[
+                    (0, 0, 9, &[1, 2, 3]),
+                    (0, 1, 6, &[0, 4, 5]),
+                    (0, 0, 4, &[1, 1]),
+                    (0, 0, 18, &[1]),
+                    (0, 0, 3, &[0]),
+                    (0, 0, 3, &[1]),
+                ],
+                &[],
+            ),
+        ),
+        (
+            "a loop's block is not scheduled after the loop: 11 and no stop",
+            table(
+                &[(0, 0, 9, &[1, 2, 3]), (0, 1, 6, &[0, 2, 3]), (0, 0, 3, &[0]), (0, 0, 18, &[2])],
+                &[],
+            ),
+        ),
+        (
+            "a scope that does not take its end is not remembered: a break gives its row",
+            table(
+                &[(0, 0, 16, &[1, 3]), (0, 0, 20, &[2, 3, 7]), (0, 0, 4, &[3, 0]), (0, 0, 3, &[0])],
                 &[],
             ),
         ),
@@ -303,17 +326,17 @@ fn loops() -> Vec<(&'static str, Vec<u32>)> {
             "While makes its test before 16",
             table(&[(0, 0, 9, &[1, 3, 3]), (0, 0, 4, &[0, 0]), returns, returns], &[]),
         ),
-        ("While whose loop is its end: 16", table(&[(0, 0, 9, &[1, 3, 3]), branch, returns, returns], &[])),
+        (
+            "While whose loop is its end: 16",
+            table(&[(0, 0, 9, &[1, 3, 3]), branch, returns, returns], &[]),
+        ),
         (
             "DoWhile refuses 16 before its test",
             table(&[(0, 0, 8, &[3, 1, 3]), (0, 0, 4, &[0, 0]), returns, returns], &[]),
         ),
         (
             "For makes all its values before 16",
-            table(
-                &[(0, 0, 10, &[1, 1, 2, 3, 3]), branch, (0, 0, 4, &[1, 0]), returns],
-                &[],
-            ),
+            table(&[(0, 0, 10, &[1, 1, 2, 3, 3]), branch, (0, 0, 4, &[1, 0]), returns], &[]),
         ),
         (
             "15 before 16 and before any value",
@@ -358,17 +381,11 @@ fn loops() -> Vec<(&'static str, Vec<u32>)> {
         ),
         (
             "loops whose end is unreachable: only While leaves it",
-            table(
-                &[(0, 0, 9, &[1, 2, 3]), branch, (0, 0, 4, &[1, 1]), (0, 0, 1, &[])],
-                &[],
-            ),
+            table(&[(0, 0, 9, &[1, 2, 3]), branch, (0, 0, 4, &[1, 1]), (0, 0, 1, &[])], &[]),
         ),
         (
             "a DoWhile goes on to its unreachable end",
-            table(
-                &[(0, 0, 8, &[2, 1, 3]), branch, (0, 0, 4, &[1, 1]), (0, 1, 1, &[])],
-                &[],
-            ),
+            table(&[(0, 0, 8, &[2, 1, 3]), branch, (0, 0, 4, &[1, 1]), (0, 1, 1, &[])], &[]),
         ),
         (
             "For with an update: the continue block is the update",
@@ -515,18 +532,16 @@ fn values() -> Vec<(&'static str, Vec<u32>)> {
             "a MaybeThrow before an empty Goto takes its own last instruction",
             statement(sequence, &[(0, 2, 18, &[3]), (0, 0, 4, &[1, 0])]),
         ),
-        (
-            "28: it has none",
-            statement(sequence, &[(0, 0, 18, &[3]), (0, 0, 4, &[1, 0])]),
-        ),
-        (
-            "an empty MaybeThrow adds no sequence",
-            statement(sequence, &[(0, 0, 18, &[3]), two]),
-        ),
+        ("28: it has none", statement(sequence, &[(0, 0, 18, &[3]), (0, 0, 4, &[1, 0])])),
+        ("an empty MaybeThrow adds no sequence", statement(sequence, &[(0, 0, 18, &[3]), two])),
         ("a MaybeThrow with instructions adds one", statement(sequence, &[(1, 1, 18, &[3]), two])),
         (
             "the continuation is looked up: 10, and no visit for it",
             statement(sequence, &[(1, 1, 18, &[3]), (0, 0, 0, &[])]),
+        ),
+        (
+            "so it is before an empty MaybeThrow: 10 and not 28",
+            statement(sequence, &[(0, 0, 18, &[3]), (0, 0, 0, &[])]),
         ),
         (
             "a store to an unnamed identifier becomes a LOAD",
@@ -613,28 +628,35 @@ fn values() -> Vec<(&'static str, Vec<u32>)> {
 fn flattening() -> Vec<(&'static str, Vec<u32>)> {
     // A ForIn whose init is block 1, going on to blocks from 4 on.
     let for_in = |init: BlockSpec, rest: &[BlockSpec]| {
-        let mut blocks = vec![(0, 0, 12, &[1, 2, 3][..]), init, (0, 0, 3, &[0][..]), (0, 0, 3, &[0])];
+        let mut blocks =
+            vec![(0, 0, 12, &[1, 2, 3][..]), init, (0, 0, 3, &[0][..]), (0, 0, 3, &[0])];
         blocks.extend(rest);
         table(&blocks, &[])
     };
     vec![
         ("one instruction", for_in((0, 1, 6, &[0, 2, 3]), &[])),
         ("several", for_in((0, 3, 6, &[0, 2, 3]), &[])),
-        ("an empty Branch: its LOAD is of the result's own place, dropped", for_in((0, 0, 6, &[0, 2, 3]), &[])),
+        (
+            "an empty Branch: its LOAD is of the result's own place, dropped",
+            for_in((0, 0, 6, &[0, 2, 3]), &[]),
+        ),
         ("a load of another identifier stays", for_in((2, 1, 6, &[0, 2, 3]), &[])),
-        ("a load of its own identifier by another place is dropped", for_in((3, 1, 6, &[0, 2, 3]), &[])),
+        (
+            "a load of its own identifier by another place is dropped",
+            for_in((3, 1, 6, &[0, 2, 3]), &[]),
+        ),
         ("a LOAD made from a store stays", for_in((4, 1, 6, &[0, 2, 3]), &[])),
-        ("a LOAD made from a store of the same identifier is dropped", for_in((5, 1, 6, &[0, 2, 3]), &[])),
+        (
+            "a LOAD made from a store of the same identifier is dropped",
+            for_in((5, 1, 6, &[0, 2, 3]), &[]),
+        ),
         ("a store to a named identifier stays", for_in((6, 1, 6, &[0, 2, 3]), &[])),
         ("dropped after others", for_in((2, 2, 6, &[0, 2, 3]), &[])),
         ("through a MaybeThrow", for_in((0, 2, 18, &[4]), &[(2, 2, 6, &[0, 2, 3])])),
         ("through two", for_in((0, 2, 18, &[4]), &[(1, 1, 18, &[5]), (0, 2, 6, &[0, 2, 3])])),
         (
             "through a value terminal's end, whose own value stays nested",
-            for_in(
-                (0, 1, 17, &[4, 5]),
-                &[(0, 2, 4, &[5, 0]), (1, 2, 6, &[0, 2, 3])],
-            ),
+            for_in((0, 1, 17, &[4, 5]), &[(0, 2, 4, &[5, 0]), (1, 2, 6, &[0, 2, 3])]),
         ),
         (
             "through a value terminal to a dropped load",
@@ -676,16 +698,25 @@ fn missing() -> Vec<(&'static str, Vec<u32>)> {
     let returns: BlockSpec = (0, 0, 3, &[0]);
     vec![
         ("the entry is missing", table(&[none], &[])),
-        ("a missing fallthrough is asked first: 10, one visit", table(&[(0, 0, 5, &[0, 2, 2, 1]), none, none], &[])),
+        (
+            "a missing fallthrough is asked first: 10, one visit",
+            table(&[(0, 0, 5, &[0, 2, 2, 1]), none, none], &[]),
+        ),
         ("While asks its end before 15", table(&[(0, 0, 9, &[1, 1, 1]), none], &[])),
         ("Label asks its end before 17", table(&[(0, 0, 16, &[1, 1]), none], &[])),
         ("Switch asks its end", table(&[(0, 0, 7, &[0, 0, 0, 1]), none], &[])),
         ("Try asks its end", table(&[(0, 0, 19, &[2, 2, 1, NONE]), none, returns], &[])),
-        ("DoWhile does not ask, and walks into it: 10", table(
-            &[(0, 0, 8, &[1, 2, 3]), returns, (0, 1, 6, &[0, 1, 3]), none],
-            &[],
-        )),
-        ("a scope does not ask, and walks into it: 10", table(&[(0, 0, 20, &[1, 2, 0]), returns, none], &[])),
-        ("a scheduled missing block is no visit", table(&[(0, 0, 20, &[1, 2, 0]), (0, 0, 18, &[2]), none], &[])),
+        (
+            "DoWhile does not ask, and walks into it: 10",
+            table(&[(0, 0, 8, &[1, 2, 3]), returns, (0, 1, 6, &[0, 1, 3]), none], &[]),
+        ),
+        (
+            "a scope does not ask, and walks into it: 10",
+            table(&[(0, 0, 20, &[1, 2, 0]), returns, none], &[]),
+        ),
+        (
+            "a scheduled missing block is no visit",
+            table(&[(0, 0, 20, &[1, 2, 0]), (0, 0, 18, &[2]), none], &[]),
+        ),
     ]
 }

@@ -50,9 +50,28 @@ const BEFORE_ENTRY: &str = "entry blocks instructions cases places identifiers\n
 /// Numbers at and past 32 bits, with leading zeros and signs, as the first number of a file.
 fn numbers() -> Vec<Vec<u8>> {
     let numbers = [
-        "0", "00", "01", "4294967295", "4294967296", "4294967299", "4294967300", "42949672950",
-        "4294967205", "5000000000", "9999999999", "99999999999999999999", "-1", "+1", "1.0", "0x1",
-        "65536", "65535", "1e3", "", " 1", "1 ",
+        "0",
+        "00",
+        "01",
+        "4294967295",
+        "4294967296",
+        "4294967299",
+        "4294967300",
+        "42949672950",
+        "4294967205",
+        "5000000000",
+        "9999999999",
+        "99999999999999999999",
+        "-1",
+        "+1",
+        "1.0",
+        "0x1",
+        "65536",
+        "65535",
+        "1e3",
+        "",
+        " 1",
+        "1 ",
     ];
     let rest = " 0 0 0 0 0\nfirst count code a b c d e id span\nid lvalue code p q span\n\
                 test block\nidentifier\nnamed\n";
@@ -73,7 +92,9 @@ fn counts() -> Vec<Vec<u8>> {
         let head: Vec<String> = head.iter().map(u32::to_string).collect();
         let head = head.join(" ");
         files.push(format!("{BEFORE_ENTRY}{head}\n").into_bytes());
-        files.push(format!("{BEFORE_ENTRY}{head}\nfirst count code a b c d e id span\n").into_bytes());
+        files.push(
+            format!("{BEFORE_ENTRY}{head}\nfirst count code a b c d e id span\n").into_bytes(),
+        );
     }
     files
 }

@@ -113,7 +113,7 @@ fn value_nest(way: u32, depth: u32) -> Draft {
         let last = if first { out } else { add(&mut draft, 1, 6, &[0, leaf, leaf]) };
         let code = way % 100;
         inner = match code {
-            13 | 14 | 15 => {
+            13..=15 => {
                 let test = match way / 100 {
                     0 => inner,
                     1 => add(&mut draft, 1, 6, &[0, inner, leaf]),

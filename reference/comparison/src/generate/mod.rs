@@ -32,16 +32,17 @@ pub struct Generated {
     pub words: Vec<u32>,
 }
 
-/// Table `number` of the run with this seed. The first are the exhaustive ones and those at the
-/// limits, the same for every seed.
+/// Table `number` of the run with this seed. Of the first, every other one is of the exhaustive
+/// ones, and those at the limits come between them, the same for every seed.
 pub fn generate(seed: u64, number: u64) -> Generated {
     let mut rng = Rng::new(seed ^ number.wrapping_mul(0xD134_2543_DE82_EF95));
-    rng.next();
-    if number < small::EXHAUSTIVE {
-        return Generated { family: 0, words: small::exhaustive(number) };
+    rng.word();
+    let (half, turn) = (number / 2, number % 2);
+    if turn == 0 && half < small::EXHAUSTIVE {
+        return Generated { family: 0, words: small::exhaustive(half) };
     }
-    if number < small::EXHAUSTIVE + limits::COUNT {
-        return Generated { family: 7, words: limits::limit(number - small::EXHAUSTIVE) };
+    if turn == 1 && half < limits::COUNT {
+        return Generated { family: 7, words: limits::limit(half) };
     }
     let family = match rng.below(100) {
         0..=19 => 1,

@@ -37,7 +37,8 @@ fn ends(blocks: u32) -> Vec<Vec<u32>> {
         }
     }
     let no_update = ends.iter().filter(|end| end[0] == 10 && end[3] == 0).cloned();
-    let no_update: Vec<_> = no_update.map(|end| vec![10, end[1], end[2], NONE, end[4], end[5]]).collect();
+    let no_update: Vec<_> =
+        no_update.map(|end| vec![10, end[1], end[2], NONE, end[4], end[5]]).collect();
     ends.extend(no_update);
     for target in 0..blocks {
         ends.extend((0..3).map(|variant| vec![4, target, variant]));

@@ -6,8 +6,15 @@ use super::Refusal;
 #[derive(Clone, Copy)]
 pub enum Target {
     /// If, Switch or Case: only its end counts.
-    Plain { block: u32 },
-    Loop { block: u32, continue_block: u32, loop_block: u32, owns_loop: bool },
+    Plain {
+        block: u32,
+    },
+    Loop {
+        block: u32,
+        continue_block: u32,
+        loop_block: u32,
+        owns_loop: bool,
+    },
 }
 
 impl Target {

@@ -159,7 +159,13 @@ impl Walk<'_> {
         !self.context.is_scheduled(loop_block) && loop_block != fallthrough
     }
 
-    fn loop_body(&mut self, block: &Block, number: u32, free: bool, depth: u32) -> Result<(), Refusal> {
+    fn loop_body(
+        &mut self,
+        block: &Block,
+        number: u32,
+        free: bool,
+        depth: u32,
+    ) -> Result<(), Refusal> {
         if !free {
             return Err(Refusal { code: 16, at: block.number });
         }
@@ -282,7 +288,10 @@ impl Walk<'_> {
             return Err(Refusal { code: 20, at: target });
         };
         if self.context.is_scope_fallthrough(target) {
-            return if kind == IMPLICIT { Ok(0) } else { Err(Refusal { code: 22, at: block.number }) };
+            if kind != IMPLICIT {
+                return Err(Refusal { code: 22, at: block.number });
+            }
+            return Ok(0);
         }
         self.row([24, target, block.id, kind, 0, 0]);
         Ok(1)

@@ -86,11 +86,8 @@ impl Walk<'_> {
         self.instruction_rows(block.first, others);
         let [id, lvalue, code, p, q, _] = *self.table.instruction(last);
         let stores_unnamed = code == 2 && !self.table.is_named(self.table.identifier_of(p));
-        let (row, place) = if stores_unnamed {
-            ([2, q, 0, 0, 0, 0], p)
-        } else {
-            ([1, last, 0, 0, 0, 0], lvalue)
-        };
+        let (row, place) =
+            if stores_unnamed { ([2, q, 0, 0, 0, 0], p) } else { ([1, last, 0, 0, 0, 0], lvalue) };
         self.row(row);
         if others > 0 {
             self.row([5, others, id, 0, 0, 0]);

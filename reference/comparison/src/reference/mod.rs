@@ -40,14 +40,18 @@ pub fn on_large_stack<T: Send>(work: impl FnOnce() -> T + Send) -> T {
 
 /// The rows or the refusal, the visits and the greatest depth; and the blocks visited.
 pub fn walk(table: &Table) -> (Walked, Seen) {
+    walk_within(table, Bounds { depth: MAX_DEPTH as usize, visits: MAX_VISITS })
+}
+
+/// The same with other bounds than paper 01's. The Rust has none.
+pub fn walk_within(table: &Table, bounds: Bounds) -> (Walked, Seen) {
     let allocator = Allocator;
     let lowering = hir::Lowering { table: *table, allocator: &allocator };
     let environment = lowering.environment();
     let function = lowering.function();
-    walk_observer::start(Bounds { depth: MAX_DEPTH as usize, visits: MAX_VISITS });
-    let ended = panic::catch_unwind(AssertUnwindSafe(|| {
-        build_reactive_function(&function, &environment)
-    }));
+    walk_observer::start(bounds);
+    let ended =
+        panic::catch_unwind(AssertUnwindSafe(|| build_reactive_function(&function, &environment)));
     let seen = walk_observer::finish();
     let result = match ended {
         Ok(Ok(built)) => {

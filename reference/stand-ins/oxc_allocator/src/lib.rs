@@ -14,8 +14,11 @@ pub struct CloneInSemanticIds;
 pub trait CloneIn<'a> {
     type Cloned;
 
-    fn clone_in_impl(&self, semantic_ids: CloneInSemanticIds, allocator: &'a Allocator)
-    -> Self::Cloned;
+    fn clone_in_impl(
+        &self,
+        semantic_ids: CloneInSemanticIds,
+        allocator: &'a Allocator,
+    ) -> Self::Cloned;
 
     fn clone_in(&self, allocator: &'a Allocator) -> Self::Cloned {
         self.clone_in_impl(CloneInSemanticIds, allocator)
