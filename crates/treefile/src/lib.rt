@@ -1,0 +1,28 @@
+// The program treebuild as a function: a file's bytes in, the bytes that are printed of it out.
+use build::build_reactive_function;
+use text::read::read;
+use text::read::Answer;
+use text::write::write;
+use text::write::Written;
+
+// Builds the table's tree, with 2,048 rows lent, and writes the result.
+fn build_words(words: &[u32], out: &mut [u8]) -> Written {
+    let mut tree = [0u32; 12288];
+    let built = build_reactive_function(words, &mut tree);
+    if built.code != 0 {
+        return write(out, built.code, built.at, built.rows, built.visits, &tree);
+    }
+    let end = (built.rows as usize) * 6;
+    write(out, built.code, built.at, built.rows, built.visits, &tree[..end])
+}
+
+// Reads a file, builds its table's tree and writes the result; or writes why the file is refused.
+pub fn build_file(file: &[u8], out: &mut [u8]) -> Written {
+    let mut words = [0u32; 16384];
+    let answer = read(file, &mut words);
+    match answer {
+        Answer::Words(count) => build_words(&words[..count], out),
+        Answer::Refused { code, at } => write(out, code, at, 0, 0, &words),
+        Answer::NoRoom => Written::NoRoom,
+    }
+}
