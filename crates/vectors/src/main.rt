@@ -1,0 +1,193 @@
+// Replays data/vectors.bin: tables with their answers, made by the Rust (reference/vectors/README.md says the form). Each table is built
+// into a buffer full of sevens, and code, at, rows, visits and every word of the buffer are compared. Prints the number of each vector that
+// differs, then how many there are, how many differ, and how many bytes are left.
+use build::build_reactive_function;
+use build::Outcome;
+use libc::STDOUT_FILENO;
+
+// A number, and where the next one begins.
+struct Number {
+    value: u32,
+    next: usize,
+}
+
+// Whether a vector came out as it should, and where the next one begins.
+struct Replayed {
+    same: bool,
+    next: usize,
+}
+
+// Reads a number: groups of seven bits, the lowest first, so many more at the most.
+fn read_number(bytes: &[u8], at: usize, more: u32) -> Number {
+    if bytes.len() <= at {
+        return Number { value: 0, next: at };
+    }
+    let byte = bytes[at] as u32;
+    if byte < 128 {
+        return Number { value: byte, next: at + 1 };
+    }
+    if more == 0 {
+        return Number { value: 0, next: at };
+    }
+    let rest = read_number(bytes, at + 1, more - 1);
+    if 33554431 < rest.value {
+        return Number { value: 0, next: at };
+    }
+    Number { value: byte - 128 + rest.value * 128, next: rest.next }
+}
+
+fn number(bytes: &[u8], at: usize) -> Number {
+    read_number(bytes, at, 4)
+}
+
+// Reads so many numbers into the words, and makes the words after them zeros; answers where the next number begins.
+fn read_words(bytes: &[u8], start: usize, count: u32, words: &mut [u32]) -> usize {
+    let mut at = start;
+    let mut i: usize = 0;
+    while i < words.len() {
+        words[i] = 0;
+        if i < count as usize {
+            let word = number(bytes, at);
+            words[i] = word.value;
+            at = word.next;
+        }
+        i += 1;
+    }
+    at
+}
+
+fn soil(words: &mut [u32]) {
+    let mut i = 0;
+    while i < words.len() {
+        words[i] = 7;
+        i += 1;
+    }
+}
+
+// Whether the first so many words are the same.
+fn same_words(left: &[u32], right: &[u32], count: u32) -> bool {
+    let mut i: usize = 0;
+    while i < count as usize {
+        if left.len() <= i {
+            return false;
+        }
+        if right.len() <= i {
+            return false;
+        }
+        if left[i] != right[i] {
+            return false;
+        }
+        i += 1;
+    }
+    true
+}
+
+fn least(count: u32, length: usize) -> usize {
+    let n = count as usize;
+    if n < length { n } else { length }
+}
+
+// Builds the table in the first so many words, with so many words lent.
+fn build_part(words: &[u32], count: u32, tree: &mut [u32], lent: u32) -> Outcome {
+    let end = least(count, words.len());
+    let room = least(lent, tree.len());
+    build_reactive_function(&words[..end], &mut tree[..room])
+}
+
+// The words that the rows take: none, if refused.
+fn held(code: u32, rows: u32) -> u32 {
+    if code != 0 {
+        return 0;
+    }
+    if 100000 < rows {
+        return 600000;
+    }
+    rows * 6
+}
+
+fn same_outcome(got: Outcome, code: u32, at: u32, rows: u32, visits: u32) -> bool {
+    if got.code != code {
+        return false;
+    }
+    if got.at != at {
+        return false;
+    }
+    if got.rows != rows {
+        return false;
+    }
+    got.visits == visits
+}
+
+fn replay(bytes: &[u8], start: usize, words: &mut [u32], tree: &mut [u32], expected: &mut [u32]) -> Replayed {
+    let count = number(bytes, start);
+    let after = read_words(bytes, count.next, count.value, words);
+    let lent = number(bytes, after);
+    let code = number(bytes, lent.next);
+    let at = number(bytes, code.next);
+    let rows = number(bytes, at.next);
+    let visits = number(bytes, rows.next);
+    let next = read_words(bytes, visits.next, held(code.value, rows.value), expected);
+    soil(tree);
+    let got = build_part(words, count.value, tree, lent.value);
+    let same = same_outcome(got, code.value, at.value, rows.value, visits.value);
+    if !same {
+        return Replayed { same: false, next: next };
+    }
+    Replayed { same: same_words(tree, expected, lent.value), next: next }
+}
+
+fn print_number(n: u32) {
+    io::print_decimal(STDOUT_FILENO, n as u64);
+}
+
+fn print_difference(number: u32) {
+    io::write_all(STDOUT_FILENO, b"differs: ");
+    print_number(number);
+    io::write_all(STDOUT_FILENO, b"\n");
+}
+
+fn print_counts(vectors: u32, differences: u32, left: usize) {
+    print_number(vectors);
+    io::write_all(STDOUT_FILENO, b" vectors, ");
+    print_number(differences);
+    io::write_all(STDOUT_FILENO, b" differences, ");
+    io::print_decimal(STDOUT_FILENO, left as u64);
+    io::write_all(STDOUT_FILENO, b" bytes left\n");
+}
+
+fn left(length: usize, at: usize) -> usize {
+    if length < at { 0 } else { length - at }
+}
+
+fn replay_all(bytes: &[u8], words: &mut [u32], tree: &mut [u32], expected: &mut [u32]) {
+    let count = number(bytes, 0);
+    let mut at = count.next;
+    let mut differences: u32 = 0;
+    let mut i: u32 = 0;
+    while i < count.value {
+        let replayed = replay(bytes, at, words, tree, expected);
+        if !replayed.same {
+            print_difference(i);
+            differences += 1;
+        }
+        at = replayed.next;
+        i += 1;
+    }
+    print_counts(i, differences, left(bytes.len(), at));
+}
+
+fn main() {
+    let name = b"vectors.bin";
+    let fd = os::open_read(name);
+    if fd < 0 {
+        os::fail(name);
+        return;
+    }
+    let mut bytes = [0u8; 600000];
+    let count = io::read_full(fd, &mut bytes);
+    libc::close(fd);
+    let mut words = [0u32; 16384];
+    let mut tree = [0u32; 16384];
+    let mut expected = [0u32; 16384];
+    replay_all(&bytes[..count], &mut words, &mut tree, &mut expected);
+}
