@@ -1,4 +1,9 @@
 // The program treebuild as a function: a file's bytes in, the bytes that are printed of it out.
+ghost use mathlib.Core.Path.{_≡_};
+ghost use lib.ListN.{length};
+ghost use Rattle.definition.specs.Build.{built};
+ghost use Rattle.text.specs.Printed.{writtenOf, lentOf};
+ghost use Rattle.treefile.specs.Prints.{lentWords, printedOutcome, FileBuilt};
 use build::build_reactive_function;
 use text::read::read;
 use text::read::Answer;
@@ -6,7 +11,10 @@ use text::write::write;
 use text::write::Written;
 
 // Builds the table's tree, with 2,048 rows lent, and writes the result.
-fn build_words(words: &[u32], out: &mut [u8]) -> Written {
+fn build_words(words: &[u32], out: &mut [u8]) -> Written
+    ensures { λ r. ⌜ r ≡ writtenOf (length (now (out .entry))) (printedOutcome (built (now (words .entry)) lentWords)) ⌝ }
+    ensures { λ _. ⌜ now (out .exit) ≡ lentOf (length (now (out .entry))) (printedOutcome (built (now (words .entry)) lentWords)) ⌝ }
+{
     let mut tree = [0u32; 12288];
     let built = build_reactive_function(words, &mut tree);
     if built.code != 0 {
@@ -17,7 +25,9 @@ fn build_words(words: &[u32], out: &mut [u8]) -> Written {
 }
 
 // Reads a file, builds its table's tree and writes the result; or writes why the file is refused.
-pub fn build_file(file: &[u8], out: &mut [u8]) -> Written {
+pub fn build_file(file: &[u8], out: &mut [u8]) -> Written
+    ensures { λ r. ⌜ FileBuilt (now (file .entry)) (length (now (out .entry))) r (now (out .exit)) ⌝ }
+{
     let mut words = [0u32; 16384];
     let answer = read(file, &mut words);
     match answer {
