@@ -1,7 +1,10 @@
 -- From what reading, building and writing give to what is printed of a file.
 use Prim.Native.Nat.{ℕ, _+_, _-_, _*_, _≤_}
 use mathlib.Core.Path.{_≡_, refl, sym, ap, _∙_}
+use mathlib.Core.Bool.{Bool, true, false}
 use mathlib.Core.List.{List, [], _++_}
+use lib.Dec.{leb}
+use borrow.Author.Tests.{leb-true}
 use mathlib.Core.Logic.{⊎-elim, inl, inr}
 use native.Mathlib.Omega.{arith}
 use lib.ListN.{length, take, replicate, length-append, length-replicate}
@@ -9,7 +12,10 @@ use lib.Seq.{take-at}
 use Rattle.text.specs.Answer.{Refusal, Answered}
 use Rattle.text.specs.Lent.{padded}
 use Rattle.text.specs.Printed.{printed, writtenOf, lentOf}
-use Rattle.text.specs.declared.read.Answer.the-variants.{Words, NoRoom}
+use Rattle.text.specs.declared.read.Answer.the-variants.{Words}
+use Rattle.text.specs.declared.read.Answer.the-variants as read
+use Rattle.text.specs.declared.write.Written.the-variants.{Bytes, NoRoom}
+use Rattle.text.specs.Decimal.{choose}
 use Rattle.text.specs.declared.write.Written.{Written}
 use Rattle.text.proofs.AnswerLaws.{room-enough}
 use Rattle.definition.specs.Build.{built}
@@ -50,5 +56,17 @@ module _ (file out : List ℕ) (space : ℕ) (r : Written) where
       not-zero : Refusal file code at → code ≡ 0 → ⊥
       not-zero d e = ⊎-elim (λ w. omega (arith, w .0, e)) (λ w. omega (arith, w .0, e)) d
 
-  pub never-short : (lent : List ℕ) (room : ℕ) → 16384 ≤ room → Answered file room lent NoRoom → FileBuilt file space r out
+  pub never-short : (lent : List ℕ) (room : ℕ) → 16384 ≤ room → Answered file room lent read.NoRoom → FileBuilt file space r out
   never-short lent room p h = absurd (room-enough file lent room p h)
+
+-- what was written lies within the lent bytes
+pub bytes-within : (room end : ℕ) (text : List ℕ) (r : Written) → r ≡ writtenOf room text → r ≡ Bytes end → end ≤ room
+unfolding writtenOf
+bytes-within room end text r e f = by-room (leb (length text) room) refl (sym e ∙ f)
+  where
+    count : Written → ℕ
+    count (Bytes n) = n
+    count NoRoom = 0
+    by-room : (b : Bool) → leb (length text) room ≡ b → choose b (λ _. Bytes (length text)) (λ _. NoRoom) ≡ Bytes end → end ≤ room
+    by-room true p g = omega (arith, leb-true (length text) room p, ap count g)
+    by-room false p g = omega (arith, ap count g)
