@@ -1,7 +1,7 @@
 // Samples of the build: those of paper 01, with buffers of exactly the rows, too short and too long; depths 128 and 129; 8,192 and 8,193
 // visits. Prints of each its name, the result, the rows if there are twelve or less, and a sum over every word lent. What is expected
 // (stdout) is written by the Rust: reference/comparison/src/bin/build_samples.rs makes the same tables.
-ghost use Prim.Native.Nat.{_≤_};
+ghost use Prim.Native.Nat.{_≤_, _<_};
 use build::build_reactive_function;
 use build::Outcome;
 use libc::STDOUT_FILENO;
@@ -9,23 +9,23 @@ use text::write::Written;
 
 // ---- making tables
 
-fn put(words: &mut [u32], at: usize, word: u32) {
-    if at < words.len() {
+fn put(words: &mut [u32; 12288], at: usize, word: u32) {
+    if at < 12288 {
         words[at] = word;
     }
 }
 
-fn fill(words: &mut [u32], word: u32) {
-    let mut i = 0;
-    while i < words.len() {
-        words[i] = word;
+fn clear(words: &mut [u32; 12288]) {
+    let mut i: usize = 0;
+    while i < 12288 {
+        words[i] = 0;
         i += 1;
     }
 }
 
 // A table of so many blocks, all missing, over one place, one named identifier and at most one instruction; answers its length.
-fn table(words: &mut [u32], entry: u32, blocks: u32, instruction: bool) -> usize {
-    fill(words, 0);
+fn table(words: &mut [u32; 12288], entry: u32, blocks: u32, instruction: bool) -> usize {
+    clear(words);
     put(words, 0, entry);
     put(words, 1, blocks);
     put(words, 4, 1);
@@ -42,7 +42,7 @@ fn table(words: &mut [u32], entry: u32, blocks: u32, instruction: bool) -> usize
 }
 
 // Gives a block its number of instructions, its end and its id.
-fn block(words: &mut [u32], row: u32, count: u32, code: u32, a: u32, b: u32, c: u32, d: u32, id: u32) {
+fn block(words: &mut [u32; 12288], row: u32, count: u32, code: u32, a: u32, b: u32, c: u32, d: u32, id: u32) {
     let first = 6 + (row as usize) * 10;
     put(words, first + 1, count);
     put(words, first + 2, code);
@@ -53,20 +53,20 @@ fn block(words: &mut [u32], row: u32, count: u32, code: u32, a: u32, b: u32, c: 
     put(words, first + 8, id);
 }
 
-fn returns(words: &mut [u32], row: u32, id: u32) {
+fn returns(words: &mut [u32; 12288], row: u32, id: u32) {
     block(words, row, 0, 3, 0, 0, 0, 0, id);
 }
 
 // ---- tables of paper 01
 
-fn file_sample(words: &mut [u32]) -> usize {
+fn file_sample(words: &mut [u32; 12288]) -> usize {
     let end = table(words, 0, 1, false);
     returns(words, 0, 7);
     end
 }
 
 // W: 0 While(1,2,3) id 1; 1 Branch(0,2,3) id 2; 2 Goto(1,Continue) id 3; 3 Return(0) id 4.
-fn while_sample(words: &mut [u32]) -> usize {
+fn while_sample(words: &mut [u32; 12288]) -> usize {
     let end = table(words, 0, 4, false);
     block(words, 0, 0, 9, 1, 2, 3, 0, 1);
     block(words, 1, 0, 6, 0, 2, 3, 0, 2);
@@ -75,25 +75,25 @@ fn while_sample(words: &mut [u32]) -> usize {
     end
 }
 
-fn while_break(words: &mut [u32]) -> usize {
+fn while_break(words: &mut [u32; 12288]) -> usize {
     let end = while_sample(words);
     block(words, 2, 0, 4, 3, 0, 0, 0, 3);
     end
 }
 
-fn while_on_its_test(words: &mut [u32]) -> usize {
+fn while_on_its_test(words: &mut [u32; 12288]) -> usize {
     let end = while_sample(words);
     block(words, 0, 0, 9, 1, 2, 1, 0, 1);
     end
 }
 
-fn while_without_end(words: &mut [u32]) -> usize {
+fn while_without_end(words: &mut [u32; 12288]) -> usize {
     let end = while_sample(words);
     block(words, 1, 0, 18, 1, 0, 0, 0, 2);
     end
 }
 
-fn scope_sample(words: &mut [u32]) -> usize {
+fn scope_sample(words: &mut [u32; 12288]) -> usize {
     let end = table(words, 0, 3, false);
     block(words, 0, 0, 20, 1, 2, 5, 0, 1);
     block(words, 1, 0, 4, 2, 0, 0, 0, 2);
@@ -101,7 +101,7 @@ fn scope_sample(words: &mut [u32]) -> usize {
     end
 }
 
-fn if_sample(words: &mut [u32]) -> usize {
+fn if_sample(words: &mut [u32; 12288]) -> usize {
     let end = table(words, 0, 3, false);
     block(words, 0, 0, 5, 0, 1, 1, 2, 1);
     returns(words, 1, 2);
@@ -112,7 +112,7 @@ fn if_sample(words: &mut [u32]) -> usize {
 // ---- tables at the limits
 
 // So many Labels, each in the one before, from block 0 on.
-fn labels(words: &mut [u32], count: u32)
+fn labels(words: &mut [u32; 12288], count: u32)
     requires { ⌜ count ≤ 200 ⌝ }
 {
     let mut level: u32 = 0;
@@ -125,7 +125,7 @@ fn labels(words: &mut [u32], count: u32)
 }
 
 // The innermost block is at one level more than there are Labels.
-fn statements(words: &mut [u32], around: u32) -> usize
+fn statements(words: &mut [u32; 12288], around: u32) -> usize
     requires { ⌜ around ≤ 200 ⌝ }
 {
     let last = around * 2;
@@ -136,7 +136,7 @@ fn statements(words: &mut [u32], around: u32) -> usize
 }
 
 // Blocks of one instruction that go on to the next one, up to the last.
-fn go_on(words: &mut [u32], first: u32, last: u32) {
+fn go_on(words: &mut [u32; 12288], first: u32, last: u32) {
     let mut row = first;
     while row < last {
         block(words, row, 1, 18, row + 1, 0, 0, 0, 2);
@@ -145,7 +145,7 @@ fn go_on(words: &mut [u32], first: u32, last: u32) {
 }
 
 // Under so many Labels a Sequence whose value goes on from block to block: so many levels.
-fn values(words: &mut [u32], around: u32, deep: u32) -> usize
+fn values(words: &mut [u32; 12288], around: u32, deep: u32) -> usize
     requires { ⌜ around ≤ 200 ⌝ }
     requires { ⌜ deep ≤ 200 ⌝ }
 {
@@ -161,7 +161,7 @@ fn values(words: &mut [u32], around: u32, deep: u32) -> usize
 }
 
 // Levels of a value above block 1: the two parts of each are the level below.
-fn levels(words: &mut [u32], count: u32)
+fn levels(words: &mut [u32; 12288], count: u32)
     requires { ⌜ count ≤ 200 ⌝ }
 {
     let mut level: u32 = 0;
@@ -174,7 +174,7 @@ fn levels(words: &mut [u32], count: u32)
 }
 
 // Statements above a row, each of which goes on to the one below it.
-fn go_down(words: &mut [u32], first: u32, last: u32) {
+fn go_down(words: &mut [u32; 12288], first: u32, last: u32) {
     let mut row = first;
     while row < last {
         block(words, row + 1, 0, 18, row, 0, 0, 0, 7);
@@ -183,7 +183,7 @@ fn go_down(words: &mut [u32], first: u32, last: u32) {
 }
 
 // Two values with shared parts, after so many statements.
-fn shared(words: &mut [u32], before: u32) -> usize
+fn shared(words: &mut [u32; 12288], before: u32) -> usize
     requires { ⌜ before ≤ 2000 ⌝ }
 {
     let last = before + 25;
@@ -198,7 +198,7 @@ fn shared(words: &mut [u32], before: u32) -> usize
 }
 
 // Values of block 7, each of which goes on to the one below it.
-fn values_of_block(words: &mut [u32], first: u32, last: u32) {
+fn values_of_block(words: &mut [u32; 12288], first: u32, last: u32) {
     let mut row = first;
     while row < last {
         block(words, row + 1, 0, 17, 7, row, 0, 0, 5);
@@ -207,7 +207,7 @@ fn values_of_block(words: &mut [u32], first: u32, last: u32) {
 }
 
 // 345 values with shared parts, one after the other, after so many statements.
-fn many(words: &mut [u32], before: u32) -> usize
+fn many(words: &mut [u32; 12288], before: u32) -> usize
     requires { ⌜ before ≤ 2000 ⌝ }
 {
     let last = before + 352;
@@ -254,14 +254,29 @@ fn shown(tree: &[u32], rows: u32) -> &[u32] {
     first_words(tree, 72)
 }
 
+fn mixed(sum: u64, word: u32) -> u64
+    requires { ⌜ sum < 4294967291 ⌝ }
+    ensures { λ r. ⌜ r < 4294967291 ⌝ }
+{
+    (sum * 31 + word as u64) % 4294967291
+}
+
 fn sum_of(words: &[u32]) -> u64 {
     let mut sum: u64 = 0;
     let mut i = 0;
     while i < words.len() {
-        sum = (sum * 31 + words[i] as u64) % 4294967291;
+        sum = mixed(sum, words[i]);
         i += 1;
     }
     sum
+}
+
+fn soil(tree: &mut [u32]) {
+    let mut i = 0;
+    while i < tree.len() {
+        tree[i] = 7;
+        i += 1;
+    }
 }
 
 fn show(built: Outcome, tree: &[u32]) {
@@ -272,17 +287,17 @@ fn show(built: Outcome, tree: &[u32]) {
 }
 
 // Builds a table into a buffer of sevens, and prints what comes out.
-fn run(name: &[u8], words: &[u32], count: usize, tree: &mut [u32]) {
+fn run(name: &[u8], words: &[u32; 12288], count: usize, tree: &mut [u32]) {
     io::write_all(STDOUT_FILENO, name);
     io::write_all(STDOUT_FILENO, b", ");
     io::print_decimal(STDOUT_FILENO, tree.len() as u64);
     io::write_all(STDOUT_FILENO, b" words lent\n");
-    fill(tree, 7);
+    soil(tree);
     let built = build_reactive_function(first_words(words, count), tree);
     show(built, tree);
 }
 
-fn run_file(words: &mut [u32]) {
+fn run_file(words: &mut [u32; 12288]) {
     let count = file_sample(words);
     let name = b"the file of paper 01";
     run(name, words, count, &mut [0; 12]);
@@ -293,7 +308,7 @@ fn run_file(words: &mut [u32]) {
     run(name, words, count, &mut []);
 }
 
-fn run_while(words: &mut [u32]) {
+fn run_while(words: &mut [u32; 12288]) {
     let count = while_sample(words);
     run(b"W", words, count, &mut [0; 36]);
     run(b"W", words, count, &mut [0; 35]);
@@ -303,7 +318,7 @@ fn run_while(words: &mut [u32]) {
     run(b"W", words, count, &mut []);
 }
 
-fn run_paper(words: &mut [u32]) {
+fn run_paper(words: &mut [u32; 12288]) {
     let mut tree = [0u32; 36];
     let broken = while_break(words);
     run(b"W, 2 Goto(3,Break)", words, broken, &mut tree);
@@ -317,7 +332,7 @@ fn run_paper(words: &mut [u32]) {
     run(b"If", words, either, &mut tree);
 }
 
-fn run_depths(words: &mut [u32]) {
+fn run_depths(words: &mut [u32; 12288]) {
     let mut tree = [0u32; 2400];
     let within = statements(words, 127);
     run(b"depth by statements", words, within, &mut tree);
@@ -333,7 +348,7 @@ fn run_depths(words: &mut [u32]) {
     run(b"depth by both", words, both_beyond, &mut tree);
 }
 
-fn run_visits(words: &mut [u32]) {
+fn run_visits(words: &mut [u32; 12288]) {
     let mut tree = [0u32; 98304];
     let most = shared(words, 513);
     run(b"visits", words, most, &mut tree);

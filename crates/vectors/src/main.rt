@@ -1,6 +1,7 @@
 // Replays data/vectors.bin: tables with their answers, made by the Rust (reference/vectors/README.md says the form). Each table is built
 // into a buffer full of sevens, and code, at, rows, visits and every word of the buffer are compared. Prints the number of each vector that
 // differs, then how many there are, how many differ, and how many bytes are left.
+ghost use Prim.Native.Nat.{_≤_, _<_};
 use build::build_reactive_function;
 use build::Outcome;
 use libc::STDOUT_FILENO;
@@ -17,61 +18,81 @@ struct Replayed {
     next: usize,
 }
 
-// Reads a number: groups of seven bits, the lowest first, so many more at the most.
-fn read_number(bytes: &[u8], at: usize, more: u32) -> Number {
-    if bytes.len() <= at {
-        return Number { value: 0, next: at };
-    }
-    let byte = bytes[at] as u32;
-    if byte < 128 {
-        return Number { value: byte, next: at + 1 };
-    }
-    if more == 0 {
-        return Number { value: 0, next: at };
-    }
-    let rest = read_number(bytes, at + 1, more - 1);
-    if 33554431 < rest.value {
-        return Number { value: 0, next: at };
-    }
-    Number { value: byte - 128 + rest.value * 128, next: rest.next }
+// A byte; 0 past the end.
+fn byte_at(bytes: &[u8], at: usize) -> u32
+    ensures { λ r. ⌜ r < 256 ⌝ }
+{
+    if at < bytes.len() { wide(bytes[at]) } else { 0 }
 }
 
-fn number(bytes: &[u8], at: usize) -> Number {
-    read_number(bytes, at, 4)
+fn wide(byte: u8) -> u32
+    ensures { λ r. ⌜ r < 256 ⌝ }
+{
+    byte as u32
+}
+
+// Reads a number: groups of seven bits, the lowest first, at most five.
+fn number_at(bytes: &[u8], at: usize) -> Number {
+    if 1000000 < at {
+        return Number { value: 0, next: at };
+    }
+    let a = byte_at(bytes, at);
+    if a < 128 {
+        return Number { value: a, next: at + 1 };
+    }
+    let b = byte_at(bytes, at + 1);
+    if b < 128 {
+        return Number { value: a - 128 + b * 128, next: at + 2 };
+    }
+    let c = byte_at(bytes, at + 2);
+    if c < 128 {
+        return Number { value: a - 128 + (b - 128) * 128 + c * 16384, next: at + 3 };
+    }
+    let d = byte_at(bytes, at + 3);
+    if d < 128 {
+        return Number { value: a - 128 + (b - 128) * 128 + (c - 128) * 16384 + d * 2097152, next: at + 4 };
+    }
+    let e = byte_at(bytes, at + 4) % 16;
+    Number {
+        value: a - 128 + (b - 128) * 128 + (c - 128) * 16384 + (d - 128) * 2097152 + e * 268435456,
+        next: at + 5,
+    }
+}
+
+// A number if there is one more, else 0.
+fn word_at(bytes: &[u8], at: usize, more: bool) -> Number {
+    if more {
+        return number_at(bytes, at);
+    }
+    Number { value: 0, next: at }
 }
 
 // Reads so many numbers into the words, and makes the words after them zeros; answers where the next number begins.
-fn read_words(bytes: &[u8], start: usize, count: u32, words: &mut [u32]) -> usize {
+fn read_words(bytes: &[u8], start: usize, count: u32, words: &mut [u32; 16384]) -> usize {
     let mut at = start;
     let mut i: usize = 0;
-    while i < words.len() {
-        words[i] = 0;
-        if i < count as usize {
-            let word = number(bytes, at);
-            words[i] = word.value;
-            at = word.next;
-        }
+    while i < 16384 {
+        let word = word_at(bytes, at, i < count as usize);
+        words[i] = word.value;
+        at = word.next;
         i += 1;
     }
     at
 }
 
-fn soil(words: &mut [u32]) {
-    let mut i = 0;
-    while i < words.len() {
+fn soil(words: &mut [u32; 16384]) {
+    let mut i: usize = 0;
+    while i < 16384 {
         words[i] = 7;
         i += 1;
     }
 }
 
 // Whether the first so many words are the same.
-fn same_words(left: &[u32], right: &[u32], count: u32) -> bool {
+fn same_words(left: &[u32; 16384], right: &[u32; 16384], count: u32) -> bool {
     let mut i: usize = 0;
     while i < count as usize {
-        if left.len() <= i {
-            return false;
-        }
-        if right.len() <= i {
+        if 16384 <= i {
             return false;
         }
         if left[i] != right[i] {
@@ -82,15 +103,17 @@ fn same_words(left: &[u32], right: &[u32], count: u32) -> bool {
     true
 }
 
-fn least(count: u32, length: usize) -> usize {
-    let n = count as usize;
-    if n < length { n } else { length }
+// A number of words, as far as there are so many.
+fn within(count: u32) -> usize
+    ensures { λ r. ⌜ r ≤ 16384 ⌝ }
+{
+    if count < 16384 { count as usize } else { 16384 }
 }
 
 // Builds the table in the first so many words, with so many words lent.
-fn build_part(words: &[u32], count: u32, tree: &mut [u32], lent: u32) -> Outcome {
-    let end = least(count, words.len());
-    let room = least(lent, tree.len());
+fn build_part(words: &[u32; 16384], count: u32, tree: &mut [u32; 16384], lent: u32) -> Outcome {
+    let end = within(count);
+    let room = within(lent);
     build_reactive_function(&words[..end], &mut tree[..room])
 }
 
@@ -118,14 +141,14 @@ fn same_outcome(got: Outcome, code: u32, at: u32, rows: u32, visits: u32) -> boo
     got.visits == visits
 }
 
-fn replay(bytes: &[u8], start: usize, words: &mut [u32], tree: &mut [u32], expected: &mut [u32]) -> Replayed {
-    let count = number(bytes, start);
+fn replay(bytes: &[u8], start: usize, words: &mut [u32; 16384], tree: &mut [u32; 16384], expected: &mut [u32; 16384]) -> Replayed {
+    let count = number_at(bytes, start);
     let after = read_words(bytes, count.next, count.value, words);
-    let lent = number(bytes, after);
-    let code = number(bytes, lent.next);
-    let at = number(bytes, code.next);
-    let rows = number(bytes, at.next);
-    let visits = number(bytes, rows.next);
+    let lent = number_at(bytes, after);
+    let code = number_at(bytes, lent.next);
+    let at = number_at(bytes, code.next);
+    let rows = number_at(bytes, at.next);
+    let visits = number_at(bytes, rows.next);
     let next = read_words(bytes, visits.next, held(code.value, rows.value), expected);
     soil(tree);
     let got = build_part(words, count.value, tree, lent.value);
@@ -159,8 +182,8 @@ fn left(length: usize, at: usize) -> usize {
     if length < at { 0 } else { length - at }
 }
 
-fn replay_all(bytes: &[u8], words: &mut [u32], tree: &mut [u32], expected: &mut [u32]) {
-    let count = number(bytes, 0);
+fn replay_all(bytes: &[u8], words: &mut [u32; 16384], tree: &mut [u32; 16384], expected: &mut [u32; 16384]) {
+    let count = number_at(bytes, 0);
     let mut at = count.next;
     let mut differences: u32 = 0;
     let mut i: u32 = 0;

@@ -17,7 +17,7 @@ same-length c = search needs
 returns : tie.Need-returns
 returns c =
     let h = c .before .before .build-reactive-function .ensures in
-    (h .code, h .at, h .rows, h .visits, h .buffer)
+    (h .code, (h .at, (h .rows, (h .visits, h .buffer))))
 
 pub reactive-build-spec : {M : Type 1} → statement M
 reactive-build-spec = tie.close (tie.spec build-reactive-function-requires same-length returns)

@@ -1,0 +1,58 @@
+use Rattle.vectors.proofs.read_words.Statement.{statement}
+use Rattle.vectors.proofs.read_words.Tie as tie
+use Rattle.vectors.proofs.read_words.Reads as reads
+use Rattle.vectors.proofs.read_words.Lts as lts
+use Rattle.vectors.proofs.word_at.Reads as word-at-reads
+
+abbrev Inv-loop : tie.InvT-loop
+Inv-loop bytes start count words₀ at₀ i₀ words at i = ?
+
+abbrev μ-loop : tie.MeasureT-loop
+μ-loop bytes start count words₀ at₀ i₀ words at i = ?
+
+-- src/main.rt:74:5
+loop-holds : tie.Need-loop-holds Inv-loop μ-loop
+loop-holds c = ?
+
+-- src/main.rt:75:13
+word-at-requires : tie.Need-word-at-requires Inv-loop μ-loop
+word-at-requires c κs = ?
+
+-- src/main.rt:76:9
+mul-words : tie.Need-mul-words Inv-loop μ-loop
+mul-words c = ?
+
+-- src/main.rt:76:9
+element-write-words : tie.Need-element-write-words Inv-loop μ-loop
+element-write-words c = ?
+
+-- src/main.rt:78:9
+add-i : tie.Need-add-i Inv-loop μ-loop
+add-i c = ?
+
+-- src/main.rt:74:5
+loop-less : tie.Need-loop-less Inv-loop μ-loop
+loop-less c = ?
+
+-- src/main.rt:74:5
+loop-again : tie.Need-loop-again Inv-loop μ-loop
+loop-again c = ?
+
+-- src/main.rt:71:1
+returns : tie.Need-returns Inv-loop μ-loop
+returns c = ?
+
+pub read-words-spec : {M : Type 1} → statement M
+read-words-spec =
+    tie.close
+    (tie.spec
+    Inv-loop
+    μ-loop
+    loop-holds
+    word-at-requires
+    mul-words
+    element-write-words
+    add-i
+    loop-less
+    loop-again
+    returns)

@@ -1,0 +1,52 @@
+use Rattle.vectors.proofs.soil.Statement.{statement}
+use Rattle.vectors.proofs.soil.Tie as tie
+use Rattle.vectors.proofs.soil.Reads as reads
+use Rattle.vectors.proofs.soil.Lts as lts
+
+abbrev Inv-loop : tie.InvT-loop
+Inv-loop words₀ i₀ words i = ?
+
+abbrev μ-loop : tie.MeasureT-loop
+μ-loop words₀ i₀ words i = ?
+
+-- src/main.rt:85:5
+loop-holds : tie.Need-loop-holds Inv-loop μ-loop
+loop-holds c = ?
+
+-- src/main.rt:86:9
+mul-words : tie.Need-mul-words Inv-loop μ-loop
+mul-words c = ?
+
+-- src/main.rt:86:9
+element-write-words : tie.Need-element-write-words Inv-loop μ-loop
+element-write-words c = ?
+
+-- src/main.rt:87:9
+add-i : tie.Need-add-i Inv-loop μ-loop
+add-i c = ?
+
+-- src/main.rt:85:5
+loop-less : tie.Need-loop-less Inv-loop μ-loop
+loop-less c = ?
+
+-- src/main.rt:85:5
+loop-again : tie.Need-loop-again Inv-loop μ-loop
+loop-again c = ?
+
+-- src/main.rt:83:1
+returns : tie.Need-returns Inv-loop μ-loop
+returns c = ?
+
+pub soil-spec : {M : Type 1} → statement M
+soil-spec =
+    tie.close
+    (tie.spec
+    Inv-loop
+    μ-loop
+    loop-holds
+    mul-words
+    element-write-words
+    add-i
+    loop-less
+    loop-again
+    returns)
