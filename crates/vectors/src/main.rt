@@ -104,16 +104,16 @@ fn same_words(left: &[u32; 16384], right: &[u32; 16384], count: u32) -> bool {
 }
 
 // A number of words, as far as there are so many.
-fn within(count: u32) -> usize
-    ensures { λ r. ⌜ r ≤ 16384 ⌝ }
+fn within(count: u32, length: usize) -> usize
+    ensures { λ r. ⌜ r ≤ length ⌝ }
 {
-    if count < 16384 { count as usize } else { 16384 }
+    if (count as usize) < length { count as usize } else { length }
 }
 
 // Builds the table in the first so many words, with so many words lent.
-fn build_part(words: &[u32; 16384], count: u32, tree: &mut [u32; 16384], lent: u32) -> Outcome {
-    let end = within(count);
-    let room = within(lent);
+fn build_part(words: &[u32], count: u32, tree: &mut [u32], lent: u32) -> Outcome {
+    let end = within(count, words.len());
+    let room = within(lent, tree.len());
     build_reactive_function(&words[..end], &mut tree[..room])
 }
 
@@ -169,6 +169,18 @@ fn print_difference(number: u32) {
     io::write_all(STDOUT_FILENO, b"\n");
 }
 
+// The number of differences, with this vector's, which is printed.
+fn counted(differences: u32, number: u32, same: bool) -> u32 {
+    if same {
+        return differences;
+    }
+    print_difference(number);
+    if differences < 4000000000 {
+        return differences + 1;
+    }
+    differences
+}
+
 fn print_counts(vectors: u32, differences: u32, left: usize) {
     print_number(vectors);
     io::write_all(STDOUT_FILENO, b" vectors, ");
@@ -189,10 +201,7 @@ fn replay_all(bytes: &[u8], words: &mut [u32; 16384], tree: &mut [u32; 16384], e
     let mut i: u32 = 0;
     while i < count.value {
         let replayed = replay(bytes, at, words, tree, expected);
-        if !replayed.same {
-            print_difference(i);
-            differences += 1;
-        }
+        differences = counted(differences, i, replayed.same);
         at = replayed.next;
         i += 1;
     }
