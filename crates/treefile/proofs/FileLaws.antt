@@ -34,23 +34,27 @@ module _ (file out : List ℕ) (space : ℕ) (r : Written) where
   pub tree-built : (lent : List ℕ) (room count : ℕ) → Answered file room lent (Words count)
       → r ≡ writtenOf space (printedOutcome (built (take count lent) lentWords))
       → out ≡ lentOf space (printedOutcome (built (take count lent) lentWords))
+      → (135245 ≤ space → r ≡ Bytes (length (printedOutcome (built (take count lent) lentWords))))
       → FileBuilt file space r out
-  tree-built lent room count h answer bytes = record {
+  tree-built lent room count h answer bytes enough = record {
     text = printedOutcome (built (take count lent) lentWords);
     prints = inl (record { words = h .0; accepted = h .1; lines = ap (λ (words : List ℕ). printedOutcome (built words lentWords)) (words-read file lent room count h) });
     answer = answer;
     bytes = bytes;
+    enough = enough;
   }
 
   pub refusal-built : (code at : ℕ) (tree : List ℕ) → Refusal file code at
       → r ≡ writtenOf space (printed code at 0 0 tree)
       → out ≡ lentOf space (printed code at 0 0 tree)
+      → (135245 ≤ space → r ≡ Bytes (length (printed code at 0 0 tree)))
       → FileBuilt file space r out
-  refusal-built code at tree h answer bytes = record {
+  refusal-built code at tree h answer bytes enough = record {
     text = printed code at 0 0 tree;
     prints = inr (record { code = code; at = at; refusal = h; lines = refusal-lines code at 0 0 tree [] (not-zero h) });
     answer = answer;
     bytes = bytes;
+    enough = enough;
   }
     where
       not-zero : Refusal file code at → code ≡ 0 → ⊥

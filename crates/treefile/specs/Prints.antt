@@ -1,10 +1,11 @@
 -- What treebuild prints of a file (paper 01, "Samples").
-use Prim.Native.Nat.{ℕ, _*_}
+use Prim.Native.Nat.{ℕ, _*_, _≤_}
 use mathlib.Core.Path.{_≡_}
 use mathlib.Core.List.{List, []}
 use mathlib.Core.Logic.{_⊎_}
-use lib.ListN.{take}
+use lib.ListN.{length, take}
 use Rattle.text.specs.declared.write.Written.{Written}
+use Rattle.text.specs.declared.write.Written.the-variants.{Bytes}
 use Rattle.definition.specs.Build.{Outcome, built}
 use Rattle.text.specs.Answer.{Accepted, Refusal}
 use Rattle.text.specs.Printed.{printed, writtenOf, lentOf}
@@ -32,9 +33,10 @@ pub record PrintsRefusal (file text : List ℕ) : Type 0 where
 abbrev pub Prints : (file text : List ℕ) → Type 0
 Prints file text = PrintsTree file text ⊎ PrintsRefusal file text
 
--- the answer of writing that into `room` lent bytes, and what these hold then
+-- the answer of writing that into `room` lent bytes, and what these hold then; 135,245 bytes are enough for any file
 pub record FileBuilt (file : List ℕ) (room : ℕ) (r : Written) (lent : List ℕ) : Type 0 where
   pub text : List ℕ
   pub prints : Prints file text
   pub answer : r ≡ writtenOf room text
   pub bytes : lent ≡ lentOf room text
+  pub enough : 135245 ≤ room → r ≡ Bytes (length text)

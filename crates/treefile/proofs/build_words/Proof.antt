@@ -1,7 +1,9 @@
 use borrow.Author.Needs.{needs}
 use native.Mathlib.Omega.{arith}
 use mathlib.Core.Path.{_≡_, sym, ap, _∙_}
-use Prim.Native.Nat.{ℕ}
+use Prim.Native.Nat.{ℕ, _*_, _≤_}
+use mathlib.Core.List.{List}
+use Rattle.text.specs.declared.write.Written.the-variants.{Bytes}
 use lib.ListN.{length, take, length-replicate}
 use Rattle.text.specs.Printed.{writtenOf, lentOf}
 use Rattle.treefile.specs.Prints.{lentWords}
@@ -12,7 +14,7 @@ use Rattle.treefile.proofs.build_words.Tie as tie
 use Rattle.treefile.proofs.build_words.Reads as reads
 use Rattle.treefile.proofs.build_words.Lts as lts
 use Rattle.build.proofs.build_reactive_function.Reads as build-reactive-function-reads
-use Rattle.text.proofs.write.write.Reads as write-reads
+use Rattle.treefile.proofs.write_result.Reads as write-result-reads
 
 -- src/lib.rt:19:48
 slice-aggregate-build-reactive-function : tie.Need-slice-aggregate-build-reactive-function
@@ -23,12 +25,12 @@ build-reactive-function-requires : tie.Need-build-reactive-function-requires
 build-reactive-function-requires c κs = search needs
 
 -- src/lib.rt:21:75
-slice-aggregate-write : tie.Need-slice-aggregate-write
-slice-aggregate-write c = search needs
+slice-aggregate-write-result : tie.Need-slice-aggregate-write-result
+slice-aggregate-write-result c = search needs
 
 -- src/lib.rt:21:9
-write-requires : tie.Need-write-requires
-write-requires c κs = search needs
+write-result-requires : tie.Need-write-result-requires
+write-result-requires c κs = search needs
 
 -- src/lib.rt:21:9
 same-length : tie.Need-same-length
@@ -39,9 +41,9 @@ returns : tie.Need-returns
 returns c =
     let b = c .before .before .before .before .before .before .before .before .build-reactive-function in
     let h = b .ensures in
-    let w = c .before .before .write .ensures in
+    let w = c .before .before .write-result .ensures in
     let e = refusal-lines _ _ _ _ _ _ (c .before .before .before .before .before .if1 .taken) ∙ built-printed (c .before .before .before .before .before .before .before .before .before .before .before .before .args .words .now) lentWords (length-replicate {A = ℕ} 12288 0) (h .code) (h .at) (h .rows) (h .visits) (h .buffer) in
-    (w .0 ∙ ap (writtenOf _) e, w .1 ∙ ap (lentOf _) e)
+    (w .0 ∙ ap (writtenOf _) e, (w .1 .0 ∙ ap (lentOf _) e, λ p. w .1 .1 (omega (arith, c .before .before .before .before .before .before .before .tree2 .given)) p ∙ ap (λ (text : List ℕ). Bytes (length text)) e))
 
 -- src/lib.rt:23:16
 cast-end : tie.Need-cast-end
@@ -58,14 +60,14 @@ array-share-prefix-tree c =
     omega (arith, built-fits _ _ (sym (b .ensures .code) ∙ c .before .before .if1 .left), b .ensures .rows, b .kept .1 .0)
 
 -- src/lib.rt:24:64
-slice-aggregate-write-2 : tie.Need-slice-aggregate-write-2
-slice-aggregate-write-2 c =
+slice-aggregate-write-result-2 : tie.Need-slice-aggregate-write-result-2
+slice-aggregate-write-result-2 c =
     let b = c .before .before .before .before .before .before .build-reactive-function in
     sym (length-take-le _ _ (omega (arith, built-fits _ _ (sym (b .ensures .code) ∙ c .before .before .before .if1 .left), b .ensures .rows, b .kept .1 .0)))
 
 -- src/lib.rt:24:5
-write-requires-2 : tie.Need-write-requires-2
-write-requires-2 c κs = search needs
+write-result-requires-2 : tie.Need-write-result-requires-2
+write-result-requires-2 c κs = search needs
 
 -- src/lib.rt:14:1
 same-length-2 : tie.Need-same-length-2
@@ -76,9 +78,10 @@ returns-2 : tie.Need-returns-2
 returns-2 c =
     let b = c .before .before .before .before .before .before .before .before .before .build-reactive-function in
     let h = b .ensures in
-    let w = c .before .before .write2 .ensures in
+    let fits : b .result .rows * 6 ≤ length (b .last .1 .0) = omega (arith, built-fits _ _ (sym (h .code) ∙ c .before .before .before .before .before .before .if1 .left), h .rows, b .kept .1 .0) in
+    let w = c .before .before .write-result2 .ensures in
     let e = built-printed (c .before .before .before .before .before .before .before .before .before .before .before .before .before .args .words .now) lentWords (length-replicate {A = ℕ} 12288 0) (h .code) (h .at) (h .rows) (h .visits) (h .buffer) in
-    (w .0 ∙ ap (writtenOf _) e, w .1 ∙ ap (lentOf _) e)
+    (w .0 ∙ ap (writtenOf _) e, (w .1 .0 ∙ ap (lentOf _) e, λ p. w .1 .1 (omega (arith, length-take-le (b .result .rows * 6) (b .last .1 .0) fits, fits, c .before .before .before .before .before .before .before .before .tree2 .given)) p ∙ ap (λ (text : List ℕ). Bytes (length text)) e))
 
 pub build-words-spec : {M : Type 1} → statement M
 build-words-spec =
@@ -86,14 +89,14 @@ build-words-spec =
     (tie.spec
     slice-aggregate-build-reactive-function
     build-reactive-function-requires
-    slice-aggregate-write
-    write-requires
+    slice-aggregate-write-result
+    write-result-requires
     same-length
     returns
     cast-end
     mul-end
     array-share-prefix-tree
-    slice-aggregate-write-2
-    write-requires-2
+    slice-aggregate-write-result-2
+    write-result-requires-2
     same-length-2
     returns-2)
