@@ -2,8 +2,8 @@
 // visits. Prints of each its name, the result, the rows if there are twelve or less, and a sum over every word lent. What is expected
 // (stdout) is written by the Rust: reference/comparison/src/bin/build_samples.rs makes the same tables.
 ghost use Prim.Native.Nat.{_≤_, _<_};
-use build::build_reactive_function;
 use build::Outcome;
+use build::build_reactive_function;
 use libc::STDOUT_FILENO;
 use text::write::Written;
 
@@ -42,7 +42,17 @@ fn table(words: &mut [u32; 12288], entry: u32, blocks: u32, instruction: bool) -
 }
 
 // Gives a block its number of instructions, its end and its id.
-fn block(words: &mut [u32; 12288], row: u32, count: u32, code: u32, a: u32, b: u32, c: u32, d: u32, id: u32) {
+fn block(
+    words: &mut [u32; 12288],
+    row: u32,
+    count: u32,
+    code: u32,
+    a: u32,
+    b: u32,
+    c: u32,
+    d: u32,
+    id: u32,
+) {
     let first = 6 + (row as usize) * 10;
     put(words, first + 1, count);
     put(words, first + 2, code);
@@ -280,7 +290,13 @@ fn soil(tree: &mut [u32]) {
 }
 
 fn show(built: Outcome, tree: &[u32]) {
-    print_result(built.code, built.at, built.rows, built.visits, shown(tree, built.rows));
+    print_result(
+        built.code,
+        built.at,
+        built.rows,
+        built.visits,
+        shown(tree, built.rows),
+    );
     io::write_all(STDOUT_FILENO, b"sum ");
     io::print_decimal(STDOUT_FILENO, sum_of(tree));
     io::write_all(STDOUT_FILENO, b"\n");

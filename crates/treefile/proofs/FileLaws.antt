@@ -71,6 +71,7 @@ bytes-within room end text r e f = by-room (leb (length text) room) refl (sym e 
     count : Written → ℕ
     count (Bytes n) = n
     count NoRoom = 0
+
     by-room : (b : Bool) → leb (length text) room ≡ b → choose b (λ _. Bytes (length text)) (λ _. NoRoom) ≡ Bytes end → end ≤ room
     by-room true p g = omega (arith, leb-true (length text) room p, ap count g)
     by-room false p g = omega (arith, ap count g)

@@ -7,10 +7,10 @@ ghost use Rattle.text.specs.Printed.{printed, writtenOf, lentOf};
 ghost use Rattle.text.specs.declared.write.Written.the-variants.{Bytes};
 ghost use Rattle.treefile.specs.Prints.{lentWords, printedOutcome, FileBuilt};
 use build::build_reactive_function;
-use text::read::read;
 use text::read::Answer;
-use text::write::write;
+use text::read::read;
 use text::write::Written;
+use text::write::write;
 
 // Writes a result of at most 2,048 rows: 135,245 bytes are always enough.
 fn write_result(out: &mut [u8], code: u32, at: u32, rows: u32, visits: u32, tree: &[u32]) -> Written
@@ -33,7 +33,14 @@ fn build_words(words: &[u32], out: &mut [u8]) -> Written
         return write_result(out, built.code, built.at, built.rows, built.visits, &tree);
     }
     let end = (built.rows as usize) * 6;
-    write_result(out, built.code, built.at, built.rows, built.visits, &tree[..end])
+    write_result(
+        out,
+        built.code,
+        built.at,
+        built.rows,
+        built.visits,
+        &tree[..end],
+    )
 }
 
 // Reads a file, builds its table's tree and writes the result; or writes why the file is refused.

@@ -2,8 +2,8 @@
 // into a buffer full of sevens, and code, at, rows, visits and every word of the buffer are compared. Prints the number of each vector that
 // differs, then how many there are, how many differ, and how many bytes are left.
 ghost use Prim.Native.Nat.{_≤_, _<_};
-use build::build_reactive_function;
 use build::Outcome;
+use build::build_reactive_function;
 use libc::STDOUT_FILENO;
 
 // A number, and where the next one begins.
@@ -38,19 +38,31 @@ fn number_at(bytes: &[u8], at: usize) -> Number {
     }
     let a = byte_at(bytes, at);
     if a < 128 {
-        return Number { value: a, next: at + 1 };
+        return Number {
+            value: a,
+            next: at + 1,
+        };
     }
     let b = byte_at(bytes, at + 1);
     if b < 128 {
-        return Number { value: a - 128 + b * 128, next: at + 2 };
+        return Number {
+            value: a - 128 + b * 128,
+            next: at + 2,
+        };
     }
     let c = byte_at(bytes, at + 2);
     if c < 128 {
-        return Number { value: a - 128 + (b - 128) * 128 + c * 16384, next: at + 3 };
+        return Number {
+            value: a - 128 + (b - 128) * 128 + c * 16384,
+            next: at + 3,
+        };
     }
     let d = byte_at(bytes, at + 3);
     if d < 128 {
-        return Number { value: a - 128 + (b - 128) * 128 + (c - 128) * 16384 + d * 2097152, next: at + 4 };
+        return Number {
+            value: a - 128 + (b - 128) * 128 + (c - 128) * 16384 + d * 2097152,
+            next: at + 4,
+        };
     }
     let e = byte_at(bytes, at + 4) % 16;
     Number {
@@ -107,7 +119,11 @@ fn same_words(left: &[u32; 16384], right: &[u32; 16384], count: u32) -> bool {
 fn within(count: u32, length: usize) -> usize
     ensures { λ r. ⌜ r ≤ length ⌝ }
 {
-    if (count as usize) < length { count as usize } else { length }
+    if (count as usize) < length {
+        count as usize
+    } else {
+        length
+    }
 }
 
 // Builds the table in the first so many words, with so many words lent.
@@ -141,7 +157,13 @@ fn same_outcome(got: Outcome, code: u32, at: u32, rows: u32, visits: u32) -> boo
     got.visits == visits
 }
 
-fn replay(bytes: &[u8], start: usize, words: &mut [u32; 16384], tree: &mut [u32; 16384], expected: &mut [u32; 16384]) -> Replayed {
+fn replay(
+    bytes: &[u8],
+    start: usize,
+    words: &mut [u32; 16384],
+    tree: &mut [u32; 16384],
+    expected: &mut [u32; 16384],
+) -> Replayed {
     let count = number_at(bytes, start);
     let after = read_words(bytes, count.next, count.value, words);
     let lent = number_at(bytes, after);
@@ -154,9 +176,15 @@ fn replay(bytes: &[u8], start: usize, words: &mut [u32; 16384], tree: &mut [u32;
     let got = build_part(words, count.value, tree, lent.value);
     let same = same_outcome(got, code.value, at.value, rows.value, visits.value);
     if !same {
-        return Replayed { same: false, next: next };
+        return Replayed {
+            same: false,
+            next: next,
+        };
     }
-    Replayed { same: same_words(tree, expected, lent.value), next: next }
+    Replayed {
+        same: same_words(tree, expected, lent.value),
+        next: next,
+    }
 }
 
 fn print_number(n: u32) {
@@ -194,7 +222,12 @@ fn left(length: usize, at: usize) -> usize {
     if length < at { 0 } else { length - at }
 }
 
-fn replay_all(bytes: &[u8], words: &mut [u32; 16384], tree: &mut [u32; 16384], expected: &mut [u32; 16384]) {
+fn replay_all(
+    bytes: &[u8],
+    words: &mut [u32; 16384],
+    tree: &mut [u32; 16384],
+    expected: &mut [u32; 16384],
+) {
     let count = number_at(bytes, 0);
     let mut at = count.next;
     let mut differences: u32 = 0;
