@@ -1,23 +1,23 @@
 // The loop over the Context by value and the frames: each turn is planned, and its plan applied.
+use control::insert;
+use control::Context;
+use control::Resolved;
+use table::words::entry;
+use value::result::NONE;
 use crate::fallthrough::narrow;
-use crate::jump::Jump;
 use crate::jump::jump_at;
+use crate::jump::Jump;
+use crate::plan::no_frame;
+use crate::plan::refuse;
 use crate::plan::Change;
 use crate::plan::Frame;
 use crate::plan::Plan;
 use crate::plan::Position;
 use crate::plan::Stage;
-use crate::plan::no_frame;
-use crate::plan::refuse;
 use crate::resume::choose_case;
 use crate::resume::close_statement;
 use crate::resume::resume;
 use crate::visit::visit_block;
-use control::Context;
-use control::Resolved;
-use control::insert;
-use table::words::entry;
-use value::result::NONE;
 
 // Where the walk ended: a refusal, or the rows that are out.
 pub struct Walked {
@@ -48,16 +48,7 @@ fn plan_turn<'a>(
 ) -> Plan {
     let stage = p.stage;
     match stage {
-        Stage::Visit => visit_block(
-            words,
-            tree,
-            emitted,
-            scheduled,
-            catch_handlers,
-            scopes,
-            p,
-            resolved,
-        ),
+        Stage::Visit => visit_block(words, tree, emitted, scheduled, catch_handlers, scopes, p, resolved),
         Stage::Ended => resume(words, tree, scheduled, catch_handlers, p, frame),
         Stage::Choose => choose_case(words, tree, scheduled, catch_handlers, p, frame),
         Stage::Pop => close_statement(words, tree, p, frame),
@@ -105,45 +96,18 @@ pub fn walk(words: &[u32], tree: &mut [u32]) -> Walked {
     let mut cx = Context::new();
     let none = no_frame();
     let mut frames = [none; 128];
-    let mut p = Position {
-        block: entry(words),
-        depth: 0,
-        count: 0,
-        rows: 0,
-        visits: 0,
-        stage: Stage::Visit,
-    };
+    let mut p = Position { block: entry(words), depth: 0, count: 0, rows: 0, visits: 0, stage: Stage::Visit };
     loop {
         let top = innermost(p.depth);
         let frame = frames[top];
         let resolved = resolve(cx, jump_at(words, &cx.scheduled, &cx.catch_handlers, p));
-        let plan = plan_turn(
-            words,
-            tree,
-            &cx.emitted,
-            &cx.scheduled,
-            &cx.catch_handlers,
-            &cx.scope_fallthroughs,
-            p,
-            frame,
-            resolved,
-        );
+        let plan = plan_turn(words, tree, &cx.emitted, &cx.scheduled, &cx.catch_handlers, &cx.scope_fallthroughs, p, frame, resolved);
         let next = plan.position;
         if plan.code != 0 {
-            return Walked {
-                code: plan.code,
-                at: plan.at,
-                rows: 0,
-                visits: next.visits,
-            };
+            return Walked { code: plan.code, at: plan.at, rows: 0, visits: next.visits };
         }
         if halted(next) {
-            return Walked {
-                code: 0,
-                at: 0,
-                rows: next.rows,
-                visits: next.visits,
-            };
+            return Walked { code: 0, at: 0, rows: next.rows, visits: next.visits };
         }
         mark(&mut cx.emitted, emits(p));
         mark(&mut cx.catch_handlers, plan.handler);
@@ -163,11 +127,7 @@ pub fn walk(words: &[u32], tree: &mut [u32]) -> Walked {
                 let e = cx.pushed;
                 cx.stack[n] = e;
             }
-            Change::ScheduleLoop {
-                fallthrough,
-                continue_block,
-                loop_block,
-            } => {
+            Change::ScheduleLoop { fallthrough, continue_block, loop_block } => {
                 cx = cx.schedule_loop(fallthrough, continue_block, loop_block);
                 let n = cx.len - 1;
                 let e = cx.pushed;

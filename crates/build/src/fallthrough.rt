@@ -1,25 +1,21 @@
 // Fallthroughs and nested blocks, by the sets: which label a statement has, and whether a block that it would nest is scheduled.
-use crate::plan::Change;
-use crate::plan::Plan;
-use crate::plan::Position;
+use control::is_scheduled;
+use control::ControlFlowTarget;
+use table::words::block_word;
+use value::result::NONE;
 use crate::plan::frame_of;
 use crate::plan::refuse;
 use crate::plan::traverse_block;
-use control::ControlFlowTarget;
-use control::is_scheduled;
-use table::words::block_word;
-use value::result::NONE;
+use crate::plan::Change;
+use crate::plan::Plan;
+use crate::plan::Position;
 
 pub fn narrow(block: u32) -> u16 {
     block as u16
 }
 
 // The fallthrough, where it is taken: it is not scheduled.
-pub fn unless_scheduled<'a>(
-    scheduled: &'a [bool; 1024],
-    catch_handlers: &'a [bool; 1024],
-    fallthrough: u32,
-) -> u32 {
+pub fn unless_scheduled<'a>(scheduled: &'a [bool; 1024], catch_handlers: &'a [bool; 1024], fallthrough: u32) -> u32 {
     if is_scheduled(scheduled, catch_handlers, narrow(fallthrough)) {
         return NONE;
     }
@@ -51,27 +47,18 @@ pub fn schedule_if(label: u32) -> Change {
     if label == NONE {
         return Change::Nothing;
     }
-    Change::Schedule(ControlFlowTarget::If {
-        block: narrow(label),
-    })
+    Change::Schedule(ControlFlowTarget::If { block: narrow(label) })
 }
 
 pub fn schedule_switch(label: u32) -> Change {
     if label == NONE {
         return Change::Nothing;
     }
-    Change::Schedule(ControlFlowTarget::Switch {
-        block: narrow(label),
-    })
+    Change::Schedule(ControlFlowTarget::Switch { block: narrow(label) })
 }
 
 // A block is scheduled, or will be once the label is.
-fn scheduled_with<'a>(
-    scheduled: &'a [bool; 1024],
-    catch_handlers: &'a [bool; 1024],
-    label: u32,
-    block: u32,
-) -> bool {
+fn scheduled_with<'a>(scheduled: &'a [bool; 1024], catch_handlers: &'a [bool; 1024], label: u32, block: u32) -> bool {
     if block == label {
         return true;
     }
@@ -92,12 +79,5 @@ pub fn enclose<'a>(
         return refuse(p, code, at);
     }
     let frame = frame_of(p, label, entries_of(label));
-    traverse_block(
-        block,
-        frame,
-        p.depth + 1,
-        p.rows,
-        p.visits,
-        schedule_if(label),
-    )
+    traverse_block(block, frame, p.depth + 1, p.rows, p.visits, schedule_if(label))
 }

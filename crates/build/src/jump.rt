@@ -1,23 +1,23 @@
 // Goto and Branch: the jumps. The driver has searched the stack for the target.
+use control::is_scheduled;
+use control::Resolution;
+use control::Resolved;
+use rows::put;
+use rows::BLOCK;
+use rows::BREAK;
+use rows::CONTINUE;
+use table::words::block_word;
+use value::result::NONE;
 use crate::fallthrough::narrow;
-use crate::plan::Change;
-use crate::plan::Plan;
-use crate::plan::Position;
-use crate::plan::Stage;
 use crate::plan::frame_of;
 use crate::plan::leave;
 use crate::plan::refuse;
 use crate::plan::second_part;
 use crate::plan::traverse_block;
-use control::Resolution;
-use control::Resolved;
-use control::is_scheduled;
-use rows::BLOCK;
-use rows::BREAK;
-use rows::CONTINUE;
-use rows::put;
-use table::words::block_word;
-use value::result::NONE;
+use crate::plan::Change;
+use crate::plan::Plan;
+use crate::plan::Position;
+use crate::plan::Stage;
 
 // What a block's jump looks for on the stack.
 pub enum Jump {
@@ -36,12 +36,7 @@ fn goto_jump(words: &[u32], block: u32) -> Jump {
 }
 
 // A Branch jumps where its consequent is scheduled.
-fn branch_jump<'a>(
-    words: &[u32],
-    scheduled: &'a [bool; 1024],
-    catch_handlers: &'a [bool; 1024],
-    block: u32,
-) -> Jump {
+fn branch_jump<'a>(words: &[u32], scheduled: &'a [bool; 1024], catch_handlers: &'a [bool; 1024], block: u32) -> Jump {
     let consequent = narrow(block_word(words, block, 4));
     if is_scheduled(scheduled, catch_handlers, consequent) {
         return Jump::Break(consequent);
@@ -49,12 +44,7 @@ fn branch_jump<'a>(
     Jump::Nothing
 }
 
-pub fn jump_at<'a>(
-    words: &[u32],
-    scheduled: &'a [bool; 1024],
-    catch_handlers: &'a [bool; 1024],
-    p: Position,
-) -> Jump {
+pub fn jump_at<'a>(words: &[u32], scheduled: &'a [bool; 1024], catch_handlers: &'a [bool; 1024], p: Position) -> Jump {
     let stage = p.stage;
     match stage {
         Stage::Visit => block_jump(words, scheduled, catch_handlers, p.block),
@@ -65,12 +55,7 @@ pub fn jump_at<'a>(
     }
 }
 
-fn block_jump<'a>(
-    words: &[u32],
-    scheduled: &'a [bool; 1024],
-    catch_handlers: &'a [bool; 1024],
-    block: u32,
-) -> Jump {
+fn block_jump<'a>(words: &[u32], scheduled: &'a [bool; 1024], catch_handlers: &'a [bool; 1024], block: u32) -> Jump {
     match block_word(words, block, 2) {
         4 => goto_jump(words, block),
         6 => branch_jump(words, scheduled, catch_handlers, block),
@@ -87,76 +72,32 @@ pub struct Jumped {
 }
 
 // The Rust's visit_break. A break to a scope fallthrough gives no row if Implicit, else 22.
-fn visit_break(
-    tree: &mut [u32],
-    scopes: &[bool; 1024],
-    p: Position,
-    target: u32,
-    id: u32,
-    resolved: Resolved,
-) -> Jumped {
+fn visit_break(tree: &mut [u32], scopes: &[bool; 1024], p: Position, target: u32, id: u32, resolved: Resolved) -> Jumped {
     match resolved {
-        Resolved::Nothing => Jumped {
-            code: 20,
-            at: target,
-            rows: p.rows,
-            count: 0,
-        },
+        Resolved::Nothing => Jumped { code: 20, at: target, rows: p.rows, count: 0 },
         Resolved::Found(found) => break_to_found(tree, scopes, p, id, found),
     }
 }
 
-fn break_to_found(
-    tree: &mut [u32],
-    scopes: &[bool; 1024],
-    p: Position,
-    id: u32,
-    found: Resolution,
-) -> Jumped {
+fn break_to_found(tree: &mut [u32], scopes: &[bool; 1024], p: Position, id: u32, found: Resolution) -> Jumped {
     let target = found.target;
     let kind = found.kind;
     let number = kind.number();
     let at = target as usize;
     if scopes[at] {
         if number == 0 {
-            return Jumped {
-                code: 0,
-                at: 0,
-                rows: p.rows,
-                count: 0,
-            };
+            return Jumped { code: 0, at: 0, rows: p.rows, count: 0 };
         }
-        return Jumped {
-            code: 22,
-            at: p.block,
-            rows: p.rows,
-            count: 0,
-        };
+        return Jumped { code: 22, at: p.block, rows: p.rows, count: 0 };
     }
     let rows = put(tree, p.rows, BREAK, target as u32, id, number, 0, 0);
-    Jumped {
-        code: 0,
-        at: 0,
-        rows: rows,
-        count: 1,
-    }
+    Jumped { code: 0, at: 0, rows: rows, count: 1 }
 }
 
 // The Rust's visit_continue.
-fn visit_continue(
-    tree: &mut [u32],
-    p: Position,
-    target: u32,
-    id: u32,
-    resolved: Resolved,
-) -> Jumped {
+fn visit_continue(tree: &mut [u32], p: Position, target: u32, id: u32, resolved: Resolved) -> Jumped {
     match resolved {
-        Resolved::Nothing => Jumped {
-            code: 21,
-            at: target,
-            rows: p.rows,
-            count: 0,
-        },
+        Resolved::Nothing => Jumped { code: 21, at: target, rows: p.rows, count: 0 },
         Resolved::Found(found) => continue_to_found(tree, p, id, found),
     }
 }
@@ -164,45 +105,18 @@ fn visit_continue(
 fn continue_to_found(tree: &mut [u32], p: Position, id: u32, found: Resolution) -> Jumped {
     let target = found.target;
     let kind = found.kind;
-    let rows = put(
-        tree,
-        p.rows,
-        CONTINUE,
-        target as u32,
-        id,
-        kind.number(),
-        0,
-        0,
-    );
-    Jumped {
-        code: 0,
-        at: 0,
-        rows: rows,
-        count: 1,
-    }
+    let rows = put(tree, p.rows, CONTINUE, target as u32, id, kind.number(), 0, 0);
+    Jumped { code: 0, at: 0, rows: rows, count: 1 }
 }
 
 fn after_jump(p: Position, jump: Jumped) -> Plan {
     if jump.code != 0 {
         return refuse(p, jump.code, jump.at);
     }
-    leave(
-        NONE,
-        p.depth,
-        p.count + jump.count,
-        jump.rows,
-        p.visits,
-        Change::Nothing,
-    )
+    leave(NONE, p.depth, p.count + jump.count, jump.rows, p.visits, Change::Nothing)
 }
 
-pub fn visit_goto(
-    words: &[u32],
-    tree: &mut [u32],
-    scopes: &[bool; 1024],
-    p: Position,
-    resolved: Resolved,
-) -> Plan {
+pub fn visit_goto(words: &[u32], tree: &mut [u32], scopes: &[bool; 1024], p: Position, resolved: Resolved) -> Plan {
     let target = block_word(words, p.block, 3);
     let id = block_word(words, p.block, 8);
     match block_word(words, p.block, 4) {
@@ -225,23 +139,9 @@ pub fn visit_branch<'a>(
     let consequent = block_word(words, p.block, 4);
     let frame = frame_of(p, NONE, 0);
     if !is_scheduled(scheduled, catch_handlers, narrow(consequent)) {
-        return traverse_block(
-            consequent,
-            frame,
-            p.depth + 1,
-            p.rows,
-            p.visits,
-            Change::Nothing,
-        );
+        return traverse_block(consequent, frame, p.depth + 1, p.rows, p.visits, Change::Nothing);
     }
-    let jump = visit_break(
-        tree,
-        scopes,
-        p,
-        consequent,
-        block_word(words, p.block, 8),
-        resolved,
-    );
+    let jump = visit_break(tree, scopes, p, consequent, block_word(words, p.block, 8), resolved);
     if jump.code != 0 {
         return refuse(p, jump.code, jump.at);
     }
@@ -250,12 +150,5 @@ pub fn visit_branch<'a>(
     if is_scheduled(scheduled, catch_handlers, narrow(alternate)) {
         return refuse(p, 19, p.block);
     }
-    traverse_block(
-        alternate,
-        second_part(frame),
-        p.depth + 1,
-        rows,
-        p.visits,
-        Change::Nothing,
-    )
+    traverse_block(alternate, second_part(frame), p.depth + 1, rows, p.visits, Change::Nothing)
 }

@@ -1,4 +1,11 @@
 // The visit of a block: its instructions, and what its terminal gives. The Rust's visit_block, one block at a time.
+use control::Resolved;
+use rows::put;
+use rows::RETURN;
+use rows::THROW;
+use table::words::block_word;
+use value::instructions::put_instructions;
+use value::result::NONE;
 use crate::fallthrough::enclose;
 use crate::fallthrough::entries_of;
 use crate::fallthrough::narrow;
@@ -14,11 +21,6 @@ use crate::loops::visit_for_in;
 use crate::loops::visit_for_of;
 use crate::loops::visit_value;
 use crate::loops::visit_while;
-use crate::plan::Change;
-use crate::plan::Frame;
-use crate::plan::Plan;
-use crate::plan::Position;
-use crate::plan::Stage;
 use crate::plan::choose;
 use crate::plan::frame_of;
 use crate::plan::leave;
@@ -26,13 +28,11 @@ use crate::plan::refuse;
 use crate::plan::traverse_block;
 use crate::plan::with_handler;
 use crate::plan::with_scope;
-use control::Resolved;
-use rows::RETURN;
-use rows::THROW;
-use rows::put;
-use table::words::block_word;
-use value::instructions::put_instructions;
-use value::result::NONE;
+use crate::plan::Change;
+use crate::plan::Frame;
+use crate::plan::Plan;
+use crate::plan::Position;
+use crate::plan::Stage;
 
 pub fn visit_block<'a>(
     words: &[u32],
@@ -51,14 +51,7 @@ pub fn visit_block<'a>(
     if p.visits >= 8192 {
         return refuse(p, 31, block);
     }
-    let begun = Position {
-        block: block,
-        depth: p.depth,
-        count: p.count,
-        rows: p.rows,
-        visits: p.visits + 1,
-        stage: Stage::Visit,
-    };
+    let begun = Position { block: block, depth: p.depth, count: p.count, rows: p.rows, visits: p.visits + 1, stage: Stage::Visit };
     if block_word(words, block, 2) == 0 {
         return refuse(begun, 10, block);
     }
@@ -68,23 +61,8 @@ pub fn visit_block<'a>(
     }
     let count = block_word(words, block, 1);
     let rows = put_instructions(words, tree, p.rows, block_word(words, block, 0), count);
-    let entered = Position {
-        block: block,
-        depth: p.depth,
-        count: p.count + count,
-        rows: rows,
-        visits: p.visits + 1,
-        stage: Stage::Visit,
-    };
-    visit_terminal(
-        words,
-        tree,
-        scheduled,
-        catch_handlers,
-        scopes,
-        entered,
-        resolved,
-    )
+    let entered = Position { block: block, depth: p.depth, count: p.count + count, rows: rows, visits: p.visits + 1, stage: Stage::Visit };
+    visit_terminal(words, tree, scheduled, catch_handlers, scopes, entered, resolved)
 }
 
 fn visit_terminal<'a>(
@@ -109,39 +87,11 @@ fn visit_terminal<'a>(
         10 => visit_for(words, tree, scheduled, catch_handlers, p),
         11 => visit_for_of(words, tree, scheduled, catch_handlers, p),
         12 => visit_for_in(words, tree, scheduled, catch_handlers, p),
-        13 => visit_value(
-            words,
-            tree,
-            scheduled,
-            catch_handlers,
-            p,
-            block_word(words, p.block, 5),
-        ), // Logical
-        14 => visit_value(
-            words,
-            tree,
-            scheduled,
-            catch_handlers,
-            p,
-            block_word(words, p.block, 4),
-        ), // Ternary
-        15 => visit_value(
-            words,
-            tree,
-            scheduled,
-            catch_handlers,
-            p,
-            block_word(words, p.block, 5),
-        ), // Optional
+        13 => visit_value(words, tree, scheduled, catch_handlers, p, block_word(words, p.block, 5)), // Logical
+        14 => visit_value(words, tree, scheduled, catch_handlers, p, block_word(words, p.block, 4)), // Ternary
+        15 => visit_value(words, tree, scheduled, catch_handlers, p, block_word(words, p.block, 5)), // Optional
         16 => visit_label(words, scheduled, catch_handlers, p),
-        17 => visit_value(
-            words,
-            tree,
-            scheduled,
-            catch_handlers,
-            p,
-            block_word(words, p.block, 4),
-        ), // Sequence
+        17 => visit_value(words, tree, scheduled, catch_handlers, p, block_word(words, p.block, 4)), // Sequence
         18 => visit_maybe_throw(words, scheduled, catch_handlers, p),
         19 => visit_try(words, scheduled, catch_handlers, p),
         20 => visit_scope(words, scheduled, catch_handlers, p), // Scope
@@ -151,142 +101,57 @@ fn visit_terminal<'a>(
 
 // Throw and Return.
 fn visit_leaf(words: &[u32], tree: &mut [u32], p: Position, op: u32) -> Plan {
-    let rows = put(
-        tree,
-        p.rows,
-        op,
-        block_word(words, p.block, 3),
-        block_word(words, p.block, 8),
-        0,
-        0,
-        0,
-    );
+    let rows = put(tree, p.rows, op, block_word(words, p.block, 3), block_word(words, p.block, 8), 0, 0, 0);
     leave(NONE, p.depth, p.count + 1, rows, p.visits, Change::Nothing)
 }
 
-fn visit_if<'a>(
-    words: &[u32],
-    scheduled: &'a [bool; 1024],
-    catch_handlers: &'a [bool; 1024],
-    p: Position,
-) -> Plan {
+fn visit_if<'a>(words: &[u32], scheduled: &'a [bool; 1024], catch_handlers: &'a [bool; 1024], p: Position) -> Plan {
     let fallthrough = block_word(words, p.block, 6);
     if block_word(words, fallthrough, 2) == 0 {
         return refuse(p, 10, fallthrough);
     }
     let label = unless_unreachable(words, scheduled, catch_handlers, fallthrough);
     let consequent = block_word(words, p.block, 4);
-    enclose(
-        scheduled,
-        catch_handlers,
-        p,
-        label,
-        consequent,
-        12,
-        consequent,
-    )
+    enclose(scheduled, catch_handlers, p, label, consequent, 12, consequent)
 }
 
-fn visit_switch<'a>(
-    words: &[u32],
-    scheduled: &'a [bool; 1024],
-    catch_handlers: &'a [bool; 1024],
-    p: Position,
-) -> Plan {
+fn visit_switch<'a>(words: &[u32], scheduled: &'a [bool; 1024], catch_handlers: &'a [bool; 1024], p: Position) -> Plan {
     let fallthrough = block_word(words, p.block, 6);
     if block_word(words, fallthrough, 2) == 0 {
         return refuse(p, 10, fallthrough);
     }
     let label = unless_unreachable(words, scheduled, catch_handlers, fallthrough);
-    let frame = Frame {
-        block: p.block,
-        label: label,
-        entries: entries_of(label),
-        left: block_word(words, p.block, 5),
-        built: 0,
-        count: p.count,
-        second: false,
-    };
+    let frame = Frame { block: p.block, label: label, entries: entries_of(label), left: block_word(words, p.block, 5), built: 0, count: p.count, second: false };
     choose(frame, p.depth + 1, p.rows, p.visits, schedule_switch(label))
 }
 
-fn visit_label<'a>(
-    words: &[u32],
-    scheduled: &'a [bool; 1024],
-    catch_handlers: &'a [bool; 1024],
-    p: Position,
-) -> Plan {
+fn visit_label<'a>(words: &[u32], scheduled: &'a [bool; 1024], catch_handlers: &'a [bool; 1024], p: Position) -> Plan {
     let fallthrough = block_word(words, p.block, 4);
     if block_word(words, fallthrough, 2) == 0 {
         return refuse(p, 10, fallthrough);
     }
     let label = unless_unreachable(words, scheduled, catch_handlers, fallthrough);
-    enclose(
-        scheduled,
-        catch_handlers,
-        p,
-        label,
-        block_word(words, p.block, 3),
-        17,
-        p.block,
-    )
+    enclose(scheduled, catch_handlers, p, label, block_word(words, p.block, 3), 17, p.block)
 }
 
-fn visit_maybe_throw<'a>(
-    words: &[u32],
-    scheduled: &'a [bool; 1024],
-    catch_handlers: &'a [bool; 1024],
-    p: Position,
-) -> Plan {
+fn visit_maybe_throw<'a>(words: &[u32], scheduled: &'a [bool; 1024], catch_handlers: &'a [bool; 1024], p: Position) -> Plan {
     let continuation = unless_scheduled(scheduled, catch_handlers, block_word(words, p.block, 3));
-    leave(
-        continuation,
-        p.depth,
-        p.count,
-        p.rows,
-        p.visits,
-        Change::Nothing,
-    )
+    leave(continuation, p.depth, p.count, p.rows, p.visits, Change::Nothing)
 }
 
-fn visit_try<'a>(
-    words: &[u32],
-    scheduled: &'a [bool; 1024],
-    catch_handlers: &'a [bool; 1024],
-    p: Position,
-) -> Plan {
+fn visit_try<'a>(words: &[u32], scheduled: &'a [bool; 1024], catch_handlers: &'a [bool; 1024], p: Position) -> Plan {
     let fallthrough = block_word(words, p.block, 5);
     if block_word(words, fallthrough, 2) == 0 {
         return refuse(p, 10, fallthrough);
     }
     let label = unless_unreachable(words, scheduled, catch_handlers, fallthrough);
     let frame = frame_of(p, label, entries_of(label));
-    let plan = traverse_block(
-        block_word(words, p.block, 3),
-        frame,
-        p.depth + 1,
-        p.rows,
-        p.visits,
-        schedule_if(label),
-    );
+    let plan = traverse_block(block_word(words, p.block, 3), frame, p.depth + 1, p.rows, p.visits, schedule_if(label));
     with_handler(plan, block_word(words, p.block, 4))
 }
 
-fn visit_scope<'a>(
-    words: &[u32],
-    scheduled: &'a [bool; 1024],
-    catch_handlers: &'a [bool; 1024],
-    p: Position,
-) -> Plan {
+fn visit_scope<'a>(words: &[u32], scheduled: &'a [bool; 1024], catch_handlers: &'a [bool; 1024], p: Position) -> Plan {
     let label = unless_scheduled(scheduled, catch_handlers, block_word(words, p.block, 4));
-    let plan = enclose(
-        scheduled,
-        catch_handlers,
-        p,
-        label,
-        block_word(words, p.block, 3),
-        18,
-        p.block,
-    );
+    let plan = enclose(scheduled, catch_handlers, p, label, block_word(words, p.block, 3), 18, p.block);
     with_scope(plan, label)
 }

@@ -8,19 +8,15 @@ use Rattle.value.proofs.sequence.loads_same_identifier.Tie as tie
 use Rattle.value.proofs.sequence.loads_same_identifier.Reads as reads
 use Rattle.value.proofs.sequence.loads_same_identifier.Lts as lts
 use Rattle.table.proofs.words.place_word.Reads as place-word-reads
-
 returns : tie.Need-returns
 unfolding sameIdentifier
 returns c = rw (c .if1 .taken, no-number)
-
 place-word-requires : tie.Need-place-word-requires
 place-word-requires c κs =
     let at-entry = c .before .before in
     (at-entry .pre .0 .sized, at-entry .pre .1 .1 (c .if1 .left))
-
 place-word-requires-2 : tie.Need-place-word-requires-2
 place-word-requires-2 c κs = (c .before .before .before .pre .0 .sized, c .before .before .before .pre .1 .0)
-
 returns-2 : tie.Need-returns-2
 unfolding sameIdentifier
 returns-2 c =
