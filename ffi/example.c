@@ -1,5 +1,5 @@
 /* Builds W of paper 01, a while loop, and prints its rows; then with a buffer that is too short. */
-#include "reactive_build.h"
+#include "veerynickel.h"
 
 #include <inttypes.h>
 #include <stdio.h>
@@ -14,14 +14,14 @@ static const uint32_t table[] = {
     1,                            /* identifier 0 has a name */
 };
 
-static uint32_t tree[16 * REACTIVE_BUILD_ROW_WORDS];
+static uint32_t tree[16 * VEERYNICKEL_ROW_WORDS];
 
 static void build(size_t rows_lent) {
     uint32_t at, rows, visits;
-    uint32_t code = reactive_build(table, sizeof table / sizeof *table, tree, rows_lent * REACTIVE_BUILD_ROW_WORDS, &at, &rows, &visits);
+    uint32_t code = veerynickel_build(table, sizeof table / sizeof *table, tree, rows_lent * VEERYNICKEL_ROW_WORDS, &at, &rows, &visits);
     printf("code %" PRIu32 " at %" PRIu32 " rows %" PRIu32 " visits %" PRIu32 "\n", code, at, rows, visits);
     for (uint32_t row = 0; code == 0 && row < rows; row++) {
-        const uint32_t *words = tree + row * REACTIVE_BUILD_ROW_WORDS;
+        const uint32_t *words = tree + row * VEERYNICKEL_ROW_WORDS;
         printf("%" PRIu32 " %" PRIu32 " %" PRIu32 " %" PRIu32 " %" PRIu32 " %" PRIu32 "\n", words[0], words[1], words[2], words[3], words[4],
                words[5]);
     }

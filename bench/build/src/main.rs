@@ -50,7 +50,7 @@ fn main() {
 fn measure(case: &Case) {
     let words = &case.words;
     let mut lent = vec![7; 60_000];
-    let ours = reactive_build::build(words, &mut lent);
+    let ours = veerynickel::build(words, &mut lent);
     let mut theirs_lent = vec![7; 60_000];
     let theirs = model::build(words, &mut theirs_lent);
     assert_eq!((ours.code, ours.rows, ours.visits), (0, theirs.rows, theirs.visits), "{}", case.name);
@@ -61,7 +61,7 @@ fn measure(case: &Case) {
     let mut least = [Duration::MAX; 3];
     for _ in 0..ROUNDS {
         let times = [
-            time(calls, || black_box(reactive_build::build(black_box(words), &mut lent)).code),
+            time(calls, || black_box(veerynickel::build(black_box(words), &mut lent)).code),
             time(calls, || black_box(model::build(black_box(words), &mut lent)).code),
             of_reference(words, calls),
         ];
@@ -105,7 +105,7 @@ fn least_stack(way: &str) -> usize {
 fn probe(by_values: bool, bytes: usize) {
     let words = tables::deep(by_values).words;
     let mut lent = vec![7; 6_000];
-    let build = move || reactive_build::build(&words, &mut lent).code;
+    let build = move || veerynickel::build(&words, &mut lent).code;
     let code = thread::Builder::new().stack_size(bytes).spawn(build).expect("a thread").join();
     assert_eq!(code.expect("it ends"), 0);
 }

@@ -1,25 +1,72 @@
 // Fallthroughs and nested blocks, by the sets: which label a statement has, and whether a block that it would nest is scheduled.
-use control::is_scheduled;
-use control::ControlFlowTarget;
-use table::words::block_word;
-use value::result::NONE;
+use crate::plan::Change;
+use crate::plan::NONE;
+use crate::plan::Plan;
+use crate::plan::Position;
 use crate::plan::frame_of;
 use crate::plan::refuse;
 use crate::plan::traverse_block;
-use crate::plan::Change;
-use crate::plan::Plan;
-use crate::plan::Position;
+use control::ControlFlowTarget;
+use control::is_scheduled;
+use table::words::block_word;
+ghost use mathlib.Core.Path.{_≡_};
+ghost use Prim.Native.Nat.{_+_, _≤_, _<_};
+ghost use lib.Dec.{eqb};
+ghost use Rattle.table.specs.Words.{blockCount, blockWord};
+ghost use Rattle.table.specs.Promise.{Promise};
+ghost use Rattle.definition.specs.Context.{or, has};
+ghost use Rattle.build.specs.Plans.{unlessTaken, entriesIf, scheduleIf, scheduleSwitch, scheduledWith, enclosing};
 
-pub fn narrow(block: u32) -> u16 {
+// A block's number as the sets and the stack have it.
+pub fn narrow(block: u32) -> u16
+    requires { ⌜ block ≤ 65535 ⌝ }
+    ensures { λ r. ⌜ r ≡ block ⌝ }
+{
     block as u16
 }
 
-// The fallthrough, where it is taken: it is not scheduled.
-pub fn unless_scheduled<'a>(scheduled: &'a [bool; 1024], catch_handlers: &'a [bool; 1024], fallthrough: u32) -> u32 {
-    if is_scheduled(scheduled, catch_handlers, narrow(fallthrough)) {
+pub fn scheduled_at<'a>(
+    scheduled: &'a [bool; 1024],
+    catch_handlers: &'a [bool; 1024],
+    block: u32,
+) -> bool
+    requires { ⌜ block < 1024 ⌝ }
+    ensures { λ r. ⌜ r ≡ or (has (now (scheduled .entry)) block) (has (now («catch_handlers» .entry)) block) ⌝ }
+{
+    is_scheduled(scheduled, catch_handlers, narrow(block))
+}
+
+fn unless_taken(taken: bool, fallthrough: u32) -> u32
+    ensures { λ r. ⌜ r ≡ unlessTaken taken fallthrough ⌝ }
+{
+    if taken {
         return NONE;
     }
     fallthrough
+}
+
+// The fallthrough, where it is taken: it is not scheduled.
+pub fn unless_scheduled<'a>(
+    scheduled: &'a [bool; 1024],
+    catch_handlers: &'a [bool; 1024],
+    fallthrough: u32,
+) -> u32
+    requires { ⌜ fallthrough < 1024 ⌝ }
+    ensures { λ r. ⌜ r ≡ unlessTaken (or (has (now (scheduled .entry)) fallthrough) (has (now («catch_handlers» .entry)) fallthrough)) fallthrough ⌝ }
+{
+    unless_taken(
+        scheduled_at(scheduled, catch_handlers, fallthrough),
+        fallthrough,
+    )
+}
+
+fn either(first: bool, second: bool) -> bool
+    ensures { λ r. ⌜ r ≡ or first second ⌝ }
+{
+    if first {
+        return true;
+    }
+    second
 }
 
 // The same for If, Switch, While, Label and Try, which ask first whether it is reachable.
@@ -28,14 +75,19 @@ pub fn unless_unreachable<'a>(
     scheduled: &'a [bool; 1024],
     catch_handlers: &'a [bool; 1024],
     fallthrough: u32,
-) -> u32 {
-    if block_word(words, fallthrough, 2) == 1 {
-        return NONE;
-    }
-    unless_scheduled(scheduled, catch_handlers, fallthrough)
+) -> u32
+    requires { ⌜ Promise (now words) ⌝ }
+    requires { ⌜ fallthrough < blockCount (now words) ⌝ }
+    ensures { λ r. ⌜ r ≡ unlessTaken (or (eqb (blockWord (now (words .entry)) fallthrough 2) 1) (or (has (now (scheduled .entry)) fallthrough) (has (now («catch_handlers» .entry)) fallthrough))) fallthrough ⌝ }
+{
+    let unreachable = block_word(words, fallthrough, 2) == 1;
+    let taken = scheduled_at(scheduled, catch_handlers, fallthrough);
+    unless_taken(either(unreachable, taken), fallthrough)
 }
 
-pub fn entries_of(label: u32) -> u32 {
+pub fn entries_of(label: u32) -> u32
+    ensures { λ r. ⌜ r ≡ entriesIf (eqb label 65535) ⌝ }
+{
     if label == NONE {
         return 0;
     }
@@ -43,41 +95,48 @@ pub fn entries_of(label: u32) -> u32 {
 }
 
 // An If, Label or scope is on the stack only if its fallthrough is taken; a Try too.
-pub fn schedule_if(label: u32) -> Change {
+pub fn schedule_if(label: u32) -> Change
+    requires { ⌜ label ≤ 65535 ⌝ }
+    ensures { λ r. ⌜ r ≡ scheduleIf (eqb label 65535) label ⌝ }
+{
     if label == NONE {
         return Change::Nothing;
     }
-    Change::Schedule(ControlFlowTarget::If { block: narrow(label) })
+    Change::Schedule(ControlFlowTarget::If {
+        block: narrow(label),
+    })
 }
 
-pub fn schedule_switch(label: u32) -> Change {
+pub fn schedule_switch(label: u32) -> Change
+    requires { ⌜ label ≤ 65535 ⌝ }
+    ensures { λ r. ⌜ r ≡ scheduleSwitch (eqb label 65535) label ⌝ }
+{
     if label == NONE {
         return Change::Nothing;
     }
-    Change::Schedule(ControlFlowTarget::Switch { block: narrow(label) })
-}
-
-// A block is scheduled, or will be once the label is.
-fn scheduled_with<'a>(scheduled: &'a [bool; 1024], catch_handlers: &'a [bool; 1024], label: u32, block: u32) -> bool {
-    if block == label {
-        return true;
-    }
-    is_scheduled(scheduled, catch_handlers, narrow(block))
+    Change::Schedule(ControlFlowTarget::Switch {
+        block: narrow(label),
+    })
 }
 
 // A statement with a label and one nested block that must not be scheduled: If's consequent, Label's and a scope's block.
-pub fn enclose<'a>(
-    scheduled: &'a [bool; 1024],
-    catch_handlers: &'a [bool; 1024],
-    p: Position,
-    label: u32,
-    block: u32,
-    code: u32,
-    at: u32,
-) -> Plan {
-    if scheduled_with(scheduled, catch_handlers, label, block) {
+// `busy` is whether the block is scheduled before the label is.
+pub fn enclose(busy: bool, p: Position, label: u32, block: u32, code: u32, at: u32) -> Plan
+    requires { ⌜ label ≤ 65535 ⌝ }
+    requires { ⌜ p .depth < 128 ⌝ }
+    ensures { λ r. ⌜ r ≡ enclosing (scheduledWith busy label block) p label block code at ⌝ }
+{
+    let taken = either(block == label, busy);
+    if taken {
         return refuse(p, code, at);
     }
     let frame = frame_of(p, label, entries_of(label));
-    traverse_block(block, frame, p.depth + 1, p.rows, p.visits, schedule_if(label))
+    traverse_block(
+        block,
+        frame,
+        p.depth + 1,
+        p.rows,
+        p.visits,
+        schedule_if(label),
+    )
 }

@@ -1,17 +1,29 @@
 // build_reactive_function: words of a block table in, rows of the tree out, or a refusal with its place.
+use crate::driver::Walked;
+use crate::driver::walk;
 use rows::clear;
 use table::check;
-use crate::driver::walk;
+ghost use mathlib.Core.Path.{_≡_};
+ghost use lib.ListN.{length};
+ghost use Rattle.definition.specs.Build.{Report, refusal, outcomeOf, built};
+ghost use Rattle.build.specs.Driver.{Reported};
+ghost use Rattle.build.specs.Entry.{outcome};
 
-mod plan;
+mod apply;
+mod branch;
+mod driver;
 mod fallthrough;
 mod jump;
+mod leaf;
 mod loops;
-mod visit;
+mod nested;
+mod plan;
 mod resume;
-mod driver;
+mod search;
+mod turn;
+mod visit;
 
-// Paper 01, "Result and refusals".
+// Paper 01, "Result and refusals": code (0 accepted), at, rows, visits.
 pub struct Outcome {
     pub code: u32,
     pub at: u32,
@@ -19,21 +31,64 @@ pub struct Outcome {
     pub visits: u32,
 }
 
-pub fn build_reactive_function(words: &[u32], tree: &mut [u32]) -> Outcome {
-    let checked = check(words);
-    if !checked.is_accepted() {
-        clear(tree, 0);
-        return Outcome { code: checked.code(), at: checked.place(), rows: 0, visits: 0 };
+// Refused: all zeros.
+fn refuse(tree: &mut [u32], code: u32, at: u32, rows: u32, visits: u32) -> Outcome
+    ensures { λ r. ⌜ outcome r (now (tree .exit)) ≡ refusal code at rows visits (length (now (tree .entry))) ⌝ }
+{
+    clear(tree, 0);
+    Outcome {
+        code: code,
+        at: at,
+        rows: rows,
+        visits: visits,
     }
-    let walked = walk(words, tree);
+}
+
+// Accepted, the buffer holds the rows, then zeros; 40 where they do not fit.
+fn finish(tree: &mut [u32], walked: Walked) -> Outcome
+    ensures { λ r. ⌜ ((report : Report) → Reported report walked (now (tree .entry)) → outcome r (now (tree .exit)) ≡ outcomeOf (length (now (tree .entry))) report) ⌝ }
+{
     if walked.code != 0 {
-        clear(tree, 0);
-        return Outcome { code: walked.code, at: walked.at, rows: 0, visits: walked.visits };
+        return refuse(tree, walked.code, walked.at, 0, walked.visits);
     }
-    if (walked.rows as usize) > tree.len() / 6 {
-        clear(tree, 0);
-        return Outcome { code: 40, at: 0, rows: walked.rows, visits: walked.visits };
+    let rows = walked.rows as usize;
+    if rows > tree.len() / 6 {
+        return refuse(tree, 40, 0, walked.rows, walked.visits);
     }
-    clear(tree, (walked.rows as usize) * 6);
-    Outcome { code: 0, at: 0, rows: walked.rows, visits: walked.visits }
+    clear(tree, rows * 6);
+    Outcome {
+        code: 0,
+        at: 0,
+        rows: walked.rows,
+        visits: walked.visits,
+    }
+}
+
+pub fn build_reactive_function(words: &[u32], tree: &mut [u32]) -> Outcome
+    ensures { λ r. ⌜ outcome r (now (tree .exit)) ≡ built (now (words .entry)) (length (now (tree .entry))) ⌝ }
+{
+    let checked = check(words);
+    if checked.is_accepted() {
+        let walked = walk(words, tree);
+        return finish(tree, walked);
+    }
+    refuse(tree, checked.code(), checked.place(), 0, 0)
+}
+
+// The same for callers in C or Rust: the code, and the other three words by reference.
+#[no_mangle]
+pub extern "C" fn veerynickel_build(
+    words: &[u32],
+    tree: &mut [u32],
+    at: &mut u32,
+    rows: &mut u32,
+    visits: &mut u32,
+) -> u32
+    ensures { λ r. ⌜ record { code = r; at = now (at .exit); rows = now (rows .exit); visits = now (visits .exit); buffer = now (tree .exit) } ≡ built (now (words .entry)) (length (now (tree .entry))) ⌝ }
+{
+    let built = build_reactive_function(words, tree);
+    *at = built.at;
+    *rows = built.rows;
+    *visits = built.visits;
+    built.code
 }

@@ -4,15 +4,14 @@ use Prim.Native.Nat.{ℕ, zero, suc, _+_, _-_, _≤_, _<_}
 use native.Mathlib.Nat.{eq-or-lt-of-le}
 use native.Mathlib.Omega.{arith}
 use native.Mathlib.Numerals.{add-one}
-use mathlib.Core.List.{List, [], _∷_, map}
-use mathlib.Core.Option.{some}
+use mathlib.Core.List.{List, _∷_}
 use mathlib.Core.Bool.{Bool, true, false, not}
 use mathlib.Core.Logic.{⊎-elim}
-use lib.ListN.{getD, set, length, length-map, replicate, getD-replicate}
+use lib.ListN.{getD, set, length, replicate}
 use lib.Seq.{getD-set-same, getD-set-other}
 use lib.Dec.{eqb}
 use borrow.Author.Tests.{eq-eqb, eqb-true, eqb-false}
-use Rattle.definition.specs.Result.{Result, ok, refused, _>>=_, refuseIf, already-scheduled}
+use Rattle.definition.specs.Result.{ok, _>>=_, refuseIf, already-scheduled}
 use Rattle.definition.specs.Context as definition
 use Rattle.definition.specs.Context.{Flags, or, has, add, no-flags, start, isScheduled, emit, markScopeFallthrough, scheduleCatchHandler, targetBlock, pushed, popped, schedule, scheduleLoop, unscheduledBy, unschedule, unscheduleTop}
 use Rattle.definition.specs.Machine.{unscheduledTop}
@@ -155,7 +154,7 @@ module _ (cx : Context) (last : Entry) (top : Last cx last) where
   unfolding contextOf popped
   unscheduled = record {
     state = refl;
-    context = λ visits. unschedule-top (contextOf visits cx) (entryOf last) (stackOf (cx .stack) (cx .len - 1)) (stack-last (cx .stack) (cx .len) last (top .some) (top .read));
+    context = λ visits. unschedule-top (contextOf visits cx) (entryOf last) (stackOf (cx .stack) (cx .len - 1)) (stack-last (cx .stack) (cx .len) last (top .nonempty) (top .read));
     len = refl;
     id = refl;
     bounded = λ bounded. record { most = omega (arith, bounded .most); named = λ k below. bounded .named k (omega arith) };
@@ -164,4 +163,4 @@ module _ (cx : Context) (last : Entry) (top : Last cx last) where
   -- the machine takes the last entry off whatever its id
   pub pops : (visits : ℕ) → machine.unscheduled (contextOf visits cx) ≡ contextOf visits (withoutLast (unscheduledBy (targetOf (last .target)) (cx .scheduled)) cx)
   unfolding contextOf popped
-  pops visits = pop-top (contextOf visits cx) (entryOf last) (stackOf (cx .stack) (cx .len - 1)) (stack-last (cx .stack) (cx .len) last (top .some) (top .read))
+  pops visits = pop-top (contextOf visits cx) (entryOf last) (stackOf (cx .stack) (cx .len - 1)) (stack-last (cx .stack) (cx .len) last (top .nonempty) (top .read))

@@ -37,7 +37,7 @@ pub record Room (cx : Context) : Type 0 where
   pub id : cx .«next_schedule_id» < 65535
 
 pub record Last (cx : Context) (entry : Entry) : Type 0 where
-  pub some : 0 < cx .len
+  pub nonempty : 0 < cx .len
   pub read : entry ≡ getD (cx .stack) (cx .len - 1) noEntry
   pub named : Named (entry .target)
 

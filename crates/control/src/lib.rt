@@ -1,13 +1,12 @@
 // The Rust's ControlFlowTarget and Context: which blocks are emitted, scheduled, catch handlers or scope fallthroughs, and the stack of the
 // statements that a jump can leave. Each step takes the Context and hands the next one back.
 //
-// No method indexes the array of entries: a store into it, or a read from it, inside a method that is handed the Context would copy the whole array.
+// No step indexes the array of entries: inside a method that is handed the Context, a store into it or a read from it would copy the whole array.
 // `schedule` and `schedule_loop` leave the new entry in `pushed`, and the caller stores it at `len - 1`; `unschedule` is handed the entry that the
-// caller reads there. For the same reason a method copies the set that it changes into a local and back, and the scalars stand between the arrays.
+// caller reads there. For the same reason a step copies the set that it changes into a local and back, and the scalars stand between the arrays.
+// (docs/PERFORMANCE.md has the times, also of the two searches, which do read it.)
 ghost use mathlib.Core.Path.{_≡_};
-ghost use mathlib.Core.Option.{some};
-ghost use Prim.Native.Nat.{ℕ, _+_, _-_, _≤_, _<_};
-ghost use lib.ListN.{getD};
+ghost use Prim.Native.Nat.{ℕ, _≤_, _<_};
 ghost use Rattle.definition.specs.Context.{add, has, targetBlock, isLoop, continuesAt, or, breakKind, continueKind, unscheduledBy, getBreakTarget, getContinueTarget};
 ghost use Rattle.definition.specs.Tree.{kindNumber};
 ghost use Rattle.control.specs.Abstraction.{targetOf, kindOf, resolutionOf, resolvedOf, contextOf};

@@ -152,7 +152,7 @@ Sound t (popping frame frames rows cx) = Framed t 1 frame × Frames t frames × 
 
 -- ---- the stack
 
-marks-below : (s : Flags) → marks s ≤ length s
+pub marks-below : (s : Flags) → marks s ≤ length s
 marks-below [] = le-refl 0
 marks-below (true ∷ s) = omega (arith, marks-below s)
 marks-below (false ∷ s) = omega (arith, marks-below s)
@@ -542,7 +542,7 @@ module _ (t : Table) (ck : Checked t) (d : ℕ) where
         at (some x) k w q =
             let s : Held c 1 (suc (length (c .stack))) (scheduled (target-if x) c) = scheduled-held (target-if x) c in
             let y : Inside p 2052 1 1 0 5 F (R ++ valueOut (w .value)) m (withVisits (w .visits) (scheduled (target-if x) c)) =
-              inside-visited t (valueOut (w .value)) (w .visits) 5 (inside-held t c {e₁ = 1} 1 h s (omega arith) (omega (arith, h .stack))) (omega (arith, q .0, s .seen)) (q .1) (omega (arith, size-out (w .value), q .0, q .2, s .seen)) in
+            inside-visited t (valueOut (w .value)) (w .visits) 5 (inside-held t c {e₁ = 1} 1 h s (omega arith) (omega (arith, h .stack))) (omega (arith, q .0, s .seen)) (q .1) (omega (arith, size-out (w .value), q .0, q .2, s .seen)) in
             leaving (some x) w (unscheduled (withVisits (w .visits) (scheduled (target-if x) c))) q k
             (inside-held t (withVisits (w .visits) (scheduled (target-if x) c)) {e₁ = 0} 1 y (unscheduled-held (withVisits (w .visits) (scheduled (target-if x) c)) (entriesOf F) (omega (arith, y .stack))) (omega arith) (omega arith))
 
@@ -670,15 +670,30 @@ module _ (t : Table) (ck : Checked t) where
   ended-inside : (fr : Frame) (F : List Frame) (R : List Row) (m : ℕ) (c : Context) → Holds 1 (fr ∷ F) R m c
       → Inside (suc (2053 * (8192 - c .visits) + (turnsOf fr + turnsOfAll F))) (turnsOf fr) 2 (fr .entries) (suc (fr .built)) 4 F (R ++ (blockRow m ∷ [])) (fr .count) c
   ended-inside fr F R m c h = record {
-    visits = h .visits; ids = omega (arith, h .ids); lower = omega arith; stack = h .stack; marked = omega (arith, h .marked); depth = h .depth; flags = h .flags;
-    tallied = omega (arith, length-append R (blockRow m ∷ []), h .tallied); paid = omega (arith, length-append R (blockRow m ∷ []), h .paid);
+    visits = h .visits;
+    ids = omega (arith, h .ids);
+    lower = omega arith;
+    stack = h .stack;
+    marked = omega (arith, h .marked);
+    depth = h .depth;
+    flags = h .flags;
+    tallied = omega (arith, length-append R (blockRow m ∷ []), h .tallied);
+    paid = omega (arith, length-append R (blockRow m ∷ []), h .paid);
   }
 
   -- where a Switch takes its next case, or a statement's entries are taken off
   holds-inside : {p : ℕ} (s : ℕ) (fr : Frame) (F : List Frame) (R : List Row) (c : Context) → Holds 0 (fr ∷ F) R 0 c → 2053 * (8192 - c .visits) + (s + turnsOfAll F) < p
       → Inside p s 1 (fr .entries) (fr .built) 3 F R (fr .count) c
   holds-inside s fr F R c h k = record {
-    visits = h .visits; ids = omega (arith, h .ids); lower = k; stack = h .stack; marked = omega (arith, h .marked); depth = h .depth; flags = h .flags; tallied = omega (arith, h .tallied); paid = omega (arith, h .paid);
+    visits = h .visits;
+    ids = omega (arith, h .ids);
+    lower = k;
+    stack = h .stack;
+    marked = omega (arith, h .marked);
+    depth = h .depth;
+    flags = h .flags;
+    tallied = omega (arith, h .tallied);
+    paid = omega (arith, h .paid);
   }
 
   step-next : (s : State) → Sound t s → Next (potential s) (step t s)

@@ -22,6 +22,7 @@ length-pushed (r ∷ rows) below = omega (arith, length-pushed rows (r ∷ below
 
 mutual
   unfolding pushed pushValue
+
   value-pushed : (v : Value) (after below : List Row) → pushed (valueRows v after) below ≡ pushed after (pushValue v below)
   value-pushed (PLAIN i) after below = refl
   value-pushed (LOAD p) after below = refl

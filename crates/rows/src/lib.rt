@@ -8,29 +8,53 @@ ghost use Rattle.rows.specs.Rows.{placed, Written};
 
 // Paper 01, "Tree rows": the ops.
 pub const PLAIN: u32 = 1;
+
 pub const LOAD: u32 = 2;
+
 pub const UNDEF: u32 = 3;
+
 pub const INSTR: u32 = 4;
+
 pub const SEQ: u32 = 5;
+
 pub const LOGICAL: u32 = 6;
+
 pub const COND: u32 = 7;
+
 pub const OPTIONAL: u32 = 8;
+
 pub const BLOCK: u32 = 9;
+
 pub const IF: u32 = 10;
+
 pub const CASE: u32 = 11;
+
 pub const SWITCH: u32 = 12;
+
 pub const DOWHILE: u32 = 13;
+
 pub const WHILE: u32 = 14;
+
 pub const FOR: u32 = 15;
+
 pub const FOROF: u32 = 16;
+
 pub const FORIN: u32 = 17;
+
 pub const LABEL: u32 = 18;
+
 pub const TRY: u32 = 19;
+
 pub const SCOPE: u32 = 20;
+
 pub const PRUNED: u32 = 21;
+
 pub const RETURN: u32 = 22;
+
 pub const THROW: u32 = 23;
+
 pub const BREAK: u32 = 24;
+
 pub const CONTINUE: u32 = 25;
 
 // Writes a row at the place n, if the buffer has it whole.

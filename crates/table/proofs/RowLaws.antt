@@ -2,16 +2,17 @@
 use Prim.Native.Nat.{ℕ, zero, suc, _+_, _*_, _-_, _<_, _≤_}
 use mathlib.Core.Path.{_≡_, refl, sym, ap, _∙_}
 use mathlib.Core.List.{List, [], _∷_, _++_}
-use mathlib.Core.Bool.{Bool, true, false, not}
+use mathlib.Core.Bool.{Bool, true, false}
 use native.Mathlib.Omega.{arith}
-use borrow.Author.Tests.{not-true, not-false}
+use borrow.Author.Tests.{lt-ltb, le-ltb}
 use native.Mathlib.Nat.{zero-mul, suc-mul, one-mul, add-mul}
 use native.Mathlib.Numerals.{add-one}
 use lib.ListN.{length, getD, replicate}
 use Rattle.table.specs.Words.{word}
 use Rattle.table.specs.Words as Words
 use Rattle.table.specs.Check.{Verdict, accepted, refused, Rule, unused, fits, rowVerdict, rowsVerdict, andThen}
-use Rattle.table.specs.Answer.{firstBad}
+use Rattle.table.proofs.RuleLaws.{fits-limit, below-fits, not-below-fits}
+use Rattle.table.specs.Answer.{limit, limitsFrom, firstBad, firstNotBelow}
 
 -- ---- a row
 
@@ -19,29 +20,56 @@ pub all-fit : (words : ℕ → ℕ) (column : ℕ) → column ≡ firstBad words
 unfolding firstBad
 all-fit words column = refl
 
--- what the code finds at a column: the word, whether it fits, and so the first bad column from there on
-module _ (words : ℕ → ℕ) (column : ℕ) (rule : Rule) (rules : List Rule) {word : ℕ} {ok : Bool} (read : word ≡ words column) (test : ok ≡ fits rule word) where
-  told : {b : Bool} → ok ≡ b → fits rule (words column) ≡ b
-  told e = rw (← read) (sym test ∙ e)
-
-  pub passed : {bad : ℕ} → not ok ≡ false → bad ≡ firstBad words (suc column) rules → bad ≡ firstBad words column (rule ∷ rules)
+-- what the code finds at a column: the word, its limit, and so the first bad column from there on
+module _ (words : ℕ → ℕ) (column : ℕ) (rule : Rule) (rules : List Rule) {word below : ℕ} (read : word ≡ words column) (bound : below ≡ limit rule word) where
+  pub passed : {bad : ℕ} → word < below → bad ≡ firstBad words (suc column) rules → bad ≡ firstBad words column (rule ∷ rules)
   unfolding firstBad
-  passed e h = rw (told (not-false _ e), firstBad) h
+  passed l h = rw (rw read at (below-fits rule word (rw (← bound) l)), firstBad) h
 
-  pub failed : not ok ≡ true → column ≡ firstBad words column (rule ∷ rules)
+  pub failed : below ≤ word → column ≡ firstBad words column (rule ∷ rules)
   unfolding firstBad
-  failed e = rw (told (not-true _ e), firstBad)
+  failed l = rw (rw read at (not-below-fits rule word (rw (← bound) l)), firstBad)
+
+-- the same by limits alone
+module _ (words : ℕ → ℕ) (column : ℕ) (below : ℕ) (limits : List ℕ) {word : ℕ} (read : word ≡ words column) where
+  pub is-below : {bad : ℕ} → word < below → bad ≡ firstNotBelow words (suc column) limits → bad ≡ firstNotBelow words column (below ∷ limits)
+  unfolding firstNotBelow
+  is-below l h = rw (lt-ltb (words column) below (rw (← read) l), firstNotBelow) h
+
+  pub is-not-below : below ≤ word → column ≡ firstNotBelow words column (below ∷ limits)
+  unfolding firstNotBelow
+  is-not-below l = rw (le-ltb (words column) below (rw (← read) l), firstNotBelow)
+
+pub all-below : (words : ℕ → ℕ) (column : ℕ) → column ≡ firstNotBelow words column []
+unfolding firstNotBelow
+all-below words column = refl
+
+bad-limits : (words : ℕ → ℕ) (column : ℕ) (rules : List Rule) → firstBad words column rules ≡ firstNotBelow words column (limitsFrom words column rules)
+unfolding firstBad firstNotBelow
+bad-limits words column [] = refl
+bad-limits words column (rule ∷ rules) = go _ _ (fits-limit rule (words column)) _ _ (bad-limits words (suc column) rules)
+  where
+    go : (a b : Bool) → a ≡ b → (m n : ℕ) → m ≡ n → _≡_ {A = ℕ} (elim a [ true ↦ m | false ↦ column ]) (elim b [ true ↦ n | false ↦ column ])
+    go true true e m n f = f
+    go true false e m n f = absurd (let z : _≡_ {A = ℕ} 0 1 = cc in omega arith)
+    go false true e m n f = absurd (let z : _≡_ {A = ℕ} 0 1 = cc in omega arith)
+    go false false e m n f = refl
+
+-- rules by their limits
+pub in-limits : (words : ℕ → ℕ) (column : ℕ) (rules : List Rule) (limits : List ℕ) {bad : ℕ} → bad ≡ firstNotBelow words column limits → limits ≡ limitsFrom words column rules
+    → bad ≡ firstBad words column rules
+in-limits words column rules limits h e = rw (bad-limits words column rules, ← e) h
 
 -- columns that are all unused, one more of them
-module _ (words : ℕ → ℕ) (column width : ℕ) (inside : column < width) {word : ℕ} {ok : Bool} (read : word ≡ words column) (test : ok ≡ fits unused word) where
+module _ (words : ℕ → ℕ) (column width : ℕ) (inside : column < width) {word : ℕ} (read : word ≡ words column) where
   more : replicate (width - column) unused ≡ unused ∷ replicate (width - (column + 1)) unused
   more = let e : width - column ≡ suc (width - (column + 1)) = omega arith in rw e
 
-  pub unused-on : not ok ≡ false → firstBad words column (replicate (width - column) unused) ≡ firstBad words (column + 1) (replicate (width - (column + 1)) unused)
-  unused-on e = rw (more, add-one column) (sym (passed words column unused _ read test e refl))
+  pub unused-on : word ≡ 0 → firstBad words column (replicate (width - column) unused) ≡ firstBad words (column + 1) (replicate (width - (column + 1)) unused)
+  unused-on e = rw (more, add-one column) (sym (passed words column unused _ {below = 1} read refl (omega arith) refl))
 
-  pub unused-off : not ok ≡ true → column ≡ firstBad words column (replicate (width - column) unused)
-  unused-off e = rw more (failed words column unused _ read test e)
+  pub unused-off : (word ≡ 0 → ⊥) → column ≡ firstBad words column (replicate (width - column) unused)
+  unused-off f = rw more (failed words column unused _ {below = 1} read refl (omega arith))
 
 pub unused-last : (words : ℕ → ℕ) (column width : ℕ) → width ≤ column → column ≡ firstBad words column (replicate (width - column) unused)
 unfolding firstBad
@@ -244,17 +272,17 @@ module _ (ws : List ℕ) (rule : Rule) (begin rows : ℕ) where
   unfolding rowsVerdict
   rest-last row h = let f : rows - row ≡ 0 = omega arith in rw f
 
-  module _ (row : ℕ) (inside : row < rows) {word : ℕ} {ok : Bool} (read : word ≡ Words.word ws (begin + row)) (test : ok ≡ fits rule word) where
+  module _ (row : ℕ) (inside : row < rows) {word below : ℕ} (read : word ≡ Words.word ws (begin + row)) (bound : below ≡ limit rule word) where
     split : rest row ≡ andThen (rowVerdict ws (begin + row) (rule ∷ [])) (rest (row + 1))
     split =
         let e : begin + row + 1 ≡ begin + (row + 1) = omega arith in
         let f : rows - row - 1 ≡ rows - (row + 1) = omega arith in
         one ws (λ _. rule ∷ []) 1 (λ _. refl) (begin + row) row (omega arith) ∙ rw (e, f, add-one row)
 
-    pub rest-on : not ok ≡ false → rest row ≡ rest (row + 1)
+    pub rest-on : word < below → rest row ≡ rest (row + 1)
     unfolding rowVerdict
-    rest-on e = let h : fits rule (Words.word ws (begin + row)) ≡ true = rw (← read) (sym test ∙ not-false _ e) in split ∙ on _ _ (rw (h, rowVerdict))
+    rest-on l = split ∙ on _ _ (rw (rw read at (below-fits rule word (rw (← bound) l)), rowVerdict))
 
-    pub rest-off : not ok ≡ true → {from : ℕ} → from ≡ begin → refused 4 (from + row) ≡ rest row
+    pub rest-off : below ≤ word → {from : ℕ} → from ≡ begin → refused 4 (from + row) ≡ rest row
     unfolding rowVerdict
-    rest-off e b = let h : fits rule (Words.word ws (begin + row)) ≡ false = rw (← read) (sym test ∙ not-true _ e) in rw b (sym (split ∙ off _ _ (rw (h, rowVerdict))))
+    rest-off l b = rw b (sym (split ∙ off _ _ (rw (rw read at (not-below-fits rule word (rw (← bound) l)), rowVerdict))))

@@ -2,22 +2,43 @@
 use Prim.Native.Nat.{ℕ, zero, suc, _+_, _*_, _-_, _<_, _≤_}
 use mathlib.Core.Path.{_≡_, refl, sym, ap, _∙_}
 use mathlib.Core.List.{List, [], _∷_, _++_}
-use mathlib.Core.Bool.{Bool, true, false}
+use mathlib.Core.Bool.{Bool, true, false, _||_, cond}
 use native.Mathlib.Omega.{arith}
 use types.Run.{OneOf}
 use lib.ListN.{length, getD, replicate, List·getD-eq-default}
-use borrow.Author.Tests.{eq-eqb, ne-eqb, eqb-true, eqb-false, leb-true, leb-false, le-leb, lt-leb}
-use lib.Dec.{eqb, leb}
+use borrow.Author.Tests.{eq-eqb, ne-eqb, eqb-true, eqb-false, leb-true, leb-false, ltb-true, ltb-false, le-leb, lt-leb, lt-ltb, le-ltb}
+use lib.Dec.{eqb, leb, ltb}
 use Rattle.table.specs.Words.{blockWord, instructionCount, instructionWord, largest}
-use Rattle.table.specs.Check.{Rule, unused, number, rows-from, rulesByCode, terminalRules, blockRules, operandsByCode, operandRules, instructionRules, caseRules, placeRules, identifierRules}
-use Rattle.table.specs.Answer.{five, two}
+use Rattle.table.specs.Check.{Rule, unused, number, row, row-or-none, rows-from, fits, rulesByCode, terminalRules, blockRules, operandsByCode, operandRules, instructionRules, caseRules, placeRules, identifierRules}
+use Rattle.table.specs.Answer.{limit, five, two}
 
-pub leb-minus : (first word rows : ℕ) → first ≤ rows → leb word (rows - first) ≡ leb (first + word) rows
-leb-minus first word rows h = go (leb word (rows - first)) refl
+-- ---- a rule and its limit
+
+-- two tests that come out alike
+alike : (a b : Bool) → (a ≡ true → b ≡ true) → (a ≡ false → b ≡ false) → a ≡ b
+alike true b f g = sym (f refl)
+alike false b f g = sym (g refl)
+
+pub fits-limit : (rule : Rule) (w : ℕ) → fits rule w ≡ ltb w (limit rule w)
+unfolding fits
+fits-limit unused w = alike _ _ (λ e. lt-ltb w 1 (omega (arith, eqb-true w 0 e))) (λ e. le-ltb w 1 (omega (arith, eqb-false w 0 e)))
+fits-limit (number most) w = alike _ _ (λ e. lt-ltb w (suc most) (omega (arith, leb-true w most e))) (λ e. le-ltb w (suc most) (omega (arith, leb-false w most e)))
+fits-limit (row rows) w = refl
+fits-limit (row-or-none rows) w = go (eqb w largest) refl
   where
-    go : (t : Bool) → leb word (rows - first) ≡ t → t ≡ leb (first + word) rows
-    go true e = sym (le-leb (first + word) rows (omega (arith, leb-true word (rows - first) e)))
-    go false e = sym (lt-leb (first + word) rows (omega (arith, leb-false word (rows - first) e)))
+    go : (t : Bool) → eqb w largest ≡ t → t || ltb w rows ≡ ltb w (cond t (suc largest) rows)
+    go true e = sym (lt-ltb w 65536 (omega (arith, eqb-true w largest e)))
+    go false e = refl
+fits-limit (rows-from first rows) w =
+    alike _ _ (λ e. lt-ltb w (suc rows - first) (omega (arith, leb-true (first + w) rows e))) (λ e. le-ltb w (suc rows - first) (omega (arith, leb-false (first + w) rows e)))
+
+pub below-fits : (rule : Rule) (w : ℕ) → w < limit rule w → fits rule w ≡ true
+below-fits rule w h = fits-limit rule w ∙ lt-ltb w (limit rule w) h
+
+pub not-below-fits : (rule : Rule) (w : ℕ) → limit rule w ≤ w → fits rule w ≡ false
+not-below-fits rule w h = fits-limit rule w ∙ le-ltb w (limit rule w) h
+
+-- ---- the rules of a row
 
 module _ (ws : List ℕ) (b : ℕ) where
   pub absent : blockWord ws b 2 ≡ 0 → blockRules ws b ≡ replicate 10 unused

@@ -1,16 +1,13 @@
--- What the code's own types mean: the answer by paper 01's numbers, and a rule of the code as a rule of `Check`.
-use Prim.Native.Nat.{ℕ, zero, suc, _+_}
+-- What the code's own answers mean: the whole check's by paper 01's numbers, and those of the functions below it.
+use Prim.Native.Nat.{ℕ, zero, suc, _-_}
 use mathlib.Core.List.{List, [], _∷_}
-use mathlib.Core.Bool.{Bool, true, false}
-use lib.Dec.{leb}
+use mathlib.Core.Bool.{Bool, true, false, cond}
+use lib.Dec.{leb, ltb, eqb}
 use lib.ListN.{getD}
-use Rattle.table.specs.Words.{word}
+use Rattle.table.specs.Words.{word, largest}
 use Rattle.table.specs.declared.Checked.{Checked}
 use Rattle.table.specs.declared.Checked.the-variants.{Accepted, WrongLength, CountOverLimit, EntryOutOfRange, BadWord}
-use Rattle.table.specs.declared.rules.Rule.{Rule}
-use Rattle.table.specs.declared.rules.Rule.the-variants.{Unused, Number, Row, RowOrNone, RowsFrom}
-use Rattle.table.specs.Check.{Verdict, accepted, refused, unused, number, row, row-or-none, rows-from, fits}
-use Rattle.table.specs.Check as definition
+use Rattle.table.specs.Check.{Verdict, accepted, refused, Rule, unused, number, row, row-or-none, rows-from, fits}
 
 -- "1 under six words, at 0; 2 the first count over its limit, at its word; 1 wrong length, at 0; 3 entry not below the block count, at 0;
 -- 4 first bad word, at it"
@@ -34,22 +31,28 @@ abbrev pub isAccepted : Verdict → Bool
 isAccepted accepted = true
 isAccepted (refused code at) = false
 
-abbrev pub ruleOf : Rule → definition.Rule
-ruleOf Unused = unused
-ruleOf (Number most) = number most
-ruleOf (Row rows) = row rows
-ruleOf (RowOrNone rows) = row-or-none rows
-ruleOf (RowsFrom first rows) = rows-from first rows
+-- a word fits its rule where it is below this (proofs/RuleLaws.antt, `fits-limit`)
+abbrev pub limit : Rule → (word : ℕ) → ℕ
+limit unused word = 1
+limit (number most) word = suc most
+limit (row rows) word = rows
+limit (row-or-none rows) word = cond (eqb word largest) (suc largest) rows
+limit (rows-from first rows) word = suc rows - first
+
+-- the limits of the words from `column` on
+abbrev pub limitsFrom : (ℕ → ℕ) → ℕ → List Rule → List ℕ
+limitsFrom words column [] = []
+limitsFrom words column (rule ∷ rules) = limit rule (words column) ∷ limitsFrom words (suc column) rules
 
 -- rules for five columns, and for two: those not listed are unused
-abbrev pub five : List definition.Rule → List definition.Rule
+abbrev pub five : List Rule → List Rule
 five rules = getD rules 0 unused ∷ getD rules 1 unused ∷ getD rules 2 unused ∷ getD rules 3 unused ∷ getD rules 4 unused ∷ []
 
-abbrev pub two : List definition.Rule → List definition.Rule
+abbrev pub two : List Rule → List Rule
 two rules = getD rules 0 unused ∷ getD rules 1 unused ∷ []
 
 -- the first column, from `column` on, whose word does not fit its rule; the width of the row where all do
-unfoldable pub firstBad : (ℕ → ℕ) → ℕ → List definition.Rule → ℕ
+unfoldable pub firstBad : (ℕ → ℕ) → ℕ → List Rule → ℕ
 firstBad words column [] = column
 firstBad words column (rule ∷ rules) = elim (fits rule (words column)) [ true ↦ firstBad words (suc column) rules | false ↦ column ]
 
@@ -57,3 +60,8 @@ firstBad words column (rule ∷ rules) = elim (fits rule (words column)) [ true 
 unfoldable pub firstOver : List ℕ → ℕ → List ℕ → ℕ
 firstOver ws at [] = at
 firstOver ws at (limit ∷ limits) = elim (leb (word ws at) limit) [ true ↦ firstOver ws (suc at) limits | false ↦ at ]
+
+-- the first column, from `column` on, whose word is not below its limit; the next column where all are
+unfoldable pub firstNotBelow : (ℕ → ℕ) → ℕ → List ℕ → ℕ
+firstNotBelow words column [] = column
+firstNotBelow words column (below ∷ limits) = elim (ltb (words column) below) [ true ↦ firstNotBelow words (suc column) limits | false ↦ column ]

@@ -1,6 +1,5 @@
 // Refusals 1 to 4 of paper 01, and the accessors that index the words by what the check promises.
 mod rows;
-mod rules;
 pub mod words;
 
 ghost use mathlib.Core.Path.{_≡_};

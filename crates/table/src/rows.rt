@@ -1,18 +1,38 @@
-// The rows of the five tables: the first bad word of each.
+// The rows of the five tables: the first bad word of each. A word fits where it is below its column's limit: `limit` in specs/Answer.antt says
+// which limit a rule of the paper is.
 use crate::Checked;
-use crate::rules::Rule;
-use crate::rules::fits;
 use crate::words;
 ghost use mathlib.Core.Path.{_≡_};
 ghost use mathlib.Core.List.{[], _∷_};
-ghost use Prim.Native.Nat.{_+_, _*_, _<_, _≤_};
+ghost use Prim.Native.Nat.{suc, _-_, _<_, _≤_};
 ghost use lib.ListN.{length, replicate};
 ghost use Rattle.table.specs.Words.{blockCount, instructionCount, caseCount, placeCount, identifierCount};
 ghost use Rattle.table.specs.Words.{blocksBegin, instructionsBegin, casesBegin, placesBegin, identifiersBegin};
 ghost use Rattle.table.specs.Words.{blockWord, instructionWord, caseWord};
-ghost use Rattle.table.specs.Check.{unused, terminalRules, blockRules, operandRules, instructionRules, caseRules, placeRules, identifierRules, rowsVerdict};
-ghost use Rattle.table.specs.Answer.{verdictOf, ruleOf, five, two, firstBad};
+ghost use Rattle.table.specs.Check.{unused, row-or-none, terminalRules, blockRules, operandRules, instructionRules, caseRules};
+ghost use Rattle.table.specs.Check.{placeRules, identifierRules, rowsVerdict};
+ghost use Rattle.table.specs.Answer.{verdictOf, limit, five, two, firstBad, firstNotBelow};
 ghost use Rattle.table.specs.Promise.{Sized};
+
+// Below this, any row word; only 0 is below that of an unused column.
+const ANY: u32 = 65536;
+
+const UNUSED: u32 = 1;
+
+// The limit of a word that names one of so many rows, or none.
+fn row_or_none(rows: u32, word: u32) -> u32
+    ensures { λ r. ⌜ r ≡ limit (row-or-none rows) word ⌝ }
+{
+    if word == 65535 { ANY } else { rows }
+}
+
+// The limit of a number of rows from `first` on, of a table that has so many.
+fn rows_from(first: u32, rows: u32) -> u32
+    requires { ⌜ rows ≤ 4096 ⌝ }
+    ensures { λ r. ⌜ r ≡ suc rows - first ⌝ }
+{
+    if first <= rows { rows - first + 1 } else { 0 }
+}
 
 // The first column of a row with code 0 that is not 0; 10 where all are.
 fn absent_row(words: &[u32], row: u32) -> u32
@@ -22,7 +42,7 @@ fn absent_row(words: &[u32], row: u32) -> u32
 {
     let mut column = 0;
     while column < 10 {
-        if !fits(Rule::Unused, words::block_word(words, row, column)) {
+        if words::block_word(words, row, column) != 0 {
             return column;
         }
         column += 1;
@@ -30,68 +50,65 @@ fn absent_row(words: &[u32], row: u32) -> u32
     column
 }
 
-// The first of the columns a to e that does not fit its rule; 8, the next column, where all do.
-fn columns(words: &[u32], row: u32, a: Rule, b: Rule, c: Rule, d: Rule, e: Rule) -> u32
+// The first of the columns a to e that is not below its limit; 8, the next column, where all are.
+fn columns(words: &[u32], row: u32, a: u32, b: u32, c: u32, d: u32, e: u32) -> u32
     requires { ⌜ Sized (now words) ⌝ }
     requires { ⌜ row < blockCount (now words) ⌝ }
-    ensures { λ r. ⌜ r ≡ firstBad (blockWord (now (words .entry)) row) 3 (ruleOf a ∷ ruleOf b ∷ ruleOf c ∷ ruleOf d ∷ ruleOf e ∷ []) ⌝ }
+    ensures { λ r. ⌜ r ≡ firstNotBelow (blockWord (now (words .entry)) row) 3 (a ∷ b ∷ c ∷ d ∷ e ∷ []) ⌝ }
 {
-    if !fits(a, words::block_word(words, row, 3)) {
+    if words::block_word(words, row, 3) >= a {
         return 3;
     }
-    if !fits(b, words::block_word(words, row, 4)) {
+    if words::block_word(words, row, 4) >= b {
         return 4;
     }
-    if !fits(c, words::block_word(words, row, 5)) {
+    if words::block_word(words, row, 5) >= c {
         return 5;
     }
-    if !fits(d, words::block_word(words, row, 6)) {
+    if words::block_word(words, row, 6) >= d {
         return 6;
     }
-    if !fits(e, words::block_word(words, row, 7)) {
+    if words::block_word(words, row, 7) >= e {
         return 7;
     }
     8
 }
 
-// The same, by the block's code: paper 01, "Codes and columns".
+// The same, with the limits of the block's code: paper 01, "Codes and columns".
 fn terminal_columns(words: &[u32], row: u32, code: u32) -> u32
     requires { ⌜ Sized (now words) ⌝ }
     requires { ⌜ row < blockCount (now words) ⌝ }
     ensures { λ r. ⌜ r ≡ firstBad (blockWord (now (words .entry)) row) 3 (five (terminalRules (now (words .entry)) code (blockWord (now (words .entry)) row 4))) ⌝ }
 {
-    let first = words::block_word(words, row, 4);
-    let cases = Rule::RowsFrom(first, words::case_count(words));
-    let block = Rule::Row(words::block_count(words));
-    let block_or_none = Rule::RowOrNone(words::block_count(words));
-    let place = Rule::Row(words::place_count(words));
-    let place_or_none = Rule::RowOrNone(words::place_count(words));
-    let any = Rule::Number(65535);
-    let none = Rule::Unused;
+    let blocks = words::block_count(words);
+    let places = words::place_count(words);
+    let update = row_or_none(blocks, words::block_word(words, row, 5));
+    let binding = row_or_none(places, words::block_word(words, row, 6));
+    let cases = rows_from(words::block_word(words, row, 4), words::case_count(words));
     match code {
-        0 => columns(words, row, none, none, none, none, none), // no such block
-        1 => columns(words, row, none, none, none, none, none), // Unreachable
-        2 => columns(words, row, place, none, none, none, none), // Throw
-        3 => columns(words, row, place, none, none, none, none), // Return
-        4 => columns(words, row, block, Rule::Number(2), none, none, none), // Goto
-        5 => columns(words, row, place, block, block, block, none), // If
-        6 => columns(words, row, place, block, block, none, none), // Branch
-        7 => columns(words, row, place, any, cases, block, none), // Switch
-        8 => columns(words, row, block, block, block, none, none), // DoWhile
-        9 => columns(words, row, block, block, block, none, none), // While
-        10 => columns(words, row, block, block, block_or_none, block, block), // For
-        11 => columns(words, row, block, block, block, block, none), // ForOf
-        12 => columns(words, row, block, block, block, none, none), // ForIn
-        13 => columns(words, row, Rule::Number(2), block, block, none, none), // Logical
-        14 => columns(words, row, block, block, none, none, none), // Ternary
-        15 => columns(words, row, Rule::Number(1), block, block, none, none), // Optional
-        16 => columns(words, row, block, block, none, none, none), // Label
-        17 => columns(words, row, block, block, none, none, none), // Sequence
-        18 => columns(words, row, block, none, none, none, none), // MaybeThrow
-        19 => columns(words, row, block, block, block, place_or_none, none), // Try
-        20 => columns(words, row, block, block, any, none, none), // Scope
-        21 => columns(words, row, block, block, any, none, none), // PrunedScope
-        _ => columns(words, row, none, none, none, none, none),
+        0 => columns(words, row, UNUSED, UNUSED, UNUSED, UNUSED, UNUSED), // no such block
+        1 => columns(words, row, UNUSED, UNUSED, UNUSED, UNUSED, UNUSED), // Unreachable
+        2 => columns(words, row, places, UNUSED, UNUSED, UNUSED, UNUSED), // Throw
+        3 => columns(words, row, places, UNUSED, UNUSED, UNUSED, UNUSED), // Return
+        4 => columns(words, row, blocks, 3, UNUSED, UNUSED, UNUSED), // Goto
+        5 => columns(words, row, places, blocks, blocks, blocks, UNUSED), // If
+        6 => columns(words, row, places, blocks, blocks, UNUSED, UNUSED), // Branch
+        7 => columns(words, row, places, ANY, cases, blocks, UNUSED), // Switch
+        8 => columns(words, row, blocks, blocks, blocks, UNUSED, UNUSED), // DoWhile
+        9 => columns(words, row, blocks, blocks, blocks, UNUSED, UNUSED), // While
+        10 => columns(words, row, blocks, blocks, update, blocks, blocks), // For
+        11 => columns(words, row, blocks, blocks, blocks, blocks, UNUSED), // ForOf
+        12 => columns(words, row, blocks, blocks, blocks, UNUSED, UNUSED), // ForIn
+        13 => columns(words, row, 3, blocks, blocks, UNUSED, UNUSED), // Logical
+        14 => columns(words, row, blocks, blocks, UNUSED, UNUSED, UNUSED), // Ternary
+        15 => columns(words, row, 2, blocks, blocks, UNUSED, UNUSED), // Optional
+        16 => columns(words, row, blocks, blocks, UNUSED, UNUSED, UNUSED), // Label
+        17 => columns(words, row, blocks, blocks, UNUSED, UNUSED, UNUSED), // Sequence
+        18 => columns(words, row, blocks, UNUSED, UNUSED, UNUSED, UNUSED), // MaybeThrow
+        19 => columns(words, row, blocks, blocks, blocks, binding, UNUSED), // Try
+        20 => columns(words, row, blocks, blocks, ANY, UNUSED, UNUSED), // Scope
+        21 => columns(words, row, blocks, blocks, ANY, UNUSED, UNUSED), // PrunedScope
+        _ => columns(words, row, UNUSED, UNUSED, UNUSED, UNUSED, UNUSED),
     }
 }
 
@@ -106,60 +123,56 @@ fn block_row(words: &[u32], row: u32) -> u32
         return absent_row(words, row);
     }
     let first = words::block_word(words, row, 0);
-    if !fits(Rule::Number(65535), first) {
+    if first >= ANY {
         return 0;
     }
-    let instructions = words::instruction_count(words);
-    if !fits(
-        Rule::RowsFrom(first, instructions),
-        words::block_word(words, row, 1),
-    ) {
+    let most = rows_from(first, words::instruction_count(words));
+    if words::block_word(words, row, 1) >= most {
         return 1;
     }
-    if !fits(Rule::Number(21), code) {
+    if code >= 22 {
         return 2;
     }
     let column = terminal_columns(words, row, code);
     if column < 8 {
         return column;
     }
-    if !fits(Rule::Number(65535), words::block_word(words, row, 8)) {
+    if words::block_word(words, row, 8) >= ANY {
         return 8;
     }
-    if !fits(Rule::Number(65535), words::block_word(words, row, 9)) {
+    if words::block_word(words, row, 9) >= ANY {
         return 9;
     }
     10
 }
 
-// The first of p and q that does not fit its rule; 5, the next column, where both do.
-fn operands(words: &[u32], row: u32, p: Rule, q: Rule) -> u32
+// The first of p and q that is not below its limit; 5, the next column, where both are.
+fn operands(words: &[u32], row: u32, p: u32, q: u32) -> u32
     requires { ⌜ Sized (now words) ⌝ }
     requires { ⌜ row < instructionCount (now words) ⌝ }
-    ensures { λ r. ⌜ r ≡ firstBad (instructionWord (now (words .entry)) row) 3 (ruleOf p ∷ ruleOf q ∷ []) ⌝ }
+    ensures { λ r. ⌜ r ≡ firstNotBelow (instructionWord (now (words .entry)) row) 3 (p ∷ q ∷ []) ⌝ }
 {
-    if !fits(p, words::instruction_word(words, row, 3)) {
+    if words::instruction_word(words, row, 3) >= p {
         return 3;
     }
-    if !fits(q, words::instruction_word(words, row, 4)) {
+    if words::instruction_word(words, row, 4) >= q {
         return 4;
     }
     5
 }
 
-// The same, by the instruction's code.
+// The same, with the limits of the instruction's code.
 fn operand_columns(words: &[u32], row: u32, code: u32) -> u32
     requires { ⌜ Sized (now words) ⌝ }
     requires { ⌜ row < instructionCount (now words) ⌝ }
     ensures { λ r. ⌜ r ≡ firstBad (instructionWord (now (words .entry)) row) 3 (two (operandRules (now (words .entry)) code)) ⌝ }
 {
-    let place = Rule::Row(words::place_count(words));
-    let none = Rule::Unused;
+    let places = words::place_count(words);
     match code {
-        0 => operands(words, row, none, none), // other
-        1 => operands(words, row, place, none), // LoadLocal
-        2 => operands(words, row, place, place), // StoreLocal
-        _ => operands(words, row, none, none),
+        0 => operands(words, row, UNUSED, UNUSED), // other
+        1 => operands(words, row, places, UNUSED), // LoadLocal
+        2 => operands(words, row, places, places), // StoreLocal
+        _ => operands(words, row, UNUSED, UNUSED),
     }
 }
 
@@ -169,22 +182,21 @@ fn instruction_row(words: &[u32], row: u32) -> u32
     requires { ⌜ row < instructionCount (now words) ⌝ }
     ensures { λ r. ⌜ r ≡ firstBad (instructionWord (now (words .entry)) row) 0 (instructionRules (now (words .entry)) row) ⌝ }
 {
-    if !fits(Rule::Number(65535), words::instruction_word(words, row, 0)) {
+    if words::instruction_word(words, row, 0) >= ANY {
         return 0;
     }
-    let places = words::place_count(words);
-    if !fits(Rule::Row(places), words::instruction_word(words, row, 1)) {
+    if words::instruction_word(words, row, 1) >= words::place_count(words) {
         return 1;
     }
     let code = words::instruction_word(words, row, 2);
-    if !fits(Rule::Number(2), code) {
+    if code >= 3 {
         return 2;
     }
     let column = operand_columns(words, row, code);
     if column < 5 {
         return column;
     }
-    if !fits(Rule::Number(65535), words::instruction_word(words, row, 5)) {
+    if words::instruction_word(words, row, 5) >= ANY {
         return 5;
     }
     6
@@ -196,12 +208,11 @@ fn case_row(words: &[u32], row: u32) -> u32
     requires { ⌜ row < caseCount (now words) ⌝ }
     ensures { λ r. ⌜ r ≡ firstBad (caseWord (now (words .entry)) row) 0 (caseRules (now (words .entry)) row) ⌝ }
 {
-    let places = words::place_count(words);
-    if !fits(Rule::RowOrNone(places), words::case_word(words, row, 0)) {
+    let test = words::case_word(words, row, 0);
+    if test >= row_or_none(words::place_count(words), test) {
         return 0;
     }
-    let blocks = words::block_count(words);
-    if !fits(Rule::Row(blocks), words::case_word(words, row, 1)) {
+    if words::case_word(words, row, 1) >= words::block_count(words) {
         return 1;
     }
     2
@@ -211,14 +222,14 @@ pub fn check_blocks(words: &[u32]) -> Checked
     requires { ⌜ Sized (now words) ⌝ }
     ensures { λ r. ⌜ verdictOf r ≡ rowsVerdict (now (words .entry)) (blockRules (now (words .entry))) blocksBegin 0 (blockCount (now (words .entry))) ⌝ }
 {
-    let rows = words::block_count(words);
-    let mut row = 0;
-    while row < rows {
-        let column = block_row(words, row);
+    let blocks = words::block_count(words);
+    let mut block = 0;
+    while block < blocks {
+        let column = block_row(words, block);
         if column < 10 {
-            return Checked::BadWord(6 + row * 10 + column);
+            return Checked::BadWord(6 + block * 10 + column);
         }
-        row += 1;
+        block += 1;
     }
     Checked::Accepted
 }
@@ -228,14 +239,14 @@ pub fn check_instructions(words: &[u32]) -> Checked
     ensures { λ r. ⌜ verdictOf r ≡ rowsVerdict (now (words .entry)) (instructionRules (now (words .entry))) (instructionsBegin (now (words .entry))) 0 (instructionCount (now (words .entry))) ⌝ }
 {
     let begin = words::instructions_begin(words);
-    let rows = words::instruction_count(words);
-    let mut row = 0;
-    while row < rows {
-        let column = instruction_row(words, row);
+    let instructions = words::instruction_count(words);
+    let mut instruction = 0;
+    while instruction < instructions {
+        let column = instruction_row(words, instruction);
         if column < 6 {
-            return Checked::BadWord(begin + row * 6 + column);
+            return Checked::BadWord(begin + instruction * 6 + column);
         }
-        row += 1;
+        instruction += 1;
     }
     Checked::Accepted
 }
@@ -245,14 +256,14 @@ pub fn check_cases(words: &[u32]) -> Checked
     ensures { λ r. ⌜ verdictOf r ≡ rowsVerdict (now (words .entry)) (caseRules (now (words .entry))) (casesBegin (now (words .entry))) 0 (caseCount (now (words .entry))) ⌝ }
 {
     let begin = words::cases_begin(words);
-    let rows = words::case_count(words);
-    let mut row = 0;
-    while row < rows {
-        let column = case_row(words, row);
+    let cases = words::case_count(words);
+    let mut case = 0;
+    while case < cases {
+        let column = case_row(words, case);
         if column < 2 {
-            return Checked::BadWord(begin + row * 2 + column);
+            return Checked::BadWord(begin + case * 2 + column);
         }
-        row += 1;
+        case += 1;
     }
     Checked::Accepted
 }
@@ -262,14 +273,14 @@ pub fn check_places(words: &[u32]) -> Checked
     ensures { λ r. ⌜ verdictOf r ≡ rowsVerdict (now (words .entry)) (placeRules (now (words .entry))) (placesBegin (now (words .entry))) 0 (placeCount (now (words .entry))) ⌝ }
 {
     let begin = words::places_begin(words);
-    let rows = words::place_count(words);
+    let places = words::place_count(words);
     let identifiers = words::identifier_count(words);
-    let mut row = 0;
-    while row < rows {
-        if !fits(Rule::Row(identifiers), words::place_word(words, row)) {
-            return Checked::BadWord(begin + row);
+    let mut place = 0;
+    while place < places {
+        if words::place_word(words, place) >= identifiers {
+            return Checked::BadWord(begin + place);
         }
-        row += 1;
+        place += 1;
     }
     Checked::Accepted
 }
@@ -279,13 +290,13 @@ pub fn check_identifiers(words: &[u32]) -> Checked
     ensures { λ r. ⌜ verdictOf r ≡ rowsVerdict (now (words .entry)) (identifierRules (now (words .entry))) (identifiersBegin (now (words .entry))) 0 (identifierCount (now (words .entry))) ⌝ }
 {
     let begin = words::identifiers_begin(words);
-    let rows = words::identifier_count(words);
-    let mut row = 0;
-    while row < rows {
-        if !fits(Rule::Number(1), words::identifier_word(words, row)) {
-            return Checked::BadWord(begin + row);
+    let identifiers = words::identifier_count(words);
+    let mut identifier = 0;
+    while identifier < identifiers {
+        if words::identifier_word(words, identifier) >= 2 {
+            return Checked::BadWord(begin + identifier);
         }
-        row += 1;
+        identifier += 1;
     }
     Checked::Accepted
 }

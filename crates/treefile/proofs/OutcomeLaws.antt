@@ -1,6 +1,6 @@
 -- Laws of outcomes that printing rests on.
 use Prim.Native.Nat.{ℕ, zero, suc, _-_, _*_, _/_, _≤_}
-use mathlib.Core.Path.{_≡_, refl}
+use mathlib.Core.Path.{_≡_, refl, sym, ap, _∙_}
 use mathlib.Core.Bool.{Bool, true, false}
 use mathlib.Core.List.{List, _++_}
 use native.Mathlib.Omega.{arith}
@@ -13,6 +13,8 @@ use Rattle.table.specs.Table.{tableOf}
 use Rattle.definition.specs.Tree.{Row}
 use Rattle.definition.specs.Build.{Report, Outcome, accepted, rejected, report, refusal, wordsOf, placed, outcomeOf, afterCheck, built}
 use Rattle.text.specs.Printed.{printed, treeLines}
+use Rattle.build.specs.Entry.{outcome}
+use Rattle.build.specs.declared.Outcome as build
 use Rattle.treefile.specs.Prints.{printedOutcome}
 
 -- what is accepted has its rows within the lent words
@@ -40,7 +42,7 @@ unfolding afterCheck refusal Fits
 after-fits lent (check.refused code at) words = λ _. omega arith
 after-fits lent check.accepted words = outcome-fits lent (report (tableOf words))
 
-pub built-fits : (words : List ℕ) (lent : ℕ) → built words lent .code ≡ 0 → built words lent .rows * 6 ≤ lent
+built-fits : (words : List ℕ) (lent : ℕ) → built words lent .code ≡ 0 → built words lent .rows * 6 ≤ lent
 unfolding built Fits
 built-fits words lent = after-fits lent (checked words) words
 
@@ -51,9 +53,14 @@ refusal-lines zero at rows visits t t′ h = absurd (h refl)
 refusal-lines (suc code) at rows visits t t′ h = refl
 
 -- what is written of a build is what its outcome prints
-module _ (words : List ℕ) (lent : ℕ) {code at rows visits : ℕ} {tree : List ℕ} where
-  pub built-printed : {room : ℕ} → room ≡ lent → code ≡ built words room .code → at ≡ built words room .at → rows ≡ built words room .rows
-      → visits ≡ built words room .visits → tree ≡ built words room .buffer
-      → printed code at rows visits (take (rows * 6) tree) ≡ printedOutcome (built words lent)
-  unfolding printedOutcome
-  built-printed l p q r s t = rw (p, q, r, s, t, l) refl
+pub built-printed : (words : List ℕ) (lent : ℕ) (r : build.Outcome) (tree : List ℕ) {room : ℕ} → room ≡ lent → outcome r tree ≡ built words room
+    → printed (r .code) (r .at) (r .rows) (r .visits) (take (r .rows * 6) tree) ≡ printedOutcome (built words lent)
+unfolding printedOutcome
+built-printed words lent r tree l h = ap printedOutcome h ∙ ap (λ (n : ℕ). printedOutcome (built words n)) l
+
+-- what is accepted stands within the lent words
+pub built-within : (words tree : List ℕ) (lent : ℕ) (r : build.Outcome) → outcome r tree ≡ built words lent → r .code ≡ 0 → r .rows * 6 ≤ lent
+built-within words tree lent r h e =
+    let code = ap (λ (o : Outcome). o .code) h in
+    let rows = ap (λ (o : Outcome). o .rows) h in
+    omega (arith, built-fits words lent (sym code ∙ e), rows)

@@ -16,7 +16,7 @@ use Rattle.definition.specs.Tree.{Value, PLAIN, LOAD}
 use Rattle.definition.specs.Value.{ValueBlockResult, wrapWithSequence, finalValue, finalPlace, storedToNamed, allButLast, last, extractValueBlockResult, extractOrRefuse, branchValue, loadedBy}
 use Rattle.value.specs.Met.{unnamed, unnamedStore}
 use Rattle.value.proofs.Ranges.{few-operations, stored-to, place-identifier}
-use Rattle.value.proofs.TableLaws.{instruction-at, place-at, named-at}
+use Rattle.table.proofs.TableLaws.{instruction-at, place-at, named-at}
 use Rattle.value.proofs.MetLaws.{wrap}
 
 -- ---- one instruction, by its operation
@@ -74,7 +74,7 @@ module _ {ws : List ℕ} (pr : Promise ws) (i : ℕ) (h : i < instructionCount w
   name-at : instructionWord ws i 2 ≡ 2 → name (tableOf ws) i (instructionWord ws i 3) 0 0 ≡ identifierWord ws (placeWord ws (instructionWord ws i 3))
   name-at e =
       let q = stored-to pr i h e in
-      ap (λ (k : ℕ). getD (tableOf ws .named) k 0) (place-at ws (instructionWord ws i 3) q) ∙ named-at ws (placeWord ws (instructionWord ws i 3)) (place-identifier pr (instructionWord ws i 3) q)
+      ap (λ (k : ℕ). getD (tableOf ws .named) k 0) (place-at ws (instructionWord ws i 3) 0 q) ∙ named-at ws (placeWord ws (instructionWord ws i 3)) 0 (place-identifier pr (instructionWord ws i 3) q)
 
   pub store-code : unnamedStore ws i ≡ true → instructionWord ws i 2 ≡ 2
   store-code e = unnamed-true (instructionWord ws i 2) (identifierWord ws (placeWord ws (instructionWord ws i 3))) e .0

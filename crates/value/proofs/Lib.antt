@@ -1,5 +1,5 @@
-pub mod Ranges
 pub mod TableLaws
+pub mod Ranges
 pub mod MetLaws
 pub mod ExtractLaws
 pub mod WalkLaws

@@ -1,69 +1,98 @@
 -- The ranges of the columns that the value walk reads, from the table's promise.
-use mathlib.Core.Path.{_≡_}
+use mathlib.Core.Path.{_≡_, ap, subst, _∙_}
 use mathlib.Core.List.{List}
 use Prim.Native.Nat.{ℕ, _+_, _≤_, _<_}
-use Rattle.table.specs.Words.{blockCount, instructionCount, placeCount, identifierCount, blockWord, instructionWord, placeWord}
-use Rattle.table.specs.Promise.{Promise}
+use Rattle.table.specs.Words.{blockCount, instructionCount, placeCount, identifierCount, caseCount, blockWord, instructionWord, placeWord}
+use Rattle.table.specs.Table.{Terminal, Instruction, Operation, tableOf, terminalOf, instructionOf, operationOf}
+use Rattle.table.specs.Promise.{Promise, InRange, OperandsInRange}
+use Rattle.table.proofs.TableLaws.{instruction-at}
+use Rattle.table.proofs.RangeLaws.{run-within, in-range, lvalue-below, operation-known, operands-in-range}
+use Rattle.value.proofs.TableLaws.{end-at}
 
 module _ {ws : List ℕ} (p : Promise ws) where
   module _ (b : ℕ) (h : b < blockCount ws) where
-    pub few-codes : blockWord ws b 2 ≤ 21
-    few-codes = p .code b h
-
     pub run : blockWord ws b 0 + blockWord ws b 1 ≤ instructionCount ws
-    run = p .run b h
+    run = run-within ws p b h
+
+    -- what the columns of a code name is there
+    columns : {code : ℕ} → blockWord ws b 2 ≡ code
+        → InRange (blockCount ws) (placeCount ws) (caseCount ws) (terminalOf code (blockWord ws b 3) (blockWord ws b 4) (blockWord ws b 5) (blockWord ws b 6) (blockWord ws b 7))
+    columns e =
+        subst (λ (m : Terminal). InRange (blockCount ws) (placeCount ws) (caseCount ws) m)
+        (end-at ws b h ∙ ap (λ (k : ℕ). terminalOf k (blockWord ws b 3) (blockWord ws b 4) (blockWord ws b 5) (blockWord ws b 6) (blockWord ws b 7)) e) (in-range ws p b h)
 
     pub branch-test : blockWord ws b 2 ≡ 6 → blockWord ws b 3 < placeCount ws
-    branch-test = p .c6-3 b h
+    unfolding terminalOf
+    branch-test e = columns e .0
 
     pub branch-consequent : blockWord ws b 2 ≡ 6 → blockWord ws b 4 < blockCount ws
-    branch-consequent = p .c6-4 b h
+    unfolding terminalOf
+    branch-consequent e = columns e .1
 
     pub branch-alternate : blockWord ws b 2 ≡ 6 → blockWord ws b 5 < blockCount ws
-    branch-alternate = p .c6-5 b h
+    unfolding terminalOf
+    branch-alternate e = columns e .2
 
     pub logical-test : blockWord ws b 2 ≡ 13 → blockWord ws b 4 < blockCount ws
-    logical-test = p .c13-4 b h
+    unfolding terminalOf
+    logical-test e = columns e .1
 
     pub logical-fallthrough : blockWord ws b 2 ≡ 13 → blockWord ws b 5 < blockCount ws
-    logical-fallthrough = p .c13-5 b h
+    unfolding terminalOf
+    logical-fallthrough e = columns e .2
 
     pub ternary-test : blockWord ws b 2 ≡ 14 → blockWord ws b 3 < blockCount ws
-    ternary-test = p .c14-3 b h
+    unfolding terminalOf
+    ternary-test e = columns e .0
 
     pub ternary-fallthrough : blockWord ws b 2 ≡ 14 → blockWord ws b 4 < blockCount ws
-    ternary-fallthrough = p .c14-4 b h
+    unfolding terminalOf
+    ternary-fallthrough e = columns e .1
 
     pub optional-test : blockWord ws b 2 ≡ 15 → blockWord ws b 4 < blockCount ws
-    optional-test = p .c15-4 b h
+    unfolding terminalOf
+    optional-test e = columns e .1
 
     pub optional-fallthrough : blockWord ws b 2 ≡ 15 → blockWord ws b 5 < blockCount ws
-    optional-fallthrough = p .c15-5 b h
+    unfolding terminalOf
+    optional-fallthrough e = columns e .2
 
     pub sequence-block : blockWord ws b 2 ≡ 17 → blockWord ws b 3 < blockCount ws
-    sequence-block = p .c17-3 b h
+    unfolding terminalOf
+    sequence-block e = columns e .0
 
     pub sequence-fallthrough : blockWord ws b 2 ≡ 17 → blockWord ws b 4 < blockCount ws
-    sequence-fallthrough = p .c17-4 b h
+    unfolding terminalOf
+    sequence-fallthrough e = columns e .1
 
     pub continuation : blockWord ws b 2 ≡ 18 → blockWord ws b 3 < blockCount ws
-    continuation = p .c18-3 b h
+    unfolding terminalOf
+    continuation e = columns e
 
   module _ (i : ℕ) (h : i < instructionCount ws) where
     pub few-operations : instructionWord ws i 2 ≤ 2
-    few-operations = p .icode i h
+    few-operations = operation-known ws p i h
 
     pub lvalue : instructionWord ws i 1 < placeCount ws
-    lvalue = p .lvalue i h
+    lvalue = lvalue-below ws p i h
+
+    operands : {code : ℕ} → instructionWord ws i 2 ≡ code → OperandsInRange (placeCount ws) (operationOf code (instructionWord ws i 3) (instructionWord ws i 4))
+    unfolding instructionOf
+    operands e =
+        subst (λ (o : Operation). OperandsInRange (placeCount ws) o)
+        (ap (λ (k : Instruction). k .operation) (instruction-at ws i h) ∙ ap (λ (k : ℕ). operationOf k (instructionWord ws i 3) (instructionWord ws i 4)) e) (operands-in-range ws p i h)
 
     pub loaded : instructionWord ws i 2 ≡ 1 → instructionWord ws i 3 < placeCount ws
-    loaded = p .loaded i h
+    unfolding operationOf
+    loaded e = operands e
 
     pub stored-to : instructionWord ws i 2 ≡ 2 → instructionWord ws i 3 < placeCount ws
-    stored-to = p .storedTo i h
+    unfolding operationOf
+    stored-to e = operands e .0
 
     pub stored-value : instructionWord ws i 2 ≡ 2 → instructionWord ws i 4 < placeCount ws
-    stored-value = p .stored i h
+    unfolding operationOf
+    stored-value e = operands e .1
 
   pub place-identifier : (q : ℕ) → q < placeCount ws → placeWord ws q < identifierCount ws
-  place-identifier q h = p .places q h
+  place-identifier q h = p .place q h

@@ -1,4 +1,4 @@
--- The rows of the table are those of the words.
+-- A block of the table, by its words.
 use mathlib.Core.Path.{_≡_, refl, sym, ap, _∙_}
 use mathlib.Core.Bool.{Bool, true, false}
 use mathlib.Core.List.{List, [], _∷_}
@@ -8,50 +8,29 @@ use native.Mathlib.Omega.{arith}
 use lib.Dec.{eqb}
 use lib.ListN.{getD}
 use borrow.Author.Tests.{eqb-true, ne-eqb}
-use Rattle.table.specs.Words.{blockCount, instructionCount, placeCount, identifierCount, blockWord, instructionWord, placeWord, identifierWord, largest}
-use Rattle.table.specs.Table.{Table, Terminal, Block, Instruction, Operation, tableOf, tabulate, blockOf, instructionOf, terminalOf, operationOf, terminalAt, blockAt, instructionAt, instructionRowsAt, rowsFrom, codeOf, unlessNone, noBlock, noInstruction, isAbsent}
+use Rattle.table.specs.Words.{blockCount, blockWord, largest}
+use Rattle.table.specs.Table.{Block, tableOf, blockOf, terminalOf, terminalAt, blockAt, instructionRowsAt, rowsFrom, codeOf, unlessNone}
 use Rattle.table.specs.Promise.{Promise}
-use Rattle.value.proofs.Ranges.{few-codes}
-
-tabulate-at : {A : Type 0} (f : ℕ → A) (n i : ℕ) (d : A) → i < n → getD (tabulate f n) i d ≡ f i
-unfolding tabulate
-tabulate-at f zero i d h = absurd (omega arith)
-tabulate-at f (suc n) zero d h = refl
-tabulate-at f (suc n) (suc i) d h = tabulate-at (λ k. f (suc k)) n i d (omega arith)
+use Rattle.table.proofs.TableLaws.{block-at}
+use Rattle.table.proofs.RangeLaws.{code-known}
 
 module _ (ws : List ℕ) where
   module _ (b : ℕ) (h : b < blockCount ws) where
-    pub block-at : blockAt (tableOf ws) b ≡ blockOf ws b
-    unfolding tableOf
-    block-at = tabulate-at (blockOf ws) (blockCount ws) b noBlock h
-
     pub end-at : terminalAt (tableOf ws) b ≡ terminalOf (blockWord ws b 2) (blockWord ws b 3) (blockWord ws b 4) (blockWord ws b 5) (blockWord ws b 6) (blockWord ws b 7)
     unfolding blockOf
-    end-at = ap (λ (k : Block). k .terminal) block-at
+    end-at = ap (λ (k : Block). k .terminal) (block-at ws b h)
 
     pub id-at : blockAt (tableOf ws) b .id ≡ blockWord ws b 8
     unfolding blockOf
-    id-at = ap (λ (k : Block). k .id) block-at
+    id-at = ap (λ (k : Block). k .id) (block-at ws b h)
 
     pub span-at : blockAt (tableOf ws) b .span ≡ blockWord ws b 9
     unfolding blockOf
-    span-at = ap (λ (k : Block). k .span) block-at
+    span-at = ap (λ (k : Block). k .span) (block-at ws b h)
 
     pub rows-at : instructionRowsAt (tableOf ws) b ≡ rowsFrom (blockWord ws b 0) (blockWord ws b 1)
     unfolding blockOf
-    rows-at = ap (λ (k : Block). rowsFrom (k .first) (k .count)) block-at
-
-  pub instruction-at : (i : ℕ) → i < instructionCount ws → instructionAt (tableOf ws) i ≡ instructionOf ws i
-  unfolding tableOf
-  instruction-at i h = tabulate-at (instructionOf ws) (instructionCount ws) i noInstruction h
-
-  pub place-at : (q : ℕ) → q < placeCount ws → getD (tableOf ws .places) q 0 ≡ placeWord ws q
-  unfolding tableOf
-  place-at q h = tabulate-at (placeWord ws) (placeCount ws) q 0 h
-
-  pub named-at : (q : ℕ) → q < identifierCount ws → getD (tableOf ws .named) q 0 ≡ identifierWord ws q
-  unfolding tableOf
-  named-at q h = tabulate-at (identifierWord ws) (identifierCount ws) q 0 h
+    rows-at = ap (λ (k : Block). rowsFrom (k .first) (k .count)) (block-at ws b h)
 
 -- a test of each number below n, by computation
 abbrev both : Bool → Bool → Bool
@@ -77,7 +56,7 @@ unfolding terminalOf
 code-of code a b c d e h = eqb-true _ _ (below 22 (λ k. eqb (codeOf (terminalOf k a b c d e)) k) refl code (omega arith))
 
 pub code-at : {ws : List ℕ} → Promise ws → (b : ℕ) → b < blockCount ws → codeOf (terminalAt (tableOf ws) b) ≡ blockWord ws b 2
-code-at {ws} p b h = ap codeOf (end-at ws b h) ∙ code-of (blockWord ws b 2) (blockWord ws b 3) (blockWord ws b 4) (blockWord ws b 5) (blockWord ws b 6) (blockWord ws b 7) (few-codes p b h)
+code-at {ws} p b h = ap codeOf (end-at ws b h) ∙ code-of (blockWord ws b 2) (blockWord ws b 3) (blockWord ws b 4) (blockWord ws b 5) (blockWord ws b 6) (blockWord ws b 7) (code-known ws p b h)
 
 -- no block and no place has the number 65,535
 pub some-number : (n : ℕ) → n < 65535 → unlessNone n ≡ some n

@@ -12,9 +12,10 @@ use Rattle.table.specs.Words.{blockCount, blockWord, largest}
 use Rattle.table.specs.Table.{Table, Block, Terminal, absent, unreachable, throw, return, goto, if, branch, switch, do-while, while, for, for-of, for-in, logical, ternary, optional, label, sequence, maybe-throw, try, scope, tableOf, terminalOf, terminalAt, blockAt, instructionRows, instructionRowsAt, rowsFrom, codeOf, isAbsent, isGoto, unlessNone}
 use Rattle.table.specs.Promise.{Promise}
 use Rattle.definition.specs.Result.{Result, ok, refused, _>>=_, refuseIf}
-use Rattle.definition.specs.Value.{ValueBlockResult, ValueTerminalResult, VisitValueBlock, visitValueBlock, visitValueBlockAt, visitValueBlockTerminal, thenFallthrough, beginVisit, extractOrRefuse, branchValue, maybeThrowValue, isEmpty, isEmptyGoto, isThis}
+use Rattle.definition.specs.Value.{ValueBlockResult, ValueTerminalResult, VisitValueBlock, visitValueBlock, visitValueBlockAt, visitValueBlockTerminal, thenFallthrough, beginVisit, extractOrRefuse, branchValue, maybeThrowValue, isEmpty, isEmptyGoto, isThis, Ways, TestBlockResult, branchWays, testBlockEnded}
 use Rattle.value.specs.Outcome.{visit, blockOutcome, terminalOutcome}
-use Rattle.value.proofs.TableLaws.{end-at, id-at, span-at, rows-at, code-at, some-number, no-number}
+use Rattle.value.proofs.TableLaws.{end-at, id-at, span-at, rows-at, code-at}
+use Rattle.value.proofs.MetLaws.{wrap, unless-on, unless-off}
 
 -- ---- a visit
 
@@ -138,6 +139,29 @@ no-value t v (maybe-throw x) i s w a f = absurd (f (omega arith) (omega arith))
 no-value t v (try x y z u) i s w a f = refl
 no-value t v (scope x y z u) i s w a f = refl
 
+no-ways : (m : Terminal) → (codeOf m ≡ 6 → ⊥) → branchWays m ≡ none
+no-ways absent f = refl
+no-ways unreachable f = refl
+no-ways (throw x) f = refl
+no-ways (return x) f = refl
+no-ways (goto x y) f = refl
+no-ways (if x y z u) f = refl
+no-ways (branch x y z) f = absurd (f refl)
+no-ways (switch x y z u) f = refl
+no-ways (do-while x y z) f = refl
+no-ways (while x y z) f = refl
+no-ways (for x y z u w) f = refl
+no-ways (for-of x y z u) f = refl
+no-ways (for-in x y z) f = refl
+no-ways (logical x y z) f = refl
+no-ways (ternary x y) f = refl
+no-ways (optional x y z) f = refl
+no-ways (label x y) f = refl
+no-ways (sequence x y) f = refl
+no-ways (maybe-throw x) f = refl
+no-ways (try x y z u) f = refl
+no-ways (scope x y z u) f = refl
+
 module _ {ws : List ℕ} (p : Promise ws) (levels block : ℕ) (h : block < blockCount ws) where
   -- the block's column
   abbrev column : ℕ → ℕ
@@ -226,3 +250,45 @@ module _ {ws : List ℕ} (p : Promise ws) (block : ℕ) (h : block < blockCount 
 
   pub goto-empty : blockWord ws block 1 ≡ 0 → isEmptyGoto (blockAt (tableOf ws) block) ≡ eqb (blockWord ws block 2) 4
   goto-empty e = goto-by [] (rows-at ws block h ∙ ap (rowsFrom (blockWord ws block 0)) e) ∙ ap (λ (k : ℕ). eqb k 4) (code-at p block h)
+
+-- ---- MaybeThrow, by its continuation
+
+module _ {ws : List ℕ} (p : Promise ws) (levels block fallthrough span visits : ℕ) (h : block < blockCount ws) (e : blockWord ws block 2 ≡ 18) (there : blockWord ws block 3 < blockCount ws) where
+  abbrev next : ℕ
+  next = blockWord ws block 3
+
+  -- "That continuation is looked up first, before any visit: 10 if missing."
+  pub maybe-throw-missing : blockWord ws next 2 ≡ 0 → blockOutcome ws levels block fallthrough span visits ≡ refused 10 next visits
+  maybe-throw-missing z = at-maybe-throw p levels block h fallthrough span visits e
+      ∙ unless-on _ 10 next visits _ (ap (λ (k : ℕ). eqb k 0) (code-at p next there) ∙ eq-eqb (blockWord ws next 2) 0 z)
+
+  module _ (found : blockWord ws next 2 ≡ 0 → ⊥) where
+    goes-on : (y : Bool) → isEmptyGoto (blockAt (tableOf ws) next) ≡ y
+        → blockOutcome ws levels block fallthrough span visits
+        ≡ maybeThrowValue (tableOf ws) (visit ws levels) block next (instructionRowsAt (tableOf ws) block) (unlessNone fallthrough) span visits y
+    goes-on y q = at-maybe-throw p levels block h fallthrough span visits e
+        ∙ unless-off _ 10 next visits _ (ap (λ (k : ℕ). eqb k 0) (code-at p next there) ∙ ne-eqb (blockWord ws next 2) 0 found)
+        ∙ ap (maybeThrowValue (tableOf ws) (visit ws levels) block next (instructionRowsAt (tableOf ws) block) (unlessNone fallthrough) span visits) q
+
+    pub maybe-throw-own : isEmptyGoto (blockAt (tableOf ws) next) ≡ true
+        → blockOutcome ws levels block fallthrough span visits ≡ extractOrRefuse (tableOf ws) next (instructionRowsAt (tableOf ws) block) visits 28 block
+    unfolding maybeThrowValue
+    maybe-throw-own q = goes-on true q
+
+    pub maybe-throw-visits : isEmptyGoto (blockAt (tableOf ws) next) ≡ false
+        → blockOutcome ws levels block fallthrough span visits
+        ≡ (visit ws levels next (unlessNone fallthrough) span visits >>= λ final. ok (wrap ws (blockWord ws block 0) (blockWord ws block 1) final))
+    unfolding maybeThrowValue
+    maybe-throw-visits q = goes-on false q ∙ ap (λ (rows : List ℕ). maybeThrowValue (tableOf ws) (visit ws levels) block next rows (unlessNone fallthrough) span visits false) (rows-at ws block h)
+
+-- ---- a test, by its end
+
+module _ {ws : List ℕ} (p : Promise ws) (test : ValueBlockResult) (at : ℕ) (h : test .block < blockCount ws) where
+  pub ended-branch : blockWord ws (test .block) 2 ≡ 6 → testBlockEnded test (branchWays (terminalAt (tableOf ws) (test .block))) at
+      ≡ ok (record { test = test; ways = record { consequent = blockWord ws (test .block) 4; alternate = blockWord ws (test .block) 5 } })
+  unfolding testBlockEnded terminalOf
+  ended-branch e = ap (λ (m : Terminal). testBlockEnded test (branchWays m) at) (end-is p 0 (test .block) h e)
+
+  pub ended-other : (blockWord ws (test .block) 2 ≡ 6 → ⊥) → testBlockEnded test (branchWays (terminalAt (tableOf ws) (test .block))) at ≡ refused 25 at (test .visits)
+  unfolding testBlockEnded
+  ended-other f = ap (λ (w : Option Ways). testBlockEnded test w at) (no-ways (terminalAt (tableOf ws) (test .block)) (λ q. f (sym (code-at p (test .block) h) ∙ q)))

@@ -1,20 +1,19 @@
 // A block's instructions: their rows, and the value of the last.
-use crate::result::found;
-use crate::result::refused;
+use crate::result::NONE;
 use crate::result::Tally;
 use crate::result::Trailing;
 use crate::result::ValueResult;
-use crate::result::NONE;
-use rows::put;
+use crate::result::found;
+use crate::result::refused;
 use rows::INSTR;
 use rows::LOAD;
 use rows::PLAIN;
 use rows::SEQ;
+use rows::put;
 use table::words::block_word;
 use table::words::identifier_word;
 use table::words::instruction_word;
 use table::words::place_word;
-
 ghost use mathlib.Core.Path.{_≡_};
 ghost use mathlib.Core.List.{[]};
 ghost use Prim.Native.Nat.{suc, _+_, _≤_, _<_};
@@ -91,7 +90,10 @@ fn final_value(words: &[u32], buffer: &mut [u32], tally: Tally, i: u32, block: u
             block,
             stored_to,
             id,
-            Tally { rows, visits: tally.visits },
+            Tally {
+                rows,
+                visits: tally.visits,
+            },
             Trailing {
                 sequences: 0,
                 instructions: 0,
@@ -106,7 +108,10 @@ fn final_value(words: &[u32], buffer: &mut [u32], tally: Tally, i: u32, block: u
         block,
         lvalue,
         id,
-        Tally { rows, visits: tally.visits },
+        Tally {
+            rows,
+            visits: tally.visits,
+        },
         Trailing {
             sequences: 0,
             instructions: 0,
@@ -128,7 +133,10 @@ pub fn wrap_with_sequence(buffer: &mut [u32], count: u32, value: ValueResult) ->
         value.block,
         value.place,
         value.id,
-        Tally { rows, visits: value.tally.visits },
+        Tally {
+            rows,
+            visits: value.tally.visits,
+        },
         Trailing {
             sequences: value.trailing.sequences + 1,
             instructions: value.trailing.instructions + count,
@@ -151,7 +159,16 @@ fn extract_value_block_result(
     ensures { λ r. ⌜ Met (now (words .entry)) blockResult (ok (extractValueBlockResult (tableOf (now (words .entry))) block first (rowsFrom (suc first) more) (tally .visits))) tally 8192 (now (buffer .entry)) r (now (buffer .exit)) ⌝ }
 {
     let rows = put_instructions(words, buffer, tally.rows, first, more);
-    let value = final_value(words, buffer, Tally { rows, visits: tally.visits }, first + more, block);
+    let value = final_value(
+        words,
+        buffer,
+        Tally {
+            rows,
+            visits: tally.visits,
+        },
+        first + more,
+        block,
+    );
     wrap_with_sequence(buffer, more, value)
 }
 
@@ -192,7 +209,10 @@ pub fn branch_value(words: &[u32], buffer: &mut [u32], tally: Tally, block: u32)
             block,
             test,
             id,
-            Tally { rows, visits: tally.visits },
+            Tally {
+                rows,
+                visits: tally.visits,
+            },
             Trailing {
                 sequences: 0,
                 instructions: 0,

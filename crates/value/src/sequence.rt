@@ -1,12 +1,11 @@
 // Flattening: a value of a For, ForOf or ForIn as one sequence that ends in UNDEF.
-use crate::result::ValueResult;
 use crate::result::NONE;
-use rows::put;
+use crate::result::ValueResult;
 use rows::INSTR;
 use rows::SEQ;
 use rows::UNDEF;
+use rows::put;
 use table::words::place_word;
-
 ghost use mathlib.Core.Path.{_≡_};
 ghost use Prim.Native.Nat.{_+_, _≤_, _<_};
 ghost use Rattle.table.specs.Words.{placeCount, largest};
@@ -25,13 +24,20 @@ fn loads_same_identifier(words: &[u32], place: u32, loaded: u32) -> bool
     if loaded == NONE {
         return false;
     }
-    place_word(words, loaded) == place_word(words, place)
+    let loaded_identifier = place_word(words, loaded);
+    let own_identifier = place_word(words, place);
+    loaded_identifier == own_identifier
 }
 
 // The Rust's value_block_result_to_sequence, over the rows of a value that stand at the end of the buffer: its closing SEQ rows are taken back, and
 // the innermost value too if it loads the result's own identifier; else it becomes an instruction. UNDEF and one SEQ row over all follow.
 // Gives the rows that are out.
-pub fn value_block_result_to_sequence(words: &[u32], buffer: &mut [u32], result: ValueResult, span: u32) -> u32
+pub fn value_block_result_to_sequence(
+    words: &[u32],
+    buffer: &mut [u32],
+    result: ValueResult,
+    span: u32,
+) -> u32
     requires { ⌜ Flattens (now words) result ⌝ }
     ensures { λ r. ⌜ Flattened (now (words .entry)) result span (now (buffer .entry)) (now (buffer .exit)) r ⌝ }
 {
@@ -43,5 +49,14 @@ pub fn value_block_result_to_sequence(words: &[u32], buffer: &mut [u32], result:
     }
     let rows = put(buffer, rows, INSTR, result.id, result.place, span, 0, 0);
     let rows = put(buffer, rows, UNDEF, span, 0, 0, 0, 0);
-    put(buffer, rows, SEQ, trailing.instructions + 1, result.id, 0, 0, 0)
+    put(
+        buffer,
+        rows,
+        SEQ,
+        trailing.instructions + 1,
+        result.id,
+        0,
+        0,
+        0,
+    )
 }

@@ -5,20 +5,19 @@ use crate::instructions::extract_or_refuse;
 use crate::instructions::is_empty_goto;
 use crate::instructions::put_instructions;
 use crate::instructions::wrap_with_sequence;
+use crate::result::NONE;
+use crate::result::Tally;
+use crate::result::ValueResult;
 use crate::result::found;
 use crate::result::no_trailing;
 use crate::result::refused;
-use crate::result::Tally;
-use crate::result::ValueResult;
-use crate::result::NONE;
-use rows::put;
 use rows::COND;
 use rows::INSTR;
 use rows::LOGICAL;
 use rows::OPTIONAL;
 use rows::SEQ;
+use rows::put;
 use table::words::block_word;
-
 ghost use mathlib.Core.Path.{_≡_};
 ghost use Prim.Native.Nat.{_+_, _≤_, _<_};
 ghost use Rattle.table.specs.Words.{blockCount, blockWord};
@@ -80,8 +79,8 @@ fn maybe_throw_value(
     ensures { λ r. ⌜ Met (now (words .entry)) blockResult (blockOutcome (now (words .entry)) levels block fallthrough span (tally .visits)) tally 8200 (now (buffer .entry)) r (now (buffer .exit)) ⌝ }
 {
     let continuation = block_word(words, block, 3);
-    let code = block_word(words, continuation, 2);
-    if code == 0 {
+    let looked_up = block_word(words, continuation, 2);
+    if looked_up == 0 {
         return refused(10, continuation, tally);
     }
     if is_empty_goto(words, continuation) {
@@ -93,7 +92,10 @@ fn maybe_throw_value(
     let value = visit_value_block(
         words,
         buffer,
-        Tally { rows, visits: tally.visits },
+        Tally {
+            rows,
+            visits: tally.visits,
+        },
         levels,
         continuation,
         fallthrough,
@@ -123,18 +125,33 @@ fn then_fallthrough(
     let init = visit_value_block_terminal(
         words,
         buffer,
-        Tally { rows, visits: tally.visits },
+        Tally {
+            rows,
+            visits: tally.visits,
+        },
         levels,
         block,
     );
     if init.code != 0 {
         return init;
     }
-    let rows = put(buffer, init.tally.rows, INSTR, init.id, init.place, span, 0, 0);
+    let rows = put(
+        buffer,
+        init.tally.rows,
+        INSTR,
+        init.id,
+        init.place,
+        span,
+        0,
+        0,
+    );
     let value = visit_value_block(
         words,
         buffer,
-        Tally { rows, visits: init.tally.visits },
+        Tally {
+            rows,
+            visits: init.tally.visits,
+        },
         levels,
         init.block,
         NONE,
@@ -251,11 +268,23 @@ fn logical_value(
     }
     let consequent = block_word(words, test.block, 4);
     let alternate = block_word(words, test.block, 5);
-    let rows = put(buffer, test.tally.rows, INSTR, test.id, test.place, terminal.span, 0, 0);
+    let rows = put(
+        buffer,
+        test.tally.rows,
+        INSTR,
+        test.id,
+        test.place,
+        terminal.span,
+        0,
+        0,
+    );
     let left = visit_value_block(
         words,
         buffer,
-        Tally { rows, visits: test.tally.visits },
+        Tally {
+            rows,
+            visits: test.tally.visits,
+        },
         levels,
         consequent,
         terminal.fallthrough,
@@ -268,7 +297,10 @@ fn logical_value(
     let right = visit_value_block(
         words,
         buffer,
-        Tally { rows, visits: left.tally.visits },
+        Tally {
+            rows,
+            visits: left.tally.visits,
+        },
         levels,
         alternate,
         terminal.fallthrough,
@@ -277,12 +309,24 @@ fn logical_value(
     if right.code != 0 {
         return right;
     }
-    let rows = put(buffer, right.tally.rows, LOGICAL, terminal.operator, 0, 0, 0, 0);
+    let rows = put(
+        buffer,
+        right.tally.rows,
+        LOGICAL,
+        terminal.operator,
+        0,
+        0,
+        0,
+        0,
+    );
     found(
         terminal.fallthrough,
         left.place,
         terminal.id,
-        Tally { rows, visits: right.tally.visits },
+        Tally {
+            rows,
+            visits: right.tally.visits,
+        },
         no_trailing(),
     )
 }
@@ -341,7 +385,10 @@ fn ternary_value(
         terminal.fallthrough,
         consequent.place,
         terminal.id,
-        Tally { rows, visits: alternate.tally.visits },
+        Tally {
+            rows,
+            visits: alternate.tally.visits,
+        },
         no_trailing(),
     )
 }
@@ -371,11 +418,23 @@ fn optional_value(
     }
     let first = block_word(words, test.block, 4);
     let branch_span = block_word(words, test.block, 9);
-    let rows = put(buffer, test.tally.rows, INSTR, test.id, test.place, branch_span, 0, 0);
+    let rows = put(
+        buffer,
+        test.tally.rows,
+        INSTR,
+        test.id,
+        test.place,
+        branch_span,
+        0,
+        0,
+    );
     let consequent = visit_value_block(
         words,
         buffer,
-        Tally { rows, visits: test.tally.visits },
+        Tally {
+            rows,
+            visits: test.tally.visits,
+        },
         levels,
         first,
         terminal.fallthrough,
@@ -384,13 +443,25 @@ fn optional_value(
     if consequent.code != 0 {
         return consequent;
     }
-    let rows = put(buffer, consequent.tally.rows, SEQ, 1, consequent.id, 0, 0, 0);
+    let rows = put(
+        buffer,
+        consequent.tally.rows,
+        SEQ,
+        1,
+        consequent.id,
+        0,
+        0,
+        0,
+    );
     let rows = put(buffer, rows, OPTIONAL, terminal.operator, 0, 0, 0, 0);
     found(
         terminal.fallthrough,
         consequent.place,
         terminal.id,
-        Tally { rows, visits: consequent.tally.visits },
+        Tally {
+            rows,
+            visits: consequent.tally.visits,
+        },
         no_trailing(),
     )
 }
@@ -418,5 +489,11 @@ fn sequence_value(
     if inner.code != 0 {
         return inner;
     }
-    found(terminal.fallthrough, inner.place, terminal.id, inner.tally, inner.trailing)
+    found(
+        terminal.fallthrough,
+        inner.place,
+        terminal.id,
+        inner.tally,
+        inner.trailing,
+    )
 }

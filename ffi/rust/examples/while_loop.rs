@@ -1,6 +1,6 @@
 //! Builds W of paper 01, a while loop, and prints its rows; then with a buffer that is too short.
 
-use reactive_build::{Outcome, build, rows};
+use veerynickel::{Outcome, build, rows};
 
 #[rustfmt::skip]
 const TABLE: [u32; 48] = [

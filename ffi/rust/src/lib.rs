@@ -22,7 +22,7 @@ pub struct Refusal {
 }
 
 unsafe extern "C" {
-    fn reactive_build(
+    fn veerynickel_build(
         words: *const u32,
         word_count: usize,
         tree: *mut u32,
@@ -40,7 +40,7 @@ pub fn build(words: &[u32], tree: &mut [u32]) -> Outcome {
     // SAFETY: slices give pointers that are not null, aligned and valid for their lengths; `tree` and
     // the three results are borrowed for this call alone. The function reads and writes nothing else.
     let code = unsafe {
-        reactive_build(
+        veerynickel_build(
             words.as_ptr(),
             words.len(),
             tree.as_mut_ptr(),

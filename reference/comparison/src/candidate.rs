@@ -2,7 +2,7 @@
 //! run the build, with `candidate-check` the comparison runs the check, on every table, and hold
 //! their answers against the reference or the model.
 //!
-//! The archives `libreactive_build.a` and `libtable.a` are looked for in the folder that the variable
+//! The archives `libbuild.a` and `libtable.a` are looked for in the folder that the variable
 //! CANDIDATE_DIR names. The build is called through the safe wrapper of ffi/rust.
 
 use crate::model::Outcome;
@@ -26,7 +26,7 @@ pub const CANDIDATE_CHECK: Option<CandidateCheck> = Some(check);
 
 #[cfg(feature = "candidate")]
 fn build(words: &[u32], buffer: &mut [u32]) -> Outcome {
-    let reactive_build::Outcome { code, at, rows, visits } = reactive_build::build(words, buffer);
+    let veerynickel::Outcome { code, at, rows, visits } = veerynickel::build(words, buffer);
     Outcome { code, at, rows, visits }
 }
 

@@ -1,25 +1,19 @@
 use Rattle.definition.specs.Context.{breakKind}
 use Rattle.control.proofs.break_kind.Statement.{statement}
 use Rattle.control.proofs.break_kind.Tie as tie
-use Rattle.control.proofs.break_kind.Reads as reads
-use Rattle.control.proofs.break_kind.Lts as lts
 
--- src/lib.rt:185:13
 returns : tie.Need-returns
 unfolding breakKind
 returns c = rw (c .before .if1 .taken, c .if2 .taken)
 
--- src/lib.rt:187:9
 returns-2 : tie.Need-returns-2
 unfolding breakKind
 returns-2 c = rw (c .before .if1 .taken, c .if2 .left)
 
--- src/lib.rt:190:9
 returns-3 : tie.Need-returns-3
 unfolding breakKind
 returns-3 c = rw (c .before .if1 .left, c .if3 .taken)
 
--- src/lib.rt:180:1
 returns-4 : tie.Need-returns-4
 unfolding breakKind
 returns-4 c = rw (c .before .if1 .left, c .if3 .left)

@@ -1,20 +1,15 @@
 use Rattle.definition.specs.Context.{continueKind}
 use Rattle.control.proofs.continue_kind.Statement.{statement}
 use Rattle.control.proofs.continue_kind.Tie as tie
-use Rattle.control.proofs.continue_kind.Reads as reads
-use Rattle.control.proofs.continue_kind.Lts as lts
 
--- src/lib.rt:200:9
 returns : tie.Need-returns
 unfolding continueKind
 returns c = rw (c .if1 .taken)
 
--- src/lib.rt:203:9
 returns-2 : tie.Need-returns-2
 unfolding continueKind
 returns-2 c = rw (c .before .if1 .left, c .if2 .taken)
 
--- src/lib.rt:196:1
 returns-3 : tie.Need-returns-3
 unfolding continueKind
 returns-3 c = rw (c .before .if1 .left, c .if2 .left)

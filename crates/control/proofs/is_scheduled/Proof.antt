@@ -2,23 +2,17 @@ use Rattle.definition.specs.Context.{has}
 use borrow.Author.Needs.{needs}
 use Rattle.control.proofs.is_scheduled.Statement.{statement}
 use Rattle.control.proofs.is_scheduled.Tie as tie
-use Rattle.control.proofs.is_scheduled.Reads as reads
-use Rattle.control.proofs.is_scheduled.Lts as lts
 
--- src/lib.rt:124:8
 element-copy-out-if1 : tie.Need-element-copy-out-if1
 element-copy-out-if1 c = search needs
 
--- src/lib.rt:125:9
 returns : tie.Need-returns
 unfolding has
 returns c = rw (c .if1 .taken)
 
--- src/lib.rt:127:5
 element-copy-out-result : tie.Need-element-copy-out-result
 element-copy-out-result c = search needs
 
--- src/lib.rt:119:1
 returns-2 : tie.Need-returns-2
 unfolding has
 returns-2 c = rw (c .before .if1 .left)

@@ -2,94 +2,71 @@ use Rattle.definition.specs.Context.{unscheduledBy, remove}
 use borrow.Author.Needs.{needs}
 use Rattle.control.proofs.remove_target.Statement.{statement}
 use Rattle.control.proofs.remove_target.Tie as tie
-use Rattle.control.proofs.remove_target.Reads as reads
-use Rattle.control.proofs.remove_target.Lts as lts
 
--- src/lib.rt:149:33
 enum-known-target : tie.Need-enum-known-target
 enum-known-target c = search needs
 
--- src/lib.rt:150:23
 cast-scheduled : tie.Need-cast-scheduled
 cast-scheduled c = search needs
 
--- src/lib.rt:150:13
 element-write-scheduled : tie.Need-element-write-scheduled
 element-write-scheduled c = rw (c .before .target .given .1) at (c .before .before .before .pre)
 
--- src/lib.rt:152:37
 enum-known-target-2 : tie.Need-enum-known-target-2
 enum-known-target-2 c = search needs
 
--- src/lib.rt:153:23
 cast-scheduled-2 : tie.Need-cast-scheduled-2
 cast-scheduled-2 c = search needs
 
--- src/lib.rt:153:13
 element-write-scheduled-2 : tie.Need-element-write-scheduled-2
 element-write-scheduled-2 c = rw (c .before .target2 .given .1) at (c .before .before .before .pre)
 
--- src/lib.rt:155:35
 enum-known-target-3 : tie.Need-enum-known-target-3
 enum-known-target-3 c = search needs
 
--- src/lib.rt:156:23
 cast-scheduled-3 : tie.Need-cast-scheduled-3
 cast-scheduled-3 c = search needs
 
--- src/lib.rt:156:13
 element-write-scheduled-3 : tie.Need-element-write-scheduled-3
 element-write-scheduled-3 c = rw (c .before .target3 .given .1) at (c .before .before .before .pre)
 
--- src/lib.rt:158:35
 enum-known-target-4 : tie.Need-enum-known-target-4
 enum-known-target-4 c = search needs
 
--- src/lib.rt:159:23
 cast-scheduled-4 : tie.Need-cast-scheduled-4
 cast-scheduled-4 c = search needs
 
--- src/lib.rt:159:13
 element-write-scheduled-4 : tie.Need-element-write-scheduled-4
 element-write-scheduled-4 c = (rw (c .before .target4 .given .1) at (c .before .before .before .pre)) .0
 
--- src/lib.rt:160:23
 cast-scheduled-5 : tie.Need-cast-scheduled-5
 cast-scheduled-5 c = search needs
 
--- src/lib.rt:160:13
 element-write-scheduled-5 : tie.Need-element-write-scheduled-5
 element-write-scheduled-5 c = (rw (c .before .target4 .given .1) at (c .before .before .before .pre)) .1
 
--- src/lib.rt:162:27
 cast-scheduled-6 : tie.Need-cast-scheduled-6
 cast-scheduled-6 c = search needs
 
--- src/lib.rt:162:17
 element-write-scheduled-6 : tie.Need-element-write-scheduled-6
 element-write-scheduled-6 c = (rw (c .before .before .target4 .given .1) at (c .before .before .before .before .pre)) .2
 
--- src/lib.rt:144:1
 returns : tie.Need-returns
 unfolding unscheduledBy remove
 returns c = rw (c .before .target .given .1)
 
--- src/lib.rt:144:1
 returns-2 : tie.Need-returns-2
 unfolding unscheduledBy remove
 returns-2 c = rw (c .before .target2 .given .1)
 
--- src/lib.rt:144:1
 returns-3 : tie.Need-returns-3
 unfolding unscheduledBy remove
 returns-3 c = rw (c .before .target3 .given .1)
 
--- src/lib.rt:144:1
 returns-4 : tie.Need-returns-4
 unfolding unscheduledBy remove
 returns-4 c = rw (c .before .before .target4 .given .1, c .if1 .taken)
 
--- src/lib.rt:144:1
 returns-5 : tie.Need-returns-5
 unfolding unscheduledBy remove
 returns-5 c = rw (c .before .before .target4 .given .1, c .if1 .left)

@@ -8,7 +8,7 @@ use lib.ListN.{length, take, length-replicate}
 use Rattle.text.specs.Printed.{writtenOf, lentOf}
 use Rattle.treefile.specs.Prints.{lentWords}
 use lib.Seq.{length-take-le}
-use Rattle.treefile.proofs.OutcomeLaws.{built-fits, refusal-lines, built-printed}
+use Rattle.treefile.proofs.OutcomeLaws.{built-within, refusal-lines, built-printed}
 use Rattle.treefile.proofs.build_words.Statement.{statement}
 use Rattle.treefile.proofs.build_words.Tie as tie
 use Rattle.treefile.proofs.build_words.Reads as reads
@@ -42,7 +42,7 @@ returns c =
     let b = c .before .before .before .before .before .before .before .before .build-reactive-function in
     let h = b .ensures in
     let w = c .before .before .write-result .ensures in
-    let e = refusal-lines _ _ _ _ _ _ (c .before .before .before .before .before .if1 .taken) ∙ built-printed (c .before .before .before .before .before .before .before .before .before .before .before .before .args .words .now) lentWords (length-replicate {A = ℕ} 12288 0) (h .code) (h .at) (h .rows) (h .visits) (h .buffer) in
+    let e = refusal-lines _ _ _ _ _ _ (c .before .before .before .before .before .if1 .taken) ∙ built-printed (c .before .before .before .before .before .before .before .before .before .before .before .before .args .words .now) lentWords (b .result) (b .last .1 .0) (length-replicate {A = ℕ} 12288 0) h in
     (w .0 ∙ ap (writtenOf _) e, (w .1 .0 ∙ ap (lentOf _) e, λ p. w .1 .1 (omega (arith, c .before .before .before .before .before .before .before .tree2 .given)) p ∙ ap (λ (text : List ℕ). Bytes (length text)) e))
 
 -- src/lib.rt:23:16
@@ -57,13 +57,13 @@ mul-end c = search needs
 array-share-prefix-tree : tie.Need-array-share-prefix-tree
 array-share-prefix-tree c =
     let b = c .before .before .before .before .before .build-reactive-function in
-    omega (arith, built-fits _ _ (sym (b .ensures .code) ∙ c .before .before .if1 .left), b .ensures .rows, b .kept .1 .0)
+    omega (arith, built-within _ _ _ _ (b .ensures) (c .before .before .if1 .left), b .kept .1 .0)
 
 -- src/lib.rt:24:64
 slice-aggregate-write-result-2 : tie.Need-slice-aggregate-write-result-2
 slice-aggregate-write-result-2 c =
     let b = c .before .before .before .before .before .before .build-reactive-function in
-    sym (length-take-le _ _ (omega (arith, built-fits _ _ (sym (b .ensures .code) ∙ c .before .before .before .if1 .left), b .ensures .rows, b .kept .1 .0)))
+    sym (length-take-le _ _ (omega (arith, built-within _ _ _ _ (b .ensures) (c .before .before .before .if1 .left), b .kept .1 .0)))
 
 -- src/lib.rt:24:5
 write-result-requires-2 : tie.Need-write-result-requires-2
@@ -78,9 +78,9 @@ returns-2 : tie.Need-returns-2
 returns-2 c =
     let b = c .before .before .before .before .before .before .before .before .before .build-reactive-function in
     let h = b .ensures in
-    let fits : b .result .rows * 6 ≤ length (b .last .1 .0) = omega (arith, built-fits _ _ (sym (h .code) ∙ c .before .before .before .before .before .before .if1 .left), h .rows, b .kept .1 .0) in
+    let fits : b .result .rows * 6 ≤ length (b .last .1 .0) = omega (arith, built-within _ _ _ _ h (c .before .before .before .before .before .before .if1 .left), b .kept .1 .0) in
     let w = c .before .before .write-result2 .ensures in
-    let e = built-printed (c .before .before .before .before .before .before .before .before .before .before .before .before .before .args .words .now) lentWords (length-replicate {A = ℕ} 12288 0) (h .code) (h .at) (h .rows) (h .visits) (h .buffer) in
+    let e = built-printed (c .before .before .before .before .before .before .before .before .before .before .before .before .before .args .words .now) lentWords (b .result) (b .last .1 .0) (length-replicate {A = ℕ} 12288 0) h in
     (w .0 ∙ ap (writtenOf _) e, (w .1 .0 ∙ ap (lentOf _) e, λ p. w .1 .1 (omega (arith, length-take-le (b .result .rows * 6) (b .last .1 .0) fits, fits, c .before .before .before .before .before .before .before .before .tree2 .given)) p ∙ ap (λ (text : List ℕ). Bytes (length text)) e))
 
 pub build-words-spec : {M : Type 1} → statement M

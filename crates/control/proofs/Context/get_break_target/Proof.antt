@@ -10,11 +10,6 @@ use Rattle.control.specs.Abstraction.{stackOf, contextOf}
 use Rattle.control.proofs.SearchLaws.{break-none, break-found, break-missed}
 use Rattle.control.proofs.Context.get_break_target.Statement.{statement}
 use Rattle.control.proofs.Context.get_break_target.Tie as tie
-use Rattle.control.proofs.Context.get_break_target.Reads as reads
-use Rattle.control.proofs.Context.get_break_target.Lts as lts
-use Rattle.control.proofs.ControlFlowTarget.block.Reads as block-reads
-use Rattle.control.proofs.break_to.Reads as break-to-reads
-use Rattle.control.proofs.or_loop.Reads as or-loop-reads
 
 -- the entries below `at` give what all give
 record Searched (block : ℕ) (entries : List Entry) (len at : ℕ) (top above : Bool) : Type 0 where
@@ -27,51 +22,40 @@ Inv-loop block self at₀ top₀ has-preceding-loop₀ at top has-preceding-loop
 abbrev μ-loop : tie.MeasureT-loop
 μ-loop block self at₀ top₀ has-preceding-loop₀ at top has-preceding-loop = at
 
--- src/lib.rt:300:9
 loop-holds : tie.Need-loop-holds Inv-loop μ-loop
 loop-holds c = record { small = search needs; rest = refl }
 
--- src/lib.rt:304:13
 sub-at : tie.Need-sub-at Inv-loop μ-loop
 sub-at c = search needs
 
--- src/lib.rt:305:25
 mul-entry : tie.Need-mul-entry Inv-loop μ-loop
 mul-entry c = search needs
 
--- src/lib.rt:305:25
 element-copy-out-entry : tie.Need-element-copy-out-entry Inv-loop μ-loop
 element-copy-out-entry c = search needs
 
--- src/lib.rt:307:16
 block-requires : tie.Need-block-requires Inv-loop μ-loop
 block-requires c κs = search needs
 
--- src/lib.rt:308:39
 break-to-requires : tie.Need-break-to-requires Inv-loop μ-loop
 break-to-requires c κs = search needs
 
--- src/lib.rt:310:13
 or-loop-requires : tie.Need-or-loop-requires Inv-loop μ-loop
 or-loop-requires c κs = search needs
 
--- src/lib.rt:300:9
 loop-less : tie.Need-loop-less Inv-loop μ-loop
 loop-less c = search needs
 
--- src/lib.rt:300:9
 loop-again : tie.Need-loop-again Inv-loop μ-loop
 loop-again c =
     let at-test = c .before .before in
     let at-loop = at-test .before .before .before in
     record { small = search needs; rest = at-loop .loop .inv .rest ∙ rw (c .or-loop .ensures) (break-missed _ _ _ _ _ (at-test .before .before .if1 .left) (λ e. c .before .if2 .left (at-test .block .ensures ∙ e))) }
 
--- src/lib.rt:293:5
 returns : tie.Need-returns Inv-loop μ-loop
 unfolding getBreakTarget contextOf
 returns c visits = sym (c .before .loop .inv .rest ∙ break-none _ _ _ _ _ (c .if1 .taken))
 
--- src/lib.rt:293:5
 returns-2 : tie.Need-returns-2 Inv-loop μ-loop
 unfolding getBreakTarget contextOf
 returns-2 c visits =

@@ -1,10 +1,7 @@
 use Rattle.control.proofs.ContextLaws.{created}
 use Rattle.control.proofs.Context.new.Statement.{statement}
 use Rattle.control.proofs.Context.new.Tie as tie
-use Rattle.control.proofs.Context.new.Reads as reads
-use Rattle.control.proofs.Context.new.Lts as lts
 
--- src/lib.rt:169:5
 returns : tie.Need-returns
 returns c = created
 

@@ -5,31 +5,22 @@ use Rattle.control.proofs.ContextLaws.{named-block, scheduled}
 use borrow.Author.Needs.{needs}
 use Rattle.control.proofs.Context.schedule.Statement.{statement}
 use Rattle.control.proofs.Context.schedule.Tie as tie
-use Rattle.control.proofs.Context.schedule.Reads as reads
-use Rattle.control.proofs.Context.schedule.Lts as lts
-use Rattle.control.proofs.ControlFlowTarget.block.Reads as block-reads
 
--- src/lib.rt:191:18
 block-requires : tie.Need-block-requires
 block-requires c κs = search needs
 
--- src/lib.rt:191:18
 cast-at : tie.Need-cast-at
 cast-at c = search needs
 
--- src/lib.rt:193:9
 array-write-scheduled : tie.Need-array-write-scheduled
 array-write-scheduled c = rw (c .before .block .ensures) (named-block (c .before .before .args .target) (c .before .before .pre .0))
 
--- src/lib.rt:197:33
 add-self : tie.Need-add-self
 add-self c = search needs
 
--- src/lib.rt:198:20
 add-self-2 : tie.Need-add-self-2
 add-self-2 c = search needs
 
--- src/lib.rt:185:5
 returns : tie.Need-returns
 unfolding add
 returns c =

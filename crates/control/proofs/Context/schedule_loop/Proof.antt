@@ -5,34 +5,25 @@ use Rattle.control.proofs.ContextLaws.{scheduled-loop}
 use borrow.Author.Needs.{needs}
 use Rattle.control.proofs.Context.schedule_loop.Statement.{statement}
 use Rattle.control.proofs.Context.schedule_loop.Tie as tie
-use Rattle.control.proofs.Context.schedule_loop.Reads as reads
-use Rattle.control.proofs.Context.schedule_loop.Lts as lts
 
--- src/lib.rt:210:9
 array-write-scheduled : tie.Need-array-write-scheduled
 array-write-scheduled c = search needs
 
--- src/lib.rt:211:9
 array-write-scheduled-2 : tie.Need-array-write-scheduled-2
 array-write-scheduled-2 c = search needs
 
--- src/lib.rt:212:26
 array-read-owns-loop : tie.Need-array-read-owns-loop
 array-read-owns-loop c = search needs
 
--- src/lib.rt:213:9
 array-write-scheduled-3 : tie.Need-array-write-scheduled-3
 array-write-scheduled-3 c = search needs
 
--- src/lib.rt:218:33
 add-self : tie.Need-add-self
 add-self c = search needs
 
--- src/lib.rt:219:20
 add-self-2 : tie.Need-add-self-2
 add-self-2 c = search needs
 
--- src/lib.rt:203:5
 returns : tie.Need-returns
 unfolding has add
 returns c =

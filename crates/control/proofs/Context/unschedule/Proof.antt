@@ -2,19 +2,13 @@ use Rattle.control.proofs.ContextLaws.{unscheduled}
 use borrow.Author.Needs.{needs}
 use Rattle.control.proofs.Context.unschedule.Statement.{statement}
 use Rattle.control.proofs.Context.unschedule.Tie as tie
-use Rattle.control.proofs.Context.unschedule.Reads as reads
-use Rattle.control.proofs.Context.unschedule.Lts as lts
-use Rattle.control.proofs.remove_target.Reads as remove-target-reads
 
--- src/lib.rt:233:9
 remove-target-requires : tie.Need-remove-target-requires
 remove-target-requires c κs = search needs
 
--- src/lib.rt:235:20
 sub-self : tie.Need-sub-self
 sub-self c = search needs
 
--- src/lib.rt:225:5
 returns : tie.Need-returns
 returns c =
     let start = c .before .before .before .before in

@@ -1,7 +1,7 @@
+use mathlib.Core.Path.{_≡_, refl, sym, _∙_}
+use Rattle.table.proofs.RowLaws.{in-limits}
 use Rattle.table.proofs.RuleLaws.{no-operation, past}
 use Rattle.table.specs.Check.{operandRules, place}
-use native.Mathlib.Omega.{arith}
-use mathlib.Core.Path.{_≡_, refl, sym, ap, _∙_}
 use borrow.Author.Needs.{needs}
 use Rattle.table.proofs.rows.operand_columns.Statement.{statement}
 use Rattle.table.proofs.rows.operand_columns.Tie as tie
@@ -10,44 +10,44 @@ use Rattle.table.proofs.rows.operand_columns.Lts as lts
 use Rattle.table.proofs.rows.operands.Reads as operands-reads
 use Rattle.table.proofs.words.place_count.Reads as place-count-reads
 
--- src/rows.rt:154:27
+-- src/rows.rt:170:9
 place-count-requires : tie.Need-place-count-requires
 place-count-requires c κs = search needs
 
--- src/rows.rt:157:14
+-- src/rows.rt:172:14
 operands-requires : tie.Need-operands-requires
 operands-requires c κs = search needs
 
--- src/rows.rt:158:14
+-- src/rows.rt:173:14
 operands-requires-2 : tie.Need-operands-requires-2
 operands-requires-2 c κs = search needs
 
--- src/rows.rt:159:14
+-- src/rows.rt:174:14
 operands-requires-3 : tie.Need-operands-requires-3
 operands-requires-3 c κs = search needs
 
--- src/rows.rt:160:14
+-- src/rows.rt:175:14
 operands-requires-4 : tie.Need-operands-requires-4
 operands-requires-4 c κs = search needs
 
--- src/rows.rt:149:1
+-- src/rows.rt:165:1
 returns : tie.Need-returns
 unfolding operandRules place
-returns c = rw (c .before .match .keys1) (c .operands .ensures)
+returns c = rw (c .before .match .keys1) (in-limits _ 3 _ _ (c .operands .ensures) refl)
 
--- src/rows.rt:149:1
+-- src/rows.rt:165:1
 returns-2 : tie.Need-returns-2
 unfolding operandRules place
-returns-2 c = rw (c .before .match .keys2, ← (c .before .before .place-count .ensures)) (c .operands2 .ensures)
+returns-2 c = rw (c .before .match .keys2) (in-limits _ 3 _ _ (c .operands2 .ensures) (rw (c .before .before .place-count .ensures)))
 
--- src/rows.rt:149:1
+-- src/rows.rt:165:1
 returns-3 : tie.Need-returns-3
 unfolding operandRules place
-returns-3 c = rw (c .before .match .keys3, ← (c .before .before .place-count .ensures)) (c .operands3 .ensures)
+returns-3 c = rw (c .before .match .keys3) (in-limits _ 3 _ _ (c .operands3 .ensures) (rw (c .before .before .place-count .ensures)))
 
--- src/rows.rt:149:1
+-- src/rows.rt:165:1
 returns-4 : tie.Need-returns-4
-returns-4 c = rw (no-operation _ (c .before .before .before .before .args .code) (past 3 _ (c .before .match .rest))) (c .operands4 .ensures)
+returns-4 c = rw (no-operation _ _ (past 3 _ (c .before .match .rest))) (in-limits _ 3 _ _ (c .operands4 .ensures) refl)
 
 pub operand-columns-spec : {M : Type 1} → statement M
 operand-columns-spec =

@@ -17,18 +17,25 @@ use Rattle.rows.proofs.put.Reads as put-reads
 use Rattle.table.proofs.words.block_word.Reads as block-word-reads
 use Rattle.value.proofs.instructions.extract_value_block_result.Reads as extract-value-block-result-reads
 use Rattle.value.proofs.result.found.Reads as found-reads
+
 block-word-requires : tie.Need-block-word-requires
 block-word-requires c κs = search needs
+
 block-word-requires-2 : tie.Need-block-word-requires-2
 block-word-requires-2 c κs = search needs
+
 block-word-requires-3 : tie.Need-block-word-requires-3
 block-word-requires-3 c κs = search needs
+
 put-requires : tie.Need-put-requires
 put-requires c κs = search needs
+
 found-requires : tie.Need-found-requires
 found-requires c κs = search needs
+
 same-length : tie.Need-same-length
 same-length c = search needs
+
 returns : tie.Need-returns
 unfolding pushValue
 returns c =
@@ -56,10 +63,13 @@ returns c =
       };
       numbers = omega (arith, at-put .put .ensures .count, f .visits);
     }))
+
 block-word-requires-4 : tie.Need-block-word-requires-4
 block-word-requires-4 c κs = search needs
+
 sub-extract-value-block-result : tie.Need-sub-extract-value-block-result
 sub-extract-value-block-result c = search needs
+
 extract-value-block-result-requires : tie.Need-extract-value-block-result-requires
 extract-value-block-result-requires c κs =
     let at-block-word4 = c .before in
@@ -68,8 +78,10 @@ extract-value-block-result-requires c κs =
     let at-entry = at-block-word .before .before .before in
     let f = at-entry .pre .0 in
     (f, omega (arith, run (f .promise) (at-entry .args .block) (f .at), at-block-word .block-word .ensures, at-block-word4 .block-word4 .ensures, at-if1 .if1 .left))
+
 same-length-2 : tie.Need-same-length-2
 same-length-2 c = search needs
+
 returns-2 : tie.Need-returns-2
 returns-2 c =
     let at-extract-value-block-result = c .before .before in

@@ -11,16 +11,20 @@ use Rattle.value.proofs.instructions.extract_value_block_result.Lts as 
 use Rattle.value.proofs.instructions.final_value.Reads as final-value-reads
 use Rattle.value.proofs.instructions.put_instructions.Reads as put-instructions-reads
 use Rattle.value.proofs.instructions.wrap_with_sequence.Reads as wrap-with-sequence-reads
+
 put-instructions-requires : tie.Need-put-instructions-requires
 put-instructions-requires c κs = search needs
+
 add-final-value : tie.Need-add-final-value
 add-final-value c = search needs
+
 final-value-requires : tie.Need-final-value-requires
 final-value-requires c κs =
     let at-put-instructions = c .before .before .before in
     let at-entry = at-put-instructions .before .before .before .before in
     let f = at-entry .pre .0 in
     (record { promise = f .promise; at = f .at; visits = f .visits; room = omega (arith, at-put-instructions .put-instructions .ensures .more, f .room, at-entry .pre .1, f .promise .sized .limited .instructions) }, at-entry .pre .1)
+
 wrap-with-sequence-requires : tie.Need-wrap-with-sequence-requires
 wrap-with-sequence-requires c κs =
     let at-final-value = c .before .before .before in
@@ -34,8 +38,10 @@ wrap-with-sequence-requires c κs =
       more = omega (arith, v .found (accepted v) .more);
       room = omega (arith, v .numbers, at-put-instructions .put-instructions .ensures .more, f .room, f .visits, at-entry .pre .1, f .promise .sized .limited .instructions);
     }
+
 same-length : tie.Need-same-length
 same-length c = search needs
+
 returns : tie.Need-returns
 unfolding _>>=_
 returns c =

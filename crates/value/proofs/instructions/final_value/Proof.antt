@@ -19,20 +19,28 @@ use Rattle.table.proofs.words.instruction_word.Reads as instruction-word-reads
 use Rattle.value.proofs.instructions.loaded_by.Reads as loaded-by-reads
 use Rattle.value.proofs.instructions.stores_to_unnamed.Reads as stores-to-unnamed-reads
 use Rattle.value.proofs.result.found.Reads as found-reads
+
 instruction-word-requires : tie.Need-instruction-word-requires
 instruction-word-requires c κs = search needs
+
 stores-to-unnamed-requires : tie.Need-stores-to-unnamed-requires
 stores-to-unnamed-requires c κs = search needs
+
 instruction-word-requires-2 : tie.Need-instruction-word-requires-2
 instruction-word-requires-2 c κs = search needs
+
 instruction-word-requires-3 : tie.Need-instruction-word-requires-3
 instruction-word-requires-3 c κs = search needs
+
 put-requires : tie.Need-put-requires
 put-requires c κs = search needs
+
 found-requires : tie.Need-found-requires
 found-requires c κs = search needs
+
 same-length : tie.Need-same-length
 same-length c = search needs
+
 returns : tie.Need-returns
 unfolding pushValue
 returns c =
@@ -60,16 +68,22 @@ returns c =
       };
       numbers = omega (arith, at-put .put .ensures .count, at-entry .pre .0 .visits);
     }))
+
 instruction-word-requires-4 : tie.Need-instruction-word-requires-4
 instruction-word-requires-4 c κs = search needs
+
 loaded-by-requires : tie.Need-loaded-by-requires
 loaded-by-requires c κs = search needs
+
 put-requires-2 : tie.Need-put-requires-2
 put-requires-2 c κs = search needs
+
 found-requires-2 : tie.Need-found-requires-2
 found-requires-2 c κs = search needs
+
 same-length-2 : tie.Need-same-length-2
 same-length-2 c = search needs
+
 returns-2 : tie.Need-returns-2
 unfolding pushValue
 returns-2 c =

@@ -8,15 +8,19 @@ use Rattle.value.proofs.instructions.is_empty_goto.Tie as tie
 use Rattle.value.proofs.instructions.is_empty_goto.Reads as reads
 use Rattle.value.proofs.instructions.is_empty_goto.Lts as lts
 use Rattle.table.proofs.words.block_word.Reads as block-word-reads
+
 block-word-requires : tie.Need-block-word-requires
 block-word-requires c κs = search needs
+
 returns : tie.Need-returns
 returns c =
     let at-block-word = c .before in
     let at-entry = at-block-word .before .before in
     sym (goto-full (at-entry .pre .0) (at-entry .args .block) (at-entry .pre .1) (λ e. c .if1 .taken (at-block-word .block-word .ensures ∙ e)))
+
 block-word-requires-2 : tie.Need-block-word-requires-2
 block-word-requires-2 c κs = search needs
+
 returns-2 : tie.Need-returns-2
 returns-2 c =
     let at-if1 = c .before in

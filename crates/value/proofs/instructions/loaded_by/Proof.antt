@@ -1,5 +1,6 @@
 use Rattle.value.proofs.ExtractLaws.{loaded-load, loaded-none}
-use Rattle.value.proofs.TableLaws.{instruction-at, no-number, some-number}
+use Rattle.table.proofs.TableLaws.{instruction-at}
+use Rattle.value.proofs.TableLaws.{no-number, some-number}
 use Rattle.value.proofs.Ranges.{loaded}
 use Rattle.definition.specs.Value.{loadedBy}
 use Rattle.table.specs.Table.{Instruction, instructionOf}
@@ -12,8 +13,10 @@ use Rattle.value.proofs.instructions.loaded_by.Tie as tie
 use Rattle.value.proofs.instructions.loaded_by.Reads as reads
 use Rattle.value.proofs.instructions.loaded_by.Lts as lts
 use Rattle.table.proofs.words.instruction_word.Reads as instruction-word-reads
+
 instruction-word-requires : tie.Need-instruction-word-requires
 instruction-word-requires c κs = search needs
+
 returns : tie.Need-returns
 unfolding instructionOf
 returns c =
@@ -23,8 +26,10 @@ returns c =
       same = no-number ∙ sym (ap (λ (k : Instruction). loadedBy (k .operation)) (instruction-at _ (at-entry .args .i) (at-entry .pre .1)) ∙ loaded-none _ _ _ (λ e. c .if1 .taken (at-instruction-word .instruction-word .ensures ∙ e)));
       there = λ f. absurd (f refl);
     }
+
 instruction-word-requires-2 : tie.Need-instruction-word-requires-2
 instruction-word-requires-2 c κs = search needs
+
 returns-2 : tie.Need-returns-2
 unfolding instructionOf
 returns-2 c =

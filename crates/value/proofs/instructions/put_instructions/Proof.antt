@@ -1,4 +1,4 @@
-use Rattle.value.proofs.TableLaws.{instruction-at}
+use Rattle.table.proofs.TableLaws.{instruction-at}
 use Rattle.rows.proofs.StackLaws.{push-next-row}
 use Rattle.rows.specs.Stack.{pushInstructionRows}
 use Rattle.rows.specs.Rows.{Holds}
@@ -18,7 +18,6 @@ use Rattle.value.proofs.instructions.put_instructions.Lts as lts
 use Rattle.rows.proofs.put.Reads as put-reads
 use Rattle.table.proofs.words.instruction_word.Reads as instruction-word-reads
 
-
 -- the rows of k instructions are out
 record Run (words buffer₀ : List ℕ) (rows first count : ℕ) (buffer : List ℕ) (out k : ℕ) : Type 0 where
   most : k ≤ count
@@ -31,43 +30,53 @@ Inv-loop words buffer₀ rows first count out₀ k₀ buffer out k = Run words b
 
 abbrev μ-loop : tie.MeasureT-loop
 μ-loop words buffer₀ rows first count out₀ k₀ buffer out k = count - k
+
 loop-holds : tie.Need-loop-holds Inv-loop μ-loop
 unfolding pushInstructionRows
 loop-holds c = record { most = search needs; long = refl; more = omega arith; kept = λ stack h. h }
+
 add-i : tie.Need-add-i Inv-loop μ-loop
 add-i c = search needs
+
 instruction-word-requires : tie.Need-instruction-word-requires Inv-loop μ-loop
 instruction-word-requires c κs =
     let at-entry = c .before .before .before .before in
     (at-entry .pre .0 .sized, (omega (arith, c .loop-test .taken, at-entry .pre .1 .0), omega arith))
+
 instruction-word-requires-2 : tie.Need-instruction-word-requires-2 Inv-loop μ-loop
 instruction-word-requires-2 c κs =
     let at-loop-test = c .before in
     let at-entry = at-loop-test .before .before .before .before in
     (at-entry .pre .0 .sized, (omega (arith, at-loop-test .loop-test .taken, at-entry .pre .1 .0), omega arith))
+
 instruction-word-requires-3 : tie.Need-instruction-word-requires-3 Inv-loop μ-loop
 instruction-word-requires-3 c κs =
     let at-loop-test = c .before .before in
     let at-entry = at-loop-test .before .before .before .before in
     (at-entry .pre .0 .sized, (omega (arith, at-loop-test .loop-test .taken, at-entry .pre .1 .0), omega arith))
+
 put-requires : tie.Need-put-requires Inv-loop μ-loop
 put-requires c κs =
     let at-loop = c .before .before .before .before .before in
     let at-entry = at-loop .before .before .before in
     omega (arith, at-loop .loop .inv .more, at-loop .loop .inv .most, at-entry .pre .1, at-entry .pre .0 .sized .limited .instructions)
+
 put-requires-2 : tie.Need-put-requires-2 Inv-loop μ-loop
 put-requires-2 c κs =
     let at-put = c .before .before .before in
     let at-loop = at-put .before .before .before .before .before .before in
     let at-entry = at-loop .before .before .before in
     omega (arith, at-put .put .ensures .count, at-loop .loop .inv .more, at-loop .loop .inv .most, at-entry .pre .1, at-entry .pre .0 .sized .limited .instructions)
+
 add-k : tie.Need-add-k Inv-loop μ-loop
 add-k c =
     let at-loop-test = c .before .before .before .before .before .before .before .before .before .before .before in
     let at-entry = at-loop-test .before .before .before .before in
     omega (arith, at-loop-test .loop-test .taken, at-entry .fits)
+
 loop-less : tie.Need-loop-less Inv-loop μ-loop
 loop-less c = omega (arith, c .before .before .before .before .before .before .before .before .before .before .before .loop-test .taken)
+
 loop-again : tie.Need-loop-again Inv-loop μ-loop
 unfolding instructionOf
 loop-again c =
@@ -90,8 +99,10 @@ loop-again c =
       more = omega (arith, p₂ .count, p₁ .count, l .inv .more);
       kept = λ stack h. rw (add-one (l .k), push-next-row (tableOf (a .words .now)) (a .first) (l .k) stack, i, ← (at-instruction-word .instruction-word .ensures), ← (at-instruction-word2 .instruction-word2 .ensures), ← (at-instruction-word3 .instruction-word3 .ensures)) (p₂ .kept _ (p₁ .kept _ (l .inv .kept stack h)));
     }
+
 same-length : tie.Need-same-length Inv-loop μ-loop
 same-length c = search needs
+
 returns : tie.Need-returns Inv-loop μ-loop
 returns c =
     let at-loop = c .before in

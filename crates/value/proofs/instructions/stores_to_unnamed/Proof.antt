@@ -10,14 +10,18 @@ use Rattle.value.proofs.instructions.stores_to_unnamed.Lts as lts
 use Rattle.table.proofs.words.identifier_word.Reads as identifier-word-reads
 use Rattle.table.proofs.words.instruction_word.Reads as instruction-word-reads
 use Rattle.table.proofs.words.place_word.Reads as place-word-reads
+
 instruction-word-requires : tie.Need-instruction-word-requires
 instruction-word-requires c κs = search needs
+
 returns : tie.Need-returns
 returns c =
     let at-instruction-word = c .before in
     rw (ne-eqb _ 2 (λ e. c .if1 .taken (at-instruction-word .instruction-word .ensures ∙ e)))
+
 instruction-word-requires-2 : tie.Need-instruction-word-requires-2
 instruction-word-requires-2 c κs = search needs
+
 place-word-requires : tie.Need-place-word-requires
 place-word-requires c κs =
     let at-if1 = c .before in
@@ -25,6 +29,7 @@ place-word-requires c κs =
     let at-entry = at-instruction-word .before .before in
     let e = sym (at-instruction-word .instruction-word .ensures) ∙ at-if1 .if1 .left in
     (at-entry .pre .0 .sized, rw (c .instruction-word2 .ensures) (stored-to (at-entry .pre .0) (at-entry .args .i) (at-entry .pre .1) e))
+
 identifier-word-requires : tie.Need-identifier-word-requires
 identifier-word-requires c κs =
     let at-instruction-word2 = c .before in
@@ -33,6 +38,7 @@ identifier-word-requires c κs =
     let at-entry = at-instruction-word .before .before in
     let e = sym (at-instruction-word .instruction-word .ensures) ∙ at-if1 .if1 .left in
     (at-entry .pre .0 .sized, rw (c .place-word .ensures, at-instruction-word2 .instruction-word2 .ensures) (place-identifier (at-entry .pre .0) _ (stored-to (at-entry .pre .0) (at-entry .args .i) (at-entry .pre .1) e)))
+
 returns-2 : tie.Need-returns-2
 returns-2 c =
     let at-place-word = c .before in

@@ -7,20 +7,27 @@ use Rattle.value.proofs.instructions.wrap_with_sequence.Reads as reads
 use Rattle.value.proofs.instructions.wrap_with_sequence.Lts as lts
 use Rattle.rows.proofs.put.Reads as put-reads
 use Rattle.value.proofs.result.found.Reads as found-reads
+
 returns : tie.Need-returns
 returns c =
     let at-entry = c .before .before in
     record { code = at-entry .pre .code; same = λ v. refl; none = λ _. (refl, refl); some = λ f. absurd (f (c .if1 .taken)); kept = λ f. absurd (f (c .if1 .taken)); visits = refl; most = omega arith }
+
 put-requires : tie.Need-put-requires
 put-requires c κs = search needs
+
 add-t9 : tie.Need-add-t9
 add-t9 c = search needs
+
 add-t10 : tie.Need-add-t10
 add-t10 c = search needs
+
 found-requires : tie.Need-found-requires
 found-requires c κs = search needs
+
 same-length : tie.Need-same-length
 same-length c = search needs
+
 returns-2 : tie.Need-returns-2
 returns-2 c =
     let at-put = c .before .before .before .before .before in

@@ -1,0 +1,144 @@
+-- What applying a plan does to the definition's Context.
+use Prim.Native.Nat.{ℕ, zero, suc, _+_, _-_, _≤_, _<_}
+use native.Mathlib.Omega.{arith}
+use native.Mathlib.Numerals.{add-one}
+use mathlib.Core.Path.{_≡_, refl, sym, ap, _∙_, subst}
+use mathlib.Core.Bool.{Bool, true, false, not}
+use mathlib.Core.List.{List, [], _∷_}
+use mathlib.Core.Option.{Option, none, some}
+use lib.ListN.{length, getD, set, length-set}
+use Rattle.table.specs.Table.{unlessNone}
+use Rattle.definition.specs.Context.{Flags, has, add, emit, remove, targetBlock, pushed, scheduleCatchHandler, markScopeFallthrough, unscheduledBy, ControlFlowTarget, target-if, target-switch, target-case, target-loop}
+use Rattle.definition.specs.Context as definition
+use Rattle.definition.specs.Machine.{unscheduled, scheduled}
+use Rattle.control.specs.declared.ControlFlowTarget as code
+use Rattle.control.specs.declared.Context.{Context}
+use Rattle.control.specs.declared.Entry.{Entry}
+use Rattle.control.specs.Abstraction.{targetOf, noEntry, contextOf, stored}
+use Rattle.control.specs.Contract.{Bounded, Room, Last, Named, withEntry, withoutLast, loopTarget, loopScheduled, Scheduled, ScheduledLoop, Unscheduled}
+use Rattle.control.proofs.ContextLaws.{stored-pushed, pops}
+use Rattle.definition.proofs.Invariant.{Below}
+use Rattle.build.proofs.PlanLaws.{none-is, some-is}
+use Rattle.build.specs.declared.plan.Change.{Change}
+use Rattle.build.specs.declared.plan.Change.the-variants.{Nothing, Schedule, ScheduleLoop, TakeId, Unschedule}
+use Rattle.build.specs.declared.plan.Plan.{Plan}
+use Rattle.build.specs.Plans.{changed, handled, scoped, idTaken, scheduledLoop}
+use Rattle.build.specs.Driver.{marked, emitted, withMarks, Whole, Changeable, Changed, Applicable, Applied}
+
+-- ---- the stack
+
+pub nothing-changed : (cx : Context) → Whole cx → Changed Nothing cx cx
+nothing-changed cx w = record { context = λ visits. refl; whole = w }
+
+pub schedule-changed : (target : code.ControlFlowTarget) (cx r s : Context) → Scheduled target cx r → s ≡ stored r → cx .len < 1152 → Whole cx
+    → Changed (Schedule target) cx s
+unfolding scheduled contextOf stored add
+schedule-changed target cx r s h e small w = rw (e, h .state) (record {
+  context = stored-pushed′;
+  whole = record {
+    bounded = subst (λ (z : Context). Bounded (set (z .stack) (z .len - 1) (z .pushed)) (z .len)) (h .state) (h .bounded (w .bounded));
+    wide = length-set (cx .scheduled) (targetBlock (targetOf target)) true ∙ w .wide;
+    tall = length-set (cx .stack) (cx .len + 1 - 1) _ ∙ w .tall;
+  };
+})
+  where
+    stored-pushed′ : (visits : ℕ) → contextOf visits (stored (withEntry target (add (cx .scheduled) (targetBlock (targetOf target))) cx)) ≡ pushed (targetOf target) (add (cx .scheduled) (targetBlock (targetOf target))) (contextOf visits cx)
+    stored-pushed′ visits = stored-pushed visits target (add (cx .scheduled) (targetBlock (targetOf target))) cx (omega (arith, w .tall))
+
+owned : (was : Bool) → not was ≡ elim was [ true ↦ false | false ↦ true ]
+owned true = refl
+owned false = refl
+
+pub loop-changed : (f k l : ℕ) (cx r s : Context) → ScheduledLoop f k l cx r → s ≡ stored r → cx .len < 1152 → Whole cx
+    → Changed (ScheduleLoop f k l) cx s
+unfolding scheduledLoop contextOf stored add
+loop-changed f k l cx r s h e small w = rw (e, h .state) (record {
+  context = λ visits. rw (← (owned (has (add (add (cx .scheduled) f) k) l))) (stored-pushed visits (loopTarget (cx .scheduled) f k l) (loopScheduled (cx .scheduled) f k l) cx (omega (arith, w .tall)));
+  whole = record {
+    bounded = subst (λ (z : Context). Bounded (set (z .stack) (z .len - 1) (z .pushed)) (z .len)) (h .state) (h .bounded (w .bounded));
+    wide = length-set (set (set (cx .scheduled) f true) k true) l true ∙ length-set (set (cx .scheduled) f true) k true ∙ length-set (cx .scheduled) f true ∙ w .wide;
+    tall = length-set (cx .stack) (cx .len + 1 - 1) _ ∙ w .tall;
+  };
+})
+
+length-removed : (target : ControlFlowTarget) (flags : Flags) → length (unscheduledBy target flags) ≡ length flags
+unfolding unscheduledBy remove
+length-removed (target-if b) s = length-set s b false
+length-removed (target-switch b) s = length-set s b false
+length-removed (target-case b) s = length-set s b false
+length-removed (target-loop b c l false) s = length-set (set s b false) c false ∙ length-set s b false
+length-removed (target-loop b c none true) s = length-set (set s b false) c false ∙ length-set s b false
+length-removed (target-loop b c (some l) true) s = length-set (set (set s b false) c false) l false ∙ length-set (set s b false) c false ∙ length-set s b false
+
+pub unschedule-changed : (cx r : Context) (last : Entry) → Last cx last → Unscheduled last cx r → Whole cx → Changed Unschedule cx r
+unschedule-changed cx r last top h w = record {
+  context = λ visits. ap (contextOf visits) (h .state) ∙ sym (pops cx last top visits);
+  whole = record {
+    bounded = h .bounded (w .bounded);
+    wide = ap (λ (z : Context). length (z .scheduled)) (h .state) ∙ length-removed (targetOf (last .target)) (cx .scheduled) ∙ w .wide;
+    tall = ap (λ (z : Context). length (z .stack)) (h .state) ∙ w .tall;
+  };
+}
+
+pub id-changed : (cx : Context) → Whole cx
+    → Changed TakeId cx (record { emitted = cx .emitted; «catch_handlers» = cx .«catch_handlers»; «scope_fallthroughs» = cx .«scope_fallthroughs»; len = cx .len; scheduled = cx .scheduled; pushed = cx .pushed; «next_schedule_id» = cx .«next_schedule_id» + 1; stack = cx .stack })
+unfolding contextOf idTaken
+id-changed cx w = record { context = λ visits. rw add-one refl; whole = record { bounded = w .bounded; wide = w .wide; tall = w .tall } }
+
+-- ---- the sets
+
+marks-by : (visited handler fallthrough : Option ℕ) (cx : Context) (visits : ℕ) → contextOf visits (record {
+  emitted = marked visited (cx .emitted);
+  «catch_handlers» = marked handler (cx .«catch_handlers»);
+  «scope_fallthroughs» = marked fallthrough (cx .«scope_fallthroughs»);
+  len = cx .len;
+  scheduled = cx .scheduled;
+  pushed = cx .pushed;
+  «next_schedule_id» = cx .«next_schedule_id»;
+  stack = cx .stack;
+}) ≡ scoped fallthrough (handled handler (emitted visited (contextOf visits cx)))
+unfolding contextOf emit scheduleCatchHandler markScopeFallthrough
+marks-by none none none cx visits = refl
+marks-by none none (some f) cx visits = refl
+marks-by none (some h) none cx visits = refl
+marks-by none (some h) (some f) cx visits = refl
+marks-by (some b) none none cx visits = refl
+marks-by (some b) none (some f) cx visits = refl
+marks-by (some b) (some h) none cx visits = refl
+marks-by (some b) (some h) (some f) cx visits = refl
+
+pub marks : (visited handler fallthrough : ℕ) (cx : Context) (visits : ℕ)
+    → contextOf visits (withMarks visited handler fallthrough cx) ≡ scoped (unlessNone fallthrough) (handled (unlessNone handler) (emitted (unlessNone visited) (contextOf visits cx)))
+marks visited handler fallthrough cx visits = marks-by (unlessNone visited) (unlessNone handler) (unlessNone fallthrough) cx visits
+
+pub changeable-marked : (change : Change) (visited handler fallthrough : ℕ) (cx : Context) → Changeable change cx → Changeable change (withMarks visited handler fallthrough cx)
+changeable-marked Nothing visited handler fallthrough cx h = tt
+changeable-marked (Schedule target) visited handler fallthrough cx (n, r) = (n, record { len = r .len; id = r .id })
+changeable-marked (ScheduleLoop f k l) visited handler fallthrough cx (n, r) = (n, record { len = r .len; id = r .id })
+changeable-marked TakeId visited handler fallthrough cx h = h
+changeable-marked Unschedule visited handler fallthrough cx h = h
+
+pub plan-applied : (visited : ℕ) (plan : Plan) (cx m r : Context) → m ≡ withMarks visited (plan .handler) (plan .scope) cx → Changed (plan .change) m r → Applied visited plan cx r
+plan-applied visited plan cx m r e h = record {
+  context = λ visits. h .context visits ∙ ap (λ (z : Context). changed (plan .change) (contextOf visits z)) e ∙ ap (changed (plan .change)) (marks visited (plan .handler) (plan .scope) cx visits);
+  whole = h .whole;
+}
+
+-- ---- one mark
+
+pub marked-none : (n : ℕ) (flags : Flags) → n ≡ 65535 → flags ≡ marked (unlessNone n) flags
+marked-none n flags e = ap (λ (o : Option ℕ). marked o flags) (sym (ap unlessNone e ∙ none-is))
+
+pub marked-some : (n : ℕ) (flags : Flags) → (n ≡ 65535 → ⊥) → add flags n ≡ marked (unlessNone n) flags
+marked-some n flags h = ap (λ (o : Option ℕ). marked o flags) (sym (some-is n h))
+
+pub below-block : (n : ℕ) → Below 1024 (unlessNone n) → (n ≡ 65535 → ⊥) → n < 1024
+below-block n b h = subst (λ (o : Option ℕ). Below 1024 o) (some-is n h) b
+
+pub whole-marked : (visited handler fallthrough : ℕ) (cx : Context) → Whole cx → Whole (withMarks visited handler fallthrough cx)
+whole-marked visited handler fallthrough cx w = record { bounded = w .bounded; wide = w .wide; tall = w .tall }
+
+-- ---- what the methods ask
+
+pub last-entry : (cx : Context) → 0 < cx .len → Whole cx → Last cx (getD (cx .stack) (cx .len - 1) noEntry)
+last-entry cx h w = record { nonempty = h; read = refl; named = w .bounded .named (cx .len - 1) (omega arith) }

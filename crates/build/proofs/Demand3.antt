@@ -1,0 +1,26 @@
+-- Demand 3 for the entry: what the buffer holds are the rows of one tree, and that tree's run agrees with the block run.
+use Prim.Native.Nat.{ℕ}
+use mathlib.Core.Path.{_≡_, sym, ap, _∙_, subst}
+use mathlib.Core.List.{List}
+use lib.ListN.{length}
+use Rattle.table.specs.Table.{tableOf}
+use Rattle.definition.specs.Build.{built}
+use Rattle.definition.specs.Build as definition
+use Rattle.definition.specs.Plain.{Plain}
+use Rattle.definition.specs.Reading.{OneTree}
+use Rattle.definition.specs.RunLaw.{RunLaw}
+use Rattle.definition.proofs.Law.{one-tree, run-law}
+use Rattle.build.specs.declared.Outcome.{Outcome}
+use Rattle.build.specs.Entry.{outcome}
+
+-- `answers` is what build_reactive_function ensures
+module _ (words buffer buffer′ : List ℕ) (r : Outcome) (answers : outcome r buffer′ ≡ built words (length buffer)) (accepted : r .code ≡ 0) where
+  accepts : built words (length buffer) .code ≡ 0
+  accepts = sym (ap (λ (o : definition.Outcome). o .code) answers) ∙ accepted
+
+  -- of any accepted table, plain or not
+  pub entry-tree : OneTree (outcome r buffer′)
+  entry-tree = subst OneTree (sym answers) (one-tree words (length buffer) accepts)
+
+  pub entry-law : Plain (tableOf words) → RunLaw words (outcome r buffer′)
+  entry-law plain = subst (λ (o : definition.Outcome). RunLaw words o) (sym answers) (run-law words (length buffer) accepts plain)

@@ -1,0 +1,522 @@
+-- The driver's loop: what a turn needs, and what it leaves.
+use Prim.Native.Nat.{ℕ, zero, suc, _+_, _-_, _≤_, _<_}
+use native.Mathlib.Nat.{le-refl}
+use native.Mathlib.Omega.{arith}
+use mathlib.Core.Path.{_≡_, refl, sym, ap, _∙_, subst}
+use mathlib.Core.Bool.{Bool, true, false}
+use mathlib.Core.List.{List, [], _∷_, _++_}
+use mathlib.Core.Option.{Option, none, some}
+use lib.Dec.{eqb}
+use lib.ListN.{length, drop, getD, set, length-set, length-replicate}
+use lib.Seq.{getD-set-same, getD-set-other}
+use borrow.Author.Tests.{eq-eqb, ne-eqb, eqb-true}
+use Rattle.table.specs.Words.{blockCount, entryWord}
+use Rattle.table.specs.Promise.{Promise}
+use Rattle.table.specs.Table.{Table, tableOf, terminalAt, unlessNone}
+use Rattle.table.proofs.TableLaws.{length-blocks}
+use Rattle.definition.specs.Build.{Report, accepted, rejected, report}
+use Rattle.definition.specs.Context.{Flags, emit, withVisits}
+use Rattle.definition.specs.Context as definition
+use Rattle.definition.specs.Machine.{State, visiting, ended, choosing, popping, Turn, going, halt, step}
+use Rattle.definition.specs.Machine as machine
+use Rattle.definition.specs.Tree.{Row}
+use Rattle.definition.proofs.Invariant.{Checked, Below, Frames, Framed, Sound, Going, going-start, going-step, going-lower, going-halt, entriesOf, builtOf, countOf, marks-below, potential, isSwitch}
+use Rattle.definition.proofs.Invariant as invariant
+use Rattle.control.specs.declared.Context.{Context}
+use Rattle.control.specs.declared.Resolved.{Resolved}
+use Rattle.control.specs.declared.Entry.{Entry}
+use Rattle.control.specs.declared.Resolved.the-variants as resolved
+use Rattle.control.specs.Abstraction.{contextOf, resolvedOf, resolutionOf, targetOf, stackOf, noEntry}
+use Rattle.control.specs.Contract.{Bounded, Named, Room, Created}
+use Rattle.definition.proofs.Tools.{length-none}
+use Rattle.control.proofs.ContextLaws.{stack-length, named-block}
+use Rattle.rows.specs.Rows.{Holds}
+use Rattle.rows.specs.Stack.{pushed}
+use Rattle.rows.proofs.StackLaws.{length-pushed}
+use Rattle.build.specs.declared.plan.Stage.{Stage}
+use Rattle.build.specs.declared.plan.Stage.the-variants.{Visit, Ended, Choose, Pop, Halt}
+use Rattle.build.specs.declared.plan.Position.{Position}
+use Rattle.build.specs.declared.plan.Frame.{Frame}
+use Rattle.build.specs.declared.plan.Change.{Change}
+use Rattle.build.specs.declared.plan.Change.the-variants.{Nothing, Schedule, ScheduleLoop, TakeId, Unschedule}
+use Rattle.build.specs.declared.plan.Plan.{Plan}
+use Rattle.build.specs.declared.search.Jump.{Jump}
+use Rattle.build.specs.declared.search.Jump.the-variants as search
+use Rattle.build.specs.declared.driver.Walked.{Walked}
+use Rattle.build.specs.Plans.{frameOf, noFrame, framesOf, stateAt, scheduledLoop, idTaken, changed, handled, scoped, within, kept, contextAfter, onward, applied}
+use Rattle.build.specs.Planned.{NamedChange, entriesOnTop, deepest, Nested, Fitting}
+use Rattle.build.specs.Jumps.{FoundBelow}
+use Rattle.build.specs.Driver.{Resolves, foundBy, Searches, Shown, inHand, FrameFits, StageFits, Ready, emitting, PlannedTurn, visitedBlock, emitted, withMarks, Whole, Changeable, Applicable, Applied, slot, isHalt, Reported}
+use Rattle.build.proofs.PlanLaws.{none-is, some-is}
+use Rattle.build.proofs.ApplyLaws.{marks}
+
+abbrev target-or : Option definition.Resolution → ℕ
+target-or none = 0
+target-or (some r) = r .target
+
+abbrev is-some : Option definition.Resolution → ℕ
+is-some none = 0
+is-some (some r) = 1
+
+none-some : {r : definition.Resolution} → none ≡ some r → ⊥
+none-some e = let o : _≡_ {A = ℕ} 0 1 = ap is-some e in omega arith
+
+unlike : _≡_ {A = Bool} false true → ⊥
+unlike e = let o : _≡_ {A = ℕ} 0 1 = ap (λ (y : Bool). elim y [ true ↦ 1 | false ↦ 0 ]) e in omega arith
+
+-- ---- the array of frames
+
+frames-above : (A : List Frame) (n k : ℕ) (f : Frame) → n ≤ k → framesOf (set A k f) n ≡ framesOf A n
+unfolding framesOf
+frames-above A zero k f h = refl
+frames-above A (suc n) k f h = rw (getD-set-other A k n f noFrame (omega arith), frames-above A n k f (omega arith))
+
+frames-length : (A : List Frame) (n : ℕ) → length (framesOf A n) ≡ n
+unfolding framesOf
+frames-length A zero = refl
+frames-length A (suc n) = ap suc (frames-length A n)
+
+frames-within : (A : List Frame) (n d : ℕ) → d ≤ n → within d (framesOf A n) ≡ framesOf A d
+unfolding framesOf
+frames-within A n d h = rw (frames-length A n) (go (n - d) n d (omega arith))
+  where
+    go : (k n d : ℕ) → d + k ≡ n → drop k (framesOf A n) ≡ framesOf A d
+    go zero n d e = let q : n ≡ d = omega arith in ap (framesOf A) q
+    go (suc k) zero d e = absurd (omega arith)
+    go (suc k) (suc n) d e = go k n d (omega arith)
+
+-- what a plan keeps of the frames is what its store leaves
+frames-kept : (A : List Frame) (n d : ℕ) (keep : Bool) (f : Frame) → (keep ≡ true → 1 ≤ d) → d ≤ deepest keep n → slot keep d < length A → kept keep f d (framesOf A n) ≡ framesOf (set A (slot keep d) f) d
+unfolding framesOf
+frames-kept A n zero true f deep next room = absurd (let z : 1 ≤ 0 = deep refl in omega arith)
+frames-kept A n (suc d) true f deep next room =
+    let e : suc d - 1 ≡ d = omega arith in
+    rw (e, frames-within A n d (omega arith), getD-set-same A d f noFrame (rw e at room), frames-above A d d f (le-refl d))
+frames-kept A n d false f deep next room = frames-within A n d next ∙ sym (frames-above A d d f (le-refl d))
+
+kept-length : (A : List Frame) (n d : ℕ) (keep : Bool) (f : Frame) → (keep ≡ true → 1 ≤ d) → d ≤ deepest keep n → length (kept keep f d (framesOf A n)) ≡ d
+kept-length A n d true f deep next = let one : 1 ≤ d = deep refl in rw (frames-within A n (d - 1) (omega arith), frames-length A (d - 1)) (omega arith)
+kept-length A n d false f deep next = rw (frames-within A n d next) (frames-length A d)
+
+-- the frame in hand, and the frames below it
+abbrev restOf : List Frame → Stage → ℕ → List machine.Frame
+restOf A Visit n = framesOf A n
+restOf A Ended zero = []
+restOf A Ended (suc n) = framesOf A n
+restOf A Choose zero = []
+restOf A Choose (suc n) = framesOf A n
+restOf A Pop zero = []
+restOf A Pop (suc n) = framesOf A n
+restOf A Halt n = framesOf A n
+
+in-hand : (A : List Frame) (s : Stage) (n : ℕ) (f : Frame) → f ≡ getD A (n - 1) noFrame → inHand s n f ++ restOf A s n ≡ framesOf A n
+unfolding framesOf
+in-hand A Visit n f e = refl
+in-hand A Ended zero f e = refl
+in-hand A Ended (suc n) f e = let q : suc n - 1 ≡ n = omega arith in ap {B = List machine.Frame} (λ (z : Frame). frameOf z ∷ framesOf A n) (rw q at e)
+in-hand A Choose zero f e = refl
+in-hand A Choose (suc n) f e = let q : suc n - 1 ≡ n = omega arith in ap {B = List machine.Frame} (λ (z : Frame). frameOf z ∷ framesOf A n) (rw q at e)
+in-hand A Pop zero f e = refl
+in-hand A Pop (suc n) f e = let q : suc n - 1 ≡ n = omega arith in ap {B = List machine.Frame} (λ (z : Frame). frameOf z ∷ framesOf A n) (rw q at e)
+in-hand A Halt n f e = refl
+
+entries-top : (s : Stage) (n : ℕ) (f : Frame) (F : List machine.Frame) → entriesOnTop (inHand s n f) ≤ entriesOf (inHand s n f ++ F)
+entries-top Visit n f F = omega arith
+entries-top Ended zero f F = omega arith
+entries-top Ended (suc n) f F = omega arith
+entries-top Choose zero f F = omega arith
+entries-top Choose (suc n) f F = omega arith
+entries-top Pop zero f F = omega arith
+entries-top Pop (suc n) f F = omega arith
+entries-top Halt n f F = omega arith
+
+-- ---- states
+
+-- a Switch that takes its next case, and a statement whose entries come off, have a frame; and the walk has not come to its end
+abbrev pub Live : Stage → (depth : ℕ) → Type 0
+Live Visit depth = Unit {0}
+Live Ended depth = Unit {0}
+Live Choose depth = 1 ≤ depth
+Live Pop depth = 1 ≤ depth
+Live Halt depth = ⊥
+
+abbrev pub stateOf : Position → List Frame → List Row → Context → State
+stateOf p A R cx = stateAt (p .stage) (p .block) (framesOf A (p .depth)) R (p .count) (contextOf (p .visits) cx)
+
+-- the numbers in a state
+record Numbers (F : List machine.Frame) (R : List Row) (C : definition.Context) : Type 0 where
+  visits : C .visits ≤ 8192
+  frames : length F ≤ 128
+  stack : length (C .stack) ≤ 1024
+  ids : C .nextId ≤ 16384
+  rows : length R ≤ 67239936
+  entries : length (C .stack) ≡ entriesOf F
+
+numbers : (t : Table) (s : Stage) (b : ℕ) (F : List machine.Frame) (R : List Row) (m : ℕ) (C : definition.Context) → Live s (length F) → Sound t (stateAt s b F R m C) → Numbers F R C
+numbers t Visit b F R m C l h = let z : invariant.Small (visiting b F R m C) = invariant.sound-small t (visiting b F R m C) h in record { visits = z .visits; frames = z .frames; stack = z .stack; ids = z .ids; rows = z .rows; entries = h .2 .stack }
+numbers t Ended b F R m C l h = let z : invariant.Small (ended F R m C) = invariant.sound-small t (ended F R m C) h in record { visits = z .visits; frames = z .frames; stack = z .stack; ids = z .ids; rows = z .rows; entries = h .1 .stack }
+numbers t Choose b [] R m C l h = absurd (omega arith)
+numbers t Choose b (f ∷ F) R m C l h = let z : invariant.Small (choosing f F R C) = invariant.sound-small t (choosing f F R C) h in record { visits = z .visits; frames = z .frames; stack = z .stack; ids = z .ids; rows = z .rows; entries = h .3 .stack }
+numbers t Pop b [] R m C l h = absurd (omega arith)
+numbers t Pop b (f ∷ F) R m C l h = let z : invariant.Small (popping f F R C) = invariant.sound-small t (popping f F R C) h in record { visits = z .visits; frames = z .frames; stack = z .stack; ids = z .ids; rows = z .rows; entries = h .2 .stack }
+numbers t Halt b F R m C l h = absurd l
+
+-- the potential does not look at the rows
+no-rows : (s : Stage) (b : ℕ) (F : List machine.Frame) (R : List Row) (m : ℕ) (C : definition.Context) → potential (stateAt s b F R m C) ≡ potential (stateAt s b F [] m C)
+no-rows Visit b F R m C = refl
+no-rows Ended b F R m C = refl
+no-rows Choose b [] R m C = refl
+no-rows Choose b (f ∷ F) R m C = refl
+no-rows Pop b [] R m C = refl
+no-rows Pop b (f ∷ F) R m C = refl
+no-rows Halt b F R m C = refl
+
+-- ---- what holds at each turn of the loop
+
+pub record Walking (w : List ℕ) (buffer : List ℕ) (cx : Context) (A : List Frame) (p : Position) : Type 0 where
+  pub rows : List Row
+  pub going : Going (tableOf w) (stateOf p A rows cx)
+  pub held : Holds buffer (p .rows) (pushed rows [])
+  pub live : Live (p .stage) (p .depth)
+  pub whole : Whole cx
+  pub frames : length A ≡ 129
+
+abbrev pub turnsLeft : Position → List Frame → Context → ℕ
+turnsLeft p A cx = potential (stateOf p A [] cx)
+
+getD-any : {A : Type 0} (xs : List A) (i : ℕ) (d e : A) → i < length xs → getD xs i d ≡ getD xs i e
+getD-any [] i d e h = absurd (omega arith)
+getD-any (x ∷ xs) zero d e h = refl
+getD-any (x ∷ xs) (suc i) d e h = getD-any xs i d e (omega arith)
+
+entry-at : (w : List ℕ) → tableOf w .entry ≡ entryWord w
+unfolding tableOf
+entry-at w = refl
+
+scheduled-start : (cx : Context) → contextOf 0 cx ≡ definition.start → length (cx .scheduled) ≡ 1024
+unfolding contextOf definition.start
+scheduled-start cx e = ap (λ (C : definition.Context). length (C .scheduled)) e ∙ length-none
+
+-- what a read past the array's end would give
+abbrev pub beyond : Frame
+beyond = record { block = 0; label = 0; entries = 0; left = 0; built = 0; count = 0; second = false }
+
+-- what the search of the stack found
+pub found-jump : (w : List ℕ) (cx : Context) (p : Position) (jump : Jump) (found : Resolved) → (p .stage ≡ Visit → Searches w (cx .scheduled) (cx .«catch_handlers») (p .block) jump)
+    → ((visits : ℕ) → resolvedOf found ≡ foundBy jump (contextOf visits cx)) → p .stage ≡ Visit → Resolves (terminalAt (tableOf w) (p .block)) (contextOf (p .visits) cx) (resolvedOf found)
+unfolding contextOf
+found-jump w cx p jump found S R e =
+    subst (λ (z : Option definition.Resolution). Resolves (terminalAt (tableOf w) (p .block)) (contextOf (p .visits) cx) z) (sym (R (p .visits))) (S e .resolves (contextOf (p .visits) cx) refl refl)
+
+-- its target is one of the 1,024 blocks, as every entry's is
+break-below : (entries : List Entry) (n b : ℕ) (top above : Bool) → ((k : ℕ) → k < n → Named (getD entries k noEntry .target)) → (r : definition.Resolution) → definition.breakTargetFrom (stackOf entries n) b top above ≡ some r → r .target < 1024
+unfolding stackOf definition.breakTargetFrom
+break-below entries zero b top above named r e = absurd (none-some e)
+break-below entries (suc n) b top above named r e = at (eqb (definition.targetBlock (targetOf (getD entries n noEntry .target))) b) refl e (λ t a h. break-below entries n b t a (λ k l. named k (omega arith)) r h)
+  where
+    at : (y : Bool) → eqb (definition.targetBlock (targetOf (getD entries n noEntry .target))) b ≡ y
+        → elim y [ true ↦ some (record { target = b; kind = definition.breakKind (definition.isLoop (targetOf (getD entries n noEntry .target))) top above }) | false ↦ definition.breakTargetFrom (stackOf entries n) b false (definition.or above (definition.isLoop (targetOf (getD entries n noEntry .target)))) ] ≡ some r
+        → ((t a : Bool) → definition.breakTargetFrom (stackOf entries n) b t a ≡ some r → r .target < 1024) → r .target < 1024
+    at true q h again = let t : b ≡ r .target = ap target-or (h) in let same : definition.targetBlock (targetOf (getD entries n noEntry .target)) ≡ b = eqb-true _ _ q in omega (arith, t, same, named-block (getD entries n noEntry .target) (named n (omega arith)))
+    at false q h again = again false (definition.or above (definition.isLoop (targetOf (getD entries n noEntry .target)))) h
+
+continue-below : (entries : List Entry) (n b : ℕ) (top above : Bool) → ((k : ℕ) → k < n → Named (getD entries k noEntry .target)) → (r : definition.Resolution) → definition.continueTargetFrom (stackOf entries n) b top above ≡ some r → r .target < 1024
+unfolding stackOf definition.continueTargetFrom
+continue-below entries zero b top above named r e = absurd (none-some e)
+continue-below entries (suc n) b top above named r e = at (definition.continuesAt (targetOf (getD entries n noEntry .target)) b) e (λ t a h. continue-below entries n b t a (λ k l. named k (omega arith)) r h)
+  where
+    at : (y : Bool)
+        → elim y [ true ↦ some (record { target = definition.targetBlock (targetOf (getD entries n noEntry .target)); kind = definition.continueKind top above }) | false ↦ definition.continueTargetFrom (stackOf entries n) b false (definition.or above (definition.isLoop (targetOf (getD entries n noEntry .target)))) ] ≡ some r
+        → ((t a : Bool) → definition.continueTargetFrom (stackOf entries n) b t a ≡ some r → r .target < 1024) → r .target < 1024
+    at true h again = let t : definition.targetBlock (targetOf (getD entries n noEntry .target)) ≡ r .target = ap target-or (h) in omega (arith, t, named-block (getD entries n noEntry .target) (named n (omega arith)))
+    at false h again = again false (definition.or above (definition.isLoop (targetOf (getD entries n noEntry .target)))) h
+
+pub found-below : (cx : Context) (jump : Jump) (found : Resolved) → Whole cx → ((visits : ℕ) → resolvedOf found ≡ foundBy jump (contextOf visits cx)) → FoundBelow found
+unfolding contextOf definition.getBreakTarget definition.getContinueTarget
+found-below cx jump resolved.Nothing h e = tt
+found-below cx search.Nothing (resolved.Found r) h e = absurd (none-some (sym (e 0)))
+found-below cx (search.Break b) (resolved.Found r) h e = break-below (cx .stack) (cx .len) b true false (h .bounded .named) (resolutionOf r) (sym (e 0))
+found-below cx (search.Continue b) (resolved.Found r) h e = continue-below (cx .stack) (cx .len) b true false (h .bounded .named) (resolutionOf r) (sym (e 0))
+
+module _ (w : List ℕ) (pr : Promise w) (ck : Checked (tableOf w)) where
+  -- where the loop begins
+  pub walking-start : (buffer : List ℕ) (cx : Context) (A : List Frame) (e : ℕ) → Created cx → length A ≡ 129 → e ≡ entryWord w → Walking w buffer cx A (record { block = e; depth = 0; count = 0; rows = 0; visits = 0; stage = Visit })
+  unfolding framesOf pushed
+  walking-start buffer cx A e new l q = record {
+    rows = [];
+    going = subst (λ (C : definition.Context). Going (tableOf w) (visiting e [] [] 0 C)) (sym (new .context)) (subst (λ (b : ℕ). Going (tableOf w) (visiting b [] [] 0 definition.start)) (entry-word ∙ sym q) (going-start (tableOf w) ck));
+    held = record { count = refl; rows = tt };
+    live = tt;
+    whole = record { bounded = new .bounded; wide = flags; tall = ap length (new .stack) ∙ length-replicate 1152 noEntry };
+    frames = l;
+  }
+    where
+      entry-word : tableOf w .entry ≡ entryWord w
+      entry-word = entry-at w
+
+      flags : length (cx .scheduled) ≡ 1024
+      flags = scheduled-start cx (new .context)
+
+  frame-fits : (chosen over n rows : ℕ) (A : List Frame) (F : List machine.Frame) (R : List Row) (m : ℕ) (C : definition.Context) (f : Frame) → f ≡ getD A (suc n - 1) noFrame → length R ≡ rows
+      → Framed (tableOf w) chosen (frameOf (getD A n noFrame)) → invariant.Holds over (frameOf (getD A n noFrame) ∷ F) R m C → FrameFits w chosen rows f
+  frame-fits chosen over n rows A F R m C f e l o h =
+      let q : suc n - 1 ≡ n = omega arith in
+      let z : f ≡ getD A n noFrame = rw q at e in
+      rw z (record { framed = o; built = omega (arith, h .marked, marks-below (C .emitted), h .flags); count = omega (arith, h .tallied, l) })
+
+  fits-at : (A : List Frame) (R : List Row) (C : definition.Context) (f : Frame) (s : Stage) (b n m rows visits : ℕ) → f ≡ getD A (n - 1) noFrame → length R ≡ rows → Live s n → Sound (tableOf w) (stateAt s b (framesOf A n) R m C)
+      → StageFits w s (record { block = b; depth = n; count = m; rows = rows; visits = visits; stage = s }) f
+  unfolding framesOf
+  fits-at A R C f Visit b n m rows u e l v h = (rw (← (length-blocks w)) (h .0), omega (arith, h .2 .tallied, l))
+  fits-at A R C f Ended b zero m rows u e l v h = (omega (arith, h .1 .tallied, l), λ z. absurd (omega arith))
+  fits-at A R C f Ended b (suc n) m rows u e l v h = (omega (arith, h .1 .tallied, l), λ _. frame-fits 0 1 n rows A (framesOf A n) R m C f e l (h .0 .0) (h .1))
+  fits-at A R C f Choose b zero m rows u e l v h = absurd (omega arith)
+  fits-at A R C f Choose b (suc n) m rows u e l v h =
+      let q : suc n - 1 ≡ n = omega arith in
+      let z : f ≡ getD A n noFrame = rw q at e in
+      (omega arith, rw z (h .0), frame-fits 1 0 n rows A (framesOf A n) R 0 C f e l (h .1) (h .3))
+  fits-at A R C f Pop b zero m rows u e l v h = absurd (omega arith)
+  fits-at A R C f Pop b (suc n) m rows u e l v h = (omega arith, frame-fits 1 0 n rows A (framesOf A n) R 0 C f e l (h .0) (h .2))
+  fits-at A R C f Halt b n m rows u e l v h = absurd v
+
+  -- ---- a turn
+
+  module _ (buffer : List ℕ) (cx : Context) (A : List Frame) (p : Position) (I : Walking w buffer cx A p) where
+    abbrev C : definition.Context
+    C = contextOf (p .visits) cx
+
+    numbered : Numbers (framesOf A (p .depth)) (I .rows) C
+    numbered = numbers (tableOf w) (p .stage) (p .block) (framesOf A (p .depth)) (I .rows) (p .count) C (rw (frames-length A (p .depth)) (I .live)) (I .going .sound)
+
+    row-count : length (I .rows) ≡ p .rows
+    row-count = omega (arith, length-pushed (I .rows) [], I .held .count)
+
+    pub shallow : p .depth ≤ 128
+    shallow = omega (arith, numbered .frames, frames-length A (p .depth))
+
+    -- the innermost frame, as the code reads it
+    pub frame-read : (i : ℕ) → i ≡ p .depth - 1 → getD A i beyond ≡ getD A (p .depth - 1) noFrame
+    frame-read i e = ap (λ (k : ℕ). getD A k beyond) e ∙ getD-any A (p .depth - 1) beyond noFrame (omega (arith, I .frames, shallow))
+
+    pub ready : (f : Frame) → f ≡ getD A (p .depth - 1) noFrame → Ready w p f
+    unfolding contextOf
+    ready f e = record {
+      promise = pr;
+      depth = shallow;
+      visits = numbered .visits;
+      rows = omega (arith, numbered .rows, row-count);
+      stage = fits-at A (I .rows) C f (p .stage) (p .block) (p .depth) (p .count) (p .rows) (p .visits) e row-count (I .live) (I .going .sound);
+    }
+
+    pub visit-below : p .stage ≡ Visit → p .block < blockCount w
+    visit-below e = rw (← (length-blocks w)) (subst (λ (s : Stage). Sound (tableOf w) (stateAt s (p .block) (framesOf A (p .depth)) (I .rows) (p .count) C)) e (I .going .sound) .0)
+
+    module _ (f : Frame) (read : f ≡ getD A (p .depth - 1) noFrame) (found : Resolved) (buffer′ : List ℕ) (plan : Plan)
+        (T : PlannedTurn w (Shown w (cx .emitted) (cx .scheduled) (cx .«catch_handlers») (cx .«scope_fallthroughs») p found) p f buffer plan buffer′)
+        (J : p .stage ≡ Visit → Resolves (terminalAt (tableOf w) (p .block)) C (resolvedOf found)) where
+      shown : Shown w (cx .emitted) (cx .scheduled) (cx .«catch_handlers») (cx .«scope_fallthroughs») p found C
+      unfolding contextOf
+      shown = record { emitted = refl; scheduled = refl; handlers = refl; scopes = refl; visits = refl; wide = I .whole .wide; jump = J }
+
+      together : inHand (p .stage) (p .depth) f ++ restOf A (p .stage) (p .depth) ≡ framesOf A (p .depth)
+      together = in-hand A (p .stage) (p .depth) f read
+
+      after : List Row
+      after = I .rows ++ T .out
+
+      entering : definition.Context
+      entering = emitting (p .stage) (p .block) C
+
+      stepped : step (tableOf w) (stateOf p A (I .rows) cx) ≡ applied plan (framesOf A (p .depth)) after entering
+      unfolding after entering
+      stepped = subst (λ (F : List machine.Frame). step (tableOf w) (stateAt (p .stage) (p .block) F (I .rows) (p .count) C) ≡ applied plan F (I .rows ++ T .out) (emitting (p .stage) (p .block) C)) together
+          (T .same (restOf A (p .stage) (p .depth)) (I .rows) C (ap length together ∙ frames-length A (p .depth)) shown)
+
+      -- a refusal
+      refused-report : (plan .code ≡ 0 → ⊥) → report (tableOf w) ≡ rejected (plan .code) (plan .at) (plan .position .visits)
+      unfolding applied
+      refused-report z = going-halt (tableOf w) (stateOf p A (I .rows) cx) _ (I .going) (stepped ∙ rw (ne-eqb (plan .code) 0 z, applied))
+
+      pub refused-reported : (plan .code ≡ 0 → ⊥) → (r : Walked) → (r .code ≡ plan .code) × (r .at ≡ plan .at) × (r .visits ≡ plan .position .visits) → Reported (report (tableOf w)) r buffer′
+      refused-reported z r e = subst (λ (a : Report). Reported a r buffer′) (sym (refused-report z)) (e .0, z, e .1, e .2)
+
+      module _ (fine : plan .code ≡ 0) where
+        ahead : applied plan (framesOf A (p .depth)) after entering ≡ onward (plan .position .stage) plan (framesOf A (p .depth)) after entering
+        unfolding applied
+        ahead = rw (eq-eqb (plan .code) 0 fine, applied)
+
+        fit : Fitting (inHand (p .stage) (p .depth) f) (p .depth) plan
+        fit = T .fitting fine
+
+        rows-held : Holds buffer′ (plan .position .rows) (pushed after [])
+        unfolding after
+        rows-held = T .held fine (I .rows) (I .held)
+
+        -- the end
+        accepted-report : isHalt (plan .position .stage) ≡ true → report (tableOf w) ≡ accepted after (plan .position .visits)
+        accepted-report z = going-halt (tableOf w) (stateOf p A (I .rows) cx) _ (I .going) (stepped ∙ ahead ∙ at (plan .position .stage) z)
+          where
+            at : (s : Stage) → isHalt s ≡ true → onward s plan (framesOf A (p .depth)) after entering ≡ halt (accepted after (plan .position .visits))
+            at Visit e = absurd (unlike e)
+            at Ended e = absurd (unlike e)
+            at Choose e = absurd (unlike e)
+            at Pop e = absurd (unlike e)
+            at Halt e = refl
+
+        pub accepted-reported : isHalt (plan .position .stage) ≡ true → (r : Walked) → (r .code ≡ 0) × (r .at ≡ 0) × (r .visits ≡ plan .position .visits) × (r .rows ≡ plan .position .rows) → Reported (report (tableOf w)) r buffer′
+        accepted-reported z r e = subst (λ (a : Report). Reported a r buffer′) (sym (accepted-report z)) (e .0, e .1, e .2, rw (e .3) rows-held)
+
+        -- the turn leads on
+        module _ (on : isHalt (plan .position .stage) ≡ false) where
+          K : List machine.Frame
+          K = kept (plan .keep) (plan .frame) (plan .position .depth) (framesOf A (p .depth))
+
+          kept-deep : length K ≡ plan .position .depth
+          unfolding K
+          kept-deep = kept-length A (p .depth) (plan .position .depth) (plan .keep) (plan .frame) (fit .deep) (fit .next)
+
+          next-live : Live (plan .position .stage) (plan .position .depth)
+          next-live = at (plan .position .stage) on (fit .nested)
+            where
+              at : (s : Stage) → isHalt s ≡ false → Nested s (plan .keep) → Live s (plan .position .depth)
+              at Visit e n = tt
+              at Ended e n = tt
+              at Choose e n = fit .deep n
+              at Pop e n = fit .deep n
+              at Halt e n = absurd (unlike (sym e))
+
+          next : State
+          next = stateAt (plan .position .stage) (plan .position .block) K after (plan .position .count) (contextAfter plan entering)
+
+          leads : step (tableOf w) (stateOf p A (I .rows) cx) ≡ going next
+          unfolding next K
+          leads = stepped ∙ ahead ∙ at (plan .position .stage) on next-live
+            where
+              choose-same : (F : List machine.Frame) (D : definition.Context) → 1 ≤ length F → stateAt Choose 0 F after 0 D ≡ stateAt Choose (plan .position .block) F after (plan .position .count) D
+              choose-same [] D h = absurd (omega arith)
+              choose-same (g ∷ F) D h = refl
+
+              pop-same : (F : List machine.Frame) (D : definition.Context) → 1 ≤ length F → stateAt Pop 0 F after 0 D ≡ stateAt Pop (plan .position .block) F after (plan .position .count) D
+              pop-same [] D h = absurd (omega arith)
+              pop-same (g ∷ F) D h = refl
+
+              at : (s : Stage) → isHalt s ≡ false → Live s (plan .position .depth) → onward s plan (framesOf A (p .depth)) after entering ≡ going (stateAt s (plan .position .block) K after (plan .position .count) (contextAfter plan entering))
+              at Visit e l = refl
+              at Ended e l = refl
+              at Choose e l = ap going (choose-same K (contextAfter plan entering) (omega (arith, kept-deep)))
+              at Pop e l = ap going (pop-same K (contextAfter plan entering) (omega (arith, kept-deep)))
+              at Halt e l = absurd (unlike (sym e))
+
+          next-going : Going (tableOf w) next
+          next-going = going-step (tableOf w) ck (stateOf p A (I .rows) cx) next (I .going) leads
+
+          next-numbers : Numbers K after (contextAfter plan entering)
+          unfolding next
+          next-numbers = numbers (tableOf w) (plan .position .stage) (plan .position .block) K after (plan .position .count) (contextAfter plan entering) (rw kept-deep next-live) (next-going .sound)
+
+          next-shallow : plan .position .depth ≤ 128
+          next-shallow = omega (arith, next-numbers .frames, kept-deep)
+
+          -- ---- the Context
+
+          abbrev pub visited : ℕ
+          visited = visitedBlock (p .stage) (p .block)
+
+          visit-same : withVisits (plan .position .visits) (emit (p .block) C) ≡ emit (p .block) (contextOf (plan .position .visits) cx)
+          unfolding withVisits emit contextOf
+          visit-same = refl
+
+          none-same : withVisits (plan .position .visits) C ≡ contextOf (plan .position .visits) cx
+          unfolding withVisits contextOf
+          none-same = refl
+
+          marked-context : contextAfter plan entering ≡ changed (plan .change) (contextOf (plan .position .visits) (withMarks visited (plan .handler) (plan .scope) cx))
+          unfolding entering
+          marked-context = ap (λ (D : definition.Context). changed (plan .change) (scoped (unlessNone (plan .scope)) (handled (unlessNone (plan .handler)) D))) (at (p .stage) visit-below)
+              ∙ sym (ap (changed (plan .change)) (marks (visitedBlock (p .stage) (p .block)) (plan .handler) (plan .scope) cx (plan .position .visits)))
+            where
+              visit-at : (o : Option ℕ) → o ≡ some (p .block) → withVisits (plan .position .visits) (emit (p .block) C) ≡ emitted o (contextOf (plan .position .visits) cx)
+              visit-at o e = visit-same ∙ ap (λ (z : Option ℕ). emitted z (contextOf (plan .position .visits) cx)) (sym e)
+
+              none-at : (o : Option ℕ) → o ≡ none → withVisits (plan .position .visits) C ≡ emitted o (contextOf (plan .position .visits) cx)
+              none-at o e = none-same ∙ ap (λ (z : Option ℕ). emitted z (contextOf (plan .position .visits) cx)) (sym e)
+
+              at : (s : Stage) → (s ≡ Visit → p .block < blockCount w) → withVisits (plan .position .visits) (emitting s (p .block) C) ≡ emitted (unlessNone (visitedBlock s (p .block))) (contextOf (plan .position .visits) cx)
+              at Visit h = visit-at (unlessNone (p .block)) (some-is (p .block) (λ e. let z : p .block < blockCount w = h refl in omega (arith, z, pr .sized .limited .blocks)))
+              at Ended h = none-at (unlessNone 65535) none-is
+              at Choose h = none-at (unlessNone 65535) none-is
+              at Pop h = none-at (unlessNone 65535) none-is
+              at Halt h = none-at (unlessNone 65535) none-is
+
+          -- ---- what applying the plan asks
+
+          changeable : Changeable (plan .change) cx
+          unfolding contextOf machine.scheduled definition.pushed scheduledLoop idTaken
+          changeable = at (plan .change) (subst (λ (D : definition.Context). length (D .stack) ≤ 1024) marked-context (next-numbers .stack)) (subst (λ (D : definition.Context). D .nextId ≤ 16384) marked-context (next-numbers .ids)) (fit .change)
+            where
+              D : definition.Context
+              D = contextOf (plan .position .visits) (withMarks visited (plan .handler) (plan .scope) cx)
+
+              len : length (stackOf (cx .stack) (cx .len)) ≡ cx .len
+              len = stack-length (cx .stack) (cx .len)
+
+              filled : entriesOnTop (inHand (p .stage) (p .depth) f) ≤ cx .len
+              filled = let z : length (stackOf (cx .stack) (cx .len)) ≡ entriesOf (inHand (p .stage) (p .depth) f ++ restOf A (p .stage) (p .depth)) = numbered .entries ∙ ap entriesOf (sym together) in
+                  omega (arith, entries-top (p .stage) (p .depth) f (restOf A (p .stage) (p .depth)), len, z)
+
+              at : (ch : Change) → length (changed ch D .stack) ≤ 1024 → changed ch D .nextId ≤ 16384 → NamedChange (entriesOnTop (inHand (p .stage) (p .depth) f)) ch → Changeable ch cx
+              at Nothing s i n = tt
+              at (Schedule target) s i n = (n, record { len = omega (arith, len, s); id = omega arith })
+              at (ScheduleLoop g k l) s i n = (n, record { len = omega (arith, len, s); id = omega arith })
+              at TakeId s i n = omega arith
+              at Unschedule s i n = omega (arith, n, filled)
+
+          pub applicable : Applicable visited plan cx
+          applicable = record { block = at (p .stage) visit-below; handler = fit .handler; scope = fit .scope; change = changeable; whole = I .whole }
+            where
+              at : (s : Stage) → (s ≡ Visit → p .block < blockCount w) → Below 1024 (unlessNone (visitedBlock s (p .block)))
+              at Visit h = let z : p .block < blockCount w = h refl in subst (λ (o : Option ℕ). Below 1024 o) (sym (some-is (p .block) (λ e. omega (arith, z, pr .sized .limited .blocks)))) (omega (arith, z, pr .sized .limited .blocks))
+              at Ended h = subst (λ (o : Option ℕ). Below 1024 o) (sym none-is) tt
+              at Choose h = subst (λ (o : Option ℕ). Below 1024 o) (sym none-is) tt
+              at Pop h = subst (λ (o : Option ℕ). Below 1024 o) (sym none-is) tt
+              at Halt h = subst (λ (o : Option ℕ). Below 1024 o) (sym none-is) tt
+
+          pub slot-below : slot (plan .keep) (plan .position .depth) < 129
+          slot-below = at (plan .keep)
+            where
+              at : (keep : Bool) → slot keep (plan .position .depth) < 129
+              at true = omega (arith, next-shallow)
+              at false = omega (arith, next-shallow)
+
+          -- ---- and the next turn
+
+          module _ (r : Context) (E : Applied visited plan cx r) where
+            abbrev pub A′ : List Frame
+            A′ = set A (slot (plan .keep) (plan .position .depth)) (plan .frame)
+
+            arrived : next ≡ stateOf (plan .position) A′ after r
+            unfolding next K
+            arrived = ap (λ (F : List machine.Frame). stateAt (plan .position .stage) (plan .position .block) F after (plan .position .count) (contextAfter plan entering))
+                (frames-kept A (p .depth) (plan .position .depth) (plan .keep) (plan .frame) (fit .deep) (fit .next) (rw (I .frames) slot-below))
+                ∙ ap (λ (D : definition.Context). stateAt (plan .position .stage) (plan .position .block) (framesOf (set A (slot (plan .keep) (plan .position .depth)) (plan .frame)) (plan .position .depth)) after (plan .position .count) D)
+                (marked-context ∙ ap (changed (plan .change)) (marks visited (plan .handler) (plan .scope) cx (plan .position .visits)) ∙ sym (E .context (plan .position .visits)))
+
+            pub walking-again : Walking w buffer′ r A′ (plan .position)
+            walking-again = record {
+              rows = after;
+              going = subst (λ (z : State). Going (tableOf w) z) arrived next-going;
+              held = rows-held;
+              live = next-live;
+              whole = E .whole;
+              frames = length-set A (slot (plan .keep) (plan .position .depth)) (plan .frame) ∙ I .frames;
+            }
+
+            pub turns-lower : turnsLeft (plan .position) A′ r < turnsLeft p A cx
+            turns-lower =
+                let lower : potential (stateOf (plan .position) A′ after r) < potential (stateOf p A (I .rows) cx) = going-lower (tableOf w) ck (stateOf p A (I .rows) cx) _ (I .going) (leads ∙ ap going arrived) in
+                omega (
+                  arith,
+                  lower,
+                  no-rows (plan .position .stage) (plan .position .block) (framesOf A′ (plan .position .depth)) after (plan .position .count) (contextOf (plan .position .visits) r),
+                  no-rows (p .stage) (p .block) (framesOf A (p .depth)) (I .rows) (p .count) C,
+                )

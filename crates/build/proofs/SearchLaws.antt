@@ -1,0 +1,98 @@
+-- What a block's jump looks for.
+use Prim.Native.Nat.{ℕ, zero, suc, _<_, _≤_}
+use native.Mathlib.Omega.{arith}
+use mathlib.Core.Path.{_≡_, refl, sym, ap, _∙_, subst}
+use mathlib.Core.Bool.{Bool, true, false}
+use mathlib.Core.List.{List}
+use mathlib.Core.Option.{Option, none, some}
+use Rattle.table.specs.Words.{blockCount, placeCount, caseCount, blockWord}
+use Rattle.table.specs.Promise.{Promise, InRange}
+use Rattle.table.specs.Table.{Terminal, Variant, absent, unreachable, throw, return, goto, if, branch, switch, do-while, while, for, for-of, for-in, logical, ternary, optional, label, sequence, maybe-throw, try, scope, Break, Continue, Try, codeOf, tableOf, terminalOf, terminalAt, variantOf}
+use Rattle.table.proofs.RangeLaws.{in-range}
+use Rattle.definition.specs.Context.{Flags, or, has, isScheduled, getBreakTarget, getContinueTarget}
+use Rattle.definition.specs.Context as definition
+use Rattle.build.specs.declared.search.Jump.{Jump}
+use Rattle.build.specs.declared.search.Jump.the-variants.{Nothing}
+use Rattle.build.specs.declared.search.Jump.the-variants as jump
+use Rattle.build.specs.Driver.{Resolves, foundBy, Searches}
+use Rattle.build.proofs.StepLaws.{end-by, code-at}
+
+-- a terminal that is no jump
+quiet : (e : Terminal) (cx : definition.Context) (found : Option definition.Resolution) → (codeOf e ≡ 4 → ⊥) → (codeOf e ≡ 6 → ⊥) → Resolves e cx found
+quiet absent cx found f g = tt
+quiet unreachable cx found f g = tt
+quiet (throw value) cx found f g = tt
+quiet (return value) cx found f g = tt
+quiet (goto target variant) cx found f g = absurd (f refl)
+quiet (if test consequent alternate fallthrough) cx found f g = tt
+quiet (branch test consequent alternate) cx found f g = absurd (g refl)
+quiet (switch test first number fallthrough) cx found f g = tt
+quiet (do-while loop test fallthrough) cx found f g = tt
+quiet (while test loop fallthrough) cx found f g = tt
+quiet (for init test update loop fallthrough) cx found f g = tt
+quiet (for-of init test loop fallthrough) cx found f g = tt
+quiet (for-in init loop fallthrough) cx found f g = tt
+quiet (logical operator test fallthrough) cx found f g = tt
+quiet (ternary test fallthrough) cx found f g = tt
+quiet (optional chain test fallthrough) cx found f g = tt
+quiet (label body fallthrough) cx found f g = tt
+quiet (sequence body fallthrough) cx found f g = tt
+quiet (maybe-throw continuation) cx found f g = tt
+quiet (try body handler fallthrough binding) cx found f g = tt
+quiet (scope pruned body fallthrough number) cx found f g = tt
+
+module _ (w : List ℕ) (b : ℕ) (pr : Promise w) (below : b < blockCount w) where
+  pub goto-target : blockWord w b 2 ≡ 4 → blockWord w b 3 < 1024
+  unfolding terminalOf
+  goto-target code = let r : blockWord w b 3 < blockCount w = subst (λ (z : Terminal). InRange (blockCount w) (placeCount w) (caseCount w) z) (end-by w b below 4 code) (in-range w pr b below) in omega (arith, r, pr .sized .limited .blocks)
+
+  pub branch-consequent : blockWord w b 2 ≡ 6 → blockWord w b 4 < 1024
+  unfolding terminalOf
+  branch-consequent code =
+      let r : InRange (blockCount w) (placeCount w) (caseCount w) (branch (blockWord w b 3) (blockWord w b 4) (blockWord w b 5)) = subst (λ (z : Terminal). InRange (blockCount w) (placeCount w) (caseCount w) z) (end-by w b below 6 code) (in-range w pr b below) in
+      omega (arith, r .1, pr .sized .limited .blocks)
+
+module _ (w : List ℕ) (S H : Flags) (b : ℕ) (pr : Promise w) (below : b < blockCount w) where
+  pub no-jump : (blockWord w b 2 ≡ 4 → ⊥) → (blockWord w b 2 ≡ 6 → ⊥) → Searches w S H b Nothing
+  no-jump f g = record { resolves = λ cx s h. quiet (terminalAt (tableOf w) b) cx none (λ e. f (sym (code-at w b pr below) ∙ e)) (λ e. g (sym (code-at w b pr below) ∙ e)) }
+
+  -- ---- Goto
+
+  module _ (code : blockWord w b 2 ≡ 4) where
+    pub goto-at : (v : Variant) → variantOf (blockWord w b 4) ≡ v → terminalAt (tableOf w) b ≡ goto (blockWord w b 3) v
+    unfolding terminalOf
+    goto-at v e = end-by w b below 4 code ∙ ap (goto (blockWord w b 3)) e
+
+    pub goto-breaks : (n : ℕ) → n ≡ blockWord w b 3 → blockWord w b 4 ≡ 0 → Searches w S H b (jump.Break n)
+    unfolding variantOf
+    goto-breaks n s e = record { resolves = λ cx _ _. subst (λ (z : Terminal). Resolves z cx (getBreakTarget cx n)) (sym (goto-at Break (ap variantOf e))) (ap (getBreakTarget cx) s) }
+
+    pub goto-continues : (n : ℕ) → n ≡ blockWord w b 3 → blockWord w b 4 ≡ 1 → Searches w S H b (jump.Continue n)
+    unfolding variantOf
+    goto-continues n s e = record { resolves = λ cx _ _. subst (λ (z : Terminal). Resolves z cx (getContinueTarget cx n)) (sym (goto-at Continue (ap variantOf e))) (ap (getContinueTarget cx) s) }
+
+    is-try : (n : ℕ) → (n ≡ 0 → ⊥) → (n ≡ 1 → ⊥) → variantOf n ≡ Try
+    unfolding variantOf
+    is-try zero f g = absurd (f refl)
+    is-try (suc zero) f g = absurd (g refl)
+    is-try (suc (suc n)) f g = refl
+
+    pub goto-tries : (blockWord w b 4 ≡ 0 → ⊥) → (blockWord w b 4 ≡ 1 → ⊥) → Searches w S H b Nothing
+    goto-tries f g = record { resolves = λ cx _ _. subst (λ (z : Terminal). Resolves z cx none) (sym (goto-at Try (is-try (blockWord w b 4) f g))) tt }
+
+  -- ---- Branch
+
+  module _ (code : blockWord w b 2 ≡ 6) where
+    pub branch-at : terminalAt (tableOf w) b ≡ branch (blockWord w b 3) (blockWord w b 4) (blockWord w b 5)
+    unfolding terminalOf
+    branch-at = end-by w b below 6 code
+
+    pub branch-breaks : (n : ℕ) → n ≡ blockWord w b 4 → Searches w S H b (jump.Break n)
+    branch-breaks n s = record { resolves = λ cx _ _. subst (λ (z : Terminal). Resolves z cx (getBreakTarget cx n)) (sym branch-at) (λ _. ap (getBreakTarget cx) s) }
+
+    pub branch-goes : or (has S (blockWord w b 4)) (has H (blockWord w b 4)) ≡ false → Searches w S H b Nothing
+    unfolding isScheduled
+    branch-goes e = record { resolves = λ cx s h. subst (λ (z : Terminal). Resolves z cx none) (sym branch-at) (λ q. absurd (differ (sym q ∙ rw (s, h) e))) }
+      where
+        differ : _≡_ {A = Bool} true false → ⊥
+        differ e = let o : _≡_ {A = ℕ} 0 1 = ap (λ (y : Bool). elim y [ true ↦ 0 | false ↦ 1 ]) e in omega arith

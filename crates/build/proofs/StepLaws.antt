@@ -1,0 +1,174 @@
+-- The machine's steps by what a planner sees: the words and the sets.
+use Prim.Native.Nat.{ℕ, zero, suc, _+_, _-_, _≤_, _<_}
+use native.Mathlib.Omega.{arith}
+use mathlib.Core.Path.{_≡_, refl, sym, ap, _∙_, subst}
+use mathlib.Core.Bool.{Bool, true, false}
+use mathlib.Core.List.{List, [], _∷_, _++_, append-nil}
+use mathlib.Core.Option.{Option, none, some}
+use mathlib.Core.Logic.{_⊎_, inl, inr}
+use lib.Dec.{eqb}
+use lib.ListN.{length, drop, getD, set, length-set}
+use lib.Seq.{getD-set-same, getD-set-other}
+use borrow.Author.Tests.{eq-eqb, ne-eqb, eqb-true, eqb-false}
+use native.Mathlib.Decide.{ℕ-discrete}
+use Rattle.table.specs.Words.{blockCount, blockWord}
+use Rattle.table.specs.Promise.{Promise, InRange}
+use Rattle.table.specs.Table.{Table, Block, Terminal, tableOf, terminalOf, blockOf, terminalAt, blockAt, isAbsent, isUnreachable, codeOf, unlessNone}
+use Rattle.table.proofs.TableLaws.{block-at}
+use Rattle.table.proofs.RangeLaws.{code-known, in-range}
+use Rattle.definition.specs.Build.{rejected}
+use Rattle.definition.specs.Context.{Flags, or, has, add, isScheduled, pushed, target-if, withVisits, scheduleCatchHandler}
+use Rattle.definition.specs.Context as definition
+use Rattle.definition.specs.Machine.{State, visiting, ended, choosing, Turn, going, halt, turn, into, opens, scheduled, scheduledIf}
+use Rattle.definition.specs.Machine as machine
+use Rattle.definition.specs.Result.{Result, ok, refused, _>>=_, refuseIf}
+use Rattle.definition.specs.Statement.{unlessScheduled, unlessUnreachable}
+use Rattle.definition.specs.Tree.{Row}
+use Rattle.build.specs.declared.plan.Position.{Position}
+use Rattle.build.specs.declared.plan.Frame.{Frame}
+use Rattle.build.specs.declared.plan.Plan.{Plan}
+use Rattle.build.specs.Plans.{frameOf, within, changed, handled, scoped, applied, openFrame, refusing, nesting, unlessTaken, entriesIf, scheduleIf, scheduledWith, enclosing}
+use Rattle.build.specs.Planned.{Seen}
+use Rattle.build.proofs.PlanLaws.{within-all, visits-same, none-is, some-is, refuse-applied, nest-applied, Label, label-most, label-entries, label-if}
+
+-- ---- the terminal of a block, by its code
+
+module _ (ws : List ℕ) (b : ℕ) (h : b < blockCount ws) where
+  pub end-at : terminalAt (tableOf ws) b ≡ terminalOf (blockWord ws b 2) (blockWord ws b 3) (blockWord ws b 4) (blockWord ws b 5) (blockWord ws b 6) (blockWord ws b 7)
+  unfolding blockOf
+  end-at = ap (λ (k : Block). k .terminal) (block-at ws b h)
+
+  pub end-by : (code : ℕ) → blockWord ws b 2 ≡ code → terminalAt (tableOf ws) b ≡ terminalOf code (blockWord ws b 3) (blockWord ws b 4) (blockWord ws b 5) (blockWord ws b 6) (blockWord ws b 7)
+  end-by code e = end-at ∙ ap (λ (z : ℕ). terminalOf z (blockWord ws b 3) (blockWord ws b 4) (blockWord ws b 5) (blockWord ws b 6) (blockWord ws b 7)) e
+
+  pub id-at : blockAt (tableOf ws) b .id ≡ blockWord ws b 8
+  unfolding blockOf
+  id-at = ap (λ (k : Block). k .id) (block-at ws b h)
+
+  pub span-at : blockAt (tableOf ws) b .span ≡ blockWord ws b 9
+  unfolding blockOf
+  span-at = ap (λ (k : Block). k .span) (block-at ws b h)
+
+-- the code of a terminal made from a code
+code-of : (c a b d e f : ℕ) → c ≤ 21 → codeOf (terminalOf c a b d e f) ≡ c
+unfolding terminalOf
+code-of zero a b d e f h = refl
+code-of (suc zero) a b d e f h = refl
+code-of (suc (suc zero)) a b d e f h = refl
+code-of (suc (suc (suc zero))) a b d e f h = refl
+code-of (suc (suc (suc (suc zero)))) a b d e f h = refl
+code-of (suc (suc (suc (suc (suc zero))))) a b d e f h = refl
+code-of (suc (suc (suc (suc (suc (suc zero)))))) a b d e f h = refl
+code-of (suc (suc (suc (suc (suc (suc (suc zero))))))) a b d e f h = refl
+code-of (suc (suc (suc (suc (suc (suc (suc (suc zero)))))))) a b d e f h = refl
+code-of (suc (suc (suc (suc (suc (suc (suc (suc (suc zero))))))))) a b d e f h = refl
+code-of (suc (suc (suc (suc (suc (suc (suc (suc (suc (suc zero)))))))))) a b d e f h = refl
+code-of (suc (suc (suc (suc (suc (suc (suc (suc (suc (suc (suc zero))))))))))) a b d e f h = refl
+code-of (suc (suc (suc (suc (suc (suc (suc (suc (suc (suc (suc (suc zero)))))))))))) a b d e f h = refl
+code-of (suc (suc (suc (suc (suc (suc (suc (suc (suc (suc (suc (suc (suc zero))))))))))))) a b d e f h = refl
+code-of (suc (suc (suc (suc (suc (suc (suc (suc (suc (suc (suc (suc (suc (suc zero)))))))))))))) a b d e f h = refl
+code-of (suc (suc (suc (suc (suc (suc (suc (suc (suc (suc (suc (suc (suc (suc (suc zero))))))))))))))) a b d e f h = refl
+code-of (suc (suc (suc (suc (suc (suc (suc (suc (suc (suc (suc (suc (suc (suc (suc (suc zero)))))))))))))))) a b d e f h = refl
+code-of (suc (suc (suc (suc (suc (suc (suc (suc (suc (suc (suc (suc (suc (suc (suc (suc (suc zero))))))))))))))))) a b d e f h = refl
+code-of (suc (suc (suc (suc (suc (suc (suc (suc (suc (suc (suc (suc (suc (suc (suc (suc (suc (suc zero)))))))))))))))))) a b d e f h = refl
+code-of (suc (suc (suc (suc (suc (suc (suc (suc (suc (suc (suc (suc (suc (suc (suc (suc (suc (suc (suc zero))))))))))))))))))) a b d e f h = refl
+code-of (suc (suc (suc (suc (suc (suc (suc (suc (suc (suc (suc (suc (suc (suc (suc (suc (suc (suc (suc (suc zero)))))))))))))))))))) a b d e f h = refl
+code-of (suc (suc (suc (suc (suc (suc (suc (suc (suc (suc (suc (suc (suc (suc (suc (suc (suc (suc (suc (suc (suc zero))))))))))))))))))))) a b d e f h = refl
+code-of (suc (suc (suc (suc (suc (suc (suc (suc (suc (suc (suc (suc (suc (suc (suc (suc (suc (suc (suc (suc (suc (suc c)))))))))))))))))))))) a b d e f h = absurd (omega arith)
+
+pub code-at : (ws : List ℕ) (b : ℕ) → Promise ws → b < blockCount ws → codeOf (terminalAt (tableOf ws) b) ≡ blockWord ws b 2
+code-at ws b pr h = ap codeOf (end-at ws b h) ∙ code-of (blockWord ws b 2) _ _ _ _ _ (code-known ws pr b h)
+
+-- ---- sets
+
+pub scheduled-push : (n x : ℕ) (C : definition.Context) → n < length (C .scheduled) → isScheduled (scheduled (target-if n) C) x ≡ or (eqb x n) (isScheduled C x)
+unfolding isScheduled scheduled pushed has add
+scheduled-push n x C h = at (ℕ-discrete x n)
+  where
+    at : Dec (x ≡ n) → or (getD (set (C .scheduled) n true) x false) (getD (C .catchHandlers) x false) ≡ or (eqb x n) (or (getD (C .scheduled) x false) (getD (C .catchHandlers) x false))
+    at (yes e) = rw (e, eq-eqb n n refl, getD-set-same (C .scheduled) n true false h)
+    at (no e) = rw (ne-eqb x n e, getD-set-other (C .scheduled) n x true false e)
+
+-- ---- labels
+
+pub seen-scheduled : (S H : Flags) (v : ℕ) (C : definition.Context) → Seen S H v C → (x : ℕ) → isScheduled C x ≡ or (has S x) (has H x)
+unfolding isScheduled
+seen-scheduled S H v C seen x = rw (seen .scheduled, seen .handlers)
+
+module _ (ws : List ℕ) (pr : Promise ws) (S H : Flags) (v : ℕ) (C : definition.Context) (seen : Seen S H v C) where
+  pub label-scheduled : (f : ℕ) → f < 1024 → unlessScheduled C f ≡ unlessNone (unlessTaken (or (has S f) (has H f)) f)
+  unfolding unlessScheduled
+  label-scheduled f h = rw (seen-scheduled S H v C seen f, unlessScheduled) (at (or (has S f) (has H f)))
+    where
+      at : (y : Bool) → elim y [ true ↦ none | false ↦ some f ] ≡ unlessNone (unlessTaken y f)
+      at true = sym none-is
+      at false = sym (some-is f (λ e. omega arith))
+
+  pub label-missing : (f : ℕ) → f < blockCount ws → blockWord ws f 2 ≡ 0 → unlessUnreachable (tableOf ws) C f ≡ refused 10 f (C .visits)
+  unfolding unlessUnreachable refuseIf _>>=_
+  label-missing f h e = rw (code-at ws f pr h ∙ e)
+
+  pub label-reached : (f : ℕ) → f < blockCount ws → f < 1024 → (blockWord ws f 2 ≡ 0 → ⊥) → unlessUnreachable (tableOf ws) C f ≡ ok (unlessNone (unlessTaken (or (eqb (blockWord ws f 2) 1) (or (has S f) (has H f))) f))
+  unfolding unlessUnreachable refuseIf _>>=_
+  label-reached f h k e = rw (code-at ws f pr h, ne-eqb (blockWord ws f 2) 0 e) (at (eqb (blockWord ws f 2) 1))
+    where
+      at : (y : Bool) → ok (elim y [ true ↦ none | false ↦ unlessScheduled C f ]) ≡ ok (unlessNone (unlessTaken (or y (or (has S f) (has H f))) f))
+      at true = ap ok (sym none-is)
+      at false = ap ok (label-scheduled f k)
+
+-- ---- a statement with a label and one nested block
+
+pub turn-refused : (c a v : ℕ) → turn (refused c a v) ≡ halt (rejected c a v)
+unfolding turn
+turn-refused c a v = refl
+
+pub turn-ok : (s : State) → turn (ok s) ≡ going s
+unfolding turn
+turn-ok s = refl
+
+pub into-busy : (block code at : ℕ) (fr : machine.Frame) (F : List machine.Frame) (R : List Row) (C : definition.Context) → isScheduled C block ≡ true → into block code at fr F R C ≡ refused code at (C .visits)
+unfolding into refuseIf _>>=_
+into-busy block code at fr F R C e = rw e
+
+pub into-free : (block code at : ℕ) (fr : machine.Frame) (F : List machine.Frame) (R : List Row) (C : definition.Context) → isScheduled C block ≡ false → into block code at fr F R C ≡ ok (visiting block (fr ∷ F) R 0 C)
+unfolding into refuseIf _>>=_
+into-free block code at fr F R C e = rw e
+
+-- whether a block is scheduled once the label is
+pub busy-with : (S H : Flags) (v n block : ℕ) (C : definition.Context) → Label n → block < 1024 → Seen S H v C → isScheduled (scheduledIf (unlessNone n) C) block ≡ or (eqb block n) (or (has S block) (has H block))
+unfolding Label
+busy-with S H v n block C (inl e) k seen =
+    ap (λ (z : Option ℕ). isScheduled (scheduledIf z C) block) (ap unlessNone e ∙ none-is) ∙ seen-scheduled S H v C seen block
+    ∙ sym (ap (λ (y : Bool). or y (or (has S block) (has H block))) (ne-eqb block n (λ q. omega arith)))
+busy-with S H v n block C (inr h) k seen =
+    ap (λ (z : Option ℕ). isScheduled (scheduledIf z C) block) (some-is n (λ q. omega arith)) ∙ scheduled-push n block C (wide h) ∙ ap (λ (y : Bool). or (eqb block n) y) (seen-scheduled S H v C seen block)
+  where
+    wide : n < 1024 → n < length (C .scheduled)
+    wide h = rw (seen .scheduled) (omega (arith, seen .wide))
+
+-- what `enclose` plans is what the machine does
+pub enclose-same : (S H : Flags) (p : Position) (n block code at : ℕ) (F : List machine.Frame) (R : List Row) (C : definition.Context)
+    → Label n → block < 1024 → (code ≡ 0 → ⊥) → Seen S H (p .visits) C → length F ≡ p .depth
+    → turn (into block code at (machine.frameOf (p .block) (unlessNone n) (opens (unlessNone n)) (p .count)) F R (scheduledIf (unlessNone n) C))
+    ≡ applied (enclosing (scheduledWith (or (has S block) (has H block)) n block) p n block code at) F R C
+enclose-same S H p n block code at F R C l k nz seen d = by (or (eqb block n) (or (has S block) (has H block))) refl
+  where
+    fr : machine.Frame
+    fr = machine.frameOf (p .block) (unlessNone n) (opens (unlessNone n)) (p .count)
+
+    D : definition.Context
+    D = scheduledIf (unlessNone n) C
+
+    busy : isScheduled D block ≡ or (eqb block n) (or (has S block) (has H block))
+    busy = busy-with S H (p .visits) n block C l k seen
+
+    visits : (z : Option ℕ) → scheduledIf z C .visits ≡ p .visits
+    visits none = seen .visits
+    visits (some f) = unfold scheduled pushed in seen .visits
+
+    by : (y : Bool) → or (eqb block n) (or (has S block) (has H block)) ≡ y → turn (into block code at fr F R D) ≡ applied (enclosing y p n block code at) F R C
+    by true e = ap turn (into-busy block code at fr F R D (busy ∙ e) ∙ ap (λ (v : ℕ). refused code at v) (visits (unlessNone n))) ∙ turn-refused code at (p .visits) ∙ sym (refuse-applied p code at F R C nz)
+    by false e =
+        ap turn (into-free block code at fr F R D (busy ∙ e)) ∙ turn-ok _
+        ∙ sym (nest-applied block (openFrame p n (entriesIf (eqb n 65535))) (p .depth + 1) (p .rows) (p .visits) 65535 65535 (scheduleIf (eqb n 65535) n) F R C
+        ∙ rw (none-is, visits-same (p .visits) C (seen .visits), label-if n C, label-entries n, within-all (p .depth + 1 - 1) F (omega (arith, d))))

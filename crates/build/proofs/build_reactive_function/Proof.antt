@@ -1,0 +1,92 @@
+use mathlib.Core.Path.{_≡_, refl, sym, ap, _∙_}
+use Rattle.table.proofs.PromiseLaws.{promised}
+use Rattle.build.proofs.EntryLaws.{unchecked-built, checked-built, accepted-checked}
+use borrow.Author.Needs.{needs}
+use Rattle.build.proofs.build_reactive_function.Statement.{statement}
+use Rattle.build.proofs.build_reactive_function.Tie as tie
+use Rattle.build.proofs.build_reactive_function.Reads as reads
+use Rattle.build.proofs.build_reactive_function.Lts as lts
+use Rattle.build.proofs.driver.walk.Reads as walk-reads
+use Rattle.build.proofs.finish.Reads as finish-reads
+use Rattle.build.proofs.refuse.Reads as refuse-reads
+use Rattle.table.proofs.Checked.code.Reads as code-reads
+use Rattle.table.proofs.Checked.is_accepted.Reads as is-accepted-reads
+use Rattle.table.proofs.Checked.place.Reads as place-reads
+use Rattle.table.proofs.check.Reads as check-reads
+
+-- src/lib.rt:54:9
+check-requires : tie.Need-check-requires
+check-requires c κs = search needs
+
+-- src/lib.rt:55:8
+is-accepted-requires : tie.Need-is-accepted-requires
+is-accepted-requires c κs = search needs
+
+-- src/lib.rt:56:13
+walk-requires : tie.Need-walk-requires
+walk-requires c κs =
+    let at-if1 = c .before in
+    let at-is-accepted = at-if1 .before in
+    let at-check = at-is-accepted .before in
+    promised _ (accepted-checked _ _ (at-check .check .ensures) (sym (at-is-accepted .is-accepted .ensures) ∙ at-if1 .if1 .taken))
+
+-- src/lib.rt:57:9
+finish-requires : tie.Need-finish-requires
+finish-requires c κs = search needs
+
+-- src/lib.rt:57:9
+same-length : tie.Need-same-length
+same-length c = search needs
+
+-- src/lib.rt:57:9
+returns : tie.Need-returns
+returns c =
+    let at-finish = c .before .before in
+    let at-walk = at-finish .before .before .before .before in
+    let at-if1 = at-walk .before .before in
+    let at-is-accepted = at-if1 .before in
+    let at-check = at-is-accepted .before in
+    checked-built _ _ _ _ _ (at-check .check .ensures) (sym (at-is-accepted .is-accepted .ensures) ∙ at-if1 .if1 .taken) (at-walk .walk .kept .1 .0) (at-finish .finish .ensures _ (at-walk .walk .ensures))
+
+-- src/lib.rt:59:18
+code-requires : tie.Need-code-requires
+code-requires c κs = search needs
+
+-- src/lib.rt:59:34
+place-requires : tie.Need-place-requires
+place-requires c κs = search needs
+
+-- src/lib.rt:59:5
+refuse-requires : tie.Need-refuse-requires
+refuse-requires c κs = search needs
+
+-- src/lib.rt:51:1
+same-length-2 : tie.Need-same-length-2
+same-length-2 c = search needs
+
+-- src/lib.rt:51:1
+returns-2 : tie.Need-returns-2
+returns-2 c =
+    let at-refuse = c .before .before in
+    let at-place = at-refuse .before in
+    let at-code = at-place .before in
+    let at-if1 = at-code .before .before in
+    let at-is-accepted = at-if1 .before in
+    let at-check = at-is-accepted .before in
+    unchecked-built _ _ _ _ (at-check .check .ensures) (sym (at-is-accepted .is-accepted .ensures) ∙ at-if1 .if1 .left) (rw (at-place .place .ensures, at-code .code .ensures) at (at-refuse .refuse .ensures))
+
+pub build-reactive-function-spec : {M : Type 1} → statement M
+build-reactive-function-spec =
+    tie.close
+    (tie.spec
+    check-requires
+    is-accepted-requires
+    walk-requires
+    finish-requires
+    same-length
+    returns
+    code-requires
+    place-requires
+    refuse-requires
+    same-length-2
+    returns-2)

@@ -1,0 +1,22 @@
+use mathlib.Core.Path.{refl, sym, ap, _∙_}
+use borrow.Author.Needs.{needs}
+use Rattle.build.proofs.driver.frame_slot.Statement.{statement}
+use Rattle.build.proofs.driver.frame_slot.Tie as tie
+use Rattle.build.proofs.driver.frame_slot.Reads as reads
+use Rattle.build.proofs.driver.frame_slot.Lts as lts
+use Rattle.build.proofs.driver.innermost.Reads as innermost-reads
+
+-- src/driver.rt:69:9
+innermost-requires : tie.Need-innermost-requires
+innermost-requires c κs = search needs
+
+-- src/driver.rt:69:9
+returns : tie.Need-returns
+returns c = rw (c .before .if1 .taken) (c .innermost .ensures)
+
+-- src/driver.rt:65:1
+returns-2 : tie.Need-returns-2
+returns-2 c = search needs
+
+pub frame-slot-spec : {M : Type 1} → statement M
+frame-slot-spec = tie.close (tie.spec innermost-requires returns returns-2)

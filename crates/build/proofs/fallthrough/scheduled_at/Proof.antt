@@ -1,0 +1,22 @@
+use borrow.Author.Needs.{needs}
+use Rattle.build.proofs.fallthrough.scheduled_at.Statement.{statement}
+use Rattle.build.proofs.fallthrough.scheduled_at.Tie as tie
+use Rattle.build.proofs.fallthrough.scheduled_at.Reads as reads
+use Rattle.build.proofs.fallthrough.scheduled_at.Lts as lts
+use Rattle.build.proofs.fallthrough.narrow.Reads as narrow-reads
+use Rattle.control.proofs.is_scheduled.Reads as is-scheduled-reads
+
+-- src/fallthrough.rt:33:45
+narrow-requires : tie.Need-narrow-requires
+narrow-requires c κs = search needs
+
+-- src/fallthrough.rt:33:5
+is-scheduled-requires : tie.Need-is-scheduled-requires
+is-scheduled-requires c κs = search needs
+
+-- src/fallthrough.rt:29:1
+returns : tie.Need-returns
+returns c = rw (c .is-scheduled .ensures, c .before .narrow .ensures)
+
+pub scheduled-at-spec : {M : Type 1} → statement M
+scheduled-at-spec = tie.close (tie.spec narrow-requires is-scheduled-requires returns)

@@ -1,0 +1,22 @@
+use borrow.Author.Needs.{needs}
+use Rattle.build.proofs.plan.leave.Statement.{statement}
+use Rattle.build.proofs.plan.leave.Tie as tie
+use Rattle.build.proofs.plan.leave.Reads as reads
+use Rattle.build.proofs.plan.leave.Lts as lts
+use Rattle.build.proofs.plan.no_frame.Reads as no-frame-reads
+use Rattle.build.proofs.plan.stage_after.Reads as stage-after-reads
+
+-- src/plan.rt:100:9
+stage-after-requires : tie.Need-stage-after-requires
+stage-after-requires c κs = search needs
+
+-- src/plan.rt:102:9
+no-frame-requires : tie.Need-no-frame-requires
+no-frame-requires c κs = search needs
+
+-- src/plan.rt:97:1
+returns : tie.Need-returns
+returns c = cc
+
+pub leave-spec : {M : Type 1} → statement M
+leave-spec = tie.close (tie.spec stage-after-requires no-frame-requires returns)

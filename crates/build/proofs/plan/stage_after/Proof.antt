@@ -1,0 +1,16 @@
+use borrow.Author.Tests.{eq-eqb, ne-eqb}
+use Rattle.build.proofs.plan.stage_after.Statement.{statement}
+use Rattle.build.proofs.plan.stage_after.Tie as tie
+use Rattle.build.proofs.plan.stage_after.Reads as reads
+use Rattle.build.proofs.plan.stage_after.Lts as lts
+
+-- src/plan.rt:91:9
+returns : tie.Need-returns
+returns c = rw (eq-eqb _ _ (c .if1 .taken))
+
+-- src/plan.rt:87:1
+returns-2 : tie.Need-returns-2
+returns-2 c = rw (ne-eqb _ _ (c .if1 .left))
+
+pub stage-after-spec : {M : Type 1} → statement M
+stage-after-spec = tie.close (tie.spec returns returns-2)

@@ -1,0 +1,25 @@
+use Rattle.build.proofs.EntryLaws.{refused-outcome}
+use borrow.Author.Needs.{needs}
+use Rattle.build.proofs.refuse.Statement.{statement}
+use Rattle.build.proofs.refuse.Tie as tie
+use Rattle.build.proofs.refuse.Reads as reads
+use Rattle.build.proofs.refuse.Lts as lts
+use Rattle.rows.proofs.clear.Reads as clear-reads
+
+-- src/lib.rt:32:5
+clear-requires : tie.Need-clear-requires
+clear-requires c κs = search needs
+
+-- src/lib.rt:29:1
+same-length : tie.Need-same-length
+same-length c = search needs
+
+-- src/lib.rt:29:1
+returns : tie.Need-returns
+returns c =
+    let at-clear = c .before .before in
+    let at-entry = at-clear .before .before .before in
+    refused-outcome _ _ _ _ (at-entry .args .tree .now) _ (at-clear .clear .ensures)
+
+pub refuse-spec : {M : Type 1} → statement M
+refuse-spec = tie.close (tie.spec clear-requires same-length returns)

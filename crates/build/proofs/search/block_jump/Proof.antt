@@ -1,0 +1,47 @@
+use mathlib.Core.Path.{sym, _∙_}
+use Rattle.build.proofs.SearchLaws.{no-jump}
+use borrow.Author.Needs.{needs}
+use Rattle.build.proofs.search.block_jump.Statement.{statement}
+use Rattle.build.proofs.search.block_jump.Tie as tie
+use Rattle.build.proofs.search.block_jump.Reads as reads
+use Rattle.build.proofs.search.block_jump.Lts as lts
+use Rattle.build.proofs.search.branch_jump.Reads as branch-jump-reads
+use Rattle.build.proofs.search.goto_jump.Reads as goto-jump-reads
+use Rattle.table.proofs.words.block_word.Reads as block-word-reads
+
+-- src/search.rt:69:11
+block-word-requires : tie.Need-block-word-requires
+block-word-requires c κs = search needs
+
+-- src/search.rt:70:14
+goto-jump-requires : tie.Need-goto-jump-requires
+goto-jump-requires c κs = search needs
+
+-- src/search.rt:71:14
+branch-jump-requires : tie.Need-branch-jump-requires
+branch-jump-requires c κs = search needs
+
+-- src/search.rt:64:1
+returns : tie.Need-returns
+returns c = search needs
+
+-- src/search.rt:64:1
+returns-2 : tie.Need-returns-2
+returns-2 c = search needs
+
+-- src/search.rt:64:1
+returns-3 : tie.Need-returns-3
+returns-3 c =
+    let pre = c .before .before .before .pre in
+    no-jump _ _ _ _ (pre .0) (pre .1) (λ e. c .match .rest .0 .1 (c .before .block-word .ensures ∙ e)) (λ e. c .match .rest .1 (c .before .block-word .ensures ∙ e))
+
+pub block-jump-spec : {M : Type 1} → statement M
+block-jump-spec =
+    tie.close
+    (tie.spec
+    block-word-requires
+    goto-jump-requires
+    branch-jump-requires
+    returns
+    returns-2
+    returns-3)

@@ -1,0 +1,8 @@
+-- The entry's answer and the lent words, as the definition's outcome.
+use Prim.Native.Nat.{ℕ}
+use mathlib.Core.List.{List}
+use Rattle.definition.specs.Build as definition
+use Rattle.build.specs.declared.Outcome.{Outcome}
+
+abbrev pub outcome : Outcome → (buffer : List ℕ) → definition.Outcome
+outcome r buffer = record { code = r .code; at = r .at; rows = r .rows; visits = r .visits; buffer = buffer }

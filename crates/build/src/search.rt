@@ -1,0 +1,108 @@
+// What a block's jump looks for on the stack, and what it finds there. The driver searches before a turn is planned: a planner does not see the stack.
+use crate::fallthrough::narrow;
+use crate::fallthrough::scheduled_at;
+use crate::plan::Position;
+use crate::plan::Stage;
+use control::Context;
+use control::Resolved;
+use table::words::block_word;
+ghost use mathlib.Core.Path.{_≡_};
+ghost use Prim.Native.Nat.{ℕ, _≤_, _<_};
+ghost use Rattle.table.specs.Words.{blockCount, blockWord};
+ghost use Rattle.table.specs.Promise.{Promise};
+ghost use Rattle.table.specs.Table.{tableOf, terminalAt};
+ghost use Rattle.control.specs.Abstraction.{contextOf, resolvedOf};
+ghost use Rattle.build.specs.declared.plan.Stage.the-variants.{Visit};
+ghost use Rattle.build.specs.Driver.{foundBy, Searches};
+
+pub enum Jump {
+    Nothing,
+    Break(u16),
+    Continue(u16),
+}
+
+pub fn resolve(cx: Context, jump: Jump) -> Resolved
+    requires { ⌜ cx .len ≤ 1152 ⌝ }
+    ensures { λ r. ⌜ ((visits : ℕ) → resolvedOf r ≡ foundBy jump (contextOf visits cx)) ⌝ }
+{
+    match jump {
+        Jump::Nothing => Resolved::Nothing,
+        Jump::Break(block) => cx.get_break_target(block),
+        Jump::Continue(block) => cx.get_continue_target(block),
+    }
+}
+
+fn goto_jump<'a>(
+    words: &[u32],
+    scheduled: &'a [bool; 1024],
+    catch_handlers: &'a [bool; 1024],
+    block: u32,
+) -> Jump
+    requires { ⌜ Promise (now words) ⌝ }
+    requires { ⌜ block < blockCount (now words) ⌝ }
+    requires { ⌜ blockWord (now words) block 2 ≡ 4 ⌝ }
+    ensures { λ r. ⌜ Searches (now (words .entry)) (now (scheduled .entry)) (now («catch_handlers» .entry)) block r ⌝ }
+{
+    let target = narrow(block_word(words, block, 3));
+    match block_word(words, block, 4) {
+        0 => Jump::Break(target),
+        1 => Jump::Continue(target),
+        _ => Jump::Nothing,
+    }
+}
+
+// A Branch jumps where its consequent is scheduled.
+fn branch_jump<'a>(
+    words: &[u32],
+    scheduled: &'a [bool; 1024],
+    catch_handlers: &'a [bool; 1024],
+    block: u32,
+) -> Jump
+    requires { ⌜ Promise (now words) ⌝ }
+    requires { ⌜ block < blockCount (now words) ⌝ }
+    requires { ⌜ blockWord (now words) block 2 ≡ 6 ⌝ }
+    ensures { λ r. ⌜ Searches (now (words .entry)) (now (scheduled .entry)) (now («catch_handlers» .entry)) block r ⌝ }
+{
+    let consequent = block_word(words, block, 4);
+    if scheduled_at(scheduled, catch_handlers, consequent) {
+        return Jump::Break(narrow(consequent));
+    }
+    Jump::Nothing
+}
+
+fn block_jump<'a>(
+    words: &[u32],
+    scheduled: &'a [bool; 1024],
+    catch_handlers: &'a [bool; 1024],
+    block: u32,
+) -> Jump
+    requires { ⌜ Promise (now words) ⌝ }
+    requires { ⌜ block < blockCount (now words) ⌝ }
+    ensures { λ r. ⌜ Searches (now (words .entry)) (now (scheduled .entry)) (now («catch_handlers» .entry)) block r ⌝ }
+{
+    match block_word(words, block, 2) {
+        4 => goto_jump(words, scheduled, catch_handlers, block),
+        6 => branch_jump(words, scheduled, catch_handlers, block),
+        _ => Jump::Nothing,
+    }
+}
+
+pub fn jump_at<'a>(
+    words: &[u32],
+    scheduled: &'a [bool; 1024],
+    catch_handlers: &'a [bool; 1024],
+    p: Position,
+) -> Jump
+    requires { ⌜ Promise (now words) ⌝ }
+    requires { ⌜ (p .stage ≡ Visit → p .block < blockCount (now words)) ⌝ }
+    ensures { λ r. ⌜ (p .stage ≡ Visit → Searches (now (words .entry)) (now (scheduled .entry)) (now («catch_handlers» .entry)) (p .block) r) ⌝ }
+{
+    let stage = p.stage;
+    match stage {
+        Stage::Visit => block_jump(words, scheduled, catch_handlers, p.block),
+        Stage::Ended => Jump::Nothing,
+        Stage::Choose => Jump::Nothing,
+        Stage::Pop => Jump::Nothing,
+        Stage::Halt => Jump::Nothing,
+    }
+}

@@ -1,0 +1,99 @@
+use Prim.Native.Nat.{ℕ, _+_, _*_, _-_, _≤_, _<_}
+use mathlib.Core.Path.{_≡_, refl, sym, _∙_}
+use native.Mathlib.Omega.{arith}
+use lib.ListN.{length, length-set}
+use borrow.Author.Needs.{needs}
+use Rattle.table_cases.proofs.list.Statement.{statement}
+use Rattle.table_cases.proofs.list.Tie as tie
+use Rattle.table_cases.proofs.list.Reads as reads
+use Rattle.table_cases.proofs.list.Lts as lts
+use Rattle.table_cases.proofs.fill.Reads as fill-reads
+use Rattle.table_cases.proofs.number.Reads as number-reads
+
+abbrev Inv-loop : tie.InvT-loop
+Inv-loop text from words₀ len₀ end₀ words len end = (0 < end) × (from ≤ end) × (end ≤ length text) × (len ≤ length words) × (length words ≡ length words₀)
+
+abbrev μ-loop : tie.MeasureT-loop
+μ-loop text from words₀ len₀ end₀ words len end = length text - end
+
+-- src/main.rt:62:5
+loop-holds : tie.Need-loop-holds Inv-loop μ-loop
+loop-holds c = omega arith
+
+-- src/main.rt:63:22
+sub-before : tie.Need-sub-before Inv-loop μ-loop
+sub-before c = omega arith
+
+-- src/main.rt:64:12
+shared-slice-read-if1 : tie.Need-shared-slice-read-if1 Inv-loop μ-loop
+shared-slice-read-if1 c = omega arith
+
+-- src/main.rt:65:13
+same-length : tie.Need-same-length Inv-loop μ-loop
+same-length c = omega arith
+
+-- src/main.rt:65:13
+returns : tie.Need-returns Inv-loop μ-loop
+returns c = omega arith
+
+-- src/main.rt:67:13
+number-requires : tie.Need-number-requires Inv-loop μ-loop
+number-requires c κs = omega arith
+
+-- src/main.rt:70:13
+same-length-2 : tie.Need-same-length-2 Inv-loop μ-loop
+same-length-2 c = omega arith
+
+-- src/main.rt:70:13
+returns-2 : tie.Need-returns-2 Inv-loop μ-loop
+returns-2 c = omega (arith, c .before .number .ensures)
+
+-- src/main.rt:72:13
+number-requires-2 : tie.Need-number-requires-2 Inv-loop μ-loop
+number-requires-2 c κs = omega (arith, c .before .number .ensures)
+
+-- src/main.rt:73:32
+cast-fill : tie.Need-cast-fill Inv-loop μ-loop
+cast-fill c = omega (arith, c .before .before .before .before .number .ensures)
+
+-- src/main.rt:73:9
+fill-requires : tie.Need-fill-requires Inv-loop μ-loop
+fill-requires c κs = omega arith
+
+-- src/main.rt:62:5
+loop-less : tie.Need-loop-less Inv-loop μ-loop
+loop-less c = omega (arith, c .before .before .before .before .before .before .before .number .ensures, c .before .before .before .before .before .number2 .ensures)
+
+-- src/main.rt:62:5
+loop-again : tie.Need-loop-again Inv-loop μ-loop
+loop-again c = omega (arith, c .before .before .before .before .before .before .before .before .before .before .before .loop .inv, c .before .before .before .before .before .before .before .number .ensures, c .before .before .before .before .before .number2 .ensures, c .before .before .fill .ensures, c .before .before .fill .kept .0)
+
+-- src/main.rt:56:1
+same-length-3 : tie.Need-same-length-3 Inv-loop μ-loop
+same-length-3 c = omega arith
+
+-- src/main.rt:56:1
+returns-3 : tie.Need-returns-3 Inv-loop μ-loop
+returns-3 c = omega arith
+
+pub list-spec : {M : Type 1} → statement M
+list-spec =
+    tie.close
+    (tie.spec
+    Inv-loop
+    μ-loop
+    loop-holds
+    sub-before
+    shared-slice-read-if1
+    same-length
+    returns
+    number-requires
+    same-length-2
+    returns-2
+    number-requires-2
+    cast-fill
+    fill-requires
+    loop-less
+    loop-again
+    same-length-3
+    returns-3)

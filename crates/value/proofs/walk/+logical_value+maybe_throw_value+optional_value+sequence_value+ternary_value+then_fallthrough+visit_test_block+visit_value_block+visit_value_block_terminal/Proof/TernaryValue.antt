@@ -1,0 +1,188 @@
+-- The answers of `ternary_value`.
+use Rattle.value.proofs.TableLaws.{some-number, no-number}
+use Rattle.value.proofs.Ranges.{branch-consequent, branch-alternate}
+use Rattle.value.proofs.MetLaws.{pass, goes, named}
+use Rattle.rows.specs.Stack.{pushValue}
+use Rattle.definition.specs.Value.{visitValueBlockTerminal}
+use Rattle.definition.specs.Tree.{COND}
+use mathlib.Core.Path.{_≡_, refl, sym, ap, _∙_}
+use borrow.Author.Needs.{needs}
+use native.Mathlib.Omega.{arith}
+use Prim.Native.Nat.{ℕ}
+use Rattle.table.proofs.words.block_word.Reads as block-word-reads
+use Rattle.value.proofs.result.found.Reads as found-reads
+use Rattle.value.proofs.result.no_trailing.Reads as no-trailing-reads
+use Rattle.rows.proofs.put.Reads as put-reads
+use Rattle.value.proofs.walk.ternary_value.Reads as ternary-value
+use Rattle.value.proofs.walk.visit_test_block.Reads as visit-test-block
+use Rattle.value.proofs.walk.visit_value_block.Reads as visit-value-block
+use Rattle.value.proofs.walk.+logical_value+maybe_throw_value+optional_value+sequence_value+ternary_value+then_fallthrough+visit_test_block+visit_value_block+visit_value_block_terminal.Lts-ternary_value as lts
+use Rattle.value.proofs.walk.+logical_value+maybe_throw_value+optional_value+sequence_value+ternary_value+then_fallthrough+visit_test_block+visit_value_block+visit_value_block_terminal.Proof.Base.{ternary-value-at, visit-test-block-below, visit-value-block-below}
+
+-- what is known of the callees
+abbrev calls : ℕ → lts.Claims
+calls t = (visit-test-block-below t, visit-test-block.Post, block-word-reads.Asked, block-word-reads.Learnt, visit-value-block-below t, visit-value-block.Post, put-reads.Asked, put-reads.Learnt, no-trailing-reads.Asked, no-trailing-reads.Learnt, found-reads.Asked, found-reads.Learnt)
+
+module _ (t : ℕ) where
+  visit-test-block-requires : lts.Need-visit-test-block-requires (calls t) (ternary-value-at t) ternary-value.Post
+  visit-test-block-requires c κs = (omega (arith, c .before .before .before .pre .0), record { promise = c .before .before .before .pre .1 .fit .promise; at = c .before .before .before .pre .1 .fit .at; visits = c .before .before .before .pre .1 .fit .visits; room = omega (arith, c .before .before .before .pre .1 .fit .room) })
+
+  same-length : lts.Need-same-length (calls t) (ternary-value-at t) ternary-value.Post
+  same-length c = c .before .before .before .before .visit-test-block .kept .1 .0
+
+  returns : lts.Need-returns (calls t) (ternary-value-at t) ternary-value.Post
+  unfolding visitValueBlockTerminal
+  returns c =
+      let at-visit-test-block = c .before .before .before .before in
+      pass _ (at-visit-test-block .visit-test-block .ensures .met) (c .if1 .taken) (omega (arith, at-visit-test-block .visit-test-block .ensures .met .numbers))
+
+  block-word-requires : lts.Need-block-word-requires (calls t) (ternary-value-at t) ternary-value.Post
+  block-word-requires c κs =
+      let at-visit-test-block = c .before .before .before .before in
+      let at-entry = at-visit-test-block .before .before .before .before in
+      (at-entry .pre .1 .fit .promise .sized, (at-visit-test-block .visit-test-block .ensures .met .found (c .if1 .left) .block, omega arith))
+
+  block-word-requires-2 : lts.Need-block-word-requires-2 (calls t) (ternary-value-at t) ternary-value.Post
+  block-word-requires-2 c κs =
+      let at-if1 = c .before in
+      let at-visit-test-block = at-if1 .before .before .before .before in
+      let at-entry = at-visit-test-block .before .before .before .before in
+      (at-entry .pre .1 .fit .promise .sized, (at-visit-test-block .visit-test-block .ensures .met .found (at-if1 .if1 .left) .block, omega arith))
+
+  visit-value-block-requires : lts.Need-visit-value-block-requires (calls t) (ternary-value-at t) ternary-value.Post
+  visit-value-block-requires c κs =
+      let at-block-word = c .before .before in
+      let at-if1 = at-block-word .before in
+      let at-visit-test-block = at-if1 .before .before .before .before in
+      let at-entry = at-visit-test-block .before .before .before .before in
+      let test = at-visit-test-block .visit-test-block .ensures .met in
+      (omega (arith, at-entry .pre .0), record { promise = at-entry .pre .1 .fit .promise; at = rw (at-block-word .block-word .ensures) (branch-consequent (at-entry .pre .1 .fit .promise) (at-visit-test-block .visit-test-block .result .block) (at-visit-test-block .visit-test-block .ensures .met .found (at-if1 .if1 .left) .block) (at-visit-test-block .visit-test-block .ensures .branch (at-if1 .if1 .left))); visits = test .numbers .visits; room = omega (arith, test .numbers, at-entry .pre .1 .fit .room) })
+
+  same-length-2 : lts.Need-same-length-2 (calls t) (ternary-value-at t) ternary-value.Post
+  same-length-2 c =
+      let at-visit-value-block = c .before .before .before .before in
+      let at-visit-test-block = at-visit-value-block .before .before .before .before .before .before .before .before in
+      omega (arith, at-visit-test-block .visit-test-block .kept .1 .0, at-visit-value-block .visit-value-block .kept .1 .0)
+
+  returns-2 : lts.Need-returns-2 (calls t) (ternary-value-at t) ternary-value.Post
+  unfolding visitValueBlockTerminal
+  returns-2 c =
+      let at-visit-value-block = c .before .before .before .before in
+      let at-block-word = at-visit-value-block .before .before .before in
+      let at-if1 = at-block-word .before in
+      let at-visit-test-block = at-if1 .before .before .before .before in
+      let at-entry = at-visit-test-block .before .before .before .before in
+      let ft = some-number (at-entry .args .terminal .fallthrough) (omega (arith, at-entry .pre .1 .fallthrough, at-entry .pre .1 .fit .promise .sized .limited .blocks)) in
+      let test = at-visit-test-block .visit-test-block .ensures .met in
+      let consequent = rw (at-block-word .block-word .ensures, ft) at (at-visit-value-block .visit-value-block .ensures) in
+      goes _ test (at-if1 .if1 .left) (pass _ consequent (c .if2 .taken) (omega (arith, test .numbers, consequent .numbers)))
+
+  visit-value-block-requires-2 : lts.Need-visit-value-block-requires-2 (calls t) (ternary-value-at t) ternary-value.Post
+  visit-value-block-requires-2 c κs =
+      let at-visit-value-block = c .before .before .before .before .before in
+      let at-block-word2 = at-visit-value-block .before .before in
+      let at-if1 = at-block-word2 .before .before in
+      let at-visit-test-block = at-if1 .before .before .before .before in
+      let at-entry = at-visit-test-block .before .before .before .before in
+      let test = at-visit-test-block .visit-test-block .ensures .met in
+      let consequent = at-visit-value-block .visit-value-block .ensures in
+      (omega (arith, at-entry .pre .0), record { promise = at-entry .pre .1 .fit .promise; at = rw (at-block-word2 .block-word2 .ensures) (branch-alternate (at-entry .pre .1 .fit .promise) (at-visit-test-block .visit-test-block .result .block) (at-visit-test-block .visit-test-block .ensures .met .found (at-if1 .if1 .left) .block) (at-visit-test-block .visit-test-block .ensures .branch (at-if1 .if1 .left))); visits = consequent .numbers .visits; room = omega (arith, test .numbers, consequent .numbers, at-entry .pre .1 .fit .room) })
+
+  same-length-3 : lts.Need-same-length-3 (calls t) (ternary-value-at t) ternary-value.Post
+  same-length-3 c =
+      let at-visit-value-block2 = c .before .before .before .before in
+      let at-visit-value-block = at-visit-value-block2 .before .before .before .before .before .before in
+      let at-visit-test-block = at-visit-value-block .before .before .before .before .before .before .before .before in
+      omega (arith, at-visit-test-block .visit-test-block .kept .1 .0, at-visit-value-block .visit-value-block .kept .1 .0, at-visit-value-block2 .visit-value-block2 .kept .1 .0)
+
+  returns-3 : lts.Need-returns-3 (calls t) (ternary-value-at t) ternary-value.Post
+  unfolding visitValueBlockTerminal
+  returns-3 c =
+      let at-visit-value-block2 = c .before .before .before .before in
+      let at-if2 = at-visit-value-block2 .before .before in
+      let at-visit-value-block = at-if2 .before .before .before .before in
+      let at-block-word2 = at-visit-value-block .before .before in
+      let at-block-word = at-block-word2 .before in
+      let at-if1 = at-block-word .before in
+      let at-visit-test-block = at-if1 .before .before .before .before in
+      let at-entry = at-visit-test-block .before .before .before .before in
+      let ft = some-number (at-entry .args .terminal .fallthrough) (omega (arith, at-entry .pre .1 .fallthrough, at-entry .pre .1 .fit .promise .sized .limited .blocks)) in
+      let test = at-visit-test-block .visit-test-block .ensures .met in
+      let consequent = rw (at-block-word .block-word .ensures, ft) at (at-visit-value-block .visit-value-block .ensures) in
+      let alternate = rw (at-block-word2 .block-word2 .ensures, ft) at (at-visit-value-block2 .visit-value-block2 .ensures) in
+      goes _ test (at-if1 .if1 .left) (goes _ consequent (at-if2 .if2 .left) (pass _ alternate (c .if3 .taken) (omega (arith, test .numbers, consequent .numbers, alternate .numbers))))
+
+  put-requires : lts.Need-put-requires (calls t) (ternary-value-at t) ternary-value.Post
+  put-requires c κs =
+      let at-visit-value-block2 = c .before .before .before .before .before in
+      let at-visit-value-block = at-visit-value-block2 .before .before .before .before .before .before in
+      let at-visit-test-block = at-visit-value-block .before .before .before .before .before .before .before .before in
+      let at-entry = at-visit-test-block .before .before .before .before in
+      omega (arith, at-visit-test-block .visit-test-block .ensures .met .numbers, at-visit-value-block .visit-value-block .ensures .numbers, at-visit-value-block2 .visit-value-block2 .ensures .numbers, at-entry .pre .1 .fit .room, at-entry .pre .1 .fit .visits)
+
+  no-trailing-requires : lts.Need-no-trailing-requires (calls t) (ternary-value-at t) ternary-value.Post
+  no-trailing-requires c κs = tt
+
+  found-requires : lts.Need-found-requires (calls t) (ternary-value-at t) ternary-value.Post
+  found-requires c κs = tt
+
+  same-length-4 : lts.Need-same-length-4 (calls t) (ternary-value-at t) ternary-value.Post
+  same-length-4 c =
+      let at-put = c .before .before .before .before in
+      let at-visit-value-block2 = at-put .before .before .before .before .before .before in
+      let at-visit-value-block = at-visit-value-block2 .before .before .before .before .before .before in
+      let at-visit-test-block = at-visit-value-block .before .before .before .before .before .before .before .before in
+      omega (arith, at-visit-test-block .visit-test-block .kept .1 .0, at-visit-value-block .visit-value-block .kept .1 .0, at-visit-value-block2 .visit-value-block2 .kept .1 .0, at-put .put .kept .0)
+
+  returns-4 : lts.Need-returns-4 (calls t) (ternary-value-at t) ternary-value.Post
+  unfolding visitValueBlockTerminal pushValue
+  returns-4 c =
+      let at-no-trailing = c .before in
+      let at-put = at-no-trailing .before .before .before in
+      let at-if3 = at-put .before .before in
+      let at-visit-value-block2 = at-if3 .before .before .before .before in
+      let at-if2 = at-visit-value-block2 .before .before in
+      let at-visit-value-block = at-if2 .before .before .before .before in
+      let at-block-word2 = at-visit-value-block .before .before in
+      let at-block-word = at-block-word2 .before in
+      let at-if1 = at-block-word .before in
+      let at-visit-test-block = at-if1 .before .before .before .before in
+      let at-entry = at-visit-test-block .before .before .before .before in
+      let ft = some-number (at-entry .args .terminal .fallthrough) (omega (arith, at-entry .pre .1 .fallthrough, at-entry .pre .1 .fit .promise .sized .limited .blocks)) in
+      let test = at-visit-test-block .visit-test-block .ensures .met in
+      let consequent = rw (at-block-word .block-word .ensures, ft) at (at-visit-value-block .visit-value-block .ensures) in
+      let alternate = rw (at-block-word2 .block-word2 .ensures, ft) at (at-visit-value-block2 .visit-value-block2 .ensures) in
+      let test-found = test .found (at-if1 .if1 .left) in
+      let consequent-found = consequent .found (at-if2 .if2 .left) in
+      let alternate-found = alternate .found (at-if3 .if3 .left) in
+      goes _ test (at-if1 .if1 .left) (goes _ consequent (at-if2 .if2 .left) (goes _ alternate (at-if3 .if3 .left) (named (rw (at-no-trailing .no-trailing .ensures) at (c .found .ensures)) (record {
+        value = COND (test .value) (consequent .value) (alternate .value);
+        same = refl;
+        found = λ _. record {
+          held = λ stack h. at-put .put .ensures .kept _ (alternate-found .held _ (consequent-found .held _ (test-found .held stack h)));
+          block = at-entry .pre .1 .fallthrough;
+          place = consequent-found .place;
+          ends = record { sequences = refl; instructions = refl; loaded = no-number; there = λ f. absurd (f refl) };
+          more = omega (arith, test-found .more, consequent-found .more, alternate-found .more, at-put .put .ensures .count);
+        };
+        numbers = omega (arith, test .numbers, consequent .numbers, alternate .numbers, at-put .put .ensures .count);
+      }))))
+
+pub closed : {M : Type 1} (t : ℕ) → lts.Closed (calls t) (ternary-value-at t) ternary-value.Post M
+closed t = lts.spec (calls t) (ternary-value-at t) ternary-value.Post
+    (visit-test-block-requires t)
+    (same-length t)
+    (returns t)
+    (block-word-requires t)
+    (block-word-requires-2 t)
+    (visit-value-block-requires t)
+    (same-length-2 t)
+    (returns-2 t)
+    (visit-value-block-requires-2 t)
+    (same-length-3 t)
+    (returns-3 t)
+    (put-requires t)
+    (no-trailing-requires t)
+    (found-requires t)
+    (same-length-4 t)
+    (returns-4 t)
