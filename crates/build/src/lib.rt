@@ -74,3 +74,21 @@ pub fn build_reactive_function(words: &[u32], tree: &mut [u32]) -> Outcome
     }
     refuse(tree, checked.code(), checked.place(), 0, 0)
 }
+
+// The same for callers in C or Rust: the code, and the other three words by reference.
+#[no_mangle]
+pub extern "C" fn reactive_build(
+    words: &[u32],
+    tree: &mut [u32],
+    at: &mut u32,
+    rows: &mut u32,
+    visits: &mut u32,
+) -> u32
+    ensures { λ r. ⌜ record { code = r; at = now (at .exit); rows = now (rows .exit); visits = now (visits .exit); buffer = now (tree .exit) } ≡ built (now (words .entry)) (length (now (tree .entry))) ⌝ }
+{
+    let built = build_reactive_function(words, tree);
+    *at = built.at;
+    *rows = built.rows;
+    *visits = built.visits;
+    built.code
+}

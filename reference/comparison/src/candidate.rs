@@ -3,8 +3,7 @@
 //! their answers against the reference or the model.
 //!
 //! The archives `libbuild.a` and `libtable.a` are looked for in the folder that the variable
-//! CANDIDATE_DIR names when the feature is built. Each exports the function declared here. Slices go
-//! over as a pointer and a length.
+//! CANDIDATE_DIR names. The build is called through the safe wrapper of ffi/rust.
 
 use crate::model::Outcome;
 
@@ -27,23 +26,7 @@ pub const CANDIDATE_CHECK: Option<CandidateCheck> = Some(check);
 
 #[cfg(feature = "candidate")]
 fn build(words: &[u32], buffer: &mut [u32]) -> Outcome {
-    #[link(name = "build", kind = "static")]
-    unsafe extern "C" {
-        /// The result takes code, at, rows and visits.
-        fn veerynickel_build(
-            words: *const u32,
-            word_count: usize,
-            buffer: *mut u32,
-            buffer_length: usize,
-            result: *mut u32,
-            result_length: usize,
-        );
-    }
-    let mut result = [0; 4];
-    let (to, length) = (buffer.as_mut_ptr(), buffer.len());
-    // SAFETY: the three are valid for their lengths and do not overlap.
-    unsafe { veerynickel_build(words.as_ptr(), words.len(), to, length, result.as_mut_ptr(), 4) };
-    let [code, at, rows, visits] = result;
+    let reactive_build::Outcome { code, at, rows, visits } = reactive_build::build(words, buffer);
     Outcome { code, at, rows, visits }
 }
 

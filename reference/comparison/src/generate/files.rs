@@ -114,7 +114,7 @@ fn long() -> Vec<Vec<u8>> {
 
 /// A good and accepted file of exactly this many bytes: block lines of twenty bytes, place lines
 /// of five, and an id that is as long as is left.
-fn good_of_length(length: usize) -> Vec<u8> {
+pub fn good_of_length(length: usize) -> Vec<u8> {
     let file = |blocks: usize, places: usize, id: u32| {
         let mut words = vec![0, blocks as u32, 0, 0, places as u32, 2_000];
         words.extend([0, 0, 3, 0, 0, 0, 0, 0, id, 0]);
@@ -150,7 +150,7 @@ fn good() -> Vec<Vec<u8>> {
 }
 
 /// One block of so many instructions: two rows for each, and two more.
-fn many_rows(instructions: u32) -> Vec<u32> {
+pub fn many_rows(instructions: u32) -> Vec<u32> {
     let mut words = vec![0, 1, instructions, 0, 1, 1, 0, instructions, 3, 0, 0, 0, 0, 0, 1, 0];
     for _ in 0..instructions {
         words.extend([0; 6]);

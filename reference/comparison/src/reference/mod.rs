@@ -4,8 +4,10 @@ mod hir;
 mod rows;
 
 use std::any::Any;
+use std::hint::black_box;
 use std::panic::{self, AssertUnwindSafe};
 use std::thread;
+use std::time::{Duration, Instant};
 
 use oxc_allocator::Allocator;
 use oxc_diagnostics::OxcDiagnostic;
@@ -63,6 +65,22 @@ pub fn walk_within(table: &Table, bounds: Bounds) -> (Walked, Seen) {
         Err(payload) => Err(of_panic(payload, &seen)),
     };
     (Walked { result, visits: seen.visits, deepest: seen.deepest as u32 }, seen)
+}
+
+/// The time of so many builds of an accepted table, without the making of the graph before them.
+pub fn time(table: &Table, calls: u32) -> Duration {
+    let allocator = Allocator;
+    let lowering = hir::Lowering { table: *table, allocator: &allocator };
+    let environment = lowering.environment();
+    let function = lowering.function();
+    let start = Instant::now();
+    for _ in 0..calls {
+        walk_observer::start(Bounds { depth: MAX_DEPTH as usize, visits: MAX_VISITS });
+        let built = black_box(build_reactive_function(black_box(&function), &environment));
+        assert!(built.is_ok(), "the table is accepted");
+        walk_observer::finish();
+    }
+    start.elapsed()
 }
 
 /// Each message, whether it names its block, and its code.

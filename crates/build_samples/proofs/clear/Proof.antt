@@ -1,0 +1,58 @@
+use borrow.Author.Needs.{needs}
+use native.Mathlib.Omega.{arith}
+use mathlib.Core.Path.{_≡_, refl, sym, _∙_}
+use Prim.Native.Nat.{ℕ, _+_, _-_, _≤_, _<_}
+use lib.ListN.{length, take, length-set}
+use lib.Seq.{length-take-le}
+use Rattle.build_samples.proofs.clear.Statement.{statement}
+use Rattle.build_samples.proofs.clear.Tie as tie
+use Rattle.build_samples.proofs.clear.Reads as reads
+use Rattle.build_samples.proofs.clear.Lts as lts
+
+abbrev Inv-loop : tie.InvT-loop
+Inv-loop words₀ i₀ words i = Unit {0}
+
+abbrev μ-loop : tie.MeasureT-loop
+μ-loop words₀ i₀ words i = 12288 - i
+
+-- src/main.rt:20:5
+loop-holds : tie.Need-loop-holds Inv-loop μ-loop
+loop-holds c = tt
+
+-- src/main.rt:21:9
+mul-words : tie.Need-mul-words Inv-loop μ-loop
+mul-words c = search needs
+
+-- src/main.rt:21:9
+element-write-words : tie.Need-element-write-words Inv-loop μ-loop
+element-write-words c = search needs
+
+-- src/main.rt:22:9
+add-i : tie.Need-add-i Inv-loop μ-loop
+add-i c = search needs
+
+-- src/main.rt:20:5
+loop-less : tie.Need-loop-less Inv-loop μ-loop
+loop-less c = omega arith
+
+-- src/main.rt:20:5
+loop-again : tie.Need-loop-again Inv-loop μ-loop
+loop-again c = tt
+
+-- src/main.rt:18:1
+returns : tie.Need-returns Inv-loop μ-loop
+returns c = search needs
+
+pub clear-spec : {M : Type 1} → statement M
+clear-spec =
+    tie.close
+    (tie.spec
+    Inv-loop
+    μ-loop
+    loop-holds
+    mul-words
+    element-write-words
+    add-i
+    loop-less
+    loop-again
+    returns)

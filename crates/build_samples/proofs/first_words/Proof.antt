@@ -1,0 +1,25 @@
+use borrow.Author.Needs.{needs}
+use native.Mathlib.Omega.{arith}
+use mathlib.Core.Path.{_≡_, refl, sym, _∙_}
+use Prim.Native.Nat.{ℕ, _+_, _-_, _≤_, _<_}
+use lib.ListN.{length, take, length-set}
+use lib.Seq.{length-take-le}
+use Rattle.build_samples.proofs.first_words.Statement.{statement}
+use Rattle.build_samples.proofs.first_words.Tie as tie
+use Rattle.build_samples.proofs.first_words.Reads as reads
+use Rattle.build_samples.proofs.first_words.Lts as lts
+
+-- src/main.rt:244:9
+slice-aggregate-result : tie.Need-slice-aggregate-result
+slice-aggregate-result c = sym (length-take-le _ _ (omega arith))
+
+-- src/main.rt:244:9
+returns : tie.Need-returns
+returns c = search needs
+
+-- src/main.rt:242:1
+returns-2 : tie.Need-returns-2
+returns-2 c = search needs
+
+pub first-words-spec : {M : Type 1} → statement M
+first-words-spec = tie.close (tie.spec slice-aggregate-result returns returns-2)

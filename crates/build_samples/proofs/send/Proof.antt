@@ -1,0 +1,30 @@
+use borrow.Author.Needs.{needs}
+use native.Mathlib.Omega.{arith}
+use mathlib.Core.Path.{_≡_, refl, sym, _∙_}
+use Prim.Native.Nat.{ℕ, _+_, _-_, _≤_, _<_}
+use lib.ListN.{length, take, length-set}
+use lib.Seq.{length-take-le}
+use Rattle.build_samples.proofs.send.Statement.{statement}
+use Rattle.build_samples.proofs.send.Tie as tie
+use Rattle.build_samples.proofs.send.Reads as reads
+use Rattle.build_samples.proofs.send.Lts as lts
+use Rattle.io.proofs.write_all.Reads as write-all-reads
+
+-- src/main.rt:228:38
+slice-aggregate-write-all : tie.Need-slice-aggregate-write-all
+slice-aggregate-write-all c = sym (length-take-le _ _ (search needs))
+
+-- src/main.rt:228:9
+write-all-requires : tie.Need-write-all-requires
+write-all-requires c κs = search needs
+
+-- src/main.rt:226:1
+returns : tie.Need-returns
+returns c = search needs
+
+-- src/main.rt:226:1
+returns-2 : tie.Need-returns-2
+returns-2 c = search needs
+
+pub send-spec : {M : Type 1} → statement M
+send-spec = tie.close (tie.spec slice-aggregate-write-all write-all-requires returns returns-2)

@@ -1,0 +1,59 @@
+use borrow.Author.Needs.{needs}
+use native.Mathlib.Omega.{arith}
+use mathlib.Core.Path.{_≡_, refl, sym, _∙_}
+use Prim.Native.Nat.{ℕ, _+_, _-_, _≤_, _<_}
+use lib.ListN.{length, take, length-set}
+use lib.Seq.{length-take-le}
+use Rattle.build_samples.proofs.values_of_block.Statement.{statement}
+use Rattle.build_samples.proofs.values_of_block.Tie as tie
+use Rattle.build_samples.proofs.values_of_block.Reads as reads
+use Rattle.build_samples.proofs.values_of_block.Lts as lts
+use Rattle.build_samples.proofs.block.Reads as block-reads
+
+abbrev Inv-loop : tie.InvT-loop
+Inv-loop words₀ first last row₀ words row = Unit {0}
+
+abbrev μ-loop : tie.MeasureT-loop
+μ-loop words₀ first last row₀ words row = last - row
+
+-- src/main.rt:203:5
+loop-holds : tie.Need-loop-holds Inv-loop μ-loop
+loop-holds c = tt
+
+-- src/main.rt:204:22
+add-block : tie.Need-add-block Inv-loop μ-loop
+add-block c = search needs
+
+-- src/main.rt:204:9
+block-requires : tie.Need-block-requires Inv-loop μ-loop
+block-requires c κs = search needs
+
+-- src/main.rt:205:9
+add-row : tie.Need-add-row Inv-loop μ-loop
+add-row c = search needs
+
+-- src/main.rt:203:5
+loop-less : tie.Need-loop-less Inv-loop μ-loop
+loop-less c = omega arith
+
+-- src/main.rt:203:5
+loop-again : tie.Need-loop-again Inv-loop μ-loop
+loop-again c = tt
+
+-- src/main.rt:201:1
+returns : tie.Need-returns Inv-loop μ-loop
+returns c = search needs
+
+pub values-of-block-spec : {M : Type 1} → statement M
+values-of-block-spec =
+    tie.close
+    (tie.spec
+    Inv-loop
+    μ-loop
+    loop-holds
+    add-block
+    block-requires
+    add-row
+    loop-less
+    loop-again
+    returns)

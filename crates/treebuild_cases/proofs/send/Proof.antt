@@ -1,0 +1,27 @@
+use mathlib.Core.Path.{sym}
+use lib.Seq.{length-take-le}
+use borrow.Author.Needs.{needs}
+use Rattle.treebuild_cases.proofs.send.Statement.{statement}
+use Rattle.treebuild_cases.proofs.send.Tie as tie
+use Rattle.treebuild_cases.proofs.send.Reads as reads
+use Rattle.treebuild_cases.proofs.send.Lts as lts
+use Rattle.io.proofs.write_all.Reads as write-all-reads
+
+-- src/main.rt:9:38
+slice-aggregate-write-all : tie.Need-slice-aggregate-write-all
+slice-aggregate-write-all c = sym (length-take-le _ _ (search needs))
+
+-- src/main.rt:9:9
+write-all-requires : tie.Need-write-all-requires
+write-all-requires c κs = search needs
+
+-- src/main.rt:7:1
+returns : tie.Need-returns
+returns c = search needs
+
+-- src/main.rt:7:1
+returns-2 : tie.Need-returns-2
+returns-2 c = search needs
+
+pub send-spec : {M : Type 1} → statement M
+send-spec = tie.close (tie.spec slice-aggregate-write-all write-all-requires returns returns-2)

@@ -1,0 +1,42 @@
+// Runs treebuild's function on the files of data/, from 00 on, and prints what it writes of each.
+use libc::STDOUT_FILENO;
+use text::write::Written;
+use treefile::build_file;
+
+// Sends the first bytes to standard output.
+fn send(out: &[u8], count: usize) {
+    if count <= out.len() {
+        io::write_all(STDOUT_FILENO, &out[..count]);
+    }
+}
+
+fn run(file: &[u8]) {
+    let mut out = [0u8; 135245];
+    let written = build_file(file, &mut out);
+    match written {
+        Written::Bytes(count) => send(&out, count),
+        Written::NoRoom => send(b"no room\n", 8),
+    }
+}
+
+fn run_named(name: &[u8]) {
+    let fd = os::open_read(name);
+    if fd < 0 {
+        os::fail(name);
+        return;
+    }
+    let mut file = io::large_buffer();
+    let count = io::read_full(fd, &mut file);
+    libc::close(fd);
+    run(&file[..count]);
+}
+
+// The 60 files of data/.
+fn main() {
+    let mut i: u8 = 0;
+    while i < 60 {
+        let name = [b'0' + i / 10, b'0' + i % 10];
+        run_named(&name);
+        i += 1;
+    }
+}

@@ -1,0 +1,66 @@
+-- Laws of outcomes that printing rests on.
+use Prim.Native.Nat.{ℕ, zero, suc, _-_, _*_, _/_, _≤_}
+use mathlib.Core.Path.{_≡_, refl, sym, ap, _∙_}
+use mathlib.Core.Bool.{Bool, true, false}
+use mathlib.Core.List.{List, _++_}
+use native.Mathlib.Omega.{arith}
+use lib.Dec.{leb}
+use lib.ListN.{length, take, replicate}
+use borrow.Author.Tests.{leb-true}
+use Rattle.table.specs.Check.{Verdict, checked}
+use Rattle.table.specs.Check as check
+use Rattle.table.specs.Table.{tableOf}
+use Rattle.definition.specs.Tree.{Row}
+use Rattle.definition.specs.Build.{Report, Outcome, accepted, rejected, report, refusal, wordsOf, placed, outcomeOf, afterCheck, built}
+use Rattle.text.specs.Printed.{printed, treeLines}
+use Rattle.build.specs.Entry.{outcome}
+use Rattle.build.specs.declared.Outcome as build
+use Rattle.treefile.specs.Prints.{printedOutcome}
+
+-- what is accepted has its rows within the lent words
+Fits : ℕ → Outcome → Type 0
+Fits lent outcome = outcome .code ≡ 0 → outcome .rows * 6 ≤ lent
+
+placed-fits : (lent : ℕ) (rows : List Row) (visits : ℕ) → Fits lent (placed lent rows visits)
+unfolding placed refusal Fits
+placed-fits lent rows visits = by-room (leb (length rows) (lent / 6)) refl
+  where
+    by-room : (b : Bool) → leb (length rows) (lent / 6) ≡ b → Fits lent (elim b [
+      | true ↦ record { code = 0; at = 0; rows = length rows; visits = visits; buffer = wordsOf rows ++ replicate (lent - length rows * 6) 0 }
+      | false ↦ refusal 40 0 (length rows) visits lent
+    ])
+    by-room true e = λ _. omega (arith, leb-true (length rows) (lent / 6) e)
+    by-room false e = λ h. omega (arith, h)
+
+outcome-fits : (lent : ℕ) (r : Report) → Fits lent (outcomeOf lent r)
+unfolding outcomeOf refusal Fits
+outcome-fits lent (accepted rows visits) = placed-fits lent rows visits
+outcome-fits lent (rejected code at visits) = λ _. omega arith
+
+after-fits : (lent : ℕ) (v : Verdict) (words : List ℕ) → Fits lent (afterCheck lent v words)
+unfolding afterCheck refusal Fits
+after-fits lent (check.refused code at) words = λ _. omega arith
+after-fits lent check.accepted words = outcome-fits lent (report (tableOf words))
+
+built-fits : (words : List ℕ) (lent : ℕ) → built words lent .code ≡ 0 → built words lent .rows * 6 ≤ lent
+unfolding built Fits
+built-fits words lent = after-fits lent (checked words) words
+
+-- a refusal prints no tree
+pub refusal-lines : (code at rows visits : ℕ) (t t′ : List ℕ) → (code ≡ 0 → ⊥) → printed code at rows visits t ≡ printed code at rows visits t′
+unfolding printed treeLines
+refusal-lines zero at rows visits t t′ h = absurd (h refl)
+refusal-lines (suc code) at rows visits t t′ h = refl
+
+-- what is written of a build is what its outcome prints
+pub built-printed : (words : List ℕ) (lent : ℕ) (r : build.Outcome) (tree : List ℕ) {room : ℕ} → room ≡ lent → outcome r tree ≡ built words room
+    → printed (r .code) (r .at) (r .rows) (r .visits) (take (r .rows * 6) tree) ≡ printedOutcome (built words lent)
+unfolding printedOutcome
+built-printed words lent r tree l h = ap printedOutcome h ∙ ap (λ (n : ℕ). printedOutcome (built words n)) l
+
+-- what is accepted stands within the lent words
+pub built-within : (words tree : List ℕ) (lent : ℕ) (r : build.Outcome) → outcome r tree ≡ built words lent → r .code ≡ 0 → r .rows * 6 ≤ lent
+built-within words tree lent r h e =
+    let code = ap (λ (o : Outcome). o .code) h in
+    let rows = ap (λ (o : Outcome). o .rows) h in
+    omega (arith, built-fits words lent (sym code ∙ e), rows)

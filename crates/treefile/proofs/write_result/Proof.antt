@@ -1,0 +1,34 @@
+use native.Mathlib.Omega.{arith}
+use Prim.Native.Nat.{_≤_}
+use mathlib.Core.Path.{_≡_, _∙_}
+use lib.ListN.{length}
+use Rattle.text.specs.Printed.{printed, writtenOf}
+use Rattle.text.specs.declared.write.Written.the-variants.{Bytes}
+use Rattle.text.proofs.WriteLaws.{written-fits, Narrow}
+use borrow.Author.Needs.{needs}
+use Rattle.treefile.proofs.write_result.Statement.{statement}
+use Rattle.treefile.proofs.write_result.Tie as tie
+use Rattle.treefile.proofs.write_result.Reads as reads
+use Rattle.treefile.proofs.write_result.Lts as lts
+use Rattle.text.proofs.write.write.Reads as write-reads
+
+-- src/lib.rt:21:5
+write-requires : tie.Need-write-requires
+write-requires c κs = search needs
+
+-- src/lib.rt:16:1
+same-length : tie.Need-same-length
+same-length c = search needs
+
+-- src/lib.rt:16:1
+returns : tie.Need-returns
+returns c =
+    let w = c .before .before .write .ensures in
+    let a = c .before .before .before .before .before .before .args in
+    let f = c .before .before .before .before .before .before .fits in
+    let narrow : Narrow (a .tree .now) = λ i. omega (arith, c .before .before .before .before .shared-slice-known .given i) in
+    let fits : length (a .tree .now) ≤ 12288 → 135245 ≤ length (a .out .now) → writtenOf (length (a .out .now)) (printed (a .code) (a .at) (a .rows) (a .visits) (a .tree .now)) ≡ Bytes (length (printed (a .code) (a .at) (a .rows) (a .visits) (a .tree .now))) = λ p q. written-fits (length (a .out .now)) (a .code) (a .at) (a .rows) (a .visits) (a .tree .now) (omega (arith, f .code), (omega (arith, f .at), (omega (arith, f .rows), (omega (arith, f .visits), tt)))) narrow (omega (arith, p, q)) in
+    (w .0, (w .1, λ p q. w .0 ∙ fits p q))
+
+pub write-result-spec : {M : Type 1} → statement M
+write-result-spec = tie.close (tie.spec write-requires same-length returns)

@@ -1,0 +1,64 @@
+use borrow.Author.Needs.{needs}
+use native.Mathlib.Omega.{arith}
+use mathlib.Core.Path.{_≡_, refl, sym, _∙_}
+use Prim.Native.Nat.{ℕ, _+_, _-_, _≤_, _<_}
+use lib.ListN.{length, take, length-set}
+use lib.Seq.{length-take-le}
+use Rattle.vectors.proofs.read_words.Statement.{statement}
+use Rattle.vectors.proofs.read_words.Tie as tie
+use Rattle.vectors.proofs.read_words.Reads as reads
+use Rattle.vectors.proofs.read_words.Lts as lts
+use Rattle.vectors.proofs.word_at.Reads as word-at-reads
+
+abbrev Inv-loop : tie.InvT-loop
+Inv-loop bytes start count words₀ at₀ i₀ words at i = Unit {0}
+
+abbrev μ-loop : tie.MeasureT-loop
+μ-loop bytes start count words₀ at₀ i₀ words at i = 16384 - i
+
+-- src/main.rt:74:5
+loop-holds : tie.Need-loop-holds Inv-loop μ-loop
+loop-holds c = tt
+
+-- src/main.rt:75:13
+word-at-requires : tie.Need-word-at-requires Inv-loop μ-loop
+word-at-requires c κs = search needs
+
+-- src/main.rt:76:9
+mul-words : tie.Need-mul-words Inv-loop μ-loop
+mul-words c = search needs
+
+-- src/main.rt:76:9
+element-write-words : tie.Need-element-write-words Inv-loop μ-loop
+element-write-words c = search needs
+
+-- src/main.rt:78:9
+add-i : tie.Need-add-i Inv-loop μ-loop
+add-i c = search needs
+
+-- src/main.rt:74:5
+loop-less : tie.Need-loop-less Inv-loop μ-loop
+loop-less c = omega arith
+
+-- src/main.rt:74:5
+loop-again : tie.Need-loop-again Inv-loop μ-loop
+loop-again c = tt
+
+-- src/main.rt:71:1
+returns : tie.Need-returns Inv-loop μ-loop
+returns c = search needs
+
+pub read-words-spec : {M : Type 1} → statement M
+read-words-spec =
+    tie.close
+    (tie.spec
+    Inv-loop
+    μ-loop
+    loop-holds
+    word-at-requires
+    mul-words
+    element-write-words
+    add-i
+    loop-less
+    loop-again
+    returns)

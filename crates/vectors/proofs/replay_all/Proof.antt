@@ -1,0 +1,78 @@
+use borrow.Author.Needs.{needs}
+use native.Mathlib.Omega.{arith}
+use mathlib.Core.Path.{_≡_, refl, sym, _∙_}
+use Prim.Native.Nat.{ℕ, _+_, _-_, _≤_, _<_}
+use lib.ListN.{length, take, length-set}
+use lib.Seq.{length-take-le}
+use Rattle.vectors.proofs.replay_all.Statement.{statement}
+use Rattle.vectors.proofs.replay_all.Tie as tie
+use Rattle.vectors.proofs.replay_all.Reads as reads
+use Rattle.vectors.proofs.replay_all.Lts as lts
+use Rattle.vectors.proofs.counted.Reads as counted-reads
+use Rattle.vectors.proofs.left.Reads as left-reads
+use Rattle.vectors.proofs.number_at.Reads as number-at-reads
+use Rattle.vectors.proofs.print_counts.Reads as print-counts-reads
+use Rattle.vectors.proofs.replay.Reads as replay-reads
+
+abbrev Inv-loop : tie.InvT-loop
+Inv-loop bytes words₀ tree₀ expected₀ count at₀ differences₀ i₀ words tree expected at differences i = Unit {0}
+
+abbrev μ-loop : tie.MeasureT-loop
+μ-loop bytes words₀ tree₀ expected₀ count at₀ differences₀ i₀ words tree expected at differences i = count .value - i
+
+-- src/main.rt:198:9
+number-at-requires : tie.Need-number-at-requires Inv-loop μ-loop
+number-at-requires c κs = search needs
+
+-- src/main.rt:202:5
+loop-holds : tie.Need-loop-holds Inv-loop μ-loop
+loop-holds c = tt
+
+-- src/main.rt:203:13
+replay-requires : tie.Need-replay-requires Inv-loop μ-loop
+replay-requires c κs = search needs
+
+-- src/main.rt:204:9
+counted-requires : tie.Need-counted-requires Inv-loop μ-loop
+counted-requires c κs = search needs
+
+-- src/main.rt:206:9
+add-i : tie.Need-add-i Inv-loop μ-loop
+add-i c = search needs
+
+-- src/main.rt:202:5
+loop-less : tie.Need-loop-less Inv-loop μ-loop
+loop-less c = omega arith
+
+-- src/main.rt:202:5
+loop-again : tie.Need-loop-again Inv-loop μ-loop
+loop-again c = tt
+
+-- src/main.rt:208:34
+left-requires : tie.Need-left-requires Inv-loop μ-loop
+left-requires c κs = search needs
+
+-- src/main.rt:208:5
+print-counts-requires : tie.Need-print-counts-requires Inv-loop μ-loop
+print-counts-requires c κs = search needs
+
+-- src/main.rt:197:1
+returns : tie.Need-returns Inv-loop μ-loop
+returns c = search needs
+
+pub replay-all-spec : {M : Type 1} → statement M
+replay-all-spec =
+    tie.close
+    (tie.spec
+    Inv-loop
+    μ-loop
+    number-at-requires
+    loop-holds
+    replay-requires
+    counted-requires
+    add-i
+    loop-less
+    loop-again
+    left-requires
+    print-counts-requires
+    returns)

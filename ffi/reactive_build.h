@@ -1,0 +1,33 @@
+/* build_reactive_function for C. Link libbuild.a (ffi/README.md says how it is made). */
+#ifndef REACTIVE_BUILD_H
+#define REACTIVE_BUILD_H
+
+#include <stddef.h>
+#include <stdint.h>
+
+#ifdef __cplusplus
+extern "C" {
+#endif
+
+/* A row of the tree has six words: op, a, b, c, d, e (docs/FORMAT.md). */
+#define REACTIVE_BUILD_ROW_WORDS 6
+
+/* Builds the tree of a table of blocks.
+ *
+ * words, word_count    the table, of any content and length
+ * tree, tree_length    a buffer of any length, in words
+ *
+ * Returns the code: 0, and the buffer holds *rows rows and then zeros; or a refusal (docs/FORMAT.md), and the buffer holds zeros. *at is
+ * the refusal's place, *visits the number of visits. *rows is 0 if refused, but for code 40: then it is the number of rows to lend.
+ *
+ * No pointer is null, also where the length is 0. words and tree are valid for their lengths and aligned; tree and the three results
+ * overlap nothing else that is passed, and no other thread uses them during the call. The call takes no memory but the stack, keeps
+ * nothing, and may be made from any number of threads. */
+uint32_t reactive_build(const uint32_t *words, size_t word_count, uint32_t *tree, size_t tree_length, uint32_t *at, uint32_t *rows,
+                        uint32_t *visits);
+
+#ifdef __cplusplus
+}
+#endif
+
+#endif

@@ -1,0 +1,69 @@
+//! `build_reactive_function`, proved, from Rust.
+
+use std::ffi::c_uint;
+
+/// Words in a row of the tree: op, a, b, c, d, e.
+pub const ROW_WORDS: usize = 6;
+
+/// Code (0 accepted), at, rows and visits.
+#[derive(Clone, Copy, Debug, PartialEq, Eq)]
+pub struct Outcome {
+    pub code: u32,
+    pub at: u32,
+    pub rows: u32,
+    pub visits: u32,
+}
+
+/// Why there is no tree. The codes are told in docs/FORMAT.md.
+#[derive(Clone, Copy, Debug, PartialEq, Eq)]
+pub struct Refusal {
+    pub code: u32,
+    pub at: u32,
+}
+
+unsafe extern "C" {
+    fn reactive_build(
+        words: *const u32,
+        word_count: usize,
+        tree: *mut u32,
+        tree_length: usize,
+        at: *mut u32,
+        rows: *mut u32,
+        visits: *mut u32,
+    ) -> c_uint;
+}
+
+/// Builds the tree of a table into a lent buffer, both of any content and length. The buffer then
+/// holds the rows and after them zeros; zeros alone if refused.
+pub fn build(words: &[u32], tree: &mut [u32]) -> Outcome {
+    let (mut at, mut rows, mut visits) = (0, 0, 0);
+    // SAFETY: slices give pointers that are not null, aligned and valid for their lengths; `tree` and
+    // the three results are borrowed for this call alone. The function reads and writes nothing else.
+    let code = unsafe {
+        reactive_build(
+            words.as_ptr(),
+            words.len(),
+            tree.as_mut_ptr(),
+            tree.len(),
+            &mut at,
+            &mut rows,
+            &mut visits,
+        )
+    };
+    Outcome { code, at, rows, visits }
+}
+
+/// The rows of the tree. Builds once with a buffer of a usual size, and once more if that was short.
+pub fn rows(words: &[u32]) -> Result<Vec<[u32; ROW_WORDS]>, Refusal> {
+    let mut tree = vec![0; 256 * ROW_WORDS];
+    let mut built = build(words, &mut tree);
+    if built.code == 40 {
+        tree.resize(built.rows as usize * ROW_WORDS, 0);
+        built = build(words, &mut tree);
+    }
+    if built.code != 0 {
+        return Err(Refusal { code: built.code, at: built.at });
+    }
+    tree.truncate(built.rows as usize * ROW_WORDS);
+    Ok(tree.as_chunks().0.to_vec())
+}
