@@ -60,7 +60,9 @@ fn print_all() {
         show("depth by both", &values(64, depth - 64), 2_400);
     }
     let least = visits_of(&shared(0));
-    for (name, visits) in [("visits", 8_192), ("visits by statements", 8_193), ("visits by values", 8_194)] {
+    for (name, visits) in
+        [("visits", 8_192), ("visits by statements", 8_193), ("visits by values", 8_194)]
+    {
         eprintln!("{name}: {} before", visits - least);
         show(name, &shared(visits - least), 98_304);
     }

@@ -40,7 +40,8 @@ fn main() -> ExitCode {
         let right = right(mutant);
         fs::write(&path, right.replace(&mutant.old, &mutant.new)).expect("written");
         let built = build("vectors");
-        let in_vectors = built && !run("vectors", &["replay", "../crates/vectors/data/vectors.bin"]);
+        let in_vectors =
+            built && !run("vectors", &["replay", "../crates/vectors/data/vectors.bin"]);
         let in_run = built && !in_vectors && build("compare") && !run("compare", &[TABLES]);
         fs::write(&path, right).expect("written");
         by_vectors += usize::from(in_vectors);
