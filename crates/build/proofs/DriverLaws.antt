@@ -9,7 +9,7 @@ use mathlib.Core.Option.{Option, none, some}
 use lib.Dec.{eqb}
 use lib.ListN.{length, drop, getD, set, length-set, length-replicate}
 use lib.Seq.{getD-set-same, getD-set-other}
-use borrow.Author.Tests.{eq-eqb, ne-eqb, eqb-true}
+use borrow.Author.Tests.{eq-eqb, ne-eqb, eqb-true, eqb-false}
 use Rattle.table.specs.Words.{blockCount, entryWord}
 use Rattle.table.specs.Promise.{Promise}
 use Rattle.table.specs.Table.{Table, tableOf, terminalAt, unlessNone}
@@ -46,9 +46,10 @@ use Rattle.build.specs.declared.driver.Walked.{Walked}
 use Rattle.build.specs.Plans.{frameOf, noFrame, framesOf, stateAt, scheduledLoop, idTaken, changed, handled, scoped, within, kept, contextAfter, onward, applied}
 use Rattle.build.specs.Planned.{NamedChange, entriesOnTop, deepest, Nested, Fitting}
 use Rattle.build.specs.Jumps.{FoundBelow}
-use Rattle.build.specs.Driver.{Resolves, foundBy, Searches, Shown, inHand, FrameFits, StageFits, Ready, emitting, PlannedTurn, visitedBlock, emitted, withMarks, Whole, Changeable, Applicable, Applied, slot, isHalt, Reported}
+use Rattle.build.specs.Driver.{Resolves, foundBy, Searches, Shown, inHand, FrameFits, StageFits, Ready, emitting, PlannedTurn, visitedBlock, emitted, withMarks, Whole, Changeable, Applicable, Applied, slot, isHalt, planEnds, startingAt, walkedBy, Reported}
 use Rattle.build.proofs.PlanLaws.{none-is, some-is}
 use Rattle.build.proofs.ApplyLaws.{marks}
+use Rattle.build.proofs.CheckedLaws.{checked-table}
 
 abbrev target-or : Option definition.Resolution → ℕ
 target-or none = 0
@@ -240,16 +241,16 @@ found-below cx (search.Continue b) (resolved.Found r) h e = continue-below (cx .
 
 module _ (w : List ℕ) (pr : Promise w) (ck : Checked (tableOf w)) where
   -- where the loop begins
-  pub walking-start : (buffer : List ℕ) (cx : Context) (A : List Frame) (e : ℕ) → Created cx → length A ≡ 129 → e ≡ entryWord w → Walking w buffer cx A (record { block = e; depth = 0; count = 0; rows = 0; visits = 0; stage = Visit })
+  pub walking-start : (buffer : List ℕ) (cx : Context) (A : List Frame) (p : Position) → Created cx → length A ≡ 129 → p ≡ startingAt (entryWord w) → Walking w buffer cx A p
   unfolding framesOf pushed
-  walking-start buffer cx A e new l q = record {
+  walking-start buffer cx A p new l q = rw q (record {
     rows = [];
-    going = subst (λ (C : definition.Context). Going (tableOf w) (visiting e [] [] 0 C)) (sym (new .context)) (subst (λ (b : ℕ). Going (tableOf w) (visiting b [] [] 0 definition.start)) (entry-word ∙ sym q) (going-start (tableOf w) ck));
+    going = subst (λ (C : definition.Context). Going (tableOf w) (visiting (entryWord w) [] [] 0 C)) (sym (new .context)) (subst (λ (b : ℕ). Going (tableOf w) (visiting b [] [] 0 definition.start)) entry-word (going-start (tableOf w) ck));
     held = record { count = refl; rows = tt };
     live = tt;
     whole = record { bounded = new .bounded; wide = flags; tall = ap length (new .stack) ∙ length-replicate 1152 noEntry };
     frames = l;
-  }
+  })
     where
       entry-word : tableOf w .entry ≡ entryWord w
       entry-word = entry-at w
@@ -337,8 +338,8 @@ module _ (w : List ℕ) (pr : Promise w) (ck : Checked (tableOf w)) where
       unfolding applied
       refused-report z = going-halt (tableOf w) (stateOf p A (I .rows) cx) _ (I .going) (stepped ∙ rw (ne-eqb (plan .code) 0 z, applied))
 
-      pub refused-reported : (plan .code ≡ 0 → ⊥) → (r : Walked) → (r .code ≡ plan .code) × (r .at ≡ plan .at) × (r .visits ≡ plan .position .visits) → Reported (report (tableOf w)) r buffer′
-      refused-reported z r e = subst (λ (a : Report). Reported a r buffer′) (sym (refused-report z)) (e .0, z, e .1, e .2)
+      refused-reported : (plan .code ≡ 0 → ⊥) → Reported (report (tableOf w)) (walkedBy plan) buffer′
+      refused-reported z = subst (λ (a : Report). Reported a (walkedBy plan) buffer′) (sym (refused-report z)) (refl, z, refl, refl)
 
       module _ (fine : plan .code ≡ 0) where
         ahead : applied plan (framesOf A (p .depth)) after entering ≡ onward (plan .position .stage) plan (framesOf A (p .depth)) after entering
@@ -363,8 +364,8 @@ module _ (w : List ℕ) (pr : Promise w) (ck : Checked (tableOf w)) where
             at Pop e = absurd (unlike e)
             at Halt e = refl
 
-        pub accepted-reported : isHalt (plan .position .stage) ≡ true → (r : Walked) → (r .code ≡ 0) × (r .at ≡ 0) × (r .visits ≡ plan .position .visits) × (r .rows ≡ plan .position .rows) → Reported (report (tableOf w)) r buffer′
-        accepted-reported z r e = subst (λ (a : Report). Reported a r buffer′) (sym (accepted-report z)) (e .0, e .1, e .2, rw (e .3) rows-held)
+        accepted-reported : isHalt (plan .position .stage) ≡ true → Reported (report (tableOf w)) (walkedBy plan) buffer′
+        accepted-reported z = subst (λ (a : Report). Reported a (walkedBy plan) buffer′) (sym (accepted-report z)) (fine, refl, rows-held)
 
         -- the turn leads on
         module _ (on : isHalt (plan .position .stage) ≡ false) where
@@ -520,3 +521,48 @@ module _ (w : List ℕ) (pr : Promise w) (ck : Checked (tableOf w)) where
                   no-rows (plan .position .stage) (plan .position .block) (framesOf A′ (plan .position .depth)) after (plan .position .count) (contextOf (plan .position .visits) r),
                   no-rows (p .stage) (p .block) (framesOf A (p .depth)) (I .rows) (p .count) C,
                 )
+
+-- ---- a turn that is planned, in one piece
+
+pub record AtTurn (w buffer : List ℕ) (cx : Context) (A : List Frame) (p : Position) (buffer′ : List ℕ) (plan : Plan) : Type 0 where
+  pub promise : Promise w
+  pub walking : Walking w buffer cx A p
+  pub frame : Frame
+  pub read : frame ≡ getD A (p .depth - 1) noFrame
+  pub found : Resolved
+  pub planned : PlannedTurn w (Shown w (cx .emitted) (cx .scheduled) (cx .«catch_handlers») (cx .«scope_fallthroughs») p found) p frame buffer plan buffer′
+  pub jump : p .stage ≡ Visit → Resolves (terminalAt (tableOf w) (p .block)) (contextOf (p .visits) cx) (resolvedOf found)
+
+module _ {w buffer : List ℕ} {cx : Context} {A : List Frame} {p : Position} {buffer′ : List ℕ} {plan : Plan} (t : AtTurn w buffer cx A p buffer′ plan) where
+  ck : Checked (tableOf w)
+  ck = checked-table w (t .promise)
+
+  -- refused, or accepted
+  pub turn-ends : planEnds plan ≡ true → Reported (report (tableOf w)) (walkedBy plan) buffer′
+  turn-ends e = at (eqb (plan .code) 0) refl e
+    where
+      at : (y : Bool) → eqb (plan .code) 0 ≡ y → elim y [ true ↦ isHalt (plan .position .stage) | false ↦ true ] ≡ true → Reported (report (tableOf w)) (walkedBy plan) buffer′
+      at true q h = accepted-reported w (t .promise) ck buffer cx A p (t .walking) (t .frame) (t .read) (t .found) buffer′ plan (t .planned) (t .jump) (eqb-true _ _ q) h
+      at false q h = refused-reported w (t .promise) ck buffer cx A p (t .walking) (t .frame) (t .read) (t .found) buffer′ plan (t .planned) (t .jump) (eqb-false _ _ q)
+
+  -- or the walk goes on
+  module _ (on : planEnds plan ≡ false) where
+    fine-on : (plan .code ≡ 0) × (isHalt (plan .position .stage) ≡ false)
+    fine-on = at (eqb (plan .code) 0) refl on
+      where
+        at : (y : Bool) → eqb (plan .code) 0 ≡ y → elim y [ true ↦ isHalt (plan .position .stage) | false ↦ true ] ≡ false → (plan .code ≡ 0) × (isHalt (plan .position .stage) ≡ false)
+        at true q h = (eqb-true _ _ q, h)
+        at false q h = absurd (unlike (sym h))
+
+    pub turn-applicable : Applicable (visitedBlock (p .stage) (p .block)) plan cx
+    turn-applicable = applicable w (t .promise) ck buffer cx A p (t .walking) (t .frame) (t .read) (t .found) buffer′ plan (t .planned) (t .jump) (fine-on .0) (fine-on .1)
+
+    pub turn-slot : slot (plan .keep) (plan .position .depth) < 129
+    turn-slot = slot-below w (t .promise) ck buffer cx A p (t .walking) (t .frame) (t .read) (t .found) buffer′ plan (t .planned) (t .jump) (fine-on .0) (fine-on .1)
+
+    module _ {r : Context} (E : Applied (visitedBlock (p .stage) (p .block)) plan cx r) {i : ℕ} (stored : i ≡ slot (plan .keep) (plan .position .depth)) where
+      pub turn-again : Walking w buffer′ r (set A i (plan .frame)) (plan .position)
+      turn-again = rw stored (walking-again w (t .promise) ck buffer cx A p (t .walking) (t .frame) (t .read) (t .found) buffer′ plan (t .planned) (t .jump) (fine-on .0) (fine-on .1) r E)
+
+      pub turn-lower : turnsLeft (plan .position) (set A i (plan .frame)) r < turnsLeft p A cx
+      turn-lower = rw stored (turns-lower w (t .promise) ck buffer cx A p (t .walking) (t .frame) (t .read) (t .found) buffer′ plan (t .planned) (t .jump) (fine-on .0) (fine-on .1) r E)

@@ -52,8 +52,8 @@ pub overfull-outcome : (walked : Walked) (buffer : List ℕ) (o : definition.Out
     → (a : Report) → Reported a walked buffer → o ≡ outcomeOf (length buffer) a
 unfolding outcomeOf placed
 overfull-outcome walked buffer o z l e (accepted rows visits) h =
-    let n : length rows ≡ walked .rows = row-count (walked .rows) buffer rows (h .3) in
-    e ∙ rw (← n, h .2) (ap (λ (y : Bool). elim y [ true ↦ filled (length buffer) rows visits | false ↦ refusal 40 0 (length rows) visits (length buffer) ]) (sym (lt-leb (length rows) (length buffer / 6) (omega (arith, n, l)))))
+    let n : length rows ≡ walked .rows = row-count (walked .rows) buffer rows (h .2) in
+    e ∙ rw (← n, h .1) (ap (λ (y : Bool). elim y [ true ↦ filled (length buffer) rows visits | false ↦ refusal 40 0 (length rows) visits (length buffer) ]) (sym (lt-leb (length rows) (length buffer / 6) (omega (arith, n, l)))))
 overfull-outcome walked buffer o z l e (rejected code at visits) h = absurd (h .1 (sym (h .0) ∙ z))
 
 -- the rows, then zeros
@@ -61,9 +61,9 @@ pub accepted-outcome : (walked : Walked) (buffer buffer′ : List ℕ) → walke
     → (a : Report) → Reported a walked buffer → outcome (record { code = 0; at = 0; rows = walked .rows; visits = walked .visits }) buffer′ ≡ outcomeOf (length buffer) a
 unfolding outcomeOf placed
 accepted-outcome walked buffer buffer′ z l e (accepted rows visits) h =
-    let n : length rows ≡ walked .rows = row-count (walked .rows) buffer rows (h .3) in
-    let w : take (walked .rows * 6) buffer ≡ wordsOf rows = words-held buffer (walked .rows) rows (h .3) (omega arith) in
-    let same : outcome (record { code = 0; at = 0; rows = walked .rows; visits = walked .visits }) buffer′ ≡ filled (length buffer) rows visits = rw (n, h .2, e, w) refl in
+    let n : length rows ≡ walked .rows = row-count (walked .rows) buffer rows (h .2) in
+    let w : take (walked .rows * 6) buffer ≡ wordsOf rows = words-held buffer (walked .rows) rows (h .2) (omega arith) in
+    let same : outcome (record { code = 0; at = 0; rows = walked .rows; visits = walked .visits }) buffer′ ≡ filled (length buffer) rows visits = rw (n, h .1, e, w) refl in
     same ∙ ap (λ (y : Bool). elim y [ true ↦ filled (length buffer) rows visits | false ↦ refusal 40 0 (length rows) visits (length buffer) ]) (sym (le-leb (length rows) (length buffer / 6) (omega (arith, n, l))))
 accepted-outcome walked buffer buffer′ z l e (rejected code at visits) h = absurd (h .1 (sym (h .0) ∙ z))
 

@@ -1,20 +1,26 @@
--- What a block's jump looks for.
-use Prim.Native.Nat.{ℕ, zero, suc, _<_, _≤_}
+-- What a block's jump looks for, and the search of the stack for it, an entry at a time.
+use Prim.Native.Nat.{ℕ, zero, suc, _-_, _<_, _≤_}
 use native.Mathlib.Omega.{arith}
 use mathlib.Core.Path.{_≡_, refl, sym, ap, _∙_, subst}
 use mathlib.Core.Bool.{Bool, true, false}
 use mathlib.Core.List.{List}
 use mathlib.Core.Option.{Option, none, some}
+use borrow.Author.Tests.{eqb-true, eqb-false}
 use Rattle.table.specs.Words.{blockCount, placeCount, caseCount, blockWord}
 use Rattle.table.specs.Promise.{Promise, InRange}
 use Rattle.table.specs.Table.{Terminal, Variant, absent, unreachable, throw, return, goto, if, branch, switch, do-while, while, for, for-of, for-in, logical, ternary, optional, label, sequence, maybe-throw, try, scope, Break, Continue, Try, codeOf, tableOf, terminalOf, terminalAt, variantOf}
 use Rattle.table.proofs.RangeLaws.{in-range}
-use Rattle.definition.specs.Context.{Flags, or, has, isScheduled, getBreakTarget, getContinueTarget}
+use Rattle.definition.specs.Context.{Flags, or, has, isScheduled, isLoop, breakTargetFrom, continueTargetFrom, getBreakTarget, getContinueTarget}
 use Rattle.definition.specs.Context as definition
+use Rattle.control.specs.declared.Context.{Context}
+use Rattle.control.specs.declared.Entry.{Entry}
+use Rattle.control.specs.declared.Resolved.{Resolved}
+use Rattle.control.specs.Abstraction.{stackOf, contextOf, resolvedOf}
+use Rattle.control.proofs.SearchLaws.{lastTarget, break-none, break-found, break-missed, continue-none, continue-found, continue-missed}
 use Rattle.build.specs.declared.search.Jump.{Jump}
 use Rattle.build.specs.declared.search.Jump.the-variants.{Nothing}
 use Rattle.build.specs.declared.search.Jump.the-variants as jump
-use Rattle.build.specs.Driver.{Resolves, foundBy, Searches}
+use Rattle.build.specs.Driver.{Resolves, foundBy, searchedFrom, isMet, resolvedAt, Searches}
 use Rattle.build.proofs.StepLaws.{end-by, code-at}
 
 -- a terminal that is no jump
@@ -96,3 +102,38 @@ module _ (w : List ℕ) (S H : Flags) (b : ℕ) (pr : Promise w) (below : b < bl
       where
         differ : _≡_ {A = Bool} true false → ⊥
         differ e = let o : _≡_ {A = ℕ} 0 1 = ap (λ (y : Bool). elim y [ true ↦ 0 | false ↦ 1 ]) e in omega arith
+
+-- ---- the search
+
+abbrev foundAmong : Jump → List definition.Entry → (top loopAbove : Bool) → Option definition.Resolution
+foundAmong Nothing entries top loopAbove = none
+foundAmong (jump.Break block) entries top loopAbove = breakTargetFrom entries block top loopAbove
+foundAmong (jump.Continue block) entries top loopAbove = continueTargetFrom entries block top loopAbove
+
+-- the first so many entries give what all give
+pub record Searching (sought : Jump) (cx : Context) (at : ℕ) (top loopAbove : Bool) : Type 0 where
+  pub within : at ≤ cx .len
+  pub rest : foundAmong sought (stackOf (cx .stack) (cx .len)) true false ≡ foundAmong sought (stackOf (cx .stack) at) top loopAbove
+
+pub search-start : (sought : Jump) (cx : Context) (n : ℕ) → n ≡ searchedFrom sought (cx .len) → Searching sought cx n true false
+search-start Nothing cx n e = record { within = omega (arith, e); rest = refl }
+search-start (jump.Break b) cx n e = record { within = omega (arith, e); rest = rw e refl }
+search-start (jump.Continue b) cx n e = record { within = omega (arith, e); rest = rw e refl }
+
+module _ (cx : Context) (at : ℕ) (top above : Bool) where
+  pub search-on : (sought : Jump) → Searching sought cx at top above → (at ≡ 0 → ⊥) → isMet sought (lastTarget (cx .stack) at) ≡ false → Searching sought cx (at - 1) false (or above (isLoop (lastTarget (cx .stack) at)))
+  search-on Nothing h f m = record { within = omega (arith, h .within); rest = refl }
+  search-on (jump.Break b) h f m = record { within = omega (arith, h .within); rest = h .rest ∙ break-missed _ _ _ _ _ f (eqb-false _ _ m) }
+  search-on (jump.Continue b) h f m = record { within = omega (arith, h .within); rest = h .rest ∙ continue-missed _ _ _ _ _ f m }
+
+  pub search-none : (sought : Jump) → Searching sought cx at top above → at ≡ 0 → (visits : ℕ) → none ≡ foundBy sought (contextOf visits cx)
+  unfolding getBreakTarget getContinueTarget contextOf
+  search-none Nothing h e visits = refl
+  search-none (jump.Break b) h e visits = sym (h .rest ∙ break-none _ _ _ _ _ e)
+  search-none (jump.Continue b) h e visits = sym (h .rest ∙ continue-none _ _ _ _ _ e)
+
+  pub search-found : (sought : Jump) → Searching sought cx at top above → (at ≡ 0 → ⊥) → isMet sought (lastTarget (cx .stack) at) ≡ true → (visits : ℕ) → resolvedAt sought (lastTarget (cx .stack) at) top above ≡ foundBy sought (contextOf visits cx)
+  unfolding getBreakTarget getContinueTarget contextOf
+  search-found Nothing h f m visits = refl
+  search-found (jump.Break b) h f m visits = sym (h .rest ∙ break-found _ _ _ _ _ f (eqb-true _ _ m))
+  search-found (jump.Continue b) h f m visits = sym (h .rest ∙ continue-found _ _ _ _ _ f m)

@@ -4,12 +4,13 @@ use mathlib.Core.Path.{_≡_}
 use mathlib.Core.Bool.{Bool, true, false}
 use mathlib.Core.List.{List, [], _∷_, _++_}
 use mathlib.Core.Option.{Option, none, some}
+use lib.Dec.{eqb}
 use lib.ListN.{length}
 use Rattle.table.specs.Words.{blockCount}
 use Rattle.table.specs.Promise.{Promise}
 use Rattle.table.specs.Table.{Table, unlessNone, Terminal, Variant, absent, unreachable, throw, return, goto, if, branch, switch, do-while, while, for, for-of, for-in, logical, ternary, optional, label, sequence, maybe-throw, try, scope, Break, Continue, Try, tableOf, terminalAt}
 use Rattle.definition.specs.Build.{Report, accepted, rejected}
-use Rattle.definition.specs.Context.{Flags, add, emit, isScheduled, getBreakTarget, getContinueTarget}
+use Rattle.definition.specs.Context.{Flags, add, emit, isScheduled, targetBlock, continuesAt, getBreakTarget, getContinueTarget}
 use Rattle.definition.specs.Context as definition
 use Rattle.definition.specs.Machine.{step}
 use Rattle.definition.specs.Machine as machine
@@ -18,7 +19,7 @@ use Rattle.definition.proofs.Invariant.{Framed, Below, isSwitch}
 use Rattle.control.specs.declared.Context.{Context}
 use Rattle.control.specs.declared.Resolved.{Resolved}
 use Rattle.control.specs.Abstraction.{contextOf, resolvedOf}
-use Rattle.control.specs.Contract.{Named, Bounded, Room}
+use Rattle.control.specs.Contract.{Named, Bounded, Room, breakTo, continueTo}
 use Rattle.rows.specs.Rows.{Holds}
 use Rattle.rows.specs.Stack.{pushed}
 use Rattle.build.specs.declared.plan.Stage.{Stage}
@@ -67,6 +68,22 @@ abbrev pub foundBy : Jump → definition.Context → Option definition.Resolutio
 foundBy Nothing cx = none
 foundBy (jump.Break block) cx = getBreakTarget cx block
 foundBy (jump.Continue block) cx = getContinueTarget cx block
+
+-- the search, an entry at a time: how many entries it looks at, whether it ends at one, and what it gives there
+abbrev pub searchedFrom : Jump → (len : ℕ) → ℕ
+searchedFrom Nothing len = 0
+searchedFrom (jump.Break block) len = len
+searchedFrom (jump.Continue block) len = len
+
+abbrev pub isMet : Jump → definition.ControlFlowTarget → Bool
+isMet Nothing target = false
+isMet (jump.Break block) target = eqb (targetBlock target) block
+isMet (jump.Continue block) target = continuesAt target block
+
+abbrev pub resolvedAt : Jump → definition.ControlFlowTarget → (top loopAbove : Bool) → Option definition.Resolution
+resolvedAt Nothing found top loopAbove = none
+resolvedAt (jump.Break block) found top loopAbove = some (breakTo found top loopAbove)
+resolvedAt (jump.Continue block) found top loopAbove = some (continueTo found top loopAbove)
 
 -- a search that finds what the block's terminal looks for
 pub record Searches (words : List ℕ) (scheduledSet handlerSet : Flags) (block : ℕ) (found : Jump) : Type 0 where
@@ -222,9 +239,19 @@ isHalt Choose = false
 isHalt Pop = false
 isHalt Halt = true
 
+-- refused, or accepted
+abbrev pub planEnds : Plan → Bool
+planEnds plan = elim (eqb (plan .code) 0) [ true ↦ isHalt (plan .position .stage) | false ↦ true ]
+
 -- ---- the whole walk
+
+abbrev pub startingAt : (entry : ℕ) → Position
+startingAt entry = record { block = entry; depth = 0; count = 0; rows = 0; visits = 0; stage = Visit }
+
+abbrev pub walkedBy : Plan → Walked
+walkedBy plan = record { code = plan .code; at = plan .at; rows = plan .position .rows; visits = plan .position .visits }
 
 -- its answer is the table's report, and an accepted table's rows are held
 abbrev pub Reported : Report → Walked → (buffer : List ℕ) → Type 0
-Reported (accepted rows visits) r buffer = (r .code ≡ 0) × (r .at ≡ 0) × (r .visits ≡ visits) × Holds buffer (r .rows) (pushed rows [])
+Reported (accepted rows visits) r buffer = (r .code ≡ 0) × (r .visits ≡ visits) × Holds buffer (r .rows) (pushed rows [])
 Reported (rejected code at visits) r buffer = (r .code ≡ code) × (code ≡ 0 → ⊥) × (r .at ≡ at) × (r .visits ≡ visits)

@@ -1,21 +1,29 @@
 // The loop over the Context by value and the frames: each turn is planned, and its plan applied.
-use crate::apply::apply_plan;
+use crate::fallthrough::narrow;
+use crate::plan::Change;
 use crate::plan::NONE;
 use crate::plan::Plan;
 use crate::plan::Position;
 use crate::plan::Stage;
 use crate::plan::no_frame;
 use crate::search::jump_at;
+use crate::search::meets;
 use crate::search::resolve;
+use crate::search::search_from;
 use crate::turn::plan_turn;
 use control::Context;
+use control::Resolved;
+use control::insert;
+use control::or_loop;
 use table::words::entry;
 ghost use mathlib.Core.Path.{_≡_};
 ghost use Prim.Native.Nat.{_-_, _≤_};
-ghost use Rattle.table.specs.Table.{tableOf};
+ghost use Rattle.table.specs.Words.{entryWord};
+ghost use Rattle.table.specs.Table.{tableOf, unlessNone};
 ghost use Rattle.table.specs.Promise.{Promise};
 ghost use Rattle.definition.specs.Build.{report};
-ghost use Rattle.build.specs.Driver.{visitedBlock, isHalt, slot, Reported};
+ghost use Rattle.definition.proofs.Invariant.{Below};
+ghost use Rattle.build.specs.Driver.{visitedBlock, marked, startingAt, planEnds, isHalt, slot, walkedBy, Reported};
 
 // Where the walk ended: a refusal, or the rows that are out.
 pub struct Walked {
@@ -23,6 +31,20 @@ pub struct Walked {
     pub at: u32,
     pub rows: u32,
     pub visits: u32,
+}
+
+fn start(words: &[u32]) -> Position
+    requires { ⌜ Promise (now words) ⌝ }
+    ensures { λ r. ⌜ r ≡ startingAt (entryWord (now (words .entry))) ⌝ }
+{
+    Position {
+        block: entry(words),
+        depth: 0,
+        count: 0,
+        rows: 0,
+        visits: 0,
+        stage: Stage::Visit,
+    }
 }
 
 fn visited_block(p: Position) -> u32
@@ -38,6 +60,16 @@ fn visited_block(p: Position) -> u32
     }
 }
 
+fn mark(set: &mut [bool; 1024], block: u32)
+    requires { ⌜ Below 1024 (unlessNone block) ⌝ }
+    ensures { λ _. ⌜ now (set .exit) ≡ marked (unlessNone block) (now (set .entry)) ⌝ }
+{
+    if block == NONE {
+        return;
+    }
+    insert(set, narrow(block));
+}
+
 fn halted(stage: Stage) -> bool
     ensures { λ r. ⌜ r ≡ isHalt stage ⌝ }
 {
@@ -47,6 +79,30 @@ fn halted(stage: Stage) -> bool
         Stage::Choose => false,
         Stage::Pop => false,
         Stage::Halt => true,
+    }
+}
+
+// Whether the walk ends here: refused, or accepted.
+fn ends(plan: Plan) -> bool
+    ensures { λ r. ⌜ r ≡ planEnds plan ⌝ }
+{
+    if plan.code != 0 {
+        return true;
+    }
+    let position = plan.position;
+    let stage = position.stage;
+    halted(stage)
+}
+
+fn answer(plan: Plan) -> Walked
+    ensures { λ r. ⌜ r ≡ walkedBy plan ⌝ }
+{
+    let position = plan.position;
+    Walked {
+        code: plan.code,
+        at: plan.at,
+        rows: position.rows,
+        visits: position.visits,
     }
 }
 
@@ -70,29 +126,8 @@ fn frame_slot(keep: bool, depth: u32) -> usize
     depth as usize
 }
 
-fn rejected(plan: Plan) -> Walked
-    ensures { λ r. ⌜ (r .code ≡ plan .code) × (r .at ≡ plan .at) × (r .visits ≡ plan .position .visits) ⌝ }
-{
-    let position = plan.position;
-    Walked {
-        code: plan.code,
-        at: plan.at,
-        rows: 0,
-        visits: position.visits,
-    }
-}
-
-fn accepted(p: Position) -> Walked
-    ensures { λ r. ⌜ (r .code ≡ 0) × (r .at ≡ 0) × (r .visits ≡ p .visits) × (r .rows ≡ p .rows) ⌝ }
-{
-    Walked {
-        code: 0,
-        at: 0,
-        rows: p.rows,
-        visits: p.visits,
-    }
-}
-
+// One function, and longer than others: what is handed the Context by value without being inlined whole copies it, 18 KB a turn (docs/PERFORMANCE.md).
+// So the search of the stack (`get_break_target`, `get_continue_target`) and the plan's change stand in the loop, each method called once.
 pub fn walk(words: &[u32], tree: &mut [u32]) -> Walked
     requires { ⌜ Promise (now words) ⌝ }
     ensures { λ r. ⌜ Reported (report (tableOf (now (words .entry)))) r (now (tree .exit)) ⌝ }
@@ -100,18 +135,26 @@ pub fn walk(words: &[u32], tree: &mut [u32]) -> Walked
     let mut cx = Context::new();
     let none = no_frame();
     let mut frames = [none; 129];
-    let mut p = Position {
-        block: entry(words),
-        depth: 0,
-        count: 0,
-        rows: 0,
-        visits: 0,
-        stage: Stage::Visit,
-    };
+    let mut p = start(words);
     loop {
         let frame = frames[innermost(p.depth)];
         let jump = jump_at(words, &cx.scheduled, &cx.catch_handlers, p);
-        let resolved = resolve(cx, jump);
+        let mut at = search_from(jump, cx.len);
+        let mut top = true;
+        let mut has_preceding_loop = false;
+        let resolved = loop {
+            if at == 0 {
+                break Resolved::Nothing;
+            }
+            at -= 1;
+            let entry = cx.stack[at];
+            let target = entry.target;
+            if meets(jump, target) {
+                break resolve(jump, target, top, has_preceding_loop);
+            }
+            has_preceding_loop = or_loop(has_preceding_loop, target);
+            top = false;
+        };
         let plan = plan_turn(
             words,
             tree,
@@ -123,18 +166,37 @@ pub fn walk(words: &[u32], tree: &mut [u32]) -> Walked
             frame,
             resolved,
         );
-        if plan.code != 0 {
-            return rejected(plan);
+        if ends(plan) {
+            return answer(plan);
         }
-        let next = plan.position;
-        let stage = next.stage;
-        if halted(stage) {
-            return accepted(next);
-        }
-        cx = apply_plan(cx, visited_block(p), plan);
-        let at = frame_slot(plan.keep, next.depth);
+        mark(&mut cx.emitted, visited_block(p));
+        mark(&mut cx.catch_handlers, plan.handler);
+        mark(&mut cx.scope_fallthroughs, plan.scope);
+        p = plan.position;
         let kept = plan.frame;
-        frames[at] = kept;
-        p = next;
+        frames[frame_slot(plan.keep, p.depth)] = kept;
+        let change = plan.change;
+        match change {
+            Change::Nothing => {}
+            Change::Schedule(target) => {
+                cx = cx.schedule(target);
+                let entry = cx.pushed;
+                cx.stack[cx.len - 1] = entry;
+            }
+            Change::ScheduleLoop {
+                fallthrough,
+                continue_block,
+                loop_block,
+            } => {
+                cx = cx.schedule_loop(fallthrough, continue_block, loop_block);
+                let entry = cx.pushed;
+                cx.stack[cx.len - 1] = entry;
+            }
+            Change::TakeId => cx.next_schedule_id += 1,
+            Change::Unschedule => {
+                let entry = cx.stack[cx.len - 1];
+                cx = cx.unschedule(entry);
+            }
+        }
     }
 }

@@ -9,7 +9,6 @@ ghost use Rattle.definition.specs.Build.{Report, refusal, outcomeOf, built};
 ghost use Rattle.build.specs.Driver.{Reported};
 ghost use Rattle.build.specs.Entry.{outcome};
 
-mod apply;
 mod branch;
 mod driver;
 mod fallthrough;

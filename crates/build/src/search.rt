@@ -1,19 +1,21 @@
-// What a block's jump looks for on the stack, and what it finds there. The driver searches before a turn is planned: a planner does not see the stack.
+// What a block's jump looks for on the stack, and what it finds at an entry. The driver searches before a turn is planned: a planner does not see the stack.
 use crate::fallthrough::narrow;
 use crate::fallthrough::scheduled_at;
 use crate::plan::Position;
 use crate::plan::Stage;
-use control::Context;
+use control::ControlFlowTarget;
 use control::Resolved;
+use control::break_to;
+use control::continue_to;
 use table::words::block_word;
 ghost use mathlib.Core.Path.{_≡_};
-ghost use Prim.Native.Nat.{ℕ, _≤_, _<_};
+ghost use Prim.Native.Nat.{_<_};
 ghost use Rattle.table.specs.Words.{blockCount, blockWord};
 ghost use Rattle.table.specs.Promise.{Promise};
 ghost use Rattle.table.specs.Table.{tableOf, terminalAt};
-ghost use Rattle.control.specs.Abstraction.{contextOf, resolvedOf};
+ghost use Rattle.control.specs.Abstraction.{targetOf, resolvedOf};
 ghost use Rattle.build.specs.declared.plan.Stage.the-variants.{Visit};
-ghost use Rattle.build.specs.Driver.{foundBy, Searches};
+ghost use Rattle.build.specs.Driver.{searchedFrom, isMet, resolvedAt, Searches};
 
 pub enum Jump {
     Nothing,
@@ -21,14 +23,40 @@ pub enum Jump {
     Continue(u16),
 }
 
-pub fn resolve(cx: Context, jump: Jump) -> Resolved
-    requires { ⌜ cx .len ≤ 1152 ⌝ }
-    ensures { λ r. ⌜ ((visits : ℕ) → resolvedOf r ≡ foundBy jump (contextOf visits cx)) ⌝ }
+// How many entries are searched: all, from the innermost, if there is a jump.
+pub fn search_from(jump: Jump, len: usize) -> usize
+    ensures { λ r. ⌜ r ≡ searchedFrom jump len ⌝ }
+{
+    match jump {
+        Jump::Nothing => 0,
+        Jump::Break(_) => len,
+        Jump::Continue(_) => len,
+    }
+}
+
+// Whether the jump's search ends at this entry.
+pub fn meets(jump: Jump, target: ControlFlowTarget) -> bool
+    ensures { λ r. ⌜ r ≡ isMet jump (targetOf target) ⌝ }
+{
+    match jump {
+        Jump::Nothing => false,
+        Jump::Break(block) => target.block() == block,
+        Jump::Continue(block) => target.continues_at(block),
+    }
+}
+
+pub fn resolve(
+    jump: Jump,
+    found: ControlFlowTarget,
+    top: bool,
+    has_preceding_loop: bool,
+) -> Resolved
+    ensures { λ r. ⌜ resolvedOf r ≡ resolvedAt jump (targetOf found) top «has_preceding_loop» ⌝ }
 {
     match jump {
         Jump::Nothing => Resolved::Nothing,
-        Jump::Break(block) => cx.get_break_target(block),
-        Jump::Continue(block) => cx.get_continue_target(block),
+        Jump::Break(_) => Resolved::Found(break_to(found, top, has_preceding_loop)),
+        Jump::Continue(_) => Resolved::Found(continue_to(found, top, has_preceding_loop)),
     }
 }
 

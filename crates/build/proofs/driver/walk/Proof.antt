@@ -1,37 +1,59 @@
-use Rattle.build.proofs.CheckedLaws.{checked-table}
-use Prim.Native.Nat.{ℕ}
+use Prim.Native.Nat.{ℕ, _<_}
 use native.Mathlib.Omega.{arith}
 use mathlib.Core.Path.{_≡_, refl, sym, ap, _∙_, subst}
 use mathlib.Core.List.{List}
-use lib.ListN.{length}
+use mathlib.Core.Bool.{false}
+use lib.ListN.{length, set}
+use mathlib.Core.Logic.{⊎-elim}
 use borrow.Author.Needs.{needs}
+use Rattle.control.specs.Abstraction.{contextOf, resolvedOf, stored}
+use Rattle.control.specs.Contract.{Room}
+use Rattle.build.specs.declared.plan.Plan.{Plan}
+use Rattle.build.specs.declared.plan.Change.{Change}
+use Rattle.build.specs.declared.plan.Change.the-variants.{Schedule, ScheduleLoop, Unschedule}
+use Rattle.build.specs.Driver.{foundBy, visitedBlock, planEnds, withMarks, Whole, Changeable, Changed, Applicable, Applied}
+use Rattle.build.proofs.ApplyLaws.{nothing-changed, schedule-changed, loop-changed, unschedule-changed, id-changed, changeable-marked, whole-marked, plan-applied, last-entry}
 use Rattle.control.specs.declared.Context.{Context}
-use Rattle.definition.specs.Build.{Report}
 use Rattle.build.specs.declared.plan.Position.{Position}
 use Rattle.build.specs.declared.plan.Frame.{Frame}
-use Rattle.build.specs.Driver.{Reported}
-use Rattle.build.proofs.DriverLaws.{Walking, turnsLeft, walking-start, frame-read, found-jump, found-below, ready, shallow, visit-below, refused-reported, accepted-reported, applicable, slot-below, walking-again, turns-lower}
+use Rattle.build.proofs.DriverLaws.{Walking, turnsLeft, walking-start, frame-read, found-jump, found-below, ready, shallow, visit-below, AtTurn, turn-ends, turn-applicable, turn-slot, turn-again, turn-lower}
+use denote.Ref.{now}
+use Rattle.build.proofs.CheckedLaws.{checked-table}
+use Rattle.build.proofs.SearchLaws.{Searching, search-start, search-on, search-none, search-found}
 use Rattle.build.proofs.driver.walk.Statement.{statement}
 use Rattle.build.proofs.driver.walk.Tie as tie
 use Rattle.build.proofs.driver.walk.Reads as reads
 use Rattle.build.proofs.driver.walk.Lts as lts
-use Rattle.build.proofs.apply.apply_plan.Reads as apply-plan-reads
-use Rattle.build.proofs.driver.accepted.Reads as accepted-reads
+use Rattle.build.proofs.driver.answer.Reads as answer-reads
+use Rattle.build.proofs.driver.ends.Reads as ends-reads
 use Rattle.build.proofs.driver.frame_slot.Reads as frame-slot-reads
-use Rattle.build.proofs.driver.halted.Reads as halted-reads
 use Rattle.build.proofs.driver.innermost.Reads as innermost-reads
-use Rattle.build.proofs.driver.rejected.Reads as rejected-reads
+use Rattle.build.proofs.driver.mark.Reads as mark-reads
+use Rattle.build.proofs.driver.start.Reads as start-reads
 use Rattle.build.proofs.driver.visited_block.Reads as visited-block-reads
 use Rattle.build.proofs.plan.no_frame.Reads as no-frame-reads
 use Rattle.build.proofs.search.jump_at.Reads as jump-at-reads
+use Rattle.build.proofs.search.meets.Reads as meets-reads
 use Rattle.build.proofs.search.resolve.Reads as resolve-reads
+use Rattle.build.proofs.search.search_from.Reads as search-from-reads
 use Rattle.build.proofs.turn.plan_turn.Reads as plan-turn-reads
 use Rattle.control.proofs.Context.new.Reads as new-reads
-use Rattle.table.proofs.words.entry.Reads as entry-reads
+use Rattle.control.proofs.Context.schedule.Reads as schedule-reads
+use Rattle.control.proofs.Context.schedule_loop.Reads as schedule-loop-reads
+use Rattle.control.proofs.Context.unschedule.Reads as unschedule-reads
+use Rattle.control.proofs.or_loop.Reads as or-loop-reads
 
 record Inv (words buffer₀ buffer : List ℕ) (cx : Context) (frames : List Frame) (p : Position) : Type 0 where
   walking : Walking words buffer cx frames p
   long : length buffer ≡ length buffer₀
+
+abbrev Inv-loop2 : tie.InvT-loop2
+Inv-loop2 words tree cx frames p frame jump at₀ top₀ has-preceding-loop₀ at top has-preceding-loop =
+    Searching jump cx at top has-preceding-loop
+
+abbrev μ-loop2 : tie.MeasureT-loop2
+μ-loop2 words tree cx frames p frame jump at₀ top₀ has-preceding-loop₀ at top has-preceding-loop =
+    at
 
 abbrev Inv-loop : tie.InvT-loop
 Inv-loop words tree₀ cx₀ frames₀ p₀ tree cx frames p = Inv words tree₀ tree cx frames p
@@ -39,229 +61,421 @@ Inv-loop words tree₀ cx₀ frames₀ p₀ tree cx frames p = Inv words tree₀
 abbrev μ-loop : tie.MeasureT-loop
 μ-loop words tree₀ cx₀ frames₀ p₀ tree cx frames p = turnsLeft p frames cx
 
--- src/driver.rt:91:18
-new-requires : tie.Need-new-requires Inv-loop μ-loop
+-- src/driver.rt:135:18
+new-requires : tie.Need-new-requires Inv-loop2 μ-loop2 Inv-loop μ-loop
 new-requires c κs = tt
 
--- src/driver.rt:92:9
-no-frame-requires : tie.Need-no-frame-requires Inv-loop μ-loop
+-- src/driver.rt:136:9
+no-frame-requires : tie.Need-no-frame-requires Inv-loop2 μ-loop2 Inv-loop μ-loop
 no-frame-requires c κs = tt
 
--- src/driver.rt:94:35
-entry-requires : tie.Need-entry-requires Inv-loop μ-loop
-entry-requires c κs = c .before .before .before .before .pre .sized .limited .head
+-- src/driver.rt:138:9
+start-requires : tie.Need-start-requires Inv-loop2 μ-loop2 Inv-loop μ-loop
+start-requires c κs = search needs
 
--- src/driver.rt:95:5
-loop-holds : tie.Need-loop-holds Inv-loop μ-loop
+-- src/driver.rt:139:5
+loop-holds : tie.Need-loop-holds Inv-loop2 μ-loop2 Inv-loop μ-loop
 loop-holds c =
-    let at-new = c .before .before in
-    let at-entry = at-new .before .before .before in
-    record { walking = walking-start _ (at-entry .pre) (checked-table _ (at-entry .pre)) _ _ _ _ (at-new .new .ensures) refl (c .entry .ensures); long = refl }
+    let start = c .before .before .before .before .before in
+    record { walking = walking-start _ (start .pre) (checked-table _ (start .pre)) _ _ _ _ (c .before .before .new .ensures) refl (c .start .ensures); long = refl }
 
--- src/driver.rt:96:28
-innermost-requires : tie.Need-innermost-requires Inv-loop μ-loop
+-- src/driver.rt:140:28
+innermost-requires : tie.Need-innermost-requires Inv-loop2 μ-loop2 Inv-loop μ-loop
 innermost-requires c κs = tt
 
--- src/driver.rt:96:21
-mul-frame : tie.Need-mul-frame Inv-loop μ-loop
+-- src/driver.rt:140:21
+mul-frame : tie.Need-mul-frame Inv-loop2 μ-loop2 Inv-loop μ-loop
 mul-frame c =
     let at-loop = c .before in
-    let at-entry = at-loop .before .before .before .before .before .before in
-    omega (arith, c .innermost .ensures, shallow _ (at-entry .pre) (checked-table _ (at-entry .pre)) _ _ _ _ (at-loop .loop .inv .walking))
+    let start = at-loop .before .before .before .before .before .before in
+    omega (arith, c .innermost .ensures, shallow _ (start .pre) (checked-table _ (start .pre)) _ _ _ _ (at-loop .loop .inv .walking))
 
--- src/driver.rt:96:21
-array-copy-out-frame : tie.Need-array-copy-out-frame Inv-loop μ-loop
+-- src/driver.rt:140:21
+array-copy-out-frame : tie.Need-array-copy-out-frame Inv-loop2 μ-loop2 Inv-loop μ-loop
 array-copy-out-frame c =
     let at-loop = c .before in
-    let at-entry = at-loop .before .before .before .before .before .before in
-    omega (arith, c .innermost .ensures, shallow _ (at-entry .pre) (checked-table _ (at-entry .pre)) _ _ _ _ (at-loop .loop .inv .walking))
+    let start = at-loop .before .before .before .before .before .before in
+    omega (arith, c .innermost .ensures, shallow _ (start .pre) (checked-table _ (start .pre)) _ _ _ _ (at-loop .loop .inv .walking))
 
--- src/driver.rt:97:13
-jump-at-requires : tie.Need-jump-at-requires Inv-loop μ-loop
+-- src/driver.rt:141:13
+jump-at-requires : tie.Need-jump-at-requires Inv-loop2 μ-loop2 Inv-loop μ-loop
 jump-at-requires c κs =
     let at-loop = c .before .before .before .before .before in
-    let at-entry = at-loop .before .before .before .before .before .before in
-    ((at-entry .pre), visit-below _ (at-entry .pre) (checked-table _ (at-entry .pre)) _ _ _ _ (at-loop .loop .inv .walking))
+    let start = at-loop .before .before .before .before .before .before in
+    ((start .pre), visit-below _ (start .pre) (checked-table _ (start .pre)) _ _ _ _ (at-loop .loop .inv .walking))
 
--- src/driver.rt:98:13
-resolve-requires : tie.Need-resolve-requires Inv-loop μ-loop
-resolve-requires c κs = c .before .before .before .before .before .before .loop .inv .walking .whole .bounded .most
+-- src/driver.rt:142:13
+search-from-requires : tie.Need-search-from-requires Inv-loop2 μ-loop2 Inv-loop μ-loop
+search-from-requires c κs = tt
 
--- src/driver.rt:99:13
-plan-turn-requires : tie.Need-plan-turn-requires Inv-loop μ-loop
+-- src/driver.rt:145:13
+loop2-holds : tie.Need-loop2-holds Inv-loop2 μ-loop2 Inv-loop μ-loop
+loop2-holds c = search-start _ _ _ (c .search-from .ensures)
+
+-- src/driver.rt:149:13
+sub-at : tie.Need-sub-at Inv-loop2 μ-loop2 Inv-loop μ-loop
+sub-at c = search needs
+
+-- src/driver.rt:150:25
+mul-entry : tie.Need-mul-entry Inv-loop2 μ-loop2 Inv-loop μ-loop
+mul-entry c = omega (arith, c .before .loop2 .inv .within, c .before .before .before .before .before .before .before .before .before .loop .inv .walking .whole .bounded .most)
+
+-- src/driver.rt:150:25
+element-copy-out-entry : tie.Need-element-copy-out-entry Inv-loop2 μ-loop2 Inv-loop μ-loop
+element-copy-out-entry c = omega (arith, c .if1 .left, c .before .loop2 .inv .within, c .before .before .before .before .before .before .before .before .before .loop .inv .walking .whole .bounded .most)
+
+-- src/driver.rt:152:16
+meets-requires : tie.Need-meets-requires Inv-loop2 μ-loop2 Inv-loop μ-loop
+meets-requires c κs = tt
+
+-- src/driver.rt:153:23
+resolve-requires : tie.Need-resolve-requires Inv-loop2 μ-loop2 Inv-loop μ-loop
+resolve-requires c κs = tt
+
+-- src/driver.rt:155:13
+or-loop-requires : tie.Need-or-loop-requires Inv-loop2 μ-loop2 Inv-loop μ-loop
+or-loop-requires c κs = tt
+
+-- src/driver.rt:145:13
+loop2-less : tie.Need-loop2-less Inv-loop2 μ-loop2 Inv-loop μ-loop
+loop2-less c = search needs
+
+-- src/driver.rt:145:13
+loop2-again : tie.Need-loop2-again Inv-loop2 μ-loop2 Inv-loop μ-loop
+loop2-again c = rw (c .or-loop .ensures) (search-on _ _ _ _ _ (c .before .before .before .before .before .loop2 .inv) (c .before .before .before .before .if1 .left) (sym (c .before .before .meets .ensures) ∙ c .before .if2 .left))
+
+-- where the search has ended
+module _ (c : tie.Joined1 Inv-loop2 μ-loop2 Inv-loop μ-loop) where
+  abbrev head : tie.At-loop Inv-loop2 μ-loop2 Inv-loop μ-loop
+  head = c .before .before .before .before .before .before .before .before .before
+
+  found : (visits : ℕ) → resolvedOf (c .if1 .resolved) ≡ foundBy (c .before .before .before .jump-at .result) (contextOf visits (head .loop .cx))
+  found visits =
+      ⊎-elim (λ w. ap resolvedOf (w .2) ∙ search-none _ _ _ _ _ (c .before .loop2 .inv) (w .0 .taken) visits)
+      (λ w. ap resolvedOf (w .6) ∙ w .4 .ensures ∙ search-found _ _ _ _ _ (c .before .loop2 .inv) (w .0 .left) (sym (w .2 .ensures) ∙ w .3 .taken) visits)
+      (c .if1 .came)
+
+-- where the turn is planned
+module _ (c : tie.After-plan-turn Inv-loop2 μ-loop2 Inv-loop μ-loop) where
+  abbrev at-head : tie.At-loop Inv-loop2 μ-loop2 Inv-loop μ-loop
+  at-head = head (c .before .before .before .before .before .before .before)
+
+  turn : AtTurn (now (at-head .before .before .before .before .before .before .args .words)) (at-head .loop .tree) (at-head .loop .cx) (at-head .loop .frames) (at-head .loop .p) (c .plan-turn .last .1 .0) (c .plan-turn .result)
+  turn =
+      let at-if1 = c .before .before .before .before .before .before .before in
+      let at-jump-at = at-if1 .before .before .before in
+      let start = at-head .before .before .before .before .before .before in
+      record {
+        promise = start .pre;
+        walking = at-head .loop .inv .walking;
+        frame = _;
+        read = frame-read _ (start .pre) (checked-table _ (start .pre)) _ _ _ _ (at-head .loop .inv .walking) _ (at-jump-at .before .before .before .before .before .innermost .ensures);
+        found = at-if1 .if1 .resolved;
+        planned = c .plan-turn .ensures;
+        jump = found-jump _ _ (at-head .loop .p) _ (at-if1 .if1 .resolved) (at-jump-at .jump-at .ensures) (found at-if1);
+      }
+
+-- src/driver.rt:158:13
+plan-turn-requires : tie.Need-plan-turn-requires Inv-loop2 μ-loop2 Inv-loop μ-loop
 plan-turn-requires c κs =
-    let at-resolve = c .before .before .before .before .before .before in
-    let at-jump-at = at-resolve .before in
+    let at-if1 = c .before .before .before .before .before .before in
+    let at-jump-at = at-if1 .before .before .before in
     let at-innermost = at-jump-at .before .before .before .before .before in
     let at-loop = at-innermost .before in
-    let at-entry = at-loop .before .before .before .before .before .before in
-    (ready _ (at-entry .pre) (checked-table _ (at-entry .pre)) _ _ _ _ (at-loop .loop .inv .walking) _ (frame-read _ (at-entry .pre) (checked-table _ (at-entry .pre)) _ _ _ _ (at-loop .loop .inv .walking) _ (at-innermost .innermost .ensures)), found-below _ (at-jump-at .jump-at .result) (at-resolve .resolve .result) (at-loop .loop .inv .walking .whole) (at-resolve .resolve .ensures))
+    let start = at-loop .before .before .before .before .before .before in
+    (ready _ (start .pre) (checked-table _ (start .pre)) _ _ _ _ (at-loop .loop .inv .walking) _ (frame-read _ (start .pre) (checked-table _ (start .pre)) _ _ _ _ (at-loop .loop .inv .walking) _ (at-innermost .innermost .ensures)), found-below _ (at-jump-at .jump-at .result) (at-if1 .if1 .resolved) (at-loop .loop .inv .walking .whole) (found at-if1))
 
--- src/driver.rt:101:13
-rejected-requires : tie.Need-rejected-requires Inv-loop μ-loop
-rejected-requires c κs = tt
+-- src/driver.rt:169:12
+ends-requires : tie.Need-ends-requires Inv-loop2 μ-loop2 Inv-loop μ-loop
+ends-requires c κs = tt
 
--- src/driver.rt:101:13
-same-length : tie.Need-same-length Inv-loop μ-loop
-same-length c =
-    let at-plan-turn = c .before .before .before .before .before in
-    let at-loop = at-plan-turn .before .before .before .before .before .before .before .before .before .before .before .before .before .before in
-    omega (arith, at-plan-turn .plan-turn .kept .1 .0, at-loop .loop .inv .long)
+-- src/driver.rt:170:13
+answer-requires : tie.Need-answer-requires Inv-loop2 μ-loop2 Inv-loop μ-loop
+answer-requires c κs = tt
 
--- src/driver.rt:101:13
-returns : tie.Need-returns Inv-loop μ-loop
-returns c =
-    let at-if1 = c .before in
-    let at-plan-turn = at-if1 .before .before .before .before in
-    let at-resolve = at-plan-turn .before .before .before .before .before .before .before in
-    let at-jump-at = at-resolve .before in
-    let at-innermost = at-jump-at .before .before .before .before .before in
-    let at-loop = at-innermost .before in
-    let at-entry = at-loop .before .before .before .before .before .before in
-    refused-reported _ (at-entry .pre) (checked-table _ (at-entry .pre)) _ _ _ _ (at-loop .loop .inv .walking) _ (frame-read _ (at-entry .pre) (checked-table _ (at-entry .pre)) _ _ _ _ (at-loop .loop .inv .walking) _ (at-innermost .innermost .ensures)) _ _ _ (at-plan-turn .plan-turn .ensures) (found-jump _ _ (at-loop .loop .p) _ (at-resolve .resolve .result) (at-jump-at .jump-at .ensures) (at-resolve .resolve .ensures)) (at-if1 .if1 .taken) _ (c .rejected .ensures)
+-- src/driver.rt:170:13
+same-length : tie.Need-same-length Inv-loop2 μ-loop2 Inv-loop μ-loop
+same-length c = omega (arith, c .before .before .before .before .before .plan-turn .kept .1 .0, c .before .before .before .before .before .before .before .before .before .before .before .before .before .before .before .before .before .before .before .before .before .loop .inv .long)
 
--- src/driver.rt:105:12
-halted-requires : tie.Need-halted-requires Inv-loop μ-loop
-halted-requires c κs = tt
+-- src/driver.rt:170:13
+returns : tie.Need-returns Inv-loop2 μ-loop2 Inv-loop μ-loop
+returns c = rw (c .answer .ensures) (turn-ends (turn (c .before .before .before .before .before)) (sym (c .before .before .ends .ensures) ∙ c .before .if3 .taken))
 
--- src/driver.rt:106:13
-accepted-requires : tie.Need-accepted-requires Inv-loop μ-loop
-accepted-requires c κs = tt
-
--- src/driver.rt:106:13
-same-length-2 : tie.Need-same-length-2 Inv-loop μ-loop
-same-length-2 c =
-    let at-plan-turn = c .before .before .before .before .before .before .before .before in
-    let at-loop = at-plan-turn .before .before .before .before .before .before .before .before .before .before .before .before .before .before in
-    omega (arith, at-plan-turn .plan-turn .kept .1 .0, at-loop .loop .inv .long)
-
--- src/driver.rt:106:13
-returns-2 : tie.Need-returns-2 Inv-loop μ-loop
-returns-2 c =
-    let at-if2 = c .before in
-    let at-halted = at-if2 .before in
-    let at-if1 = at-halted .before .before in
-    let at-plan-turn = at-if1 .before .before .before .before in
-    let at-resolve = at-plan-turn .before .before .before .before .before .before .before in
-    let at-jump-at = at-resolve .before in
-    let at-innermost = at-jump-at .before .before .before .before .before in
-    let at-loop = at-innermost .before in
-    let at-entry = at-loop .before .before .before .before .before .before in
-    accepted-reported _ (at-entry .pre) (checked-table _ (at-entry .pre)) _ _ _ _ (at-loop .loop .inv .walking) _ (frame-read _ (at-entry .pre) (checked-table _ (at-entry .pre)) _ _ _ _ (at-loop .loop .inv .walking) _ (at-innermost .innermost .ensures)) _ _ _ (at-plan-turn .plan-turn .ensures) (found-jump _ _ (at-loop .loop .p) _ (at-resolve .resolve .result) (at-jump-at .jump-at .ensures) (at-resolve .resolve .ensures)) (at-if1 .if1 .left) (sym (at-halted .halted .ensures) ∙ at-if2 .if2 .taken) _ (c .accepted .ensures)
-
--- src/driver.rt:108:29
-visited-block-requires : tie.Need-visited-block-requires Inv-loop μ-loop
+-- src/driver.rt:172:31
+visited-block-requires : tie.Need-visited-block-requires Inv-loop2 μ-loop2 Inv-loop μ-loop
 visited-block-requires c κs = tt
 
--- src/driver.rt:108:14
-apply-plan-requires : tie.Need-apply-plan-requires Inv-loop μ-loop
-apply-plan-requires c κs =
-    let at-if2 = c .before in
-    let at-halted = at-if2 .before in
-    let at-if1 = at-halted .before .before in
-    let at-plan-turn = at-if1 .before .before .before .before in
-    let at-resolve = at-plan-turn .before .before .before .before .before .before .before in
-    let at-jump-at = at-resolve .before in
-    let at-innermost = at-jump-at .before .before .before .before .before in
-    let at-loop = at-innermost .before in
-    let at-entry = at-loop .before .before .before .before .before .before in
-    rw (c .visited-block .ensures) (applicable _ (at-entry .pre) (checked-table _ (at-entry .pre)) _ _ _ _ (at-loop .loop .inv .walking) _ (frame-read _ (at-entry .pre) (checked-table _ (at-entry .pre)) _ _ _ _ (at-loop .loop .inv .walking) _ (at-innermost .innermost .ensures)) _ _ _ (at-plan-turn .plan-turn .ensures) (found-jump _ _ (at-loop .loop .p) _ (at-resolve .resolve .result) (at-jump-at .jump-at .ensures) (at-resolve .resolve .ensures)) (at-if1 .if1 .left) (sym (at-halted .halted .ensures) ∙ at-if2 .if2 .left))
+-- src/driver.rt:172:9
+mark-requires : tie.Need-mark-requires Inv-loop2 μ-loop2 Inv-loop μ-loop
+mark-requires c κs = rw (c .visited-block .ensures) (turn-applicable (turn (c .before .before .before .before .before .before)) (sym (c .before .before .before .ends .ensures) ∙ c .before .before .if3 .left) .block)
 
--- src/driver.rt:109:13
-frame-slot-requires : tie.Need-frame-slot-requires Inv-loop μ-loop
+-- src/driver.rt:173:9
+mark-requires-2 : tie.Need-mark-requires-2 Inv-loop2 μ-loop2 Inv-loop μ-loop
+mark-requires-2 c κs = turn-applicable (turn (c .before .before .before .before .before .before .before .before)) (sym (c .before .before .before .before .before .ends .ensures) ∙ c .before .before .before .before .if3 .left) .handler
+
+-- src/driver.rt:174:9
+mark-requires-3 : tie.Need-mark-requires-3 Inv-loop2 μ-loop2 Inv-loop μ-loop
+mark-requires-3 c κs = turn-applicable (turn (c .before .before .before .before .before .before .before .before .before .before)) (sym (c .before .before .before .before .before .before .before .ends .ensures) ∙ c .before .before .before .before .before .before .if3 .left) .scope
+
+-- src/driver.rt:177:16
+frame-slot-requires : tie.Need-frame-slot-requires Inv-loop2 μ-loop2 Inv-loop μ-loop
 frame-slot-requires c κs = tt
 
--- src/driver.rt:111:9
-mul-frames : tie.Need-mul-frames Inv-loop μ-loop
-mul-frames c =
-    let at-frame-slot = c .before in
-    let at-if2 = at-frame-slot .before .before .before in
-    let at-halted = at-if2 .before in
-    let at-if1 = at-halted .before .before in
-    let at-plan-turn = at-if1 .before .before .before .before in
-    let at-resolve = at-plan-turn .before .before .before .before .before .before .before in
-    let at-jump-at = at-resolve .before in
-    let at-innermost = at-jump-at .before .before .before .before .before in
-    let at-loop = at-innermost .before in
-    let at-entry = at-loop .before .before .before .before .before .before in
-    omega (arith, at-frame-slot .frame-slot .ensures, slot-below _ (at-entry .pre) (checked-table _ (at-entry .pre)) _ _ _ _ (at-loop .loop .inv .walking) _ (frame-read _ (at-entry .pre) (checked-table _ (at-entry .pre)) _ _ _ _ (at-loop .loop .inv .walking) _ (at-innermost .innermost .ensures)) _ _ _ (at-plan-turn .plan-turn .ensures) (found-jump _ _ (at-loop .loop .p) _ (at-resolve .resolve .result) (at-jump-at .jump-at .ensures) (at-resolve .resolve .ensures)) (at-if1 .if1 .left) (sym (at-halted .halted .ensures) ∙ at-if2 .if2 .left))
+-- where the sets are marked: the change of the stack is left
+module _ (c : tie.After-frame-slot Inv-loop2 μ-loop2 Inv-loop μ-loop) where
+  abbrev planned : tie.After-plan-turn Inv-loop2 μ-loop2 Inv-loop μ-loop
+  planned = c .before .before .before .before .before .before .before .before .before .before .before .before .before .before
 
--- src/driver.rt:111:9
-array-set-from-frames : tie.Need-array-set-from-frames Inv-loop μ-loop
-array-set-from-frames c =
-    let at-frame-slot = c .before in
-    let at-if2 = at-frame-slot .before .before .before in
-    let at-halted = at-if2 .before in
-    let at-if1 = at-halted .before .before in
-    let at-plan-turn = at-if1 .before .before .before .before in
-    let at-resolve = at-plan-turn .before .before .before .before .before .before .before in
-    let at-jump-at = at-resolve .before in
-    let at-innermost = at-jump-at .before .before .before .before .before in
-    let at-loop = at-innermost .before in
-    let at-entry = at-loop .before .before .before .before .before .before in
-    rw (at-frame-slot .frame-slot .ensures) (slot-below _ (at-entry .pre) (checked-table _ (at-entry .pre)) _ _ _ _ (at-loop .loop .inv .walking) _ (frame-read _ (at-entry .pre) (checked-table _ (at-entry .pre)) _ _ _ _ (at-loop .loop .inv .walking) _ (at-innermost .innermost .ensures)) _ _ _ (at-plan-turn .plan-turn .ensures) (found-jump _ _ (at-loop .loop .p) _ (at-resolve .resolve .result) (at-jump-at .jump-at .ensures) (at-resolve .resolve .ensures)) (at-if1 .if1 .left) (sym (at-halted .halted .ensures) ∙ at-if2 .if2 .left))
+  abbrev plan : Plan
+  plan = planned .plan-turn .result
 
--- src/driver.rt:95:5
-loop-less : tie.Need-loop-less Inv-loop μ-loop
-loop-less c =
-    let at-frame-slot = c .before in
-    let at-apply-plan = at-frame-slot .before in
-    let at-visited-block = at-apply-plan .before in
-    let at-if2 = at-visited-block .before in
-    let at-halted = at-if2 .before in
-    let at-if1 = at-halted .before .before in
-    let at-plan-turn = at-if1 .before .before .before .before in
-    let at-resolve = at-plan-turn .before .before .before .before .before .before .before in
-    let at-jump-at = at-resolve .before in
-    let at-innermost = at-jump-at .before .before .before .before .before in
-    let at-loop = at-innermost .before in
-    let at-entry = at-loop .before .before .before .before .before .before in
-    rw (at-frame-slot .frame-slot .ensures) (turns-lower _ (at-entry .pre) (checked-table _ (at-entry .pre)) _ _ _ _ (at-loop .loop .inv .walking) _ (frame-read _ (at-entry .pre) (checked-table _ (at-entry .pre)) _ _ _ _ (at-loop .loop .inv .walking) _ (at-innermost .innermost .ensures)) _ _ _ (at-plan-turn .plan-turn .ensures) (found-jump _ _ (at-loop .loop .p) _ (at-resolve .resolve .result) (at-jump-at .jump-at .ensures) (at-resolve .resolve .ensures)) (at-if1 .if1 .left) (sym (at-halted .halted .ensures) ∙ at-if2 .if2 .left) _ (rw (at-visited-block .visited-block .ensures) at (at-apply-plan .apply-plan .ensures)))
+  abbrev p : Position
+  p = at-head planned .loop .p
 
--- src/driver.rt:95:5
-loop-again : tie.Need-loop-again Inv-loop μ-loop
-loop-again c =
-    let at-frame-slot = c .before in
-    let at-apply-plan = at-frame-slot .before in
-    let at-visited-block = at-apply-plan .before in
-    let at-if2 = at-visited-block .before in
-    let at-halted = at-if2 .before in
-    let at-if1 = at-halted .before .before in
-    let at-plan-turn = at-if1 .before .before .before .before in
-    let at-resolve = at-plan-turn .before .before .before .before .before .before .before in
-    let at-jump-at = at-resolve .before in
-    let at-innermost = at-jump-at .before .before .before .before .before in
-    let at-loop = at-innermost .before in
-    let at-entry = at-loop .before .before .before .before .before .before in
-    record { walking = rw (at-frame-slot .frame-slot .ensures) (walking-again _ (at-entry .pre) (checked-table _ (at-entry .pre)) _ _ _ _ (at-loop .loop .inv .walking) _ (frame-read _ (at-entry .pre) (checked-table _ (at-entry .pre)) _ _ _ _ (at-loop .loop .inv .walking) _ (at-innermost .innermost .ensures)) _ _ _ (at-plan-turn .plan-turn .ensures) (found-jump _ _ (at-loop .loop .p) _ (at-resolve .resolve .result) (at-jump-at .jump-at .ensures) (at-resolve .resolve .ensures)) (at-if1 .if1 .left) (sym (at-halted .halted .ensures) ∙ at-if2 .if2 .left) _ (rw (at-visited-block .visited-block .ensures) at (at-apply-plan .apply-plan .ensures))); long = omega (arith, at-plan-turn .plan-turn .kept .1 .0, at-loop .loop .inv .long) }
+  abbrev cx : Context
+  cx = at-head planned .loop .cx
+
+  abbrev visited : ℕ
+  visited = visitedBlock (p .stage) (p .block)
+
+  abbrev with-marks : Context
+  with-marks = record { emitted = c .before .before .before .before .before .before .before .mark .last .0; «catch_handlers» = c .before .before .before .before .before .mark2 .last .0; «scope_fallthroughs» = c .before .before .before .mark3 .last .0; len = cx .len; scheduled = cx .scheduled; pushed = cx .pushed; «next_schedule_id» = cx .«next_schedule_id»; stack = cx .stack }
+
+  abbrev frames : List Frame
+  frames = set (at-head planned .loop .frames) (c .frame-slot .result) (plan .frame)
+
+  goes-on : planEnds plan ≡ false
+  goes-on = sym (c .before .before .before .before .before .before .before .before .before .before .before .ends .ensures) ∙ c .before .before .before .before .before .before .before .before .before .before .if3 .left
+
+  marks-made : with-marks ≡ withMarks visited (plan .handler) (plan .scope) cx
+  marks-made = rw (← (c .before .before .before .mark3 .ensures), ← (c .before .before .before .before .before .mark2 .ensures), ← (c .before .before .before .before .before .before .before .before .visited-block .ensures), ← (c .before .before .before .before .before .before .before .mark .ensures)) refl
+
+  applicable : Applicable visited plan cx
+  applicable = turn-applicable (turn planned) goes-on
+
+  whole : Whole with-marks
+  whole = subst Whole (sym marks-made) (whole-marked visited (plan .handler) (plan .scope) cx (applicable .whole))
+
+  module _ (change : Change) (e : plan .change ≡ change) where
+    changeable : Changeable change with-marks
+    changeable = subst (λ (z : Context). Changeable change z) (sym marks-made) (changeable-marked change visited (plan .handler) (plan .scope) cx (subst (λ (z : Change). Changeable z cx) e (applicable .change)))
+
+    module _ (r : Context) (E : Changed change with-marks r) where
+      changed : Applied visited plan cx r
+      changed = plan-applied visited plan cx with-marks r marks-made (subst (λ (z : Change). Changed z with-marks r) (sym e) E)
+
+      next : Inv (now (at-head planned .before .before .before .before .before .before .args .words)) (now (at-head planned .before .before .before .before .before .before .args .tree)) (planned .plan-turn .last .1 .0) r frames (plan .position)
+      next = record { walking = turn-again (turn planned) goes-on changed (c .frame-slot .ensures); long = omega (arith, planned .plan-turn .kept .1 .0, at-head planned .loop .inv .long) }
+
+      lower : turnsLeft (plan .position) frames r < turnsLeft p (at-head planned .loop .frames) cx
+      lower = turn-lower (turn planned) goes-on changed (c .frame-slot .ensures)
+
+-- ---- what each change leaves
+
+module _ (c : tie.After-entry2 Inv-loop2 μ-loop2 Inv-loop μ-loop) where
+  schedule-room : Room (with-marks (c .before .before .before .before .before))
+  schedule-room = changeable (c .before .before .before .before .before) _ (c .before .before .before .change .given .1) .1
+
+  by-schedule : Changed (Schedule (c .before .before .before .change .given .0 .0)) (with-marks (c .before .before .before .before .before)) (stored (c .before .schedule .result))
+  by-schedule = schedule-changed _ _ _ _ (c .before .schedule .ensures) refl (schedule-room .len) (whole (c .before .before .before .before .before))
+
+module _ (c : tie.After-entry3 Inv-loop2 μ-loop2 Inv-loop μ-loop) where
+  loop-room : Room (with-marks (c .before .before .before .before .before))
+  loop-room = changeable (c .before .before .before .before .before) _ (c .before .before .before .change2 .given .1) .1
+
+  by-schedule-loop : Changed (ScheduleLoop (c .before .before .before .change2 .given .0 .0) (c .before .before .before .change2 .given .0 .1 .0) (c .before .before .before .change2 .given .0 .1 .1 .0)) (with-marks (c .before .before .before .before .before)) (stored (c .before .schedule-loop .result))
+  by-schedule-loop = loop-changed _ _ _ _ _ _ (c .before .schedule-loop .ensures) refl (loop-room .len) (whole (c .before .before .before .before .before))
+
+module _ (c : tie.After-unschedule Inv-loop2 μ-loop2 Inv-loop μ-loop) where
+  by-unschedule : Changed Unschedule (with-marks (c .before .before .before .before)) (c .unschedule .result)
+  by-unschedule = unschedule-changed _ _ _ (last-entry _ (changeable (c .before .before .before .before) _ (c .before .before .enum-told3 .given .1)) (whole (c .before .before .before .before))) (c .unschedule .ensures) (whole (c .before .before .before .before))
+
+-- src/driver.rt:177:9
+mul-frames : tie.Need-mul-frames Inv-loop2 μ-loop2 Inv-loop μ-loop
+mul-frames c = omega (arith, c .frame-slot .ensures, turn-slot (turn (planned c)) (goes-on c))
+
+-- src/driver.rt:177:9
+array-set-from-frames : tie.Need-array-set-from-frames Inv-loop2 μ-loop2 Inv-loop μ-loop
+array-set-from-frames c = rw (c .frame-slot .ensures) (turn-slot (turn (planned c)) (goes-on c))
+
+enum-told : tie.Need-enum-told Inv-loop2 μ-loop2 Inv-loop μ-loop
+enum-told c = search needs
+
+-- src/driver.rt:139:5
+loop-less : tie.Need-loop-less Inv-loop2 μ-loop2 Inv-loop μ-loop
+loop-less c = lower (c .before .before) _ (c .enum-told .given .1) _ (nothing-changed _ (whole (c .before .before)))
+
+-- src/driver.rt:139:5
+loop-again : tie.Need-loop-again Inv-loop2 μ-loop2 Inv-loop μ-loop
+loop-again c = next (c .before .before) _ (c .enum-told .given .1) _ (nothing-changed _ (whole (c .before .before)))
+
+-- src/driver.rt:181:30
+enum-known-change : tie.Need-enum-known-change Inv-loop2 μ-loop2 Inv-loop μ-loop
+enum-known-change c = search needs
+
+-- src/driver.rt:182:22
+schedule-requires : tie.Need-schedule-requires Inv-loop2 μ-loop2 Inv-loop μ-loop
+schedule-requires c κs = changeable (c .before .before .before) _ (c .before .change .given .1)
+
+-- src/driver.rt:184:26
+sub-entry : tie.Need-sub-entry Inv-loop2 μ-loop2 Inv-loop μ-loop
+sub-entry c = omega (arith, c .before .schedule .ensures .len)
+
+-- src/driver.rt:184:17
+mul-entry-2 : tie.Need-mul-entry-2 Inv-loop2 μ-loop2 Inv-loop μ-loop
+mul-entry-2 c = omega (arith, c .before .schedule .ensures .len, schedule-room c .len)
+
+-- src/driver.rt:184:17
+element-set-from-entry : tie.Need-element-set-from-entry Inv-loop2 μ-loop2 Inv-loop μ-loop
+element-set-from-entry c = omega (arith, c .before .schedule .ensures .len, schedule-room c .len)
+
+-- src/driver.rt:139:5
+loop-less-2 : tie.Need-loop-less-2 Inv-loop2 μ-loop2 Inv-loop μ-loop
+unfolding stored
+loop-less-2 c = lower (c .before .before .before .before .before) _ (c .before .before .before .change .given .1) _ (by-schedule c)
+
+-- src/driver.rt:139:5
+loop-again-2 : tie.Need-loop-again-2 Inv-loop2 μ-loop2 Inv-loop μ-loop
+unfolding stored
+loop-again-2 c = next (c .before .before .before .before .before) _ (c .before .before .before .change .given .1) _ (by-schedule c)
+
+-- src/driver.rt:187:17
+enum-known-change-2 : tie.Need-enum-known-change-2 Inv-loop2 μ-loop2 Inv-loop μ-loop
+enum-known-change-2 c = search needs
+
+-- src/driver.rt:191:22
+schedule-loop-requires : tie.Need-schedule-loop-requires Inv-loop2 μ-loop2 Inv-loop μ-loop
+schedule-loop-requires c κs = changeable (c .before .before .before) _ (c .before .change2 .given .1)
+
+-- src/driver.rt:193:26
+sub-entry-2 : tie.Need-sub-entry-2 Inv-loop2 μ-loop2 Inv-loop μ-loop
+sub-entry-2 c = omega (arith, c .before .schedule-loop .ensures .len)
+
+-- src/driver.rt:193:17
+mul-entry-3 : tie.Need-mul-entry-3 Inv-loop2 μ-loop2 Inv-loop μ-loop
+mul-entry-3 c = omega (arith, c .before .schedule-loop .ensures .len, loop-room c .len)
+
+-- src/driver.rt:193:17
+element-set-from-entry-2 : tie.Need-element-set-from-entry-2 Inv-loop2 μ-loop2 Inv-loop μ-loop
+element-set-from-entry-2 c = omega (arith, c .before .schedule-loop .ensures .len, loop-room c .len)
+
+-- src/driver.rt:139:5
+loop-less-3 : tie.Need-loop-less-3 Inv-loop2 μ-loop2 Inv-loop μ-loop
+unfolding stored
+loop-less-3 c = lower (c .before .before .before .before .before) _ (c .before .before .before .change2 .given .1) _ (by-schedule-loop c)
+
+-- src/driver.rt:139:5
+loop-again-3 : tie.Need-loop-again-3 Inv-loop2 μ-loop2 Inv-loop μ-loop
+unfolding stored
+loop-again-3 c = next (c .before .before .before .before .before) _ (c .before .before .before .change2 .given .1) _ (by-schedule-loop c)
+
+-- src/driver.rt:195:31
+enum-told-2 : tie.Need-enum-told-2 Inv-loop2 μ-loop2 Inv-loop μ-loop
+enum-told-2 c = search needs
+
+-- src/driver.rt:195:31
+add-cx : tie.Need-add-cx Inv-loop2 μ-loop2 Inv-loop μ-loop
+add-cx c = omega (arith, changeable (c .before .before) _ (c .enum-told2 .given .1))
+
+-- src/driver.rt:139:5
+loop-less-4 : tie.Need-loop-less-4 Inv-loop2 μ-loop2 Inv-loop μ-loop
+loop-less-4 c = lower (c .before .before) _ (c .enum-told2 .given .1) _ (id-changed _ (whole (c .before .before)))
+
+-- src/driver.rt:139:5
+loop-again-4 : tie.Need-loop-again-4 Inv-loop2 μ-loop2 Inv-loop μ-loop
+loop-again-4 c = next (c .before .before) _ (c .enum-told2 .given .1) _ (id-changed _ (whole (c .before .before)))
+
+-- src/driver.rt:197:38
+enum-told-3 : tie.Need-enum-told-3 Inv-loop2 μ-loop2 Inv-loop μ-loop
+enum-told-3 c = search needs
+
+-- src/driver.rt:197:38
+sub-entry-3 : tie.Need-sub-entry-3 Inv-loop2 μ-loop2 Inv-loop μ-loop
+sub-entry-3 c = changeable (c .before .before) _ (c .enum-told3 .given .1)
+
+-- src/driver.rt:197:29
+mul-entry-4 : tie.Need-mul-entry-4 Inv-loop2 μ-loop2 Inv-loop μ-loop
+mul-entry-4 c = omega (arith, whole (c .before .before) .bounded .most)
+
+-- src/driver.rt:197:29
+element-copy-out-entry-2 : tie.Need-element-copy-out-entry-2 Inv-loop2 μ-loop2 Inv-loop μ-loop
+element-copy-out-entry-2 c = omega (arith, changeable (c .before .before) _ (c .enum-told3 .given .1), whole (c .before .before) .bounded .most)
+
+-- src/driver.rt:198:22
+unschedule-requires : tie.Need-unschedule-requires Inv-loop2 μ-loop2 Inv-loop μ-loop
+unschedule-requires c κs = last-entry _ (changeable (c .before .before .before) _ (c .before .enum-told3 .given .1)) (whole (c .before .before .before))
+
+-- src/driver.rt:139:5
+loop-less-5 : tie.Need-loop-less-5 Inv-loop2 μ-loop2 Inv-loop μ-loop
+loop-less-5 c = lower (c .before .before .before .before) _ (c .before .before .enum-told3 .given .1) _ (by-unschedule c)
+
+-- src/driver.rt:139:5
+loop-again-5 : tie.Need-loop-again-5 Inv-loop2 μ-loop2 Inv-loop μ-loop
+loop-again-5 c = next (c .before .before .before .before) _ (c .before .before .enum-told3 .given .1) _ (by-unschedule c)
 
 pub walk-spec : {M : Type 1} → statement M
 walk-spec =
     tie.close
     (tie.spec
+    Inv-loop2
+    μ-loop2
     Inv-loop
     μ-loop
     new-requires
     no-frame-requires
-    entry-requires
+    start-requires
     loop-holds
     innermost-requires
     mul-frame
     array-copy-out-frame
     jump-at-requires
+    search-from-requires
+    loop2-holds
+    sub-at
+    mul-entry
+    element-copy-out-entry
+    meets-requires
     resolve-requires
+    or-loop-requires
+    loop2-less
+    loop2-again
     plan-turn-requires
-    rejected-requires
+    ends-requires
+    answer-requires
     same-length
     returns
-    halted-requires
-    accepted-requires
-    same-length-2
-    returns-2
     visited-block-requires
-    apply-plan-requires
+    mark-requires
+    mark-requires-2
+    mark-requires-3
     frame-slot-requires
     mul-frames
     array-set-from-frames
+    enum-told
     loop-less
-    loop-again)
+    loop-again
+    enum-known-change
+    schedule-requires
+    sub-entry
+    mul-entry-2
+    element-set-from-entry
+    loop-less-2
+    loop-again-2
+    enum-known-change-2
+    schedule-loop-requires
+    sub-entry-2
+    mul-entry-3
+    element-set-from-entry-2
+    loop-less-3
+    loop-again-3
+    enum-told-2
+    add-cx
+    loop-less-4
+    loop-again-4
+    enum-told-3
+    sub-entry-3
+    mul-entry-4
+    element-copy-out-entry-2
+    unschedule-requires
+    loop-less-5
+    loop-again-5)

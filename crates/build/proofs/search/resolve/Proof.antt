@@ -1,53 +1,54 @@
-use mathlib.Core.Path.{refl, sym, ap, _∙_}
+use mathlib.Core.Path.{ap}
+use mathlib.Core.Option.{some}
 use borrow.Author.Needs.{needs}
 use Rattle.build.proofs.search.resolve.Statement.{statement}
 use Rattle.build.proofs.search.resolve.Tie as tie
 use Rattle.build.proofs.search.resolve.Reads as reads
 use Rattle.build.proofs.search.resolve.Lts as lts
-use Rattle.control.proofs.Context.get_break_target.Reads as get-break-target-reads
-use Rattle.control.proofs.Context.get_continue_target.Reads as get-continue-target-reads
+use Rattle.control.proofs.break_to.Reads as break-to-reads
+use Rattle.control.proofs.continue_to.Reads as continue-to-reads
 
--- src/search.rt:31:26
+-- src/search.rt:57:26
 enum-told : tie.Need-enum-told
 enum-told c = search needs
 
--- src/search.rt:32:21
-enum-known-jump : tie.Need-enum-known-jump
-enum-known-jump c = search needs
+-- src/search.rt:58:43
+enum-told-2 : tie.Need-enum-told-2
+enum-told-2 c = search needs
 
--- src/search.rt:32:31
-get-break-target-requires : tie.Need-get-break-target-requires
-get-break-target-requires c κs = search needs
+-- src/search.rt:58:43
+break-to-requires : tie.Need-break-to-requires
+break-to-requires c κs = search needs
 
--- src/search.rt:33:24
-enum-known-jump-2 : tie.Need-enum-known-jump-2
-enum-known-jump-2 c = search needs
+-- src/search.rt:59:46
+enum-told-3 : tie.Need-enum-told-3
+enum-told-3 c = search needs
 
--- src/search.rt:33:34
-get-continue-target-requires : tie.Need-get-continue-target-requires
-get-continue-target-requires c κs = search needs
+-- src/search.rt:59:46
+continue-to-requires : tie.Need-continue-to-requires
+continue-to-requires c κs = search needs
 
--- src/search.rt:26:1
+-- src/search.rt:48:1
 returns : tie.Need-returns
-returns c visits = rw (c .enum-told .given .1) refl
+returns c = search needs
 
--- src/search.rt:26:1
+-- src/search.rt:48:1
 returns-2 : tie.Need-returns-2
-returns-2 c visits = rw (c .before .before .jump .given .1) (c .get-break-target .ensures visits)
+returns-2 c = rw (c .before .enum-told2 .given .1) (ap some (c .break-to .ensures))
 
--- src/search.rt:26:1
+-- src/search.rt:48:1
 returns-3 : tie.Need-returns-3
-returns-3 c visits = rw (c .before .before .jump2 .given .1) (c .get-continue-target .ensures visits)
+returns-3 c = rw (c .before .enum-told3 .given .1) (ap some (c .continue-to .ensures))
 
 pub resolve-spec : {M : Type 1} → statement M
 resolve-spec =
     tie.close
     (tie.spec
     enum-told
-    enum-known-jump
-    get-break-target-requires
-    enum-known-jump-2
-    get-continue-target-requires
+    enum-told-2
+    break-to-requires
+    enum-told-3
+    continue-to-requires
     returns
     returns-2
     returns-3)

@@ -1,0 +1,32 @@
+use mathlib.Core.Path.{_≡_, refl}
+use mathlib.Core.Bool.{Bool, true}
+use borrow.Author.Tests.{eq-eqb, ne-eqb}
+use Rattle.build.specs.declared.plan.Plan.{Plan}
+use Rattle.build.specs.Driver.{isHalt, planEnds}
+use borrow.Author.Needs.{needs}
+use Rattle.build.proofs.driver.ends.Statement.{statement}
+use Rattle.build.proofs.driver.ends.Tie as tie
+use Rattle.build.proofs.driver.ends.Reads as reads
+use Rattle.build.proofs.driver.ends.Lts as lts
+use Rattle.build.proofs.driver.halted.Reads as halted-reads
+
+refused : (plan : Plan) → (plan .code ≡ 0 → ⊥) → true ≡ planEnds plan
+refused plan z = rw (ne-eqb (plan .code) 0 z, planEnds) refl
+
+accepted : (plan : Plan) (b : Bool) → plan .code ≡ 0 → b ≡ isHalt (plan .position .stage) → b ≡ planEnds plan
+accepted plan b z e = rw (eq-eqb (plan .code) 0 z, planEnds) e
+
+-- src/driver.rt:90:9
+returns : tie.Need-returns
+returns c = refused (c .before .before .args .plan) (c .if1 .taken)
+
+-- src/driver.rt:94:5
+halted-requires : tie.Need-halted-requires
+halted-requires c κs = search needs
+
+-- src/driver.rt:86:1
+returns-2 : tie.Need-returns-2
+returns-2 c = accepted (c .before .before .before .before .args .plan) _ (c .before .before .if1 .left) (c .halted .ensures)
+
+pub ends-spec : {M : Type 1} → statement M
+ends-spec = tie.close (tie.spec returns halted-requires returns-2)

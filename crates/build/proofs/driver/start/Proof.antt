@@ -1,0 +1,18 @@
+use mathlib.Core.Path.{refl}
+use borrow.Author.Needs.{needs}
+use Rattle.build.proofs.driver.start.Statement.{statement}
+use Rattle.build.proofs.driver.start.Tie as tie
+use Rattle.build.proofs.driver.start.Reads as reads
+use Rattle.build.proofs.driver.start.Lts as lts
+use Rattle.table.proofs.words.entry.Reads as entry-reads
+
+-- src/driver.rt:41:16
+entry-requires : tie.Need-entry-requires
+entry-requires c κs = search needs
+
+-- src/driver.rt:36:1
+returns : tie.Need-returns
+returns c = rw (c .entry .ensures) refl
+
+pub start-spec : {M : Type 1} → statement M
+start-spec = tie.close (tie.spec entry-requires returns)
