@@ -55,10 +55,10 @@ refused-one file i j r s = refused-by (ltb i j) refl (ltb j i) refl
     refused-by false e false f = omega (arith, ltb-false i j e, ltb-false j i f)
 
 -- a file that is refused is not accepted
-refusal-accepted : (file words : List ℕ) (code at : ℕ) → Refusal file code at → Accepted file words → ⊥
+pub refusal-accepted : (file words : List ℕ) (code at : ℕ) → Refusal file code at → Accepted file words → ⊥
 refusal-accepted file words code at r a = ⊎-elim (λ w. omega (arith, w .2, a .short)) (λ w. w .2 .not-good words (a .good)) r
 
-refusal-one : (file : List ℕ) (code code′ at at′ : ℕ) → Refusal file code at → Refusal file code′ at′ → (code ≡ code′) × (at ≡ at′)
+pub refusal-one : (file : List ℕ) (code code′ at at′ : ℕ) → Refusal file code at → Refusal file code′ at′ → (code ≡ code′) × (at ≡ at′)
 refusal-one file code code′ at at′ r s =
     ⊎-elim
     (λ w. ⊎-elim (λ v. (w .0 ∙ sym (v .0), w .1 ∙ sym (v .1))) (λ v. absurd (omega (arith, w .2, v .1))) s)

@@ -1,4 +1,4 @@
--- What treebuild prints of a file (paper 01, "Samples").
+-- What treebuild prints of a file (paper 01, "Samples"). `proofs/OneText` shows that a file has one text, so that the answer and every lent byte are fixed.
 use Prim.Native.Nat.{ℕ, _*_, _≤_}
 use mathlib.Core.Path.{_≡_}
 use mathlib.Core.List.{List, []}
