@@ -16,7 +16,7 @@ use Rattle.definition.specs.Context as definition
 use Rattle.definition.specs.Machine.{State, popping, Turn, going, turn, leave, unscheduled, complete, closeBy, close, closingRowOf, closingRow, withEntries}
 use Rattle.definition.specs.Machine as machine
 use Rattle.definition.specs.Result.{Result, ok}
-use Rattle.definition.specs.Tree.{Row, row, orNone}
+use Rattle.definition.specs.Tree.{Row, row, orNone, flag}
 use Rattle.rows.specs.Rows.{Holds, Written}
 use Rattle.rows.specs.Stack as stack
 use Rattle.rows.proofs.StackLaws.{push-row-after}
@@ -53,9 +53,25 @@ module _ (w : List ℕ) (frame : Frame) (h : frame .block < blockCount w) where
       ∙ ap (λ (b : Block). closingRowOf (terminalOf code (blockWord w (frame .block) 3) (blockWord w (frame .block) 4) (blockWord w (frame .block) 5) (blockWord w (frame .block) 6) (blockWord w (frame .block) 7)) b (frame .second) (unlessNone (frame .label)) (frame .built))
       (block-at w (frame .block) h)
 
+-- an If and a Branch close alike
+pub closing-if : (w : List ℕ) (frame : Frame) → frame .block < blockCount w → 5 ≤ blockWord w (frame .block) 2 → blockWord w (frame .block) 2 < 7
+    → closingRowAt w frame ≡ row 10 (blockWord w (frame .block) 3) (flag (frame .second)) (blockWord w (frame .block) 8) (frame .label) 0
+unfolding terminalOf closingRowOf blockOf
+closing-if w frame h least most = at (eqb code 5) refl
+  where
+    code : ℕ
+    code = blockWord w (frame .block) 2
+
+    closed : ℕ → Row
+    closed n = row 10 (blockWord w (frame .block) 3) (flag (frame .second)) (blockWord w (frame .block) 8) n 0
+
+    at : (y : Bool) → eqb code 5 ≡ y → closingRowAt w frame ≡ closed (frame .label)
+    at true e = closing-by w frame h 5 (eqb-true code 5 e) ∙ ap closed (or-none (frame .label))
+    at false e = closing-by w frame h 6 (let ne = eqb-false code 5 e in omega (arith, ne, least, most)) ∙ ap closed (or-none (frame .label))
+
 -- a statement without nested lists has no closing row
 abbrev pub Closes : ℕ → Type 0
-Closes code = ((code ≡ 5 → ⊥) × (code ≡ 6 → ⊥) × (code ≡ 7 → ⊥) × (code ≡ 8 → ⊥) × (code ≡ 9 → ⊥) × (code ≡ 10 → ⊥)) × ((code ≡ 11 → ⊥) × (code ≡ 12 → ⊥) × (code ≡ 16 → ⊥) × (code ≡ 19 → ⊥) × (code ≡ 20 → ⊥) × (code ≡ 21 → ⊥))
+Closes code = ((5 ≤ code → code < 7 → ⊥) × (code ≡ 7 → ⊥) × (code ≡ 8 → ⊥) × (code ≡ 9 → ⊥) × (code ≡ 10 → ⊥)) × ((code ≡ 11 → ⊥) × (code ≡ 12 → ⊥) × (code ≡ 16 → ⊥) × (code ≡ 19 → ⊥) × (code ≡ 20 → ⊥) × (code ≡ 21 → ⊥))
 
 none-closes : (e : Terminal) (b : Block) (s : Bool) (l : Option ℕ) (n : ℕ) → Closes (codeOf e) → closingRowOf e b s l n ≡ row 0 0 0 0 0 0
 unfolding closingRowOf
@@ -64,12 +80,12 @@ none-closes unreachable b s l n h = refl
 none-closes (throw x) b s l n h = refl
 none-closes (return x) b s l n h = refl
 none-closes (goto x y) b s l n h = refl
-none-closes (if x y z u) b s l n h = absurd (h .0 .0 refl)
-none-closes (branch x y z) b s l n h = absurd (h .0 .1 refl)
-none-closes (switch x y z u) b s l n h = absurd (h .0 .2 refl)
-none-closes (do-while x y z) b s l n h = absurd (h .0 .3 refl)
-none-closes (while x y z) b s l n h = absurd (h .0 .4 refl)
-none-closes (for x y z u v) b s l n h = absurd (h .0 .5 refl)
+none-closes (if x y z u) b s l n h = absurd (h .0 .0 (omega arith) (omega arith))
+none-closes (branch x y z) b s l n h = absurd (h .0 .0 (omega arith) (omega arith))
+none-closes (switch x y z u) b s l n h = absurd (h .0 .1 refl)
+none-closes (do-while x y z) b s l n h = absurd (h .0 .2 refl)
+none-closes (while x y z) b s l n h = absurd (h .0 .3 refl)
+none-closes (for x y z u v) b s l n h = absurd (h .0 .4 refl)
 none-closes (for-of x y z u) b s l n h = absurd (h .1 .0 refl)
 none-closes (for-in x y z) b s l n h = absurd (h .1 .1 refl)
 none-closes (logical x y z) b s l n h = refl

@@ -19,14 +19,14 @@ use Rattle.control.specs.Abstraction.{kindOf, resolutionOf}
 use Rattle.rows.specs.Rows.{Holds, Written}
 use Rattle.rows.specs.Stack as stack
 use Rattle.build.specs.declared.jump.Jumped.{Jumped}
-use Rattle.build.specs.Jumps.{JumpSeen, JumpMet, breakOutcome, continueOutcome}
+use Rattle.build.specs.Jumps.{refusingJump, JumpSeen, JumpMet, breakOutcome, continueOutcome}
 use Rattle.build.proofs.RowPlanLaws.{row-held}
 
 -- no row
 bare : (n : ℕ) (b : List ℕ) → (before : List Row) → Holds b n (stack.pushed before []) → Holds b n (stack.pushed (before ++ []) [])
 bare n b before h = rw (append-nil before) h
 
-pub break-none : (at block id : ℕ) (O : Flags) (v n : ℕ) (b : List ℕ) (r : Jumped) → r ≡ record { code = 20; at = block; rows = n; count = 0 } → JumpMet (breakOutcome at block id Nothing) O v n b r b
+pub break-none : (at block id : ℕ) (O : Flags) (v n : ℕ) (b : List ℕ) (r : Jumped) → r ≡ refusingJump 20 block n → JumpMet (breakOutcome at block id Nothing) O v n b r b
 unfolding breakResolved
 break-none at block id O v n b r e = subst (λ (z : Jumped). JumpMet (breakOutcome at block id Nothing) O v n b z b) (sym e)
     (record { statement = none; same = λ C s. ap (λ (k : ℕ). refused 20 block k) (s .visits); held = λ z. absurd (omega (arith, z)); count = λ z. absurd (omega (arith, z)); most = omega arith })
@@ -48,7 +48,7 @@ break-scope at id O v n found b r h k e block = subst (λ (z : Jumped). JumpMet 
     silent unlabeled w q = absurd (omega (arith, q))
 
 pub break-out : (at id : ℕ) (O : Flags) (v n : ℕ) (found : Resolution) (b : List ℕ) (r : Jumped) → getD O (found .target) false ≡ true → (kindNumber (kindOf (found .kind)) ≡ 0 → ⊥)
-    → r ≡ record { code = 22; at = at; rows = n; count = 0 } → (block : ℕ) → JumpMet (breakOutcome at block id (Found found)) O v n b r b
+    → r ≡ refusingJump 22 at n → (block : ℕ) → JumpMet (breakOutcome at block id (Found found)) O v n b r b
 break-out at id O v n found b r h k e block = subst (λ (z : Jumped). JumpMet (breakOutcome at block id (Found found)) O v n b z b) (sym e)
     (record { statement = none; same = λ C s. scoped-break at id O v found block C h s ∙ loud (kindOf (found .kind)) (C .visits) k ∙ ap (λ (w : ℕ). refused 22 at w) (s .visits); held = λ z. absurd (omega (arith, z)); count = λ z. absurd (omega (arith, z)); most = omega arith })
   where
@@ -69,7 +69,7 @@ break-row at id O v n n′ found op target number b b′ r h o t k w e block = s
   most = omega (arith, w .count);
 })
 
-pub continue-none : (block id : ℕ) (n : ℕ) (b : List ℕ) (r : Jumped) → r ≡ record { code = 21; at = block; rows = n; count = 0 } → (v : ℕ) (O : Flags) → JumpMet (continueOutcome block id Nothing) O v n b r b
+pub continue-none : (block id : ℕ) (n : ℕ) (b : List ℕ) (r : Jumped) → r ≡ refusingJump 21 block n → (v : ℕ) (O : Flags) → JumpMet (continueOutcome block id Nothing) O v n b r b
 unfolding continueResolved _>>=_
 continue-none block id n b r e v O = subst (λ (z : Jumped). JumpMet (continueOutcome block id Nothing) O v n b z b) (sym e)
     (record { statement = none; same = λ C s. ap (λ (k : ℕ). refused 21 block k) (s .visits); held = λ z. absurd (omega (arith, z)); count = λ z. absurd (omega (arith, z)); most = omega arith })

@@ -64,22 +64,11 @@ module _ (w : List ℕ) (S H Z : Flags) (p : Position) (found : Resolved) (pr : 
 
 -- ---- the fallthrough of a value terminal
 
-module _ (w : List ℕ) (b : ℕ) (below : b < blockCount w) where
-  pub logical-fallthrough : (f : ℕ) → blockWord w b 2 ≡ 13 → f ≡ blockWord w b 5 → valueFallthrough (terminalAt (tableOf w) b) ≡ some f
-  unfolding terminalOf
-  logical-fallthrough f code e = ap valueFallthrough (end-by w b below 13 code) ∙ ap some (sym e)
-
-  pub ternary-fallthrough : (f : ℕ) → blockWord w b 2 ≡ 14 → f ≡ blockWord w b 4 → valueFallthrough (terminalAt (tableOf w) b) ≡ some f
-  unfolding terminalOf
-  ternary-fallthrough f code e = ap valueFallthrough (end-by w b below 14 code) ∙ ap some (sym e)
-
-  pub optional-fallthrough : (f : ℕ) → blockWord w b 2 ≡ 15 → f ≡ blockWord w b 5 → valueFallthrough (terminalAt (tableOf w) b) ≡ some f
-  unfolding terminalOf
-  optional-fallthrough f code e = ap valueFallthrough (end-by w b below 15 code) ∙ ap some (sym e)
-
-  pub sequence-fallthrough : (f : ℕ) → blockWord w b 2 ≡ 17 → f ≡ blockWord w b 4 → valueFallthrough (terminalAt (tableOf w) b) ≡ some f
-  unfolding terminalOf
-  sequence-fallthrough f code e = ap valueFallthrough (end-by w b below 17 code) ∙ ap some (sym e)
+-- the column that has it, by the block's code
+pub fallthrough-by : (w : List ℕ) (b : ℕ) → b < blockCount w → (code column : ℕ) → blockWord w b 2 ≡ code
+    → valueFallthrough (terminalOf code (blockWord w b 3) (blockWord w b 4) (blockWord w b 5) (blockWord w b 6) (blockWord w b 7)) ≡ some (blockWord w b column)
+    → valueFallthrough (terminalAt (tableOf w) b) ≡ some (blockWord w b column)
+fallthrough-by w b below code column e by = ap valueFallthrough (end-by w b below code e) ∙ by
 
 -- ---- before the terminal
 

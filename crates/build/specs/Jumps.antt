@@ -33,6 +33,9 @@ abbrev pub jumpedTo : Bool → Jumped → Option Statement → (visits : ℕ) �
 jumpedTo true jump statement visits = ok statement
 jumpedTo false jump statement visits = refused (jump .code) (jump .at) visits
 
+abbrev pub refusingJump : (code at rows : ℕ) → Jumped
+refusingJump code at rows = record { code = code; at = at; rows = rows; count = 0 }
+
 -- what a jump sees of a Context
 pub record JumpSeen (scopes : Flags) (begun : ℕ) (cx : definition.Context) : Type 0 where
   pub scopeFallthroughs : cx .scopeFallthroughs ≡ scopes

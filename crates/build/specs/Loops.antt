@@ -25,7 +25,7 @@ use Rattle.build.specs.declared.plan.Change.the-variants.{Nothing, Sched
 use Rattle.build.specs.declared.plan.Plan.{Plan}
 use Rattle.build.specs.declared.loops.Values.{Values}
 use Rattle.build.specs.declared.loops.Loop.{Loop}
-use Rattle.build.specs.Plans.{openFrame, refusing, nesting}
+use Rattle.build.specs.Plans.{advanced, openFrame, refusing, nesting}
 use Rattle.build.specs.Planned.{Seen, Planned, terminalStep}
 
 -- a planner that puts out rows
@@ -112,7 +112,7 @@ loopTurn at fallthrough continueBlock loop taken count values frames rows cx =
 -- ---- its plan
 
 abbrev pub afterValues : Position → Values → Position
-afterValues p values = record { block = p .block; depth = p .depth; count = p .count; rows = values .rows; visits = values .visits; stage = Visit }
+afterValues p values = advanced p (p .count) (values .rows) (values .visits) Visit
 
 abbrev pub scheduleLoop : Loop → Change
 scheduleLoop blocks = ScheduleLoop (blocks .fallthrough) (blocks .«continue_block») (blocks .«loop_block»)

@@ -96,11 +96,18 @@ applied plan frames rows cx = elim (eqb (plan .code) 0) [ true ↦ onward (plan 
 
 -- ---- the plans that there are
 
+-- further on in the same block, at the same depth
+abbrev pub advanced : Position → (count rows visits : ℕ) → Stage → Position
+advanced p count rows visits stage = record { block = p .block; depth = p .depth; count = count; rows = rows; visits = visits; stage = stage }
+
 abbrev pub openFrame : Position → (label entries : ℕ) → Frame
 openFrame p taken entries = record { block = p .block; label = taken; entries = entries; left = 0; built = 0; count = p .count; second = false }
 
 abbrev pub second : Frame → Frame
 second frame = record { block = frame .block; label = frame .label; entries = frame .entries; left = frame .left; built = frame .built; count = frame .count; second = true }
+
+abbrev pub withCounts : Frame → (entries left built : ℕ) → Frame
+withCounts frame entries left built = record { block = frame .block; label = frame .label; entries = entries; left = left; built = built; count = frame .count; second = frame .second }
 
 abbrev pub refusing : Position → (code at : ℕ) → Plan
 refusing p code at = record { code = code; at = at; position = p; frame = noFrame; keep = false; handler = 65535; scope = 65535; change = Nothing }

@@ -20,19 +20,19 @@ use Rattle.build.specs.declared.plan.Change.{Change}
 use Rattle.build.specs.declared.plan.Change.the-variants.{Nothing, Unschedule}
 use Rattle.build.specs.declared.plan.Plan.{Plan}
 use Rattle.build.specs.declared.resume.ClosingRow.{ClosingRow}
-use Rattle.build.specs.Plans.{frameOf, second, refusing, leaving, nesting, poppingNext}
+use Rattle.build.specs.Plans.{frameOf, second, withCounts, refusing, leaving, nesting, poppingNext}
 use Rattle.build.specs.Planned.{Seen, Planned}
 
 -- ---- frames and rows
 
 abbrev pub entriesLess : Frame → Frame
-entriesLess frame = record { block = frame .block; label = frame .label; entries = frame .entries - 1; left = frame .left; built = frame .built; count = frame .count; second = frame .second }
+entriesLess frame = withCounts frame (frame .entries - 1) (frame .left) (frame .built)
 
 abbrev pub leftLess : Frame → Frame
-leftLess frame = record { block = frame .block; label = frame .label; entries = frame .entries; left = frame .left - 1; built = frame .built; count = frame .count; second = frame .second }
+leftLess frame = withCounts frame (frame .entries) (frame .left - 1) (frame .built)
 
 abbrev pub oneBuilt : Frame → Frame
-oneBuilt frame = record { block = frame .block; label = frame .label; entries = frame .entries + 1; left = frame .left; built = frame .built + 1; count = frame .count; second = frame .second }
+oneBuilt frame = withCounts frame (frame .entries + 1) (frame .left) (frame .built + 1)
 
 abbrev pub rowOf : ClosingRow → Row
 rowOf r = row (r .op) (r .a) (r .b) (r .c) (r .d) 0

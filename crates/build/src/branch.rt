@@ -59,16 +59,7 @@ pub fn visit_goto(
     let variant = block_word(words, p.block, 4);
     let id = block_word(words, p.block, 8);
     if variant == 0 {
-        let jump = visit_break(
-            tree,
-            scopes,
-            p.block,
-            p.visits,
-            p.rows,
-            target,
-            id,
-            resolved,
-        );
+        let jump = visit_break(tree, scopes, p, target, id, resolved);
         return after_jump(p, jump);
     }
     if variant == 1 {
@@ -97,16 +88,7 @@ fn branch_break<'a>(
     let consequent = block_word(words, p.block, 4);
     let alternate = block_word(words, p.block, 5);
     let id = block_word(words, p.block, 8);
-    let jump = visit_break(
-        tree,
-        scopes,
-        p.block,
-        p.visits,
-        p.rows,
-        consequent,
-        id,
-        resolved,
-    );
+    let jump = visit_break(tree, scopes, p, consequent, id, resolved);
     if jump.code != 0 {
         return refuse(p, jump.code, jump.at);
     }

@@ -8,6 +8,7 @@ use crate::plan::NONE;
 use crate::plan::Plan;
 use crate::plan::Position;
 use crate::plan::Stage;
+use crate::plan::advance;
 use crate::plan::frame_of;
 use crate::plan::leave;
 use crate::plan::refuse;
@@ -169,14 +170,7 @@ fn enter_loop<'a>(
     requires { ⌜ blocks .«loop_block» < 1024 ⌝ }
     ensures { λ r. ⌜ r ≡ enteringLoop (eqb (values .code) 0) (loopTaken (now (scheduled .entry)) (now («catch_handlers» .entry)) (blocks .«loop_block») (blocks .fallthrough)) p values blocks ⌝ }
 {
-    let after = Position {
-        block: p.block,
-        depth: p.depth,
-        count: p.count,
-        rows: values.rows,
-        visits: values.visits,
-        stage: Stage::Visit,
-    };
+    let after = advance(p, p.count, values.rows, values.visits, Stage::Visit);
     if values.code != 0 {
         return refuse(after, values.code, values.at);
     }
@@ -404,19 +398,21 @@ fn take_id(label: u32) -> Change
     Change::TakeId
 }
 
-// A Logical, Ternary, Optional or Sequence as a statement: an INSTR with the terminal's own span.
+// A Logical, Ternary, Optional or Sequence, whose fallthrough is that column, as a statement: an INSTR with the terminal's own span.
 pub fn visit_value<'a>(
     words: &[u32],
     tree: &mut [u32],
     scheduled: &'a [bool; 1024],
     catch_handlers: &'a [bool; 1024],
     p: Position,
-    fallthrough: u32,
+    column: u32,
 ) -> Plan
     requires { ⌜ Entered (now words) p ⌝ }
-    requires { ⌜ valueFallthrough (terminalAt (tableOf (now words)) (p .block)) ≡ some fallthrough ⌝ }
+    requires { ⌜ column < 10 ⌝ }
+    requires { ⌜ valueFallthrough (terminalAt (tableOf (now words)) (p .block)) ≡ some (blockWord (now words) (p .block) column) ⌝ }
     ensures { λ r. ⌜ PlannedRows (now (words .entry)) (now (scheduled .entry)) (now («catch_handlers» .entry)) p (now (tree .entry)) r (now (tree .exit)) ⌝ }
 {
+    let fallthrough = block_word(words, p.block, column);
     let label = unless_scheduled(scheduled, catch_handlers, fallthrough);
     let span = block_word(words, p.block, 9);
     let tally = Tally {
@@ -426,14 +422,7 @@ pub fn visit_value<'a>(
     let result = visit_value_block_terminal(words, tree, tally, 127 - p.depth, p.block);
     let after = result.tally;
     if result.code != 0 {
-        let position = Position {
-            block: p.block,
-            depth: p.depth,
-            count: p.count,
-            rows: after.rows,
-            visits: after.visits,
-            stage: Stage::Visit,
-        };
+        let position = advance(p, p.count, after.rows, after.visits, Stage::Visit);
         return refuse(position, result.code, result.at);
     }
     let rows = put(tree, after.rows, INSTR, result.id, result.place, span, 0, 0);

@@ -2,7 +2,7 @@
 use control::ControlFlowTarget;
 ghost use mathlib.Core.Path.{_≡_};
 ghost use lib.Dec.{eqb};
-ghost use Rattle.build.specs.Plans.{noFrame, openFrame, second, refusing, stageAfter, leaving, nesting, choosingNext, poppingNext, accepting, withHandler, withScope};
+ghost use Rattle.build.specs.Plans.{advanced, noFrame, openFrame, second, withCounts, refusing, stageAfter, leaving, nesting, choosingNext, poppingNext, accepting, withHandler, withScope};
 
 // No block: paper 01's 65,535.
 pub const NONE: u32 = 65535;
@@ -62,6 +62,20 @@ pub struct Plan {
     pub change: Change,
 }
 
+// Further on in the same block, at the same depth.
+pub fn advance(p: Position, count: u32, rows: u32, visits: u32, stage: Stage) -> Position
+    ensures { λ r. ⌜ r ≡ advanced p count rows visits stage ⌝ }
+{
+    Position {
+        block: p.block,
+        depth: p.depth,
+        count: count,
+        rows: rows,
+        visits: visits,
+        stage: stage,
+    }
+}
+
 pub fn no_frame() -> Frame
     ensures { λ r. ⌜ r ≡ noFrame ⌝ }
 {
@@ -101,6 +115,20 @@ pub fn second_part(frame: Frame) -> Frame
         built: frame.built,
         count: frame.count,
         second: true,
+    }
+}
+
+pub fn with_counts(frame: Frame, entries: u32, left: u32, built: u32) -> Frame
+    ensures { λ r. ⌜ r ≡ withCounts frame entries left built ⌝ }
+{
+    Frame {
+        block: frame.block,
+        label: frame.label,
+        entries: entries,
+        left: left,
+        built: built,
+        count: frame.count,
+        second: frame.second,
     }
 }
 

@@ -8,12 +8,14 @@ use crate::plan::Plan;
 use crate::plan::Position;
 use crate::plan::Stage;
 use crate::plan::accept;
+use crate::plan::advance;
 use crate::plan::choose;
 use crate::plan::leave;
 use crate::plan::pop;
 use crate::plan::refuse;
 use crate::plan::second_part;
 use crate::plan::traverse_block;
+use crate::plan::with_counts;
 use control::ControlFlowTarget;
 use rows::BLOCK;
 use rows::CASE;
@@ -57,6 +59,18 @@ pub struct ClosingRow {
     pub d: u32,
 }
 
+fn row(op: u32, a: u32, b: u32, c: u32, d: u32) -> ClosingRow
+    ensures { λ r. ⌜ rowOf r ≡ tree_rows.row op a b c d 0 ⌝ }
+{
+    ClosingRow {
+        op: op,
+        a: a,
+        b: b,
+        c: c,
+        d: d,
+    }
+}
+
 fn flag(value: bool) -> u32
     ensures { λ r. ⌜ r ≡ tree_rows.flag value ⌝ }
 {
@@ -89,97 +103,18 @@ fn closing_row(words: &[u32], frame: Frame) -> ClosingRow
     let alternate = flag(frame.second);
     let update = has_update(third);
     match block_word(words, frame.block, 2) {
-        5 => ClosingRow {
-            op: IF,
-            a: test,
-            b: alternate,
-            c: id,
-            d: frame.label,
-        },
-        6 => ClosingRow {
-            op: IF,
-            a: test,
-            b: alternate,
-            c: id,
-            d: frame.label,
-        },
-        7 => ClosingRow {
-            op: SWITCH,
-            a: test,
-            b: frame.built,
-            c: id,
-            d: frame.label,
-        },
-        8 => ClosingRow {
-            op: DOWHILE,
-            a: id,
-            b: frame.label,
-            c: 0,
-            d: 0,
-        },
-        9 => ClosingRow {
-            op: WHILE,
-            a: id,
-            b: frame.label,
-            c: 0,
-            d: 0,
-        },
-        10 => ClosingRow {
-            op: FOR,
-            a: id,
-            b: frame.label,
-            c: update,
-            d: 0,
-        },
-        11 => ClosingRow {
-            op: FOROF,
-            a: id,
-            b: frame.label,
-            c: span,
-            d: 0,
-        },
-        12 => ClosingRow {
-            op: FORIN,
-            a: id,
-            b: frame.label,
-            c: span,
-            d: 0,
-        },
-        16 => ClosingRow {
-            op: LABEL,
-            a: id,
-            b: frame.label,
-            c: 0,
-            d: 0,
-        },
-        19 => ClosingRow {
-            op: TRY,
-            a: id,
-            b: frame.label,
-            c: binding,
-            d: 0,
-        },
-        20 => ClosingRow {
-            op: SCOPE,
-            a: third,
-            b: 0,
-            c: 0,
-            d: 0,
-        },
-        21 => ClosingRow {
-            op: PRUNED,
-            a: third,
-            b: 0,
-            c: 0,
-            d: 0,
-        },
-        _ => ClosingRow {
-            op: 0,
-            a: 0,
-            b: 0,
-            c: 0,
-            d: 0,
-        },
+        5 | 6 => row(IF, test, alternate, id, frame.label),
+        7 => row(SWITCH, test, frame.built, id, frame.label),
+        8 => row(DOWHILE, id, frame.label, 0, 0),
+        9 => row(WHILE, id, frame.label, 0, 0),
+        10 => row(FOR, id, frame.label, update, 0),
+        11 => row(FOROF, id, frame.label, span, 0),
+        12 => row(FORIN, id, frame.label, span, 0),
+        16 => row(LABEL, id, frame.label, 0, 0),
+        19 => row(TRY, id, frame.label, binding, 0),
+        20 => row(SCOPE, third, 0, 0, 0),
+        21 => row(PRUNED, third, 0, 0, 0),
+        _ => row(0, 0, 0, 0, 0),
     }
 }
 
@@ -198,15 +133,7 @@ pub fn close_statement(words: &[u32], tree: &mut [u32], p: Position, frame: Fram
     ensures { λ r. ⌜ PlannedClose (now (words .entry)) p frame (now (tree .entry)) r (now (tree .exit)) ⌝ }
 {
     if frame.entries >= 2 {
-        let rest = Frame {
-            block: frame.block,
-            label: frame.label,
-            entries: frame.entries - 1,
-            left: frame.left,
-            built: frame.built,
-            count: frame.count,
-            second: frame.second,
-        };
+        let rest = with_counts(frame, frame.entries - 1, frame.left, frame.built);
         return pop(rest, p.depth, p.rows, p.visits);
     }
     let last = closing_row(words, frame);
@@ -318,15 +245,7 @@ fn resume_switch(words: &[u32], tree: &mut [u32], p: Position, frame: Frame) -> 
     let target = ControlFlowTarget::Case {
         block: narrow(case_word(words, case, 1)),
     };
-    let built = Frame {
-        block: frame.block,
-        label: frame.label,
-        entries: frame.entries + 1,
-        left: frame.left,
-        built: frame.built + 1,
-        count: frame.count,
-        second: frame.second,
-    };
+    let built = with_counts(frame, frame.entries + 1, frame.left, frame.built + 1);
     choose(built, p.depth, rows, p.visits, Change::Schedule(target))
 }
 
@@ -343,14 +262,7 @@ fn resume_do_while(words: &[u32], tree: &mut [u32], p: Position, frame: Frame) -
     };
     let tested = visit_value_block(words, tree, tally, 128 - p.depth, test, NONE, span);
     let then = tested.tally;
-    let after = Position {
-        block: p.block,
-        depth: p.depth,
-        count: p.count,
-        rows: then.rows,
-        visits: then.visits,
-        stage: Stage::Ended,
-    };
+    let after = advance(p, p.count, then.rows, then.visits, Stage::Ended);
     if tested.code != 0 {
         return refuse(after, tested.code, tested.at);
     }
@@ -396,14 +308,7 @@ pub fn resume<'a>(
     if p.depth == 0 {
         return accept(rows, p.visits);
     }
-    let after = Position {
-        block: p.block,
-        depth: p.depth,
-        count: 0,
-        rows: rows,
-        visits: p.visits,
-        stage: Stage::Ended,
-    };
+    let after = advance(p, 0, rows, p.visits, Stage::Ended);
     resume_statement(words, tree, scheduled, catch_handlers, after, frame)
 }
 
@@ -425,15 +330,7 @@ pub fn choose_case<'a>(
     }
     let left = frame.left - 1;
     let block = case_word(words, block_word(words, frame.block, 4) + left, 1);
-    let rest = Frame {
-        block: frame.block,
-        label: frame.label,
-        entries: frame.entries,
-        left: left,
-        built: frame.built,
-        count: frame.count,
-        second: frame.second,
-    };
+    let rest = with_counts(frame, frame.entries, left, frame.built);
     if scheduled_at(scheduled, catch_handlers, block) {
         if block != block_word(words, frame.block, 6) {
             return refuse(p, 14, frame.block);

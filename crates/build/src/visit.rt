@@ -20,6 +20,7 @@ use crate::plan::NONE;
 use crate::plan::Plan;
 use crate::plan::Position;
 use crate::plan::Stage;
+use crate::plan::advance;
 use crate::plan::leave;
 use crate::plan::refuse;
 use control::Resolved;
@@ -60,39 +61,11 @@ fn visit_terminal<'a>(
         10 => visit_for(words, tree, scheduled, catch_handlers, p),
         11 => visit_for_of(words, tree, scheduled, catch_handlers, p),
         12 => visit_for_in(words, tree, scheduled, catch_handlers, p),
-        13 => visit_value(
-            words,
-            tree,
-            scheduled,
-            catch_handlers,
-            p,
-            block_word(words, p.block, 5),
-        ), // Logical
-        14 => visit_value(
-            words,
-            tree,
-            scheduled,
-            catch_handlers,
-            p,
-            block_word(words, p.block, 4),
-        ), // Ternary
-        15 => visit_value(
-            words,
-            tree,
-            scheduled,
-            catch_handlers,
-            p,
-            block_word(words, p.block, 5),
-        ), // Optional
+        13 => visit_value(words, tree, scheduled, catch_handlers, p, 5), // Logical
+        14 => visit_value(words, tree, scheduled, catch_handlers, p, 4), // Ternary
+        15 => visit_value(words, tree, scheduled, catch_handlers, p, 5), // Optional
         16 => visit_label(words, scheduled, catch_handlers, p),
-        17 => visit_value(
-            words,
-            tree,
-            scheduled,
-            catch_handlers,
-            p,
-            block_word(words, p.block, 4),
-        ), // Sequence
+        17 => visit_value(words, tree, scheduled, catch_handlers, p, 4), // Sequence
         18 => visit_maybe_throw(words, scheduled, catch_handlers, p),
         19 => visit_try(words, scheduled, catch_handlers, p),
         _ => visit_scope(words, scheduled, catch_handlers, p), // Scope, PrunedScope
@@ -122,14 +95,7 @@ pub fn visit_block<'a>(
         return refuse(p, 31, block);
     }
     let visits = p.visits + 1;
-    let begun = Position {
-        block: block,
-        depth: p.depth,
-        count: p.count,
-        rows: p.rows,
-        visits: visits,
-        stage: Stage::Visit,
-    };
+    let begun = advance(p, p.count, p.rows, visits, Stage::Visit);
     if block_word(words, block, 2) == 0 {
         return refuse(begun, 10, block);
     }
@@ -138,21 +104,6 @@ pub fn visit_block<'a>(
     }
     let count = block_word(words, block, 1);
     let rows = put_instructions(words, tree, p.rows, block_word(words, block, 0), count);
-    let entered = Position {
-        block: block,
-        depth: p.depth,
-        count: p.count + count,
-        rows: rows,
-        visits: visits,
-        stage: Stage::Visit,
-    };
-    visit_terminal(
-        words,
-        tree,
-        scheduled,
-        catch_handlers,
-        scopes,
-        entered,
-        resolved,
-    )
+    let p = advance(p, p.count + count, rows, visits, Stage::Visit);
+    visit_terminal(words, tree, scheduled, catch_handlers, scopes, p, resolved)
 }

@@ -44,6 +44,17 @@ testResult words r value = record {
 abbrev pub terminalResult : ValueResult → Value → ValueTerminalResult
 terminalResult r value = record { value = value; place = r .place; fallthrough = r .block; id = r .id; visits = r .tally .visits }
 
+-- the value terminal of the block `at`: its test is that column, and its fallthrough the next
+abbrev pub terminalFrom : List ℕ → (at operator column : ℕ) → ValueTerminal
+terminalFrom words at operator column = record {
+  at = at;
+  operator = operator;
+  test = blockWord words at column;
+  fallthrough = blockWord words at (column + 1);
+  id = blockWord words at 8;
+  span = blockWord words at 9;
+}
+
 abbrev pub okIf : {A : Type 0} → Bool → A → ValueResult → Result A
 okIf true found r = ok found
 okIf false found r = refused (r .code) (r .at) (r .tally .visits)

@@ -22,9 +22,10 @@ ghost use mathlib.Core.Path.{_≡_};
 ghost use mathlib.Core.Option.{some};
 ghost use Prim.Native.Nat.{_+_, _≤_, _<_};
 ghost use Rattle.table.specs.Words.{blockCount, blockWord};
+ghost use Rattle.table.specs.Promise.{Sized};
 ghost use Rattle.table.specs.Table.{tableOf, blockAt, unlessNone, logical, ternary, optional, sequence};
 ghost use Rattle.definition.specs.Value.{thenFallthrough};
-ghost use Rattle.value.specs.Met.{blockResult, terminalResult, Fit, Ended, Met, TestMet};
+ghost use Rattle.value.specs.Met.{blockResult, terminalResult, terminalFrom, Fit, Ended, Met, TestMet};
 ghost use Rattle.value.specs.Outcome.{visit, blockOutcome, terminalOutcome, endOutcome, testOutcome};
 
 // The value of a block. `fallthrough` must not be reached; NONE if any block may. `span` is the one that was passed down.
@@ -143,6 +144,23 @@ pub struct ValueTerminal {
     pub span: u32,
 }
 
+// The value terminal of a block: its test is that column, and its fallthrough the next.
+fn value_terminal(words: &[u32], at: u32, operator: u32, column: u32) -> ValueTerminal
+    requires { ⌜ Sized (now words) ⌝ }
+    requires { ⌜ at < blockCount (now words) ⌝ }
+    requires { ⌜ column < 9 ⌝ }
+    ensures { λ r. ⌜ r ≡ terminalFrom (now (words .entry)) at operator column ⌝ }
+{
+    ValueTerminal {
+        at,
+        operator,
+        test: block_word(words, at, column),
+        fallthrough: block_word(words, at, column + 1),
+        id: block_word(words, at, 8),
+        span: block_word(words, at, 9),
+    }
+}
+
 // The value of the value terminal at the end of a block.
 pub fn visit_value_block_terminal(
     words: &[u32],
@@ -155,27 +173,8 @@ pub fn visit_value_block_terminal(
     ensures { λ r. ⌜ Met (now (words .entry)) terminalResult (terminalOutcome (now (words .entry)) levels block (tally .visits)) tally 3 (now (buffer .entry)) r (now (buffer .exit)) ⌝ }
 {
     let code = block_word(words, block, 2);
-    let a = block_word(words, block, 3);
-    let b = block_word(words, block, 4);
-    let c = block_word(words, block, 5);
-    let id = block_word(words, block, 8);
-    let span = block_word(words, block, 9);
-    let with_operator = ValueTerminal {
-        at: block,
-        operator: a,
-        test: b,
-        fallthrough: c,
-        id,
-        span,
-    };
-    let without = ValueTerminal {
-        at: block,
-        operator: 0,
-        test: a,
-        fallthrough: b,
-        id,
-        span,
-    };
+    let with_operator = value_terminal(words, block, block_word(words, block, 3), 4);
+    let without = value_terminal(words, block, 0, 3);
     match code {
         13 => logical_value(words, buffer, tally, levels, with_operator),
         14 => ternary_value(words, buffer, tally, levels, without),

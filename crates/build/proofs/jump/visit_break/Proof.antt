@@ -7,32 +7,46 @@ use Rattle.build.proofs.jump.visit_break.Tie as tie
 use Rattle.build.proofs.jump.visit_break.Reads as reads
 use Rattle.build.proofs.jump.visit_break.Lts as lts
 use Rattle.build.proofs.jump.break_to_found.Reads as break-to-found-reads
+use Rattle.build.proofs.jump.refuse_jump.Reads as refuse-jump-reads
 
--- src/jump.rt:48:30
 enum-told : tie.Need-enum-told
 enum-told c = search needs
 
--- src/jump.rt:49:25
+refuse-jump-requires : tie.Need-refuse-jump-requires
+refuse-jump-requires c κs = search needs
+
 enum-known-resolved : tie.Need-enum-known-resolved
 enum-known-resolved c = search needs
 
--- src/jump.rt:49:35
 break-to-found-requires : tie.Need-break-to-found-requires
-break-to-found-requires c κs = (rw (c .before .before .resolved .given .1) at (c .before .before .before .before .before .pre .0), c .before .before .before .before .before .pre .1)
+break-to-found-requires c κs =
+    let at-resolved = c .before .before in
+    let at-entry = at-resolved .before .before .before in
+    (rw (at-resolved .resolved .given .1) at (at-entry .pre .0), at-entry .pre .1)
 
--- src/jump.rt:42:1
 returns : tie.Need-returns
-returns c = rw (c .enum-told .given .1) (break-none _ _ _ _ _ _ _ _ refl)
+returns c =
+    let at-enum-told = c .before in
+    rw (at-enum-told .enum-told .given .1) (break-none _ _ _ _ _ _ _ _ (c .refuse-jump .ensures))
 
--- src/jump.rt:42:1
 same-length : tie.Need-same-length
 same-length c = search needs
 
--- src/jump.rt:42:1
 returns-2 : tie.Need-returns-2
-returns-2 c = rw (c .before .before .before .before .before .resolved .given .1) (c .before .before .break-to-found .ensures (c .before .before .before .before .before .before .before .before .args .target))
+returns-2 c =
+    let at-break-to-found = c .before .before in
+    let at-resolved = at-break-to-found .before .before .before in
+    let at-entry = at-resolved .before .before .before in
+    rw (at-resolved .resolved .given .1) (at-break-to-found .break-to-found .ensures (at-entry .args .target))
 
 pub visit-break-spec : {M : Type 1} → statement M
 visit-break-spec =
     tie.close
-    (tie.spec enum-told enum-known-resolved break-to-found-requires returns same-length returns-2)
+    (tie.spec
+    enum-told
+    refuse-jump-requires
+    enum-known-resolved
+    break-to-found-requires
+    returns
+    same-length
+    returns-2)

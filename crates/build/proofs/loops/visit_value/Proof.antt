@@ -9,72 +9,87 @@ use Rattle.build.proofs.loops.visit_value.Reads as reads
 use Rattle.build.proofs.loops.visit_value.Lts as lts
 use Rattle.build.proofs.fallthrough.unless_scheduled.Reads as unless-scheduled-reads
 use Rattle.build.proofs.loops.take_id.Reads as take-id-reads
+use Rattle.build.proofs.plan.advance.Reads as advance-reads
 use Rattle.build.proofs.plan.leave.Reads as leave-reads
 use Rattle.build.proofs.plan.refuse.Reads as refuse-reads
 use Rattle.rows.proofs.put.Reads as put-reads
 use Rattle.table.proofs.words.block_word.Reads as block-word-reads
 use Rattle.value.proofs.walk.visit_value_block_terminal.Reads as visit-value-block-terminal-reads
 
--- src/loops.rt:309:9
-unless-scheduled-requires : tie.Need-unless-scheduled-requires
-unless-scheduled-requires c κs = few-blocks (c .before .before .args .words .now) (c .before .before .pre .0 .promise) (c .before .before .args .fallthrough) (fallthrough-below (c .before .before .args .words .now) (c .before .before .args .scheduled .now) (c .before .before .args .catch-handlers .now) (c .before .before .args .p) (c .before .before .pre .0) (c .before .before .args .fallthrough) (c .before .before .pre .1))
-
--- src/loops.rt:310:9
 block-word-requires : tie.Need-block-word-requires
 block-word-requires c κs = search needs
 
--- src/loops.rt:312:65
+unless-scheduled-requires : tie.Need-unless-scheduled-requires
+unless-scheduled-requires c κs =
+    let at-entry = c .before .before .before in
+    few-blocks (at-entry .args .words .now) (at-entry .pre .0 .promise) (c .block-word .result) (rw (c .block-word .ensures) (fallthrough-below (at-entry .args .words .now) (at-entry .args .scheduled .now) (at-entry .args .catch-handlers .now) (at-entry .args .p) (at-entry .pre .0) _ (at-entry .pre .1 .1)))
+
+block-word-requires-2 : tie.Need-block-word-requires-2
+block-word-requires-2 c κs = search needs
+
 sub-visit-value-block-terminal : tie.Need-sub-visit-value-block-terminal
 sub-visit-value-block-terminal c = search needs
 
--- src/loops.rt:312:9
 visit-value-block-terminal-requires : tie.Need-visit-value-block-terminal-requires
 visit-value-block-terminal-requires c κs = search needs
 
--- src/loops.rt:316:9
+advance-requires : tie.Need-advance-requires
+advance-requires c κs = search needs
+
 refuse-requires : tie.Need-refuse-requires
 refuse-requires c κs = search needs
 
--- src/loops.rt:316:9
 same-length : tie.Need-same-length
 same-length c = search needs
 
--- src/loops.rt:316:9
 returns : tie.Need-returns
-returns c = value-statement-refused (c .before .before .before .before .before .before .before .before .before .before .before .before .before .args .words .now) (c .before .before .before .before .before .before .before .before .before .before .before .before .before .args .scheduled .now) (c .before .before .before .before .before .before .before .before .before .before .before .before .before .args .catch-handlers .now) (c .before .before .before .before .before .before .before .before .before .before .before .before .before .args .p) (c .before .before .before .before .before .before .before .before .before .before .before .before .before .pre .0) (c .before .before .before .before .before .before .before .before .before .before .before .before .before .args .fallthrough) (c .before .before .before .before .before .before .before .before .before .before .before .before .before .pre .1) (c .before .before .before .before .before .before .visit-value-block-terminal .ensures) _ _ (c .before .if1 .taken) (c .refuse .ensures)
+returns c =
+    let at-advance = c .before in
+    let at-if1 = at-advance .before in
+    let at-visit-value-block-terminal = at-if1 .before .before .before .before .before in
+    let at-entry = at-visit-value-block-terminal .before .before .before .before .before .before .before .before in
+    value-statement-refused (at-entry .args .words .now) (at-entry .args .scheduled .now) (at-entry .args .catch-handlers .now) (at-entry .args .p) (at-entry .pre .0) _ (at-entry .pre .1 .1) (at-visit-value-block-terminal .visit-value-block-terminal .ensures) _ _ (at-if1 .if1 .taken) (rw (at-advance .advance .ensures) at (c .refuse .ensures))
 
--- src/loops.rt:318:9
 put-requires : tie.Need-put-requires
-put-requires c κs = search needs
+put-requires c κs =
+    let at-visit-value-block-terminal = c .before .before .before .before .before .before in
+    let at-entry = at-visit-value-block-terminal .before .before .before .before .before .before .before .before in
+    omega (arith, at-visit-value-block-terminal .visit-value-block-terminal .ensures .numbers, at-entry .pre .0)
 
--- src/loops.rt:319:27
 add-leave : tie.Need-add-leave
-add-leave c = omega (arith, c .before .before .before .before .before .before .before .before .before .before .before .before .before .before .before .before .before .pre .0 .count, c .before .before .before .before .before .before .before .before .before .before .before .before .before .before .before .before .before .pre .0 .rows)
+add-leave c = omega (arith, c .before .before .before .before .before .before .before .before .before .before .before .before .before .before .before .before .before .before .pre .0 .count, c .before .before .before .before .before .before .before .before .before .before .before .before .before .before .before .before .before .before .pre .0 .rows)
 
--- src/loops.rt:319:60
 take-id-requires : tie.Need-take-id-requires
 take-id-requires c κs = search needs
 
--- src/loops.rt:319:5
 leave-requires : tie.Need-leave-requires
 leave-requires c κs = search needs
 
--- src/loops.rt:297:1
 same-length-2 : tie.Need-same-length-2
 same-length-2 c = search needs
 
--- src/loops.rt:297:1
 returns-2 : tie.Need-returns-2
-returns-2 c = value-statement-left (c .before .before .before .before .before .before .before .before .before .before .before .before .before .before .before .before .before .before .before .args .words .now) (c .before .before .before .before .before .before .before .before .before .before .before .before .before .before .before .before .before .before .before .args .scheduled .now) (c .before .before .before .before .before .before .before .before .before .before .before .before .before .before .before .before .before .before .before .args .catch-handlers .now) (c .before .before .before .before .before .before .before .before .before .before .before .before .before .before .before .before .before .before .before .args .p) (c .before .before .before .before .before .before .before .before .before .before .before .before .before .before .before .before .before .before .before .pre .0) (c .before .before .before .before .before .before .before .before .before .before .before .before .before .before .before .before .before .before .before .args .fallthrough) (c .before .before .before .before .before .before .before .before .before .before .before .before .before .before .before .before .before .before .before .pre .1) (c .before .before .before .before .before .before .before .before .before .before .before .before .visit-value-block-terminal .ensures) (c .before .before .before .before .before .before .before .before .before .before .before .before .before .before .before .before .unless-scheduled .result) _ _ _ (c .before .before .before .before .before .before .before .if1 .left) (c .before .before .before .before .before .before .before .before .before .before .before .before .before .before .before .before .unless-scheduled .ensures) (rw (c .before .before .before .before .before .before .before .before .before .before .before .before .before .before .before .block-word .ensures) at (c .before .before .before .before .before .put .ensures)) (rw (← (c .before .take-id .ensures)) (c .leave .ensures))
+returns-2 c =
+    let at-take-id = c .before in
+    let at-put = at-take-id .before .before .before .before in
+    let at-if1 = at-put .before .before in
+    let at-visit-value-block-terminal = at-if1 .before .before .before .before .before in
+    let at-block-word2 = at-visit-value-block-terminal .before .before .before in
+    let at-unless-scheduled = at-block-word2 .before in
+    let at-block-word = at-unless-scheduled .before in
+    let at-entry = at-block-word .before .before .before in
+    value-statement-left (at-entry .args .words .now) (at-entry .args .scheduled .now) (at-entry .args .catch-handlers .now) (at-entry .args .p) (at-entry .pre .0) _ (at-entry .pre .1 .1) (at-visit-value-block-terminal .visit-value-block-terminal .ensures) (at-unless-scheduled .unless-scheduled .result) _ _ _ (at-if1 .if1 .left) (rw (at-block-word .block-word .ensures) at (at-unless-scheduled .unless-scheduled .ensures)) (rw (at-block-word2 .block-word2 .ensures) at (at-put .put .ensures)) (rw (← (at-take-id .take-id .ensures)) (c .leave .ensures))
 
 pub visit-value-spec : {M : Type 1} → statement M
 visit-value-spec =
     tie.close
     (tie.spec
-    unless-scheduled-requires
     block-word-requires
+    unless-scheduled-requires
+    block-word-requires-2
     sub-visit-value-block-terminal
     visit-value-block-terminal-requires
+    advance-requires
     refuse-requires
     same-length
     returns

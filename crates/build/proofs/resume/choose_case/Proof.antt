@@ -10,69 +10,106 @@ use Rattle.build.proofs.fallthrough.scheduled_at.Reads as scheduled-at-
 use Rattle.build.proofs.plan.choose.Reads as choose-reads
 use Rattle.build.proofs.plan.refuse.Reads as refuse-reads
 use Rattle.build.proofs.plan.traverse_block.Reads as traverse-block-reads
+use Rattle.build.proofs.plan.with_counts.Reads as with-counts-reads
 use Rattle.build.proofs.resume.close_statement.Reads as close-statement-reads
 use Rattle.table.proofs.words.block_word.Reads as block-word-reads
 use Rattle.table.proofs.words.case_word.Reads as case-word-reads
 
--- src/resume.rt:291:9
 close-statement-requires : tie.Need-close-statement-requires
-close-statement-requires c κs = (choosing-fits (c .before .before .before .before .before .args .words .now) (c .before .before .before .before .before .args .p) (c .before .before .before .before .before .args .frame) (c .before .before .before .before .before .pre .0) (c .before .before .before .before .before .pre .1)) .closing
+close-statement-requires c κs =
+    let at-entry = c .before .before .before .before .before in
+    (choosing-fits (at-entry .args .words .now) (at-entry .args .p) (at-entry .args .frame) (at-entry .pre .0) (at-entry .pre .1)) .closing
 
--- src/resume.rt:291:9
 same-length : tie.Need-same-length
 same-length c = search needs
 
--- src/resume.rt:291:9
 returns : tie.Need-returns
-returns c = chosen-turn (c .before .before .before .before .before .before .before .before .args .words .now) (c .before .before .before .before .before .before .before .before .args .p) (c .before .before .before .before .before .before .before .before .args .frame) (c .before .before .before .before .before .before .before .before .pre .0) (c .before .before .before .before .before .before .before .before .pre .1) (choice-closes (c .before .before .before .before .before .before .before .before .args .words .now) (c .before .before .before .before .before .before .before .before .args .p) (c .before .before .before .before .before .before .before .before .args .frame) (choosing-fits (c .before .before .before .before .before .before .before .before .args .words .now) (c .before .before .before .before .before .before .before .before .args .p) (c .before .before .before .before .before .before .before .before .args .frame) (c .before .before .before .before .before .before .before .before .pre .0) (c .before .before .before .before .before .before .before .before .pre .1)) (c .before .before .before .before .if1 .taken) (c .before .before .close-statement .ensures))
+returns c =
+    let at-close-statement = c .before .before in
+    let at-if1 = at-close-statement .before .before in
+    let at-entry = at-if1 .before .before .before .before in
+    chosen-turn (at-entry .args .words .now) (at-entry .args .p) (at-entry .args .frame) (at-entry .pre .0) (at-entry .pre .1) (choice-closes (at-entry .args .words .now) (at-entry .args .p) (at-entry .args .frame) (choosing-fits (at-entry .args .words .now) (at-entry .args .p) (at-entry .args .frame) (at-entry .pre .0) (at-entry .pre .1)) (at-if1 .if1 .taken) (at-close-statement .close-statement .ensures))
 
--- src/resume.rt:293:16
 sub-left : tie.Need-sub-left
 sub-left c = search needs
 
--- src/resume.rt:294:34
 block-word-requires : tie.Need-block-word-requires
-block-word-requires c κs = (c .before .before .before .before .before .pre .0 .promise .sized, ((choosing-fits (c .before .before .before .before .before .args .words .now) (c .before .before .before .before .before .args .p) (c .before .before .before .before .before .args .frame) (c .before .before .before .before .before .pre .0) (c .before .before .before .before .before .pre .1)) .closing .block, omega arith))
+block-word-requires c κs =
+    let at-entry = c .before .before .before .before .before in
+    (at-entry .pre .0 .promise .sized, ((choosing-fits (at-entry .args .words .now) (at-entry .args .p) (at-entry .args .frame) (at-entry .pre .0) (at-entry .pre .1)) .closing .block, omega arith))
 
--- src/resume.rt:294:34
 add-case-word : tie.Need-add-case-word
-add-case-word c = omega (arith, c .block-word .ensures, last-below (c .before .before .before .before .before .before .args .words .now) (c .before .before .before .before .before .before .args .p) (c .before .before .before .before .before .before .args .frame) (choosing-fits (c .before .before .before .before .before .before .args .words .now) (c .before .before .before .before .before .before .args .p) (c .before .before .before .before .before .before .args .frame) (c .before .before .before .before .before .before .pre .0) (c .before .before .before .before .before .before .pre .1)) (c .before .before .before .before .before .before .args .scheduled .now) (c .before .before .before .before .before .before .args .catch-handlers .now) (c .before .before .if1 .left), c .before .before .before .before .before .before .pre .0 .promise .sized .limited .cases)
+add-case-word c =
+    let at-if1 = c .before .before in
+    let at-entry = at-if1 .before .before .before .before in
+    omega (arith, c .block-word .ensures, last-below (at-entry .args .words .now) (at-entry .args .p) (at-entry .args .frame) (choosing-fits (at-entry .args .words .now) (at-entry .args .p) (at-entry .args .frame) (at-entry .pre .0) (at-entry .pre .1)) (at-entry .args .scheduled .now) (at-entry .args .catch-handlers .now) (at-if1 .if1 .left), at-entry .pre .0 .promise .sized .limited .cases)
 
--- src/resume.rt:294:9
 case-word-requires : tie.Need-case-word-requires
-case-word-requires c κs = (c .before .before .before .before .before .before .pre .0 .promise .sized, (rw (c .block-word .ensures) (last-below (c .before .before .before .before .before .before .args .words .now) (c .before .before .before .before .before .before .args .p) (c .before .before .before .before .before .before .args .frame) (choosing-fits (c .before .before .before .before .before .before .args .words .now) (c .before .before .before .before .before .before .args .p) (c .before .before .before .before .before .before .args .frame) (c .before .before .before .before .before .before .pre .0) (c .before .before .before .before .before .before .pre .1)) (c .before .before .before .before .before .before .args .scheduled .now) (c .before .before .before .before .before .before .args .catch-handlers .now) (c .before .before .if1 .left)), omega arith))
+case-word-requires c κs =
+    let at-if1 = c .before .before in
+    let at-entry = at-if1 .before .before .before .before in
+    (at-entry .pre .0 .promise .sized, (rw (c .block-word .ensures) (last-below (at-entry .args .words .now) (at-entry .args .p) (at-entry .args .frame) (choosing-fits (at-entry .args .words .now) (at-entry .args .p) (at-entry .args .frame) (at-entry .pre .0) (at-entry .pre .1)) (at-entry .args .scheduled .now) (at-entry .args .catch-handlers .now) (at-if1 .if1 .left)), omega arith))
 
--- src/resume.rt:296:8
+with-counts-requires : tie.Need-with-counts-requires
+with-counts-requires c κs = search needs
+
 scheduled-at-requires : tie.Need-scheduled-at-requires
-scheduled-at-requires c κs = rw (c .case-word .ensures, c .before .block-word .ensures) (last-block-below (c .before .before .before .before .before .before .before .args .words .now) (c .before .before .before .before .before .before .before .args .p) (c .before .before .before .before .before .before .before .args .frame) (choosing-fits (c .before .before .before .before .before .before .before .args .words .now) (c .before .before .before .before .before .before .before .args .p) (c .before .before .before .before .before .before .before .args .frame) (c .before .before .before .before .before .before .before .pre .0) (c .before .before .before .before .before .before .before .pre .1)) (c .before .before .before .before .before .before .before .args .scheduled .now) (c .before .before .before .before .before .before .before .args .catch-handlers .now) (c .before .before .before .if1 .left))
+scheduled-at-requires c κs =
+    let at-case-word = c .before in
+    let at-block-word = at-case-word .before in
+    let at-if1 = at-block-word .before .before in
+    let at-entry = at-if1 .before .before .before .before in
+    rw (at-case-word .case-word .ensures, at-block-word .block-word .ensures) (last-block-below (at-entry .args .words .now) (at-entry .args .p) (at-entry .args .frame) (choosing-fits (at-entry .args .words .now) (at-entry .args .p) (at-entry .args .frame) (at-entry .pre .0) (at-entry .pre .1)) (at-entry .args .scheduled .now) (at-entry .args .catch-handlers .now) (at-if1 .if1 .left))
 
--- src/resume.rt:297:21
 block-word-requires-2 : tie.Need-block-word-requires-2
-block-word-requires-2 c κs = (c .before .before .before .before .before .before .before .before .before .pre .0 .promise .sized, ((choosing-fits (c .before .before .before .before .before .before .before .before .before .args .words .now) (c .before .before .before .before .before .before .before .before .before .args .p) (c .before .before .before .before .before .before .before .before .before .args .frame) (c .before .before .before .before .before .before .before .before .before .pre .0) (c .before .before .before .before .before .before .before .before .before .pre .1)) .closing .block, omega arith))
+block-word-requires-2 c κs =
+    let at-entry = c .before .before .before .before .before .before .before .before .before .before in
+    (at-entry .pre .0 .promise .sized, ((choosing-fits (at-entry .args .words .now) (at-entry .args .p) (at-entry .args .frame) (at-entry .pre .0) (at-entry .pre .1)) .closing .block, omega arith))
 
--- src/resume.rt:298:13
 refuse-requires : tie.Need-refuse-requires
 refuse-requires c κs = search needs
 
--- src/resume.rt:298:13
 returns-2 : tie.Need-returns-2
-returns-2 c = chosen-turn (c .before .before .before .before .before .before .before .before .before .before .before .before .args .words .now) (c .before .before .before .before .before .before .before .before .before .before .before .before .args .p) (c .before .before .before .before .before .before .before .before .before .before .before .before .args .frame) (c .before .before .before .before .before .before .before .before .before .before .before .before .pre .0) (c .before .before .before .before .before .before .before .before .before .before .before .before .pre .1) (choice-refused (c .before .before .before .before .before .before .before .before .before .before .before .before .args .words .now) (c .before .before .before .before .before .before .before .before .before .before .before .before .args .p) (c .before .before .before .before .before .before .before .before .before .before .before .before .args .frame) (choosing-fits (c .before .before .before .before .before .before .before .before .before .before .before .before .args .words .now) (c .before .before .before .before .before .before .before .before .before .before .before .before .args .p) (c .before .before .before .before .before .before .before .before .before .before .before .before .args .frame) (c .before .before .before .before .before .before .before .before .before .before .before .before .pre .0) (c .before .before .before .before .before .before .before .before .before .before .before .before .pre .1)) (c .before .before .before .before .before .before .before .before .before .before .before .before .args .scheduled .now) (c .before .before .before .before .before .before .before .before .before .before .before .before .args .catch-handlers .now) (c .before .before .before .before .before .before .before .before .if1 .left) (c .before .before .before .before .before .case-word .result) _ (c .before .before .before .before .before .before .before .before .before .before .before .before .args .tree .now) (rw (← (c .before .before .before .before .before .before .block-word .ensures)) (c .before .before .before .before .before .case-word .ensures)) (sym (c .before .before .before .before .scheduled-at .ensures) ∙ c .before .before .before .if2 .taken) (λ z. c .before .if3 .taken (z ∙ sym (c .before .before .block-word2 .ensures))) (c .refuse .ensures))
+returns-2 c =
+    let at-if3 = c .before in
+    let at-block-word2 = at-if3 .before in
+    let at-if2 = at-block-word2 .before in
+    let at-scheduled-at = at-if2 .before in
+    let at-case-word = at-scheduled-at .before .before in
+    let at-block-word = at-case-word .before in
+    let at-if1 = at-block-word .before .before in
+    let at-entry = at-if1 .before .before .before .before in
+    chosen-turn (at-entry .args .words .now) (at-entry .args .p) (at-entry .args .frame) (at-entry .pre .0) (at-entry .pre .1) (choice-refused (at-entry .args .words .now) (at-entry .args .p) (at-entry .args .frame) (choosing-fits (at-entry .args .words .now) (at-entry .args .p) (at-entry .args .frame) (at-entry .pre .0) (at-entry .pre .1)) (at-entry .args .scheduled .now) (at-entry .args .catch-handlers .now) (at-if1 .if1 .left) (at-case-word .case-word .result) _ (at-entry .args .tree .now) (rw (← (at-block-word .block-word .ensures)) (at-case-word .case-word .ensures)) (sym (at-scheduled-at .scheduled-at .ensures) ∙ at-if2 .if2 .taken) (λ z. at-if3 .if3 .taken (z ∙ sym (at-block-word2 .block-word2 .ensures))) (c .refuse .ensures))
 
--- src/resume.rt:300:9
 choose-requires : tie.Need-choose-requires
 choose-requires c κs = search needs
 
--- src/resume.rt:300:9
 returns-3 : tie.Need-returns-3
-returns-3 c = chosen-turn (c .before .before .before .before .before .before .before .before .before .before .before .before .args .words .now) (c .before .before .before .before .before .before .before .before .before .before .before .before .args .p) (c .before .before .before .before .before .before .before .before .before .before .before .before .args .frame) (c .before .before .before .before .before .before .before .before .before .before .before .before .pre .0) (c .before .before .before .before .before .before .before .before .before .before .before .before .pre .1) (choice-skips (c .before .before .before .before .before .before .before .before .before .before .before .before .args .words .now) (c .before .before .before .before .before .before .before .before .before .before .before .before .args .p) (c .before .before .before .before .before .before .before .before .before .before .before .before .args .frame) (choosing-fits (c .before .before .before .before .before .before .before .before .before .before .before .before .args .words .now) (c .before .before .before .before .before .before .before .before .before .before .before .before .args .p) (c .before .before .before .before .before .before .before .before .before .before .before .before .args .frame) (c .before .before .before .before .before .before .before .before .before .before .before .before .pre .0) (c .before .before .before .before .before .before .before .before .before .before .before .before .pre .1)) (c .before .before .before .before .before .before .before .before .before .before .before .before .args .scheduled .now) (c .before .before .before .before .before .before .before .before .before .before .before .before .args .catch-handlers .now) (c .before .before .before .before .before .before .before .before .if1 .left) (c .before .before .before .before .before .case-word .result) _ (c .before .before .before .before .before .before .before .before .before .before .before .before .args .tree .now) (rw (← (c .before .before .before .before .before .before .block-word .ensures)) (c .before .before .before .before .before .case-word .ensures)) (sym (c .before .before .before .before .scheduled-at .ensures) ∙ c .before .before .before .if2 .taken) (c .before .if3 .left ∙ c .before .before .block-word2 .ensures) (c .choose .ensures))
+returns-3 c =
+    let at-if3 = c .before in
+    let at-block-word2 = at-if3 .before in
+    let at-if2 = at-block-word2 .before in
+    let at-scheduled-at = at-if2 .before in
+    let at-with-counts = at-scheduled-at .before in
+    let at-case-word = at-with-counts .before in
+    let at-block-word = at-case-word .before in
+    let at-if1 = at-block-word .before .before in
+    let at-entry = at-if1 .before .before .before .before in
+    chosen-turn (at-entry .args .words .now) (at-entry .args .p) (at-entry .args .frame) (at-entry .pre .0) (at-entry .pre .1) (choice-skips (at-entry .args .words .now) (at-entry .args .p) (at-entry .args .frame) (choosing-fits (at-entry .args .words .now) (at-entry .args .p) (at-entry .args .frame) (at-entry .pre .0) (at-entry .pre .1)) (at-entry .args .scheduled .now) (at-entry .args .catch-handlers .now) (at-if1 .if1 .left) (at-case-word .case-word .result) _ (at-entry .args .tree .now) (rw (← (at-block-word .block-word .ensures)) (at-case-word .case-word .ensures)) (sym (at-scheduled-at .scheduled-at .ensures) ∙ at-if2 .if2 .taken) (at-if3 .if3 .left ∙ at-block-word2 .block-word2 .ensures) (rw (at-with-counts .with-counts .ensures) at (c .choose .ensures)))
 
--- src/resume.rt:302:5
 traverse-block-requires : tie.Need-traverse-block-requires
 traverse-block-requires c κs = search needs
 
--- src/resume.rt:278:1
 returns-4 : tie.Need-returns-4
-returns-4 c = chosen-turn (c .before .before .before .before .before .before .before .before .before .before .args .words .now) (c .before .before .before .before .before .before .before .before .before .before .args .p) (c .before .before .before .before .before .before .before .before .before .before .args .frame) (c .before .before .before .before .before .before .before .before .before .before .pre .0) (c .before .before .before .before .before .before .before .before .before .before .pre .1) (choice-visits (c .before .before .before .before .before .before .before .before .before .before .args .words .now) (c .before .before .before .before .before .before .before .before .before .before .args .p) (c .before .before .before .before .before .before .before .before .before .before .args .frame) (choosing-fits (c .before .before .before .before .before .before .before .before .before .before .args .words .now) (c .before .before .before .before .before .before .before .before .before .before .args .p) (c .before .before .before .before .before .before .before .before .before .before .args .frame) (c .before .before .before .before .before .before .before .before .before .before .pre .0) (c .before .before .before .before .before .before .before .before .before .before .pre .1)) (c .before .before .before .before .before .before .before .before .before .before .args .scheduled .now) (c .before .before .before .before .before .before .before .before .before .before .args .catch-handlers .now) (c .before .before .before .before .before .before .if1 .left) (c .before .before .before .case-word .result) _ (c .before .before .before .before .before .before .before .before .before .before .args .tree .now) (rw (← (c .before .before .before .before .block-word .ensures)) (c .before .before .before .case-word .ensures)) (sym (c .before .before .scheduled-at .ensures) ∙ c .before .if2 .left) (c .traverse-block .ensures))
+returns-4 c =
+    let at-if2 = c .before in
+    let at-scheduled-at = at-if2 .before in
+    let at-with-counts = at-scheduled-at .before in
+    let at-case-word = at-with-counts .before in
+    let at-block-word = at-case-word .before in
+    let at-if1 = at-block-word .before .before in
+    let at-entry = at-if1 .before .before .before .before in
+    chosen-turn (at-entry .args .words .now) (at-entry .args .p) (at-entry .args .frame) (at-entry .pre .0) (at-entry .pre .1) (choice-visits (at-entry .args .words .now) (at-entry .args .p) (at-entry .args .frame) (choosing-fits (at-entry .args .words .now) (at-entry .args .p) (at-entry .args .frame) (at-entry .pre .0) (at-entry .pre .1)) (at-entry .args .scheduled .now) (at-entry .args .catch-handlers .now) (at-if1 .if1 .left) (at-case-word .case-word .result) _ (at-entry .args .tree .now) (rw (← (at-block-word .block-word .ensures)) (at-case-word .case-word .ensures)) (sym (at-scheduled-at .scheduled-at .ensures) ∙ at-if2 .if2 .left) (rw (at-with-counts .with-counts .ensures) at (c .traverse-block .ensures)))
 
 pub choose-case-spec : {M : Type 1} → statement M
 choose-case-spec =
@@ -85,6 +122,7 @@ choose-case-spec =
     block-word-requires
     add-case-word
     case-word-requires
+    with-counts-requires
     scheduled-at-requires
     block-word-requires-2
     refuse-requires

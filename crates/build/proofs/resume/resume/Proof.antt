@@ -7,36 +7,48 @@ use Rattle.build.proofs.resume.resume.Tie as tie
 use Rattle.build.proofs.resume.resume.Reads as reads
 use Rattle.build.proofs.resume.resume.Lts as lts
 use Rattle.build.proofs.plan.accept.Reads as accept-reads
+use Rattle.build.proofs.plan.advance.Reads as advance-reads
 use Rattle.build.proofs.resume.resume_statement.Reads as resume-statement-reads
 use Rattle.rows.proofs.put.Reads as put-reads
 
--- src/resume.rt:269:9
 put-requires : tie.Need-put-requires
 put-requires c κs = search needs
 
--- src/resume.rt:271:9
 accept-requires : tie.Need-accept-requires
 accept-requires c κs = search needs
 
--- src/resume.rt:271:9
 same-length : tie.Need-same-length
 same-length c = search needs
 
--- src/resume.rt:271:9
 returns : tie.Need-returns
-returns c = ended-root (c .before .before .before .before .before .before .before .before .before .args .words .now) (c .before .before .before .before .before .before .before .before .before .args .p) (c .before .before .before .before .before .before .before .before .before .args .frame) _ _ (c .before .before .before .before .before .before .before .before .before .args .tree .now) _ (c .before .before .before .before .before .put .result) (c .before .before .before .before .before .before .before .before .before .pre .1) (c .before .if1 .taken) (λ C o. o .visits) (c .before .before .before .before .before .put .ensures) (c .accept .ensures)
+returns c =
+    let at-if1 = c .before in
+    let at-put = at-if1 .before .before .before .before in
+    let at-entry = at-put .before .before .before .before in
+    ended-root (at-entry .args .words .now) (at-entry .args .p) (at-entry .args .frame) _ _ (at-entry .args .tree .now) _ (at-put .put .result) (at-entry .pre .1) (at-if1 .if1 .taken) (λ C o. o .visits) (at-put .put .ensures) (c .accept .ensures)
 
--- src/resume.rt:274:5
+advance-requires : tie.Need-advance-requires
+advance-requires c κs = search needs
+
 resume-statement-requires : tie.Need-resume-statement-requires
-resume-statement-requires c κs = resuming (c .before .before .before .before .before .before .before .before .before .args .words .now) (c .before .before .before .before .before .before .before .before .before .args .p) (c .before .before .before .before .before .before .before .before .before .args .frame) _ (c .before .before .before .before .before .before .before .before .before .pre .0) (c .before .before .before .before .before .before .before .before .before .pre .1) (let nz = c .before .if1 .left in omega arith) refl refl (c .before .before .before .before .before .put .ensures .count)
+resume-statement-requires c κs =
+    let at-advance = c .before in
+    let at-if1 = at-advance .before in
+    let at-put = at-if1 .before .before .before .before in
+    let at-entry = at-put .before .before .before .before in
+    rw (at-advance .advance .ensures) (resuming (at-entry .args .words .now) (at-entry .args .p) (at-entry .args .frame) _ (at-entry .pre .0) (at-entry .pre .1) (let nz = at-if1 .if1 .left in omega arith) refl refl (at-put .put .ensures .count))
 
--- src/resume.rt:257:1
 same-length-2 : tie.Need-same-length-2
 same-length-2 c = search needs
 
--- src/resume.rt:257:1
 returns-2 : tie.Need-returns-2
-returns-2 c = ended-nested (c .before .before .before .before .before .before .before .before .before .before .before .before .args .words .now) (c .before .before .before .before .before .before .before .before .before .before .before .before .args .p) (c .before .before .before .before .before .before .before .before .before .before .before .before .args .frame) _ (c .before .before .before .before .before .before .before .before .before .before .before .before .args .scheduled .now) (c .before .before .before .before .before .before .before .before .before .before .before .before .args .catch-handlers .now) (c .before .before .before .before .before .before .before .before .before .before .before .before .args .tree .now) (c .before .before .before .before .before .before .before .before .put .last .0) _ (c .before .before .before .before .before .before .before .before .put .result) (c .before .before .before .before .before .before .before .before .before .before .before .before .pre .1) (let nz = c .before .before .before .before .if1 .left in omega arith) (c .before .before .before .before .before .before .before .before .put .ensures) (c .before .before .resume-statement .ensures)
+returns-2 c =
+    let at-resume-statement = c .before .before in
+    let at-advance = at-resume-statement .before .before in
+    let at-if1 = at-advance .before in
+    let at-put = at-if1 .before .before .before .before in
+    let at-entry = at-put .before .before .before .before in
+    ended-nested (at-entry .args .words .now) (at-entry .args .p) (at-entry .args .frame) _ (at-entry .args .scheduled .now) (at-entry .args .catch-handlers .now) (at-entry .args .tree .now) (at-put .put .last .0) _ (at-put .put .result) (at-entry .pre .1) (let nz = at-if1 .if1 .left in omega arith) (at-put .put .ensures) (rw (at-advance .advance .ensures) at (at-resume-statement .resume-statement .ensures))
 
 pub resume-spec : {M : Type 1} → statement M
 resume-spec =
@@ -46,6 +58,7 @@ resume-spec =
     accept-requires
     same-length
     returns
+    advance-requires
     resume-statement-requires
     same-length-2
     returns-2)

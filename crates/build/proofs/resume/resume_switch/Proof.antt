@@ -8,53 +8,66 @@ use Rattle.build.proofs.resume.resume_switch.Reads as reads
 use Rattle.build.proofs.resume.resume_switch.Lts as lts
 use Rattle.build.proofs.fallthrough.narrow.Reads as narrow-reads
 use Rattle.build.proofs.plan.choose.Reads as choose-reads
+use Rattle.build.proofs.plan.with_counts.Reads as with-counts-reads
 use Rattle.rows.proofs.put.Reads as put-reads
 use Rattle.table.proofs.words.block_word.Reads as block-word-reads
 use Rattle.table.proofs.words.case_word.Reads as case-word-reads
 
--- src/resume.rt:210:16
 block-word-requires : tie.Need-block-word-requires
 block-word-requires c κs = search needs
 
--- src/resume.rt:210:16
 add-case : tie.Need-add-case
-add-case c = omega (arith, c .before .block-word .ensures, c .before .before .before .before .pre .0 .case (c .before .before .before .before .pre .1), c .before .before .before .before .pre .0 .promise .sized .limited .cases)
+add-case c =
+    let at-block-word = c .before in
+    let at-entry = at-block-word .before .before .before in
+    omega (arith, at-block-word .block-word .ensures, at-entry .pre .0 .case (at-entry .pre .1), at-entry .pre .0 .promise .sized .limited .cases)
 
--- src/resume.rt:211:40
 case-word-requires : tie.Need-case-word-requires
-case-word-requires c κs = (c .before .before .before .before .before .pre .0 .promise .sized, (rw (c .before .before .block-word .ensures) (c .before .before .before .before .before .pre .0 .case (c .before .before .before .before .before .pre .1)), omega arith))
+case-word-requires c κs =
+    let at-block-word = c .before .before in
+    let at-entry = at-block-word .before .before .before in
+    (at-entry .pre .0 .promise .sized, (rw (at-block-word .block-word .ensures) (at-entry .pre .0 .case (at-entry .pre .1)), omega arith))
 
--- src/resume.rt:211:9
 put-requires : tie.Need-put-requires
 put-requires c κs = search needs
 
--- src/resume.rt:212:58
 case-word-requires-2 : tie.Need-case-word-requires-2
-case-word-requires-2 c κs = (c .before .before .before .before .before .before .before .before .before .pre .0 .promise .sized, (rw (c .before .before .before .before .before .before .block-word .ensures) (c .before .before .before .before .before .before .before .before .before .pre .0 .case (c .before .before .before .before .before .before .before .before .before .pre .1)), omega arith))
+case-word-requires-2 c κs =
+    let at-block-word = c .before .before .before .before .before .before in
+    let at-entry = at-block-word .before .before .before in
+    (at-entry .pre .0 .promise .sized, (rw (at-block-word .block-word .ensures) (at-entry .pre .0 .case (at-entry .pre .1)), omega arith))
 
--- src/resume.rt:212:51
 narrow-requires : tie.Need-narrow-requires
-narrow-requires c κs = omega (arith, c .case-word2 .ensures, rw (← (c .before .before .before .before .before .before .before .block-word .ensures)) at (case-below (c .before .before .before .before .before .before .before .before .before .before .args .words .now) (c .before .before .before .before .before .before .before .before .before .before .args .p) (c .before .before .before .before .before .before .before .before .before .before .args .frame) (c .before .before .before .before .before .before .before .before .before .before .pre .0) (c .before .before .before .before .before .before .before .before .before .before .pre .1)))
+narrow-requires c κs =
+    let at-block-word = c .before .before .before .before .before .before .before in
+    let at-entry = at-block-word .before .before .before in
+    omega (arith, c .case-word2 .ensures, rw (← (at-block-word .block-word .ensures)) at (case-below (at-entry .args .words .now) (at-entry .args .p) (at-entry .args .frame) (at-entry .pre .0) (at-entry .pre .1)))
 
--- src/resume.rt:213:74
-add-t9 : tie.Need-add-t9
-add-t9 c = search needs
+add-with-counts : tie.Need-add-with-counts
+add-with-counts c = search needs
 
--- src/resume.rt:213:118
-add-t13 : tie.Need-add-t13
-add-t13 c = search needs
+add-with-counts-2 : tie.Need-add-with-counts-2
+add-with-counts-2 c = search needs
 
--- src/resume.rt:214:5
+with-counts-requires : tie.Need-with-counts-requires
+with-counts-requires c κs = search needs
+
 choose-requires : tie.Need-choose-requires
 choose-requires c κs = search needs
 
--- src/resume.rt:205:1
 same-length : tie.Need-same-length
 same-length c = search needs
 
--- src/resume.rt:205:1
 returns : tie.Need-returns
-returns c = case-built (c .before .before .before .before .before .before .before .before .before .before .before .before .before .before .args .words .now) (c .before .before .before .before .before .before .before .before .before .before .before .before .before .before .args .p) (c .before .before .before .before .before .before .before .before .before .before .before .before .before .before .args .frame) (c .before .before .before .before .before .before .before .before .before .before .before .before .before .before .pre .0) (c .before .before .before .before .before .before .before .before .before .before .before .before .before .before .pre .1) _ (c .before .before .before .before .before .before .before .before .before .before .before .before .before .before .args .tree .now) _ (c .before .before .before .before .before .before .before .before .case-word .result) (c .before .before .before .narrow .result) (c .before .before .before .before .before .before .before .put .result) (rw (← (c .before .before .before .before .before .before .before .before .before .before .before .block-word .ensures)) (c .before .before .before .before .before .before .before .before .case-word .ensures)) (rw (← (c .before .before .before .before .before .before .before .before .before .before .before .block-word .ensures)) (c .before .before .before .narrow .ensures ∙ c .before .before .before .before .case-word2 .ensures)) (c .before .before .before .before .before .before .before .put .ensures) (c .choose .ensures)
+returns c =
+    let at-with-counts = c .before in
+    let at-narrow = at-with-counts .before .before .before in
+    let at-case-word2 = at-narrow .before in
+    let at-put = at-case-word2 .before .before .before in
+    let at-case-word = at-put .before in
+    let at-block-word = at-case-word .before .before .before in
+    let at-entry = at-block-word .before .before .before in
+    case-built (at-entry .args .words .now) (at-entry .args .p) (at-entry .args .frame) (at-entry .pre .0) (at-entry .pre .1) _ (at-entry .args .tree .now) _ (at-case-word .case-word .result) (at-narrow .narrow .result) (at-put .put .result) (rw (← (at-block-word .block-word .ensures)) (at-case-word .case-word .ensures)) (rw (← (at-block-word .block-word .ensures)) (at-narrow .narrow .ensures ∙ at-case-word2 .case-word2 .ensures)) (at-put .put .ensures) (rw (at-with-counts .with-counts .ensures) at (c .choose .ensures))
 
 pub resume-switch-spec : {M : Type 1} → statement M
 resume-switch-spec =
@@ -66,8 +79,9 @@ resume-switch-spec =
     put-requires
     case-word-requires-2
     narrow-requires
-    add-t9
-    add-t13
+    add-with-counts
+    add-with-counts-2
+    with-counts-requires
     choose-requires
     same-length
     returns)

@@ -8,27 +8,24 @@ use Rattle.build.proofs.visit.visit_block.Statement.{statement}
 use Rattle.build.proofs.visit.visit_block.Tie as tie
 use Rattle.build.proofs.visit.visit_block.Reads as reads
 use Rattle.build.proofs.visit.visit_block.Lts as lts
+use Rattle.build.proofs.plan.advance.Reads as advance-reads
 use Rattle.build.proofs.plan.refuse.Reads as refuse-reads
 use Rattle.build.proofs.visit.visit_terminal.Reads as visit-terminal-reads
 use Rattle.table.proofs.words.block_word.Reads as block-word-reads
 use Rattle.value.proofs.instructions.put_instructions.Reads as put-instructions-reads
 
--- src/visit.rt:84:9
 refuse-requires : tie.Need-refuse-requires
 refuse-requires c κs = search needs
 
--- src/visit.rt:84:9
 returns : tie.Need-returns
 returns c frame =
     let at-if1 = c .before in
     let at-entry = at-if1 .before .before .before .before in
     deep-planned _ _ _ _ _ _ _ (at-entry .pre .0) frame _ _ (at-if1 .if1 .taken) (c .refuse .ensures)
 
--- src/visit.rt:87:9
 refuse-requires-2 : tie.Need-refuse-requires-2
 refuse-requires-2 c κs = search needs
 
--- src/visit.rt:87:9
 returns-2 : tie.Need-returns-2
 returns-2 c frame =
     let at-if2 = c .before in
@@ -36,102 +33,100 @@ returns-2 c frame =
     let at-entry = at-if1 .before .before .before .before in
     visits-planned _ _ _ _ _ _ _ (at-entry .pre .0) frame (at-if1 .if1 .left) _ _ (at-if2 .if2 .taken) (c .refuse2 .ensures)
 
--- src/visit.rt:89:18
 add-visits : tie.Need-add-visits
 add-visits c = search needs
 
--- src/visit.rt:91:8
+advance-requires : tie.Need-advance-requires
+advance-requires c κs = search needs
+
 block-word-requires : tie.Need-block-word-requires
 block-word-requires c κs = search needs
 
--- src/visit.rt:92:9
 refuse-requires-3 : tie.Need-refuse-requires-3
 refuse-requires-3 c κs = search needs
 
--- src/visit.rt:92:9
 returns-3 : tie.Need-returns-3
 returns-3 c frame =
     let at-if3 = c .before in
     let at-block-word = at-if3 .before in
-    let at-if2 = at-block-word .before .before in
+    let at-advance = at-block-word .before in
+    let at-if2 = at-advance .before .before in
     let at-if1 = at-if2 .before .before in
     let at-entry = at-if1 .before .before .before .before in
-    absent-planned _ _ _ _ _ _ _ (at-entry .pre .0) frame (at-if1 .if1 .left) (at-if2 .if2 .left) _ _ _ refl (sym (at-block-word .block-word .ensures) ∙ at-if3 .if3 .taken) (c .refuse3 .ensures)
+    absent-planned _ _ _ _ _ _ _ (at-entry .pre .0) frame (at-if1 .if1 .left) (at-if2 .if2 .left) _ _ _ refl (sym (at-block-word .block-word .ensures) ∙ at-if3 .if3 .taken) (rw (at-advance .advance .ensures) at (c .refuse3 .ensures))
 
--- src/visit.rt:94:16
 cast-if4 : tie.Need-cast-if4
 cast-if4 c = search needs
 
--- src/visit.rt:94:8
 element-copy-out-if4 : tie.Need-element-copy-out-if4
 element-copy-out-if4 c = search needs
 
--- src/visit.rt:95:9
 refuse-requires-4 : tie.Need-refuse-requires-4
 refuse-requires-4 c κs = search needs
 
--- src/visit.rt:95:9
 returns-4 : tie.Need-returns-4
 unfolding has
 returns-4 c frame =
     let at-if4 = c .before in
     let at-if3 = at-if4 .before .before in
     let at-block-word = at-if3 .before in
-    let at-if2 = at-block-word .before .before in
+    let at-advance = at-block-word .before in
+    let at-if2 = at-advance .before .before in
     let at-if1 = at-if2 .before .before in
     let at-entry = at-if1 .before .before .before .before in
-    emitted-planned _ _ _ _ _ _ _ (at-entry .pre .0) frame (at-if1 .if1 .left) (at-if2 .if2 .left) (λ e. at-if3 .if3 .left (at-block-word .block-word .ensures ∙ e)) _ _ _ refl (at-if4 .if4 .taken) (c .refuse4 .ensures)
+    emitted-planned _ _ _ _ _ _ _ (at-entry .pre .0) frame (at-if1 .if1 .left) (at-if2 .if2 .left) (λ e. at-if3 .if3 .left (at-block-word .block-word .ensures ∙ e)) _ _ _ refl (at-if4 .if4 .taken) (rw (at-advance .advance .ensures) at (c .refuse4 .ensures))
 
--- src/visit.rt:97:9
 block-word-requires-2 : tie.Need-block-word-requires-2
 block-word-requires-2 c κs = search needs
 
--- src/visit.rt:98:54
 block-word-requires-3 : tie.Need-block-word-requires-3
-block-word-requires-3 c κs = search needs
+block-word-requires-3 c κs = (c .before .before .before .before .before .before .before .before .before .before .before .before .before .before .pre .0 .promise .sized, (c .before .before .before .before .before .before .before .before .before .before .before .before .before .before .pre .0 .block, omega arith))
 
--- src/visit.rt:98:9
 put-instructions-requires : tie.Need-put-instructions-requires
 put-instructions-requires c κs =
     let at-block-word2 = c .before .before in
-    let at-entry = at-block-word2 .before .before .before .before .before .before .before .before .before .before .before .before in
+    let at-entry = at-block-word2 .before .before .before .before .before .before .before .before .before .before .before .before .before in
     (at-entry .pre .0 .promise, (rw (at-block-word2 .block-word2 .ensures, c .block-word3 .ensures) (run-within _ (at-entry .pre .0 .promise) _ (at-entry .pre .0 .block)), omega (arith, at-entry .pre .0 .rows)))
 
--- src/visit.rt:99:67
-add-t17 : tie.Need-add-t17
-add-t17 c = search needs
+add-advance : tie.Need-add-advance
+add-advance c =
+    let at-block-word2 = c .before .before .before .before .before .before in
+    let at-entry = at-block-word2 .before .before .before .before .before .before .before .before .before .before .before .before .before in
+    omega (arith, at-block-word2 .block-word2 .ensures, at-entry .pre .0 .rows, at-entry .pre .0 .count, run-within _ (at-entry .pre .0 .promise) _ (at-entry .pre .0 .block), at-entry .pre .0 .promise .sized .limited .instructions)
 
--- src/visit.rt:100:5
+advance-requires-2 : tie.Need-advance-requires-2
+advance-requires-2 c κs = search needs
+
 visit-terminal-requires : tie.Need-visit-terminal-requires
 visit-terminal-requires c κs =
-    let at-put-instructions = c .before .before .before .before in
+    let at-advance2 = c .before in
+    let at-put-instructions = at-advance2 .before .before .before .before in
     let at-block-word2 = at-put-instructions .before .before .before in
     let at-if3 = at-block-word2 .before .before .before in
     let at-block-word = at-if3 .before in
-    let at-if2 = at-block-word .before .before in
+    let at-if2 = at-block-word .before .before .before in
     let at-if1 = at-if2 .before .before in
     let at-entry = at-if1 .before .before .before .before in
-    (record { promise = at-entry .pre .0 .promise; block = at-entry .pre .0 .block; depth = at-if1 .if1 .left; visits = omega (arith, at-if2 .if2 .left); rows = omega (arith, at-put-instructions .put-instructions .ensures .more, at-block-word2 .block-word2 .ensures, at-entry .pre .0 .rows, run-within _ (at-entry .pre .0 .promise) _ (at-entry .pre .0 .block), at-entry .pre .0 .promise .sized .limited .instructions); count = omega (arith, at-put-instructions .put-instructions .ensures .more, at-entry .pre .0 .count) }, (at-entry .pre .1, λ e. at-if3 .if3 .left (at-block-word .block-word .ensures ∙ e)))
+    rw (at-advance2 .advance2 .ensures) (record { promise = at-entry .pre .0 .promise; block = at-entry .pre .0 .block; depth = at-if1 .if1 .left; visits = omega (arith, at-if2 .if2 .left); rows = omega (arith, at-put-instructions .put-instructions .ensures .more, at-block-word2 .block-word2 .ensures, at-entry .pre .0 .rows, run-within _ (at-entry .pre .0 .promise) _ (at-entry .pre .0 .block), at-entry .pre .0 .promise .sized .limited .instructions); count = omega (arith, at-put-instructions .put-instructions .ensures .more, at-entry .pre .0 .count) }, (at-entry .pre .1, λ e. at-if3 .if3 .left (at-block-word .block-word .ensures ∙ e)))
 
--- src/visit.rt:68:1
 same-length : tie.Need-same-length
 same-length c = search needs
 
--- src/visit.rt:68:1
 returns-5 : tie.Need-returns-5
 unfolding has
 returns-5 c frame =
     let at-visit-terminal = c .before .before in
-    let at-put-instructions = at-visit-terminal .before .before .before .before .before in
+    let at-advance2 = at-visit-terminal .before .before in
+    let at-put-instructions = at-advance2 .before .before .before .before in
     let at-block-word3 = at-put-instructions .before in
     let at-block-word2 = at-block-word3 .before .before in
     let at-if4 = at-block-word2 .before in
     let at-if3 = at-if4 .before .before in
     let at-block-word = at-if3 .before in
-    let at-if2 = at-block-word .before .before in
+    let at-if2 = at-block-word .before .before .before in
     let at-if1 = at-if2 .before .before in
     let at-entry = at-if1 .before .before .before .before in
-    entered-planned _ _ _ _ _ _ _ (at-entry .pre .0) frame (at-if1 .if1 .left) (at-if2 .if2 .left) (λ e. at-if3 .if3 .left (at-block-word .block-word .ensures ∙ e)) _ _ _ _ _ (at-if4 .if4 .left) refl refl (omega (arith, at-block-word2 .block-word2 .ensures)) refl (rw (at-block-word2 .block-word2 .ensures, at-block-word3 .block-word3 .ensures) at (at-put-instructions .put-instructions .ensures)) (at-visit-terminal .visit-terminal .ensures)
+    entered-planned _ _ _ _ _ _ _ (at-entry .pre .0) frame (at-if1 .if1 .left) (at-if2 .if2 .left) (λ e. at-if3 .if3 .left (at-block-word .block-word .ensures ∙ e)) _ _ _ _ _ (at-if4 .if4 .left) refl refl (omega (arith, at-block-word2 .block-word2 .ensures)) refl (rw (at-block-word2 .block-word2 .ensures, at-block-word3 .block-word3 .ensures) at (at-put-instructions .put-instructions .ensures)) (rw (at-advance2 .advance2 .ensures) at (at-visit-terminal .visit-terminal .ensures))
 
 pub visit-block-spec : {M : Type 1} → statement M
 visit-block-spec =
@@ -142,6 +137,7 @@ visit-block-spec =
     refuse-requires-2
     returns-2
     add-visits
+    advance-requires
     block-word-requires
     refuse-requires-3
     returns-3
@@ -152,7 +148,8 @@ visit-block-spec =
     block-word-requires-2
     block-word-requires-3
     put-instructions-requires
-    add-t17
+    add-advance
+    advance-requires-2
     visit-terminal-requires
     same-length
     returns-5)
