@@ -2,14 +2,14 @@
 use Prim.Native.Nat.{ℕ, zero, suc, _<_, _≤_}
 use native.Mathlib.Omega.{arith}
 use mathlib.Core.Path.{_≡_, refl, sym, ap, _∙_, subst}
-use mathlib.Core.Bool.{Bool, true, false}
+use mathlib.Core.Bool.{Bool, true, false, _||_}
 use mathlib.Core.List.{List}
 use mathlib.Core.Option.{Option, none, some}
 use Rattle.table.specs.Words.{blockCount, placeCount, caseCount, blockWord}
 use Rattle.table.specs.Promise.{Promise, InRange}
 use Rattle.table.specs.Table.{Terminal, Variant, absent, unreachable, throw, return, goto, if, branch, switch, do-while, while, for, for-of, for-in, logical, ternary, optional, label, sequence, maybe-throw, try, scope, Break, Continue, Try, codeOf, tableOf, terminalOf, terminalAt, variantOf}
 use Rattle.table.proofs.RangeLaws.{in-range}
-use Rattle.definition.specs.Context.{Flags, or, has, isScheduled, getBreakTarget, getContinueTarget}
+use Rattle.definition.specs.Context.{Flags, has, isScheduled, getBreakTarget, getContinueTarget}
 use Rattle.definition.specs.Context as definition
 use Rattle.build.specs.declared.search.Jump.{Jump}
 use Rattle.build.specs.declared.search.Jump.the-variants.{Nothing}
@@ -90,7 +90,7 @@ module _ (w : List ℕ) (S H : Flags) (b : ℕ) (pr : Promise w) (below : b < bl
     pub branch-breaks : (n : ℕ) → n ≡ blockWord w b 4 → Searches w S H b (jump.Break n)
     branch-breaks n s = record { resolves = λ cx _ _. subst (λ (z : Terminal). Resolves z cx (getBreakTarget cx n)) (sym branch-at) (λ _. ap (getBreakTarget cx) s) }
 
-    pub branch-goes : or (has S (blockWord w b 4)) (has H (blockWord w b 4)) ≡ false → Searches w S H b Nothing
+    pub branch-goes : has S (blockWord w b 4) || has H (blockWord w b 4) ≡ false → Searches w S H b Nothing
     unfolding isScheduled
     branch-goes e = record { resolves = λ cx s h. subst (λ (z : Terminal). Resolves z cx none) (sym branch-at) (λ q. absurd (differ (sym q ∙ rw (s, h) e))) }
       where

@@ -1,19 +1,18 @@
 -- The rows of a value: at most 8,200 for each visit that it takes.
-use mathlib.Core.Path.{_≡_, refl, sym, ap, _∙_, subst}
-use Prim.Native.Nat.{ℕ, zero, suc, _+_, _*_, _≤_, _<_}
-use native.Mathlib.Nat.{le-refl, zero-add}
+use mathlib.Core.Path.{_≡_, refl, ap}
+use Prim.Native.Nat.{ℕ, zero, suc, _+_, _*_, _≤_}
+use native.Mathlib.Nat.{le-refl}
 use native.Mathlib.Omega.{arith}
 use mathlib.Core.List.{List, [], _∷_}
 use mathlib.Core.Option.{Option, none, some}
 use mathlib.Core.Bool.{Bool, true, false}
 use lib.ListN.{length}
-use lib.Dec.{leb}
-use Rattle.table.specs.Table.{Table, Block, Terminal, Instruction, Operation, other, load-local, store-local, absent, unreachable, throw, return, goto, if, branch, switch, do-while, while, for, for-of, for-in, logical, ternary, optional, sequence, maybe-throw, try, scope, blockAt, terminalAt, instructionAt, instructionRowsAt, instructionRows, rowsFrom, isAbsent, label}
+use Rattle.table.specs.Table.{Table, Block, Terminal, Operation, other, load-local, store-local, absent, unreachable, throw, return, goto, if, branch, switch, do-while, while, for, for-of, for-in, logical, ternary, optional, sequence, maybe-throw, try, scope, blockAt, terminalAt, instructionAt, instructionRowsAt, instructionRows, rowsFrom, label}
 use Rattle.definition.specs.Machine.{valueOut, updateOut}
-use Rattle.definition.specs.Result.{refused, Result, ok, _>>=_, refuseIf}
-use Rattle.definition.specs.Statement.{OptionalValue, visitUpdate}
+use Rattle.definition.specs.Result.{refused, Result, ok}
+use Rattle.definition.specs.Statement.{visitUpdate}
 use Rattle.definition.specs.Tree.{Value, PLAIN, LOAD, UNDEF, SEQ, LOGICAL, COND, OPTIONAL, Instructions, no-instructions, instruction, Row, row, valueRows, instructionsRows, countInstructions}
-use Rattle.definition.specs.Value.{visitValueBlock, branchWays, Ways, isThis, beginVisit, ValueBlockResult, ValueTerminalResult, TestBlockResult, VisitValueBlock, instructionsOf, wrapWithSequence, finalValue, storedToNamed, allButLast, last, extractValueBlockResult, extractOrRefuse, testBlockEnded, visitTestBlock, singleInstruction, visitValueBlockTerminal, thenFallthrough, branchValue, isEmptyGoto, maybeThrowValue, visitValueBlockAt, appended, sequencedInstructions, innermostValue, loadedPlace, sameIdentifier, unlessSame, valueBlockResultToSequence}
+use Rattle.definition.specs.Value.{visitValueBlock, Ways, beginVisit, ValueBlockResult, ValueTerminalResult, TestBlockResult, VisitValueBlock, instructionsOf, wrapWithSequence, finalValue, storedToNamed, allButLast, last, extractValueBlockResult, extractOrRefuse, testBlockEnded, visitTestBlock, singleInstruction, visitValueBlockTerminal, thenFallthrough, branchValue, maybeThrowValue, visitValueBlockAt, appended, sequencedInstructions, innermostValue, loadedPlace, sameIdentifier, unlessSame, valueBlockResultToSequence}
 use Rattle.definition.proofs.Grow.{Good, good-bind, good-unless}
 
 abbrev mutual
@@ -65,7 +64,7 @@ unfolding wrapWithSequence
 wrapped-size t [] i v = omega arith
 wrapped-size t (r ∷ rs) i v = omega (arith, instrsOf-size t (r ∷ rs) no-instructions)
 
-last-size : (t : Table) (r : ℕ) (o : Operation) (n : ℕ) → sizeV (finalValue t r o n) ≡ 1
+last-size : (t : Table) (r : ℕ) (o : Operation) (n : ℕ) → sizeV (finalValue r o n) ≡ 1
 unfolding finalValue
 last-size t r other n = refl
 last-size t r (load-local p) n = refl
@@ -82,7 +81,7 @@ unfolding extractValueBlockResult
 extract-size t b r rs v =
     let n : ℕ = last r rs in
     let k : ℕ = storedToNamed t (instructionAt t n .operation) in
-    omega (arith, wrapped-size t (allButLast r rs) (instructionAt t n .id) (finalValue t n (instructionAt t n .operation) k), last-size t n (instructionAt t n .operation) k, front-length r rs)
+    omega (arith, wrapped-size t (allButLast r rs) (instructionAt t n .id) (finalValue n (instructionAt t n .operation) k), last-size t n (instructionAt t n .operation) k, front-length r rs)
 
 appended-size : (is k : Instructions) → sizeI (appended is k) ≡ sizeI is + sizeI k
 unfolding appended
@@ -165,9 +164,9 @@ module _ (t : Table) (few : (b : ℕ) → length (instructionRowsAt t b) ≤ 409
   terminal-cheap (try z h f n) id span v at = tt
   terminal-cheap (scope p z f s) id span v at = tt
 
-  andFinal-cheap : (b : ℕ) (k : Block) (span v : ℕ) (m : Result ValueTerminalResult) → length (instructionRows k) ≤ 4096 → Good (Less v) m → Good (Dear v) (thenFallthrough t values b k span m)
+  andFinal-cheap : (k : Block) (span v : ℕ) (m : Result ValueTerminalResult) → length (instructionRows k) ≤ 4096 → Good (Less v) m → Good (Dear v) (thenFallthrough t values k span m)
   unfolding thenFallthrough
-  andFinal-cheap b k span v m c h = good-bind (Less v) (Dear v) m _ h (λ i q. good-bind (Cheap (i .visits)) (Dear v) _ _ (vals _ _ _ _)
+  andFinal-cheap k span v m c h = good-bind (Less v) (Dear v) m _ h (λ i q. good-bind (Cheap (i .visits)) (Dear v) _ _ (vals _ _ _ _)
       (λ r q₁. omega (arith, instrsOf-size t (instructionRows k) (singleInstruction (i .id) (i .place) span (i .value)))))
 
   extractOr-cheap : (b : ℕ) (rs : List ℕ) (v code at : ℕ) → length rs ≤ 4096 → Good (Dear v) (extractOrRefuse t b rs v code at)
@@ -187,27 +186,27 @@ module _ (t : Table) (few : (b : ℕ) → length (instructionRowsAt t b) ≤ 409
 
   valueAt-cheap : (m : Terminal) (b : ℕ) (ft : Option ℕ) (span v : ℕ) → Good (Dear v) (visitValueBlockAt t values m b (blockAt t b) ft span v)
   unfolding visitValueBlockAt
-  valueAt-cheap absent b ft span v = andFinal-cheap b (blockAt t b) span v _ (few b) (terminal-cheap absent (blockAt t b .id) (blockAt t b .span) v b)
-  valueAt-cheap unreachable b ft span v = andFinal-cheap b (blockAt t b) span v _ (few b) (terminal-cheap unreachable (blockAt t b .id) (blockAt t b .span) v b)
-  valueAt-cheap (throw x) b ft span v = andFinal-cheap b (blockAt t b) span v _ (few b) (terminal-cheap (throw x) (blockAt t b .id) (blockAt t b .span) v b)
-  valueAt-cheap (return x) b ft span v = andFinal-cheap b (blockAt t b) span v _ (few b) (terminal-cheap (return x) (blockAt t b .id) (blockAt t b .span) v b)
+  valueAt-cheap absent b ft span v = andFinal-cheap (blockAt t b) span v _ (few b) (terminal-cheap absent (blockAt t b .id) (blockAt t b .span) v b)
+  valueAt-cheap unreachable b ft span v = andFinal-cheap (blockAt t b) span v _ (few b) (terminal-cheap unreachable (blockAt t b .id) (blockAt t b .span) v b)
+  valueAt-cheap (throw x) b ft span v = andFinal-cheap (blockAt t b) span v _ (few b) (terminal-cheap (throw x) (blockAt t b .id) (blockAt t b .span) v b)
+  valueAt-cheap (return x) b ft span v = andFinal-cheap (blockAt t b) span v _ (few b) (terminal-cheap (return x) (blockAt t b .id) (blockAt t b .span) v b)
   valueAt-cheap (goto g x) b ft span v = extractOr-cheap b (instructionRowsAt t b) v 24 b (few b)
-  valueAt-cheap (if x c a f) b ft span v = andFinal-cheap b (blockAt t b) span v _ (few b) (terminal-cheap (if x c a f) (blockAt t b .id) (blockAt t b .span) v b)
+  valueAt-cheap (if x c a f) b ft span v = andFinal-cheap (blockAt t b) span v _ (few b) (terminal-cheap (if x c a f) (blockAt t b .id) (blockAt t b .span) v b)
   valueAt-cheap (branch x c a) b ft span v = branchValue-cheap b x (blockAt t b .id) (instructionRowsAt t b) v (few b)
-  valueAt-cheap (switch x i n f) b ft span v = andFinal-cheap b (blockAt t b) span v _ (few b) (terminal-cheap (switch x i n f) (blockAt t b .id) (blockAt t b .span) v b)
-  valueAt-cheap (do-while l x f) b ft span v = andFinal-cheap b (blockAt t b) span v _ (few b) (terminal-cheap (do-while l x f) (blockAt t b .id) (blockAt t b .span) v b)
-  valueAt-cheap (while x l f) b ft span v = andFinal-cheap b (blockAt t b) span v _ (few b) (terminal-cheap (while x l f) (blockAt t b .id) (blockAt t b .span) v b)
-  valueAt-cheap (for i x u l f) b ft span v = andFinal-cheap b (blockAt t b) span v _ (few b) (terminal-cheap (for i x u l f) (blockAt t b .id) (blockAt t b .span) v b)
-  valueAt-cheap (for-of i x l f) b ft span v = andFinal-cheap b (blockAt t b) span v _ (few b) (terminal-cheap (for-of i x l f) (blockAt t b .id) (blockAt t b .span) v b)
-  valueAt-cheap (for-in i l f) b ft span v = andFinal-cheap b (blockAt t b) span v _ (few b) (terminal-cheap (for-in i l f) (blockAt t b .id) (blockAt t b .span) v b)
-  valueAt-cheap (logical o x f) b ft span v = andFinal-cheap b (blockAt t b) span v _ (few b) (terminal-cheap (logical o x f) (blockAt t b .id) (blockAt t b .span) v b)
-  valueAt-cheap (ternary x f) b ft span v = andFinal-cheap b (blockAt t b) span v _ (few b) (terminal-cheap (ternary x f) (blockAt t b .id) (blockAt t b .span) v b)
-  valueAt-cheap (optional g x f) b ft span v = andFinal-cheap b (blockAt t b) span v _ (few b) (terminal-cheap (optional g x f) (blockAt t b .id) (blockAt t b .span) v b)
-  valueAt-cheap (label z f) b ft span v = andFinal-cheap b (blockAt t b) span v _ (few b) (terminal-cheap (label z f) (blockAt t b .id) (blockAt t b .span) v b)
-  valueAt-cheap (sequence z f) b ft span v = andFinal-cheap b (blockAt t b) span v _ (few b) (terminal-cheap (sequence z f) (blockAt t b .id) (blockAt t b .span) v b)
+  valueAt-cheap (switch x i n f) b ft span v = andFinal-cheap (blockAt t b) span v _ (few b) (terminal-cheap (switch x i n f) (blockAt t b .id) (blockAt t b .span) v b)
+  valueAt-cheap (do-while l x f) b ft span v = andFinal-cheap (blockAt t b) span v _ (few b) (terminal-cheap (do-while l x f) (blockAt t b .id) (blockAt t b .span) v b)
+  valueAt-cheap (while x l f) b ft span v = andFinal-cheap (blockAt t b) span v _ (few b) (terminal-cheap (while x l f) (blockAt t b .id) (blockAt t b .span) v b)
+  valueAt-cheap (for i x u l f) b ft span v = andFinal-cheap (blockAt t b) span v _ (few b) (terminal-cheap (for i x u l f) (blockAt t b .id) (blockAt t b .span) v b)
+  valueAt-cheap (for-of i x l f) b ft span v = andFinal-cheap (blockAt t b) span v _ (few b) (terminal-cheap (for-of i x l f) (blockAt t b .id) (blockAt t b .span) v b)
+  valueAt-cheap (for-in i l f) b ft span v = andFinal-cheap (blockAt t b) span v _ (few b) (terminal-cheap (for-in i l f) (blockAt t b .id) (blockAt t b .span) v b)
+  valueAt-cheap (logical o x f) b ft span v = andFinal-cheap (blockAt t b) span v _ (few b) (terminal-cheap (logical o x f) (blockAt t b .id) (blockAt t b .span) v b)
+  valueAt-cheap (ternary x f) b ft span v = andFinal-cheap (blockAt t b) span v _ (few b) (terminal-cheap (ternary x f) (blockAt t b .id) (blockAt t b .span) v b)
+  valueAt-cheap (optional g x f) b ft span v = andFinal-cheap (blockAt t b) span v _ (few b) (terminal-cheap (optional g x f) (blockAt t b .id) (blockAt t b .span) v b)
+  valueAt-cheap (label z f) b ft span v = andFinal-cheap (blockAt t b) span v _ (few b) (terminal-cheap (label z f) (blockAt t b .id) (blockAt t b .span) v b)
+  valueAt-cheap (sequence z f) b ft span v = andFinal-cheap (blockAt t b) span v _ (few b) (terminal-cheap (sequence z f) (blockAt t b .id) (blockAt t b .span) v b)
   valueAt-cheap (maybe-throw n) b ft span v = good-unless (Dear v) _ 10 n v _ (λ h. maybeThrow-cheap b n (instructionRowsAt t b) ft span v _ (few b))
-  valueAt-cheap (try z h f n) b ft span v = andFinal-cheap b (blockAt t b) span v _ (few b) (terminal-cheap (try z h f n) (blockAt t b .id) (blockAt t b .span) v b)
-  valueAt-cheap (scope p z f s) b ft span v = andFinal-cheap b (blockAt t b) span v _ (few b) (terminal-cheap (scope p z f s) (blockAt t b .id) (blockAt t b .span) v b)
+  valueAt-cheap (try z h f n) b ft span v = andFinal-cheap (blockAt t b) span v _ (few b) (terminal-cheap (try z h f n) (blockAt t b .id) (blockAt t b .span) v b)
+  valueAt-cheap (scope p z f s) b ft span v = andFinal-cheap (blockAt t b) span v _ (few b) (terminal-cheap (scope p z f s) (blockAt t b .id) (blockAt t b .span) v b)
 
   pub update-cheap : (u : Option ℕ) (span v : ℕ) → Good (λ w. length (updateOut (w .value)) + 8200 * v ≤ 8200 * w .visits) (visitUpdate values u span v)
   unfolding visitUpdate updateOut

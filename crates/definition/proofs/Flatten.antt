@@ -1,16 +1,14 @@
 -- Flattening in rows: the closing SEQ rows at the end of a value go, perhaps the load before them, and one SEQ over all is put behind.
 use mathlib.Core.Path.{_≡_, refl, sym, ap, _∙_}
-use Prim.Native.Nat.{ℕ, zero, suc, _+_}
-use native.Mathlib.Nat.{zero-add, suc-add, add-zero}
+use Prim.Native.Nat.{ℕ, suc, _+_}
+use native.Mathlib.Nat.{add-zero}
 use native.Mathlib.Omega.{arith}
 use mathlib.Core.List.{List, [], _∷_, _++_, append-assoc}
-use mathlib.Core.Option.{Option, none, some}
 use mathlib.Core.Bool.{Bool, true, false}
-use lib.ListN.{length}
-use Rattle.table.specs.Table.{Table, Operation, instructionAt}
+use Rattle.table.specs.Table.{Table}
 use Rattle.definition.specs.Machine.{valueOut}
 use Rattle.definition.specs.Tree.{Value, PLAIN, LOAD, UNDEF, SEQ, LOGICAL, COND, OPTIONAL, Instructions, no-instructions, instruction, Row, row, valueRows, instructionsRows, countInstructions}
-use Rattle.definition.specs.Value.{ValueBlockResult, appended, sequencedInstructions, innermostValue, loadedPlace, loadedBy, sameIdentifier, unlessSame, singleInstruction, valueBlockResultToSequence}
+use Rattle.definition.specs.Value.{ValueBlockResult, appended, sequencedInstructions, innermostValue, loadedPlace, sameIdentifier, unlessSame, singleInstruction, valueBlockResultToSequence}
 
 -- the closing SEQ rows at the end
 abbrev pub seqs : Value → List Row

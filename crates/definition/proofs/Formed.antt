@@ -13,7 +13,7 @@ use Rattle.definition.specs.Tree.{Kind, implicit, labeled, unlabeled, St
 use Rattle.definition.specs.Result.{Result, ok}
 use Rattle.definition.specs.Context.{has, Context, start, isScheduled, withVisits, scheduleCatchHandler, target-case, schedule, scheduleLoop, unschedule, Resolution, getBreakTarget, getContinueTarget}
 use Rattle.definition.specs.Value.{VisitValueBlock, visitValueBlockTerminal, visitValueBlock}
-use Rattle.definition.specs.Statement.{BlockResult, TerminalResult, TraverseBlock, enterBlock, unlessScheduled, unlessUnreachable, scheduleIf, scheduleSwitch, unscheduleIf, markScopeFallthroughIf, breakToScope, breakResolved, visitBreak, continueResolved, visitContinue, visitGoto, traverseUnscheduled, AlternateResult, traverseAlternate, singleStatement, traverseConsequent, traverseEnclosed, traverseLoop, continueBlockOf, visitUpdate, casesLastFirst, traverseCases, unscheduleAll, scheduleIds, visitValueStatement, visitTerminal, instructionStatements, followedBy, thenNext, visitBlock, traverseBlock, buildTree}
+use Rattle.definition.specs.Statement.{BlockResult, TerminalResult, TraverseBlock, enterBlock, unlessScheduled, unlessUnreachable, scheduleIf, scheduleSwitch, unscheduleIf, markScopeFallthroughIf, breakToScope, breakResolved, visitBreak, continueResolved, visitContinue, visitGoto, traverseUnscheduled, AlternateResult, traverseAlternate, traverseConsequent, traverseEnclosed, traverseLoop, continueBlockOf, visitUpdate, casesLastFirst, traverseCases, unscheduleAll, scheduleIds, visitValueStatement, visitTerminal, instructionStatements, followedBy, thenNext, visitBlock, traverseBlock, buildTree}
 use Rattle.definition.specs.Plain.{fallthroughOf}
 use Rattle.definition.specs.Reading.{BelowNone, EmptyUnless, WellFormedStatement, WellFormed, WellFormedCases}
 use Rattle.definition.proofs.Grow.{Good, good-bind, good-unless, Any, any}
@@ -85,7 +85,7 @@ goto-formed Break at b i c = good-bind FormedOption FormedStep _ _ (break-formed
 goto-formed Continue at b i c = good-bind WellFormedStatement FormedStep _ _ (continued-formed b i c (getContinueTarget c b)) (λ s h. h)
 goto-formed Try at b i c = tt
 
-single-formed : (s : Option Statement) → FormedOption s → WellFormed (singleStatement s)
+single-formed : (s : Option Statement) → FormedOption s → WellFormed (followedBy s done)
 unfolding WellFormed
 single-formed none h = tt
 single-formed (some s) h = (h, tt)

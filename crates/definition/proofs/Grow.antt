@@ -1,19 +1,18 @@
 -- The visits never fall: what the value walk and the state's steps leave of them.
-use mathlib.Core.Path.{_≡_, refl, sym, ap, _∙_, subst}
-use Prim.Native.Nat.{ℕ, zero, suc, _+_, _≤_, _<_}
+use mathlib.Core.Path.{_≡_, refl}
+use Prim.Native.Nat.{ℕ, zero, suc, _≤_, _<_}
 use native.Mathlib.Nat.{le-refl, le-trans}
 use native.Mathlib.Omega.{arith}
 use mathlib.Core.List.{List, [], _∷_}
 use mathlib.Core.Option.{Option, none, some}
-use mathlib.Core.Bool.{Bool, true, false, not}
-use lib.Dec.{eqb, leb}
+use mathlib.Core.Bool.{Bool, true, false}
+use lib.Dec.{eqb}
 use borrow.Author.Tests.{leb-false}
-use Rattle.table.specs.Table.{Table, Block, Case, Terminal, absent, unreachable, throw, return, goto, if, branch, switch, do-while, while, for, for-of, for-in, logical, ternary, optional, sequence, maybe-throw, try, scope, Variant, Break, Continue, Try, blockAt, terminalAt, instructionRowsAt, instructionRows, isAbsent, label}
-use Rattle.definition.specs.Context.{or, Flags, has, add, remove, ControlFlowTarget, target-if, target-switch, target-case, target-loop, targetBlock, Entry, Context, start, isScheduled, emit, withVisits, markScopeFallthrough, scheduleCatchHandler, pushed, schedule, scheduleLoop, unscheduledBy, popped, unscheduleTop, unschedule}
+use Rattle.table.specs.Table.{Table, Block, Terminal, absent, unreachable, throw, return, goto, if, branch, switch, do-while, while, for, for-of, for-in, logical, ternary, optional, sequence, maybe-throw, try, scope, blockAt, terminalAt, instructionRows, label}
+use Rattle.definition.specs.Context.{ControlFlowTarget, target-if, target-switch, Entry, Context, emit, withVisits, markScopeFallthrough, pushed, schedule, scheduleLoop, popped, unscheduleTop, unschedule}
 use Rattle.definition.specs.Result.{refused, Result, ok, _>>=_, refuseIf}
-use Rattle.definition.specs.Statement.{TerminalResult, enterBlock, unlessScheduled, unlessUnreachable, scheduleIf, unscheduleIf, markScopeFallthroughIf, scheduleSwitch, OptionalValue, visitUpdate}
-use Rattle.definition.specs.Tree.{Kind, implicit, labeled, unlabeled, Statement, Statements}
-use Rattle.definition.specs.Value.{visitValueBlock, branchWays, Ways, isThis, beginVisit, ValueBlockResult, ValueTerminalResult, TestBlockResult, VisitValueBlock, extractValueBlockResult, extractOrRefuse, testBlockEnded, visitTestBlock, visitValueBlockTerminal, thenFallthrough, branchValue, isEmptyGoto, maybeThrowValue, visitValueBlockAt}
+use Rattle.definition.specs.Statement.{enterBlock, scheduleIf, unscheduleIf, markScopeFallthroughIf, scheduleSwitch, visitUpdate}
+use Rattle.definition.specs.Value.{visitValueBlock, Ways, beginVisit, ValueBlockResult, ValueTerminalResult, VisitValueBlock, extractValueBlockResult, extractOrRefuse, testBlockEnded, visitTestBlock, visitValueBlockTerminal, thenFallthrough, branchValue, maybeThrowValue, visitValueBlockAt}
 
 -- an answer has the property
 abbrev pub Good : {A : Type 0} → (A → Type 0) → Result A → Type 0
@@ -83,9 +82,9 @@ module _ (t : Table) (values : VisitValueBlock) (vg : Grows values) where
   unfolding visitTestBlock
   testBlock-grows b span v at = good-bind (From v) (λ s. v ≤ s .test .visits) _ _ (nested-grows b none span v v (le-refl v)) (λ r h. testEnded-grows r _ at v h)
 
-  andFinal-grows : (b : ℕ) (k : Block) (span v : ℕ) (m : Result ValueTerminalResult) → Good (FromT v) m → Good (From v) (thenFallthrough t values b k span m)
+  andFinal-grows : (k : Block) (span v : ℕ) (m : Result ValueTerminalResult) → Good (FromT v) m → Good (From v) (thenFallthrough t values k span m)
   unfolding thenFallthrough
-  andFinal-grows b k span v m h = good-bind (FromT v) (From v) m _ h (λ i q. good-bind (From v) (From v) _ _ (nested-grows _ _ _ _ v q) (λ r q₁. q₁))
+  andFinal-grows k span v m h = good-bind (FromT v) (From v) m _ h (λ i q. good-bind (From v) (From v) _ _ (nested-grows _ _ _ _ v q) (λ r q₁. q₁))
 
   pub terminal-grows : (m : Terminal) (id span v at : ℕ) → Good (FromT v) (visitValueBlockTerminal t values m id span v at)
   unfolding visitValueBlockTerminal
@@ -118,27 +117,27 @@ module _ (t : Table) (values : VisitValueBlock) (vg : Grows values) where
 
   valueAt-grows : (m : Terminal) (b : ℕ) (k : Block) (ft : Option ℕ) (span v : ℕ) → Good (From v) (visitValueBlockAt t values m b k ft span v)
   unfolding visitValueBlockAt
-  valueAt-grows absent b k ft span v = andFinal-grows b k span v _ (terminal-grows absent (k .id) (k .span) v b)
-  valueAt-grows unreachable b k ft span v = andFinal-grows b k span v _ (terminal-grows unreachable (k .id) (k .span) v b)
-  valueAt-grows (throw x) b k ft span v = andFinal-grows b k span v _ (terminal-grows (throw x) (k .id) (k .span) v b)
-  valueAt-grows (return x) b k ft span v = andFinal-grows b k span v _ (terminal-grows (return x) (k .id) (k .span) v b)
+  valueAt-grows absent b k ft span v = andFinal-grows k span v _ (terminal-grows absent (k .id) (k .span) v b)
+  valueAt-grows unreachable b k ft span v = andFinal-grows k span v _ (terminal-grows unreachable (k .id) (k .span) v b)
+  valueAt-grows (throw x) b k ft span v = andFinal-grows k span v _ (terminal-grows (throw x) (k .id) (k .span) v b)
+  valueAt-grows (return x) b k ft span v = andFinal-grows k span v _ (terminal-grows (return x) (k .id) (k .span) v b)
   valueAt-grows (goto g x) b k ft span v = extractOr-grows t b (instructionRows k) v 24 b
-  valueAt-grows (if x c a f) b k ft span v = andFinal-grows b k span v _ (terminal-grows (if x c a f) (k .id) (k .span) v b)
+  valueAt-grows (if x c a f) b k ft span v = andFinal-grows k span v _ (terminal-grows (if x c a f) (k .id) (k .span) v b)
   valueAt-grows (branch x c a) b k ft span v = branchValue-grows t b x (k .id) (instructionRows k) v
-  valueAt-grows (switch x i n f) b k ft span v = andFinal-grows b k span v _ (terminal-grows (switch x i n f) (k .id) (k .span) v b)
-  valueAt-grows (do-while l x f) b k ft span v = andFinal-grows b k span v _ (terminal-grows (do-while l x f) (k .id) (k .span) v b)
-  valueAt-grows (while x l f) b k ft span v = andFinal-grows b k span v _ (terminal-grows (while x l f) (k .id) (k .span) v b)
-  valueAt-grows (for i x u l f) b k ft span v = andFinal-grows b k span v _ (terminal-grows (for i x u l f) (k .id) (k .span) v b)
-  valueAt-grows (for-of i x l f) b k ft span v = andFinal-grows b k span v _ (terminal-grows (for-of i x l f) (k .id) (k .span) v b)
-  valueAt-grows (for-in i l f) b k ft span v = andFinal-grows b k span v _ (terminal-grows (for-in i l f) (k .id) (k .span) v b)
-  valueAt-grows (logical o x f) b k ft span v = andFinal-grows b k span v _ (terminal-grows (logical o x f) (k .id) (k .span) v b)
-  valueAt-grows (ternary x f) b k ft span v = andFinal-grows b k span v _ (terminal-grows (ternary x f) (k .id) (k .span) v b)
-  valueAt-grows (optional g x f) b k ft span v = andFinal-grows b k span v _ (terminal-grows (optional g x f) (k .id) (k .span) v b)
-  valueAt-grows (label z f) b k ft span v = andFinal-grows b k span v _ (terminal-grows (label z f) (k .id) (k .span) v b)
-  valueAt-grows (sequence z f) b k ft span v = andFinal-grows b k span v _ (terminal-grows (sequence z f) (k .id) (k .span) v b)
+  valueAt-grows (switch x i n f) b k ft span v = andFinal-grows k span v _ (terminal-grows (switch x i n f) (k .id) (k .span) v b)
+  valueAt-grows (do-while l x f) b k ft span v = andFinal-grows k span v _ (terminal-grows (do-while l x f) (k .id) (k .span) v b)
+  valueAt-grows (while x l f) b k ft span v = andFinal-grows k span v _ (terminal-grows (while x l f) (k .id) (k .span) v b)
+  valueAt-grows (for i x u l f) b k ft span v = andFinal-grows k span v _ (terminal-grows (for i x u l f) (k .id) (k .span) v b)
+  valueAt-grows (for-of i x l f) b k ft span v = andFinal-grows k span v _ (terminal-grows (for-of i x l f) (k .id) (k .span) v b)
+  valueAt-grows (for-in i l f) b k ft span v = andFinal-grows k span v _ (terminal-grows (for-in i l f) (k .id) (k .span) v b)
+  valueAt-grows (logical o x f) b k ft span v = andFinal-grows k span v _ (terminal-grows (logical o x f) (k .id) (k .span) v b)
+  valueAt-grows (ternary x f) b k ft span v = andFinal-grows k span v _ (terminal-grows (ternary x f) (k .id) (k .span) v b)
+  valueAt-grows (optional g x f) b k ft span v = andFinal-grows k span v _ (terminal-grows (optional g x f) (k .id) (k .span) v b)
+  valueAt-grows (label z f) b k ft span v = andFinal-grows k span v _ (terminal-grows (label z f) (k .id) (k .span) v b)
+  valueAt-grows (sequence z f) b k ft span v = andFinal-grows k span v _ (terminal-grows (sequence z f) (k .id) (k .span) v b)
   valueAt-grows (maybe-throw n) b k ft span v = good-unless (From v) _ 10 n v _ (λ h. maybeThrow-grows b n (instructionRows k) ft span v _)
-  valueAt-grows (try z h f n) b k ft span v = andFinal-grows b k span v _ (terminal-grows (try z h f n) (k .id) (k .span) v b)
-  valueAt-grows (scope p z f s) b k ft span v = andFinal-grows b k span v _ (terminal-grows (scope p z f s) (k .id) (k .span) v b)
+  valueAt-grows (try z h f n) b k ft span v = andFinal-grows k span v _ (terminal-grows (try z h f n) (k .id) (k .span) v b)
+  valueAt-grows (scope p z f s) b k ft span v = andFinal-grows k span v _ (terminal-grows (scope p z f s) (k .id) (k .span) v b)
 
   pub update-grows : (u : Option ℕ) (span v : ℕ) → Good (λ r. v ≤ r .visits) (visitUpdate values u span v)
   unfolding visitUpdate

@@ -2,20 +2,20 @@
 -- every turn lowers.
 use mathlib.Core.Path.{_≡_, refl, sym, ap, _∙_, subst}
 use Prim.Native.Nat.{ℕ, zero, suc, _+_, _*_, _-_, _≤_, _<_}
-use native.Mathlib.Nat.{le-refl, zero-lt-suc}
+use native.Mathlib.Nat.{le-refl}
 use native.Mathlib.Omega.{arith}
 use mathlib.Core.List.{List, [], _∷_, _++_, append-assoc, append-nil}
 use mathlib.Core.Option.{Option, none, some}
 use mathlib.Core.Bool.{Bool, true, false, not}
 use lib.ListN.{length, getD, set, length-set, length-append}
-use lib.Dec.{eqb, leb}
+use lib.Dec.{eqb}
 use borrow.Author.Tests.{leb-false}
-use Rattle.table.specs.Table.{Table, Block, Case, Terminal, absent, unreachable, throw, return, goto, if, branch, switch, do-while, while, for, for-of, for-in, logical, ternary, optional, sequence, maybe-throw, try, scope, Variant, Break, Continue, Try, blockAt, terminalAt, instructionRowsAt, isAbsent, isUnreachable, label}
+use Rattle.table.specs.Table.{Table, Terminal, absent, unreachable, throw, return, goto, if, branch, switch, do-while, while, for, for-of, for-in, logical, ternary, optional, sequence, maybe-throw, try, scope, Variant, Break, Continue, Try, blockAt, terminalAt, instructionRowsAt, isUnreachable, label}
 use Rattle.definition.specs.Build.{Report, report}
-use Rattle.definition.specs.Context.{getBreakTarget, getContinueTarget, Resolution, Flags, has, add, ControlFlowTarget, target-if, target-switch, target-case, targetBlock, Entry, Context, start, no-flags, isScheduled, emit, withVisits, scheduleCatchHandler, markScopeFallthrough, pushed, scheduleLoop, unscheduledBy, popped}
-use Rattle.definition.specs.Machine.{Frame, State, visiting, ended, choosing, popping, Turn, going, halt, turn, leave, blockRow, valueOut, updateOut, stmtOut, jumpOut, added, instrOut, closingRow, scheduled, scheduledIf, scheduledSwitch, unscheduledTop, unscheduled, unscheduledIf, opens, frameOf, secondPart, withEntries, withLeft, caseBuilt, into, intoLoop, complete, closeBy, close, no-case, caseAt, numberOfCases, chooseCase, firstCase, afterCases, resumeAt, resume, branchTurn, valueTurn, terminalTurn, depthLeft, visitTurn, step, begin, Gives, halts, goes, run}
-use Rattle.definition.specs.Result.{refused, Result, ok, _>>=_, refuseIf}
-use Rattle.definition.specs.Statement.{breakToScope, visitBreak, visitContinue, breakResolved, continueResolved, visitUpdate, OptionalValue, continueBlockOf, TerminalResult, enterBlock, unlessScheduled, unlessUnreachable, markScopeFallthroughIf, visitGoto, loopIsTaken, casesLastFirst}
+use Rattle.definition.specs.Context.{getBreakTarget, getContinueTarget, Resolution, Flags, has, add, ControlFlowTarget, target-if, target-switch, target-case, Entry, Context, start, isScheduled, emit, withVisits, scheduleCatchHandler, markScopeFallthrough, pushed, scheduleLoop, popped}
+use Rattle.definition.specs.Machine.{Frame, State, visiting, ended, choosing, popping, Turn, going, halt, turn, leave, blockRow, valueOut, updateOut, statementOut, jumpOut, added, instructionsOut, closingRow, scheduled, scheduledIf, scheduledSwitch, unscheduledTop, unscheduled, unscheduledIf, opens, frameOf, secondPart, withLeft, caseBuilt, into, intoLoop, closeBy, close, caseAt, numberOfCases, chooseCase, switchColumns, resumeAt, resume, branchTurn, valueTurn, terminalTurn, depthLeft, visitTurn, step, begin, Gives, run}
+use Rattle.definition.specs.Result.{refused, Result, ok, refuseIf}
+use Rattle.definition.specs.Statement.{breakToScope, visitBreak, visitContinue, breakResolved, continueResolved, visitUpdate, OptionalValue, continueBlockOf, TerminalResult, enterBlock, unlessScheduled, unlessUnreachable, markScopeFallthroughIf, visitGoto, loopIsTaken}
 use Rattle.definition.specs.Tree.{Kind, implicit, labeled, unlabeled, Statement, Row, row, BREAK, CONTINUE}
 use Rattle.definition.specs.Value.{visitValueBlock, beginVisit, ValueBlockResult, ValueTerminalResult, VisitValueBlock, visitValueBlockTerminal, valueBlockResultToSequence}
 use Rattle.definition.proofs.Tools.{length-none, below-blocks, true-false}
@@ -126,7 +126,7 @@ pub record Framed (t : Table) (chosen : ℕ) (frame : Frame) : Type 0 where
   pub block : frame .block < length (t .blocks)
   pub label : Below (length (t .blocks)) (frame .label)
   pub entries : frame .entries ≤ suc (frame .built)
-  pub case : isSwitch (terminalAt t (frame .block)) ≡ true → frame .left < chosen + (length (t .cases) - firstCase (terminalAt t (frame .block)))
+  pub case : isSwitch (terminalAt t (frame .block)) ≡ true → frame .left < chosen + (length (t .cases) - switchColumns (terminalAt t (frame .block)) .first)
 
 abbrev pub Frames : Table → List Frame → Type 0
 Frames t [] = Unit {0}
@@ -334,11 +334,11 @@ abbrev Jump : Option Statement → Type 0
 Jump o = (length (jumpOut o) ≤ 1) × ((n : ℕ) → added o n ≤ length (jumpOut o) + n)
 
 break-jump : (g i : ℕ) (k : Kind) → Jump (some (BREAK g i k))
-unfolding stmtOut
+unfolding statementOut
 break-jump g i k = (le-refl 1, λ n. omega arith)
 
 continue-jump : (g i : ℕ) (k : Kind) → Jump (some (CONTINUE g i k))
-unfolding stmtOut
+unfolding statementOut
 continue-jump g i k = (le-refl 1, λ n. omega arith)
 
 no-jump : Jump none
@@ -470,14 +470,14 @@ module _ (t : Table) (ck : Checked t) (d : ℕ) where
 
   case-fit : {p : ℕ} (j : ℕ) (fr : Frame) (F : List Frame) (R : List Row) (c : Context) → fr .left ≡ j → isSwitch (terminalAt t (fr .block)) ≡ true
       → Inside p (suc (2 * fr .left + fr .entries)) 1 (fr .entries) (fr .built) 3 F R (fr .count) c → Framed t 1 fr → Frames t F
-      → Good (Fit t p) (chooseCase t (firstCase (terminalAt t (fr .block))) (afterCases (terminalAt t (fr .block))) j fr F R c)
+      → Good (Fit t p) (chooseCase t (switchColumns (terminalAt t (fr .block)) .first) (switchColumns (terminalAt t (fr .block)) .fallthrough) j fr F R c)
   unfolding chooseCase
   case-fit zero fr F R c e q h o f = close-fit t fr R c h (omega arith) (omega arith) (omega arith) (omega arith) o f
   case-fit {p} (suc j) fr F R c e q h o f =
-      let x : ℕ = firstCase (terminalAt t (fr .block)) in
+      let x : ℕ = switchColumns (terminalAt t (fr .block)) .first in
       let b : ℕ = caseAt t (x + j) .block in
       pick (Fit t p) (isScheduled c b) _ _
-      (good-bind Any (Fit t p) _ _ (any (refuseIf (not (eqb b (afterCases (terminalAt t (fr .block))))) 14 (fr .block) (c .visits))) (λ _ _.
+      (good-bind Any (Fit t p) _ _ (any (refuseIf (not (eqb b (switchColumns (terminalAt t (fr .block)) .fallthrough))) 14 (fr .block) (c .visits))) (λ _ _.
       choose-fit t (withLeft j fr) h (omega arith) (omega arith) refl (omega arith) (omega arith) q (record { block = o .block; label = o .label; entries = o .entries; case = λ z. omega (arith, o .case z) }) f))
       (push-fit t (withLeft j fr) b h (omega arith) (omega arith) refl (omega arith) (omega arith)
       (record { block = o .block; label = o .label; entries = o .entries; case = λ z. omega (arith, o .case z) }) f (ck .caseBlocks (x + j) (omega (arith, o .case q))))
@@ -570,7 +570,7 @@ module _ (t : Table) (ck : Checked t) (d : ℕ) where
         choose-fit t (withLeft (numberOfCases t i k) (frameOf b l (opens l) m)) (inside-held t c 1 h (switch-held l c) (omega arith) (omega (arith, h .stack))) (omega (arith, number-below t i k, ck .cases, opens-one l)) (omega arith) refl (omega arith) (omega arith)
         (ap isSwitch q) (record { block = below; label = w; entries = omega (arith, opens-one l); case = λ z. fits (number-below t i k) }) f)
       where
-        fits : numberOfCases t i k ≤ length (t .cases) - i → numberOfCases t i k < 1 + (length (t .cases) - firstCase (terminalAt t b))
+        fits : numberOfCases t i k ≤ length (t .cases) - i → numberOfCases t i k < 1 + (length (t .cases) - switchColumns (terminalAt t b) .first)
         fits u = rw q (omega (arith, u))
     terminal-fit (do-while l x g) q n = good-bind (Held c 1 (suc (length (c .stack)))) (Fit t p) _ _ (loop-held g x l c) (λ c₁ k. at c₁ k)
       where
@@ -626,8 +626,8 @@ module _ (t : Table) (ck : Checked t) (d : ℕ) where
         let r : Held (scheduledIf l c) 0 (length (scheduledIf l c .stack)) (markScopeFallthroughIf l (scheduledIf l c)) = scoped-held l (scheduledIf l c) in
         enclosed-fit l x 18 b (markScopeFallthroughIf l (scheduledIf l c)) (record { ids = omega (arith, s .ids, r .ids); seen = r .seen ∙ s .seen; marked = r .marked ∙ s .marked; flags = r .flags ∙ s .flags; stack = r .stack ∙ s .stack }) (taken-below c g (n .1)) (ap isSwitch q) (n .0)
 
-instr-two : (t : Table) (rs : List ℕ) → length (instrOut t rs) ≡ 2 * length rs
-unfolding instrOut
+instr-two : (t : Table) (rs : List ℕ) → length (instructionsOut t rs) ≡ 2 * length rs
+unfolding instructionsOut
 instr-two t [] = omega arith
 instr-two t (r ∷ rs) = omega (arith, instr-two t rs)
 
@@ -639,12 +639,12 @@ module _ (t : Table) (ck : Checked t) where
       good-unless (Fit t p) _ 30 b (c .visits) _ (λ q.
       let deep : length F < 128 = leb-false 128 (length F) q in
       good-bind (Entered c) (Fit t p) _ _ (enter-sound t b c (ck .blocks) (h .flags)) (λ c₁ e.
-      terminal-fit t ck (depthLeft F) b F (R ++ instrOut t (instructionRowsAt t b)) (m + length (instructionRowsAt t b)) c₁ below f (inside c₁ deep e) (terminalAt t b) refl (ck .names b)))
+      terminal-fit t ck (depthLeft F) b F (R ++ instructionsOut t (instructionRowsAt t b)) (m + length (instructionRowsAt t b)) c₁ below f (inside c₁ deep e) (terminalAt t b) refl (ck .names b)))
     where
       p : ℕ
       p = 2053 * (8192 - c .visits) + turnsOfAll F
 
-      inside : (c₁ : Context) → length F < 128 → Entered c c₁ → Inside p 2052 2 0 0 16 F (R ++ instrOut t (instructionRowsAt t b)) (m + length (instructionRowsAt t b)) c₁
+      inside : (c₁ : Context) → length F < 128 → Entered c c₁ → Inside p 2052 2 0 0 16 F (R ++ instructionsOut t (instructionRowsAt t b)) (m + length (instructionRowsAt t b)) c₁
       inside c₁ deep e = record {
         visits = omega (arith, e .fewer, e .seen);
         ids = omega (arith, e .ids, e .seen, e .fewer, h .ids);
@@ -653,8 +653,8 @@ module _ (t : Table) (ck : Checked t) where
         marked = omega (arith, e .marked, h .marked);
         depth = deep;
         flags = e .flags;
-        tallied = omega (arith, length-append R (instrOut t (instructionRowsAt t b)), instr-two t (instructionRowsAt t b), h .tallied);
-        paid = omega (arith, length-append R (instrOut t (instructionRowsAt t b)), instr-two t (instructionRowsAt t b), ck .counts b, e .seen, h .paid);
+        tallied = omega (arith, length-append R (instructionsOut t (instructionRowsAt t b)), instr-two t (instructionRowsAt t b), h .tallied);
+        paid = omega (arith, length-append R (instructionsOut t (instructionRowsAt t b)), instr-two t (instructionRowsAt t b), ck .counts b, e .seen, h .paid);
       }
 
   abbrev Next : ℕ → Turn → Type 0
@@ -704,7 +704,7 @@ module _ (t : Table) (ck : Checked t) where
       next-of _ (resume t (visitValueBlock t (depthLeft F)) fr F (R ++ (blockRow m ∷ [])) c)
       (resume-fit t ck (depthLeft F) (terminalAt t (fr .block)) fr F (R ++ (blockRow m ∷ [])) c refl (ck .names (fr .block)) (ended-inside fr F R m c h) o f)
   step-next (choosing fr F R c) (q, o, f, h) =
-      next-of _ (chooseCase t (firstCase (terminalAt t (fr .block))) (afterCases (terminalAt t (fr .block))) (fr .left) fr F R c)
+      next-of _ (chooseCase t (switchColumns (terminalAt t (fr .block)) .first) (switchColumns (terminalAt t (fr .block)) .fallthrough) (fr .left) fr F R c)
       (case-fit t ck 0 (fr .left) fr F R c refl q (holds-inside (suc (2 * fr .left + fr .entries)) fr F R c h (omega arith)) o f)
   step-next (popping fr F R c) (o, f, h) = close-fit t fr R c (holds-inside (suc (fr .entries)) fr F R c h (omega arith)) (le-refl _) (omega arith) (le-refl _) (omega arith) o f
 

@@ -1,15 +1,13 @@
 -- The value walk never passes 8,192 visits.
-use mathlib.Core.Path.{_≡_, refl}
-use Prim.Native.Nat.{ℕ, zero, suc, _≤_, _<_}
-use native.Mathlib.Omega.{arith}
+use Prim.Native.Nat.{ℕ, zero, suc, _≤_}
 use mathlib.Core.List.{List, [], _∷_}
 use mathlib.Core.Option.{Option, none, some}
 use mathlib.Core.Bool.{Bool, true, false}
 use borrow.Author.Tests.{leb-false}
 use Rattle.table.specs.Table.{Table, Block, Terminal, absent, unreachable, throw, return, goto, if, branch, switch, do-while, while, for, for-of, for-in, logical, ternary, optional, sequence, maybe-throw, try, scope, blockAt, terminalAt, instructionRows, label}
-use Rattle.definition.specs.Result.{refused, Result, ok, _>>=_, refuseIf}
-use Rattle.definition.specs.Statement.{OptionalValue, visitUpdate}
-use Rattle.definition.specs.Value.{visitValueBlock, branchWays, Ways, beginVisit, ValueBlockResult, ValueTerminalResult, TestBlockResult, VisitValueBlock, extractValueBlockResult, extractOrRefuse, testBlockEnded, visitTestBlock, visitValueBlockTerminal, thenFallthrough, branchValue, maybeThrowValue, visitValueBlockAt}
+use Rattle.definition.specs.Result.{Result}
+use Rattle.definition.specs.Statement.{visitUpdate}
+use Rattle.definition.specs.Value.{visitValueBlock, Ways, beginVisit, ValueBlockResult, ValueTerminalResult, TestBlockResult, VisitValueBlock, extractValueBlockResult, extractOrRefuse, testBlockEnded, visitTestBlock, visitValueBlockTerminal, thenFallthrough, branchValue, maybeThrowValue, visitValueBlockAt}
 use Rattle.definition.proofs.Grow.{Good, good-bind, good-unless}
 
 abbrev pub Few : ValueBlockResult → Type 0
@@ -48,9 +46,9 @@ module _ (t : Table) (values : VisitValueBlock) (vf : Fews values) where
   unfolding visitTestBlock
   testBlock-few b span v at h = good-bind Few FewTest _ _ (vals b none span v h) (λ r q. testEnded-few r _ at q)
 
-  andFinal-few : (b : ℕ) (k : Block) (span : ℕ) (m : Result ValueTerminalResult) → Good FewT m → Good Few (thenFallthrough t values b k span m)
+  andFinal-few : (k : Block) (span : ℕ) (m : Result ValueTerminalResult) → Good FewT m → Good Few (thenFallthrough t values k span m)
   unfolding thenFallthrough
-  andFinal-few b k span m h = good-bind FewT Few m _ h (λ i q. good-bind Few Few _ _ (vals _ _ _ _ q) (λ r q₁. q₁))
+  andFinal-few k span m h = good-bind FewT Few m _ h (λ i q. good-bind Few Few _ _ (vals _ _ _ _ q) (λ r q₁. q₁))
 
   pub terminal-few : (m : Terminal) (id span v at : ℕ) → v ≤ 8192 → Good FewT (visitValueBlockTerminal t values m id span v at)
   unfolding visitValueBlockTerminal
@@ -83,27 +81,27 @@ module _ (t : Table) (values : VisitValueBlock) (vf : Fews values) where
 
   valueAt-few : (m : Terminal) (b : ℕ) (k : Block) (ft : Option ℕ) (span v : ℕ) → v ≤ 8192 → Good Few (visitValueBlockAt t values m b k ft span v)
   unfolding visitValueBlockAt
-  valueAt-few absent b k ft span v hv = andFinal-few b k span _ (terminal-few absent (k .id) (k .span) v b hv)
-  valueAt-few unreachable b k ft span v hv = andFinal-few b k span _ (terminal-few unreachable (k .id) (k .span) v b hv)
-  valueAt-few (throw x) b k ft span v hv = andFinal-few b k span _ (terminal-few (throw x) (k .id) (k .span) v b hv)
-  valueAt-few (return x) b k ft span v hv = andFinal-few b k span _ (terminal-few (return x) (k .id) (k .span) v b hv)
+  valueAt-few absent b k ft span v hv = andFinal-few k span _ (terminal-few absent (k .id) (k .span) v b hv)
+  valueAt-few unreachable b k ft span v hv = andFinal-few k span _ (terminal-few unreachable (k .id) (k .span) v b hv)
+  valueAt-few (throw x) b k ft span v hv = andFinal-few k span _ (terminal-few (throw x) (k .id) (k .span) v b hv)
+  valueAt-few (return x) b k ft span v hv = andFinal-few k span _ (terminal-few (return x) (k .id) (k .span) v b hv)
   valueAt-few (goto g x) b k ft span v hv = extractOr-few t b (instructionRows k) v 24 b hv
-  valueAt-few (if x c a f) b k ft span v hv = andFinal-few b k span _ (terminal-few (if x c a f) (k .id) (k .span) v b hv)
+  valueAt-few (if x c a f) b k ft span v hv = andFinal-few k span _ (terminal-few (if x c a f) (k .id) (k .span) v b hv)
   valueAt-few (branch x c a) b k ft span v hv = branchValue-few t b x (k .id) (instructionRows k) v hv
-  valueAt-few (switch x i n f) b k ft span v hv = andFinal-few b k span _ (terminal-few (switch x i n f) (k .id) (k .span) v b hv)
-  valueAt-few (do-while l x f) b k ft span v hv = andFinal-few b k span _ (terminal-few (do-while l x f) (k .id) (k .span) v b hv)
-  valueAt-few (while x l f) b k ft span v hv = andFinal-few b k span _ (terminal-few (while x l f) (k .id) (k .span) v b hv)
-  valueAt-few (for i x u l f) b k ft span v hv = andFinal-few b k span _ (terminal-few (for i x u l f) (k .id) (k .span) v b hv)
-  valueAt-few (for-of i x l f) b k ft span v hv = andFinal-few b k span _ (terminal-few (for-of i x l f) (k .id) (k .span) v b hv)
-  valueAt-few (for-in i l f) b k ft span v hv = andFinal-few b k span _ (terminal-few (for-in i l f) (k .id) (k .span) v b hv)
-  valueAt-few (logical o x f) b k ft span v hv = andFinal-few b k span _ (terminal-few (logical o x f) (k .id) (k .span) v b hv)
-  valueAt-few (ternary x f) b k ft span v hv = andFinal-few b k span _ (terminal-few (ternary x f) (k .id) (k .span) v b hv)
-  valueAt-few (optional g x f) b k ft span v hv = andFinal-few b k span _ (terminal-few (optional g x f) (k .id) (k .span) v b hv)
-  valueAt-few (label z f) b k ft span v hv = andFinal-few b k span _ (terminal-few (label z f) (k .id) (k .span) v b hv)
-  valueAt-few (sequence z f) b k ft span v hv = andFinal-few b k span _ (terminal-few (sequence z f) (k .id) (k .span) v b hv)
+  valueAt-few (switch x i n f) b k ft span v hv = andFinal-few k span _ (terminal-few (switch x i n f) (k .id) (k .span) v b hv)
+  valueAt-few (do-while l x f) b k ft span v hv = andFinal-few k span _ (terminal-few (do-while l x f) (k .id) (k .span) v b hv)
+  valueAt-few (while x l f) b k ft span v hv = andFinal-few k span _ (terminal-few (while x l f) (k .id) (k .span) v b hv)
+  valueAt-few (for i x u l f) b k ft span v hv = andFinal-few k span _ (terminal-few (for i x u l f) (k .id) (k .span) v b hv)
+  valueAt-few (for-of i x l f) b k ft span v hv = andFinal-few k span _ (terminal-few (for-of i x l f) (k .id) (k .span) v b hv)
+  valueAt-few (for-in i l f) b k ft span v hv = andFinal-few k span _ (terminal-few (for-in i l f) (k .id) (k .span) v b hv)
+  valueAt-few (logical o x f) b k ft span v hv = andFinal-few k span _ (terminal-few (logical o x f) (k .id) (k .span) v b hv)
+  valueAt-few (ternary x f) b k ft span v hv = andFinal-few k span _ (terminal-few (ternary x f) (k .id) (k .span) v b hv)
+  valueAt-few (optional g x f) b k ft span v hv = andFinal-few k span _ (terminal-few (optional g x f) (k .id) (k .span) v b hv)
+  valueAt-few (label z f) b k ft span v hv = andFinal-few k span _ (terminal-few (label z f) (k .id) (k .span) v b hv)
+  valueAt-few (sequence z f) b k ft span v hv = andFinal-few k span _ (terminal-few (sequence z f) (k .id) (k .span) v b hv)
   valueAt-few (maybe-throw n) b k ft span v hv = good-unless Few _ 10 n v _ (λ _. maybeThrow-few b n (instructionRows k) ft span v _ hv)
-  valueAt-few (try z h f n) b k ft span v hv = andFinal-few b k span _ (terminal-few (try z h f n) (k .id) (k .span) v b hv)
-  valueAt-few (scope p z f s) b k ft span v hv = andFinal-few b k span _ (terminal-few (scope p z f s) (k .id) (k .span) v b hv)
+  valueAt-few (try z h f n) b k ft span v hv = andFinal-few k span _ (terminal-few (try z h f n) (k .id) (k .span) v b hv)
+  valueAt-few (scope p z f s) b k ft span v hv = andFinal-few k span _ (terminal-few (scope p z f s) (k .id) (k .span) v b hv)
 
   pub update-few : (u : Option ℕ) (span v : ℕ) → v ≤ 8192 → Good (λ w. w .visits ≤ 8192) (visitUpdate values u span v)
   unfolding visitUpdate

@@ -1,21 +1,21 @@
 -- Over any table: the stack is handed back as it was, nothing new is scheduled, and the messages 90 to 92 never occur.
 use mathlib.Core.Path.{_≡_, refl, sym, ap, _∙_, subst}
-use Prim.Native.Nat.{ℕ, zero, suc, _≤_, _<_}
+use Prim.Native.Nat.{ℕ, zero, suc, _≤_}
 use native.Mathlib.Omega.{arith}
 use mathlib.Core.Logic.{_⊎_, inl, inr}
-use mathlib.Core.List.{List, [], _∷_, _++_}
+use mathlib.Core.List.{List, [], _∷_}
 use mathlib.Core.Option.{Option, none, some}
-use mathlib.Core.Bool.{Bool, true, false, not, _&&_}
+use mathlib.Core.Bool.{Bool, true, false, not, _&&_, _||_}
 use lib.ListN.{getD, set}
-use lib.Dec.{T, eqb, leb, eqb-refl, leb→le}
-use borrow.Author.Tests.{eqb-true, eq-eqb}
-use Rattle.table.specs.Table.{Table, Block, Case, Terminal, absent, unreachable, throw, return, goto, if, branch, switch, do-while, while, for, for-of, for-in, logical, ternary, optional, sequence, maybe-throw, try, scope, Variant, Break, Continue, Try, blockAt, terminalAt, instructionRowsAt, instructionRows, isAbsent, isUnreachable, label}
-use Rattle.definition.specs.Context.{or, Flags, has, add, remove, ControlFlowTarget, target-if, target-switch, target-case, target-loop, targetBlock, Entry, Context, start, isScheduled, emit, withVisits, markScopeFallthrough, scheduleCatchHandler, pushed, schedule, scheduleLoop, unscheduledBy, popped, unscheduleTop, unschedule, breakTargetFrom, Resolution, continueTargetFrom}
-use Rattle.definition.specs.Build.{accepted, rejected, report, reported}
-use Rattle.definition.specs.Result.{refused, Result, ok, _>>=_, refuseIf, already-scheduled, unschedule-out-of-order, maybe-throw-in-value-terminal}
-use Rattle.definition.specs.Statement.{breakToScope, visitBreak, visitContinue, breakResolved, continueResolved, TerminalResult, BlockResult, TraverseBlock, enterBlock, unlessScheduled, unlessUnreachable, scheduleIf, unscheduleIf, markScopeFallthroughIf, traverseUnscheduled, AlternateResult, traverseAlternate, visitGoto, traverseEnclosed, loopIsTaken, traverseLoop, CasesResult, traverseCases, unscheduleAll, scheduleSwitch, scheduleIds, casesLastFirst, OptionalValue, visitUpdate, traverseConsequent, visitValueStatement, visitTerminal, thenNext, visitBlock, traverseBlock, buildTree}
+use lib.Dec.{T, eqb, leb, leb→le}
+use borrow.Author.Tests.{eq-eqb}
+use Rattle.table.specs.Table.{Table, Block, Case, Terminal, absent, unreachable, throw, return, goto, if, branch, switch, do-while, while, for, for-of, for-in, logical, ternary, optional, sequence, maybe-throw, try, scope, Variant, Break, Continue, Try, blockAt, terminalAt, instructionRows, isAbsent, isUnreachable, label}
+use Rattle.definition.specs.Context.{Flags, has, add, remove, ControlFlowTarget, target-if, target-switch, target-case, target-loop, targetBlock, Entry, Context, start, isScheduled, emit, withVisits, markScopeFallthrough, scheduleCatchHandler, pushed, schedule, scheduleLoop, unscheduledBy, popped, unscheduleTop, unschedule, Resolution}
+use Rattle.definition.specs.Build.{rejected, report, reported}
+use Rattle.definition.specs.Result.{refused, Result, ok, _>>=_, refuseIf, alreadyScheduled, unscheduleOutOfOrder, maybeThrowInValueTerminal}
+use Rattle.definition.specs.Statement.{breakToScope, visitBreak, visitContinue, breakResolved, continueResolved, TerminalResult, BlockResult, TraverseBlock, enterBlock, unlessScheduled, unlessUnreachable, scheduleIf, unscheduleIf, markScopeFallthroughIf, traverseUnscheduled, traverseAlternate, visitGoto, traverseEnclosed, traverseLoop, traverseCases, unscheduleAll, scheduleSwitch, scheduleIds, casesLastFirst, visitUpdate, traverseConsequent, visitValueStatement, visitTerminal, thenNext, visitBlock, traverseBlock, buildTree}
 use Rattle.definition.specs.Tree.{Kind, implicit, labeled, unlabeled, Statement, Statements}
-use Rattle.definition.specs.Value.{visitValueBlock, branchWays, Ways, isThis, beginVisit, ValueBlockResult, ValueTerminalResult, TestBlockResult, VisitValueBlock, extractOrRefuse, testBlockEnded, visitTestBlock, visitValueBlockTerminal, thenFallthrough, branchValue, isEmptyGoto, maybeThrowValue, visitValueBlockAt}
+use Rattle.definition.specs.Value.{visitValueBlock, Ways, beginVisit, ValueBlockResult, ValueTerminalResult, VisitValueBlock, extractOrRefuse, testBlockEnded, visitTestBlock, visitValueBlockTerminal, thenFallthrough, branchValue, maybeThrowValue, visitValueBlockAt}
 use Rattle.definition.proofs.Tools.{true-false, has-add, has-remove}
 
 -- "10 missing block .. 31 visits": the refusals that a table can have
@@ -98,9 +98,9 @@ module _ (t : Table) (values : VisitValueBlock) (vf : ValueFine values) where
   unfolding visitTestBlock ValueFine
   testBlock-fine b span v at = fine-bind Any Any _ _ (vf b none span v) (λ r _. testEnded-fine r _ at)
 
-  andFinal-fine : (b : ℕ) (k : Block) (span : ℕ) (m : Result ValueTerminalResult) → Fine Any m → Fine Any (thenFallthrough t values b k span m)
+  andFinal-fine : (k : Block) (span : ℕ) (m : Result ValueTerminalResult) → Fine Any m → Fine Any (thenFallthrough t values k span m)
   unfolding thenFallthrough ValueFine
-  andFinal-fine b k span m h = fine-bind Any Any m _ h (λ i _. fine-bind Any Any _ _ (vf _ _ _ _) (λ r _. tt))
+  andFinal-fine k span m h = fine-bind Any Any m _ h (λ i _. fine-bind Any Any _ _ (vf _ _ _ _) (λ r _. tt))
 
   terminal-value-fine : (m : Terminal) (id span v at : ℕ) → T (not (isMaybe m)) → Fine Any (visitValueBlockTerminal t values m id span v at)
   unfolding visitValueBlockTerminal ValueFine
@@ -133,27 +133,27 @@ module _ (t : Table) (values : VisitValueBlock) (vf : ValueFine values) where
 
   valueAt-fine : (m : Terminal) (b : ℕ) (k : Block) (ft : Option ℕ) (span v : ℕ) → Fine Any (visitValueBlockAt t values m b k ft span v)
   unfolding visitValueBlockAt
-  valueAt-fine absent b k ft span v = andFinal-fine b k span _ (terminal-value-fine absent (k .id) (k .span) v b tt)
-  valueAt-fine unreachable b k ft span v = andFinal-fine b k span _ (terminal-value-fine unreachable (k .id) (k .span) v b tt)
-  valueAt-fine (throw x) b k ft span v = andFinal-fine b k span _ (terminal-value-fine (throw x) (k .id) (k .span) v b tt)
-  valueAt-fine (return x) b k ft span v = andFinal-fine b k span _ (terminal-value-fine (return x) (k .id) (k .span) v b tt)
+  valueAt-fine absent b k ft span v = andFinal-fine k span _ (terminal-value-fine absent (k .id) (k .span) v b tt)
+  valueAt-fine unreachable b k ft span v = andFinal-fine k span _ (terminal-value-fine unreachable (k .id) (k .span) v b tt)
+  valueAt-fine (throw x) b k ft span v = andFinal-fine k span _ (terminal-value-fine (throw x) (k .id) (k .span) v b tt)
+  valueAt-fine (return x) b k ft span v = andFinal-fine k span _ (terminal-value-fine (return x) (k .id) (k .span) v b tt)
   valueAt-fine (goto g x) b k ft span v = extractOr-fine t b (instructionRows k) v 24 b tt
-  valueAt-fine (if x c a f) b k ft span v = andFinal-fine b k span _ (terminal-value-fine (if x c a f) (k .id) (k .span) v b tt)
+  valueAt-fine (if x c a f) b k ft span v = andFinal-fine k span _ (terminal-value-fine (if x c a f) (k .id) (k .span) v b tt)
   valueAt-fine (branch x c a) b k ft span v = branchValue-fine t b x (k .id) (instructionRows k) v
-  valueAt-fine (switch x i n f) b k ft span v = andFinal-fine b k span _ (terminal-value-fine (switch x i n f) (k .id) (k .span) v b tt)
-  valueAt-fine (do-while l x f) b k ft span v = andFinal-fine b k span _ (terminal-value-fine (do-while l x f) (k .id) (k .span) v b tt)
-  valueAt-fine (while x l f) b k ft span v = andFinal-fine b k span _ (terminal-value-fine (while x l f) (k .id) (k .span) v b tt)
-  valueAt-fine (for i x u l f) b k ft span v = andFinal-fine b k span _ (terminal-value-fine (for i x u l f) (k .id) (k .span) v b tt)
-  valueAt-fine (for-of i x l f) b k ft span v = andFinal-fine b k span _ (terminal-value-fine (for-of i x l f) (k .id) (k .span) v b tt)
-  valueAt-fine (for-in i l f) b k ft span v = andFinal-fine b k span _ (terminal-value-fine (for-in i l f) (k .id) (k .span) v b tt)
-  valueAt-fine (logical o x f) b k ft span v = andFinal-fine b k span _ (terminal-value-fine (logical o x f) (k .id) (k .span) v b tt)
-  valueAt-fine (ternary x f) b k ft span v = andFinal-fine b k span _ (terminal-value-fine (ternary x f) (k .id) (k .span) v b tt)
-  valueAt-fine (optional g x f) b k ft span v = andFinal-fine b k span _ (terminal-value-fine (optional g x f) (k .id) (k .span) v b tt)
-  valueAt-fine (label z f) b k ft span v = andFinal-fine b k span _ (terminal-value-fine (label z f) (k .id) (k .span) v b tt)
-  valueAt-fine (sequence z f) b k ft span v = andFinal-fine b k span _ (terminal-value-fine (sequence z f) (k .id) (k .span) v b tt)
+  valueAt-fine (switch x i n f) b k ft span v = andFinal-fine k span _ (terminal-value-fine (switch x i n f) (k .id) (k .span) v b tt)
+  valueAt-fine (do-while l x f) b k ft span v = andFinal-fine k span _ (terminal-value-fine (do-while l x f) (k .id) (k .span) v b tt)
+  valueAt-fine (while x l f) b k ft span v = andFinal-fine k span _ (terminal-value-fine (while x l f) (k .id) (k .span) v b tt)
+  valueAt-fine (for i x u l f) b k ft span v = andFinal-fine k span _ (terminal-value-fine (for i x u l f) (k .id) (k .span) v b tt)
+  valueAt-fine (for-of i x l f) b k ft span v = andFinal-fine k span _ (terminal-value-fine (for-of i x l f) (k .id) (k .span) v b tt)
+  valueAt-fine (for-in i l f) b k ft span v = andFinal-fine k span _ (terminal-value-fine (for-in i l f) (k .id) (k .span) v b tt)
+  valueAt-fine (logical o x f) b k ft span v = andFinal-fine k span _ (terminal-value-fine (logical o x f) (k .id) (k .span) v b tt)
+  valueAt-fine (ternary x f) b k ft span v = andFinal-fine k span _ (terminal-value-fine (ternary x f) (k .id) (k .span) v b tt)
+  valueAt-fine (optional g x f) b k ft span v = andFinal-fine k span _ (terminal-value-fine (optional g x f) (k .id) (k .span) v b tt)
+  valueAt-fine (label z f) b k ft span v = andFinal-fine k span _ (terminal-value-fine (label z f) (k .id) (k .span) v b tt)
+  valueAt-fine (sequence z f) b k ft span v = andFinal-fine k span _ (terminal-value-fine (sequence z f) (k .id) (k .span) v b tt)
   valueAt-fine (maybe-throw n) b k ft span v = fine-unless Any _ 10 n v _ tt (λ h. maybeThrow-fine b n (instructionRows k) ft span v _)
-  valueAt-fine (try z h f n) b k ft span v = andFinal-fine b k span _ (terminal-value-fine (try z h f n) (k .id) (k .span) v b tt)
-  valueAt-fine (scope p z f s) b k ft span v = andFinal-fine b k span _ (terminal-value-fine (scope p z f s) (k .id) (k .span) v b tt)
+  valueAt-fine (try z h f n) b k ft span v = andFinal-fine k span _ (terminal-value-fine (try z h f n) (k .id) (k .span) v b tt)
+  valueAt-fine (scope p z f s) b k ft span v = andFinal-fine k span _ (terminal-value-fine (scope p z f s) (k .id) (k .span) v b tt)
 
 value-fine : (t : Table) (d : ℕ) → ValueFine (visitValueBlock t d)
 unfolding ValueFine visitValueBlock
@@ -199,7 +199,7 @@ to-entered c b v = record { same = refl; sub = λ x h. h }
 unfoldable pub Free : Option ℕ → Context → Type 0
 Free g c = (f : ℕ) → g ≡ some f → has (c .scheduled) f ≡ false
 
-pub or-false : (x y : Bool) → or x y ≡ false → x ≡ false
+pub or-false : (x y : Bool) → x || y ≡ false → x ≡ false
 or-false true y e = e
 or-false false y e = refl
 
@@ -319,7 +319,7 @@ scheduleLoop-fine : (f k l : ℕ) (c : Context) → Fine (λ d. InLoop f k l c d
 unfolding scheduleLoop pushed
 scheduleLoop-fine f k l c = fine-unless (λ d. InLoop f k l c d) _ 15 k (c .visits) _ tt (λ h. record { owns = _; stack = refl; sub = λ x q. q; lent = lends (has (add (add (c .scheduled) f) k) l) })
   where
-    lends : (y : Bool) → elim y [ true ↦ false | false ↦ true ] ≡ false → y ≡ true
+    lends : (y : Bool) → not y ≡ false → y ≡ true
     lends true e = refl
     lends false e = absurd (true-false e)
 
@@ -584,14 +584,14 @@ unfolding report
 never-above t code at visits e = of-paper code (never t code at visits (rejected-is (buildTree t) code at visits e))
 
 -- "Four Rust messages never occur and are proved so". The fourth has no counterpart: a target's type is a constructor
-pub never-already-scheduled : (t : Table) (at visits : ℕ) → report t ≡ rejected already-scheduled at visits → ⊥
-never-already-scheduled t at visits e = omega (arith, never-above t already-scheduled at visits e)
+pub never-already-scheduled : (t : Table) (at visits : ℕ) → report t ≡ rejected alreadyScheduled at visits → ⊥
+never-already-scheduled t at visits e = omega (arith, never-above t alreadyScheduled at visits e)
 
-pub never-unschedule-out-of-order : (t : Table) (at visits : ℕ) → report t ≡ rejected unschedule-out-of-order at visits → ⊥
-never-unschedule-out-of-order t at visits e = omega (arith, never-above t unschedule-out-of-order at visits e)
+pub never-unschedule-out-of-order : (t : Table) (at visits : ℕ) → report t ≡ rejected unscheduleOutOfOrder at visits → ⊥
+never-unschedule-out-of-order t at visits e = omega (arith, never-above t unscheduleOutOfOrder at visits e)
 
-pub never-maybe-throw-in-value-terminal : (t : Table) (at visits : ℕ) → report t ≡ rejected maybe-throw-in-value-terminal at visits → ⊥
-never-maybe-throw-in-value-terminal t at visits e = omega (arith, never-above t maybe-throw-in-value-terminal at visits e)
+pub never-maybe-throw-in-value-terminal : (t : Table) (at visits : ℕ) → report t ≡ rejected maybeThrowInValueTerminal at visits → ⊥
+never-maybe-throw-in-value-terminal t at visits e = omega (arith, never-above t maybeThrowInValueTerminal at visits e)
 
 -- 99, the terminal of a block that is not there, is no refusal either: such a block is refused 10 before
 pub never-absent-terminal : (t : Table) (at visits : ℕ) → report t ≡ rejected 99 at visits → ⊥

@@ -1,15 +1,14 @@
 -- A break or a continue that the stack resolves goes where its ending leads.
-use mathlib.Core.Path.{_≡_, refl, sym, ap, _∙_, subst}
-use Prim.Native.Nat.{ℕ, zero, suc}
-use mathlib.Core.Logic.{_⊎_, inl, inr}
+use mathlib.Core.Path.{_≡_, refl, sym, ap, _∙_}
+use Prim.Native.Nat.{ℕ}
 use mathlib.Core.List.{List, [], _∷_}
 use mathlib.Core.Option.{Option, none, some}
-use mathlib.Core.Bool.{Bool, true, false}
+use mathlib.Core.Bool.{Bool, true, false, _||_}
 use native.Mathlib.Omega.{arith}
 use lib.Dec.{eqb}
-use borrow.Author.Tests.{eqb-true, eqb-false, eq-eqb}
-use Rattle.table.specs.Table.{Table, Terminal, while, terminalAt}
-use Rattle.definition.specs.Context.{Flags, has, or, ControlFlowTarget, target-if, target-loop, Entry, targetBlock, isLoop, continuesAt, breakKind, breakTargetFrom, Resolution, continueKind, continueTargetFrom}
+use borrow.Author.Tests.{eqb-true, eqb-false}
+use Rattle.table.specs.Table.{Table, while, terminalAt}
+use Rattle.definition.specs.Context.{Flags, has, target-if, target-loop, Entry, targetBlock, isLoop, continuesAt, breakKind, breakTargetFrom, Resolution, continueKind, continueTargetFrom}
 use Rattle.definition.specs.Plain.{Plain, fallthroughOf}
 use Rattle.definition.specs.Completion.{break, continue}
 use Rattle.definition.specs.TreeRun.{jumpCompletion}
@@ -63,12 +62,12 @@ module _ (t : Table) where
   unfolding breakTargetFrom
   break-at fnone g top above c n e = absurd (some-none e)
   break-at {sc} (flabel {F} {S} i f p) g top above c n e =
-      found f g (eqb f g) (record { target = g; kind = breakKind false top above }) c (breakTargetFrom S g false (or above false)) (breakAt F g) refl e (λ h. break-at p g false (or above false) c n h)
+      found f g (eqb f g) (record { target = g; kind = breakKind false top above }) c (breakTargetFrom S g false (above || false)) (breakAt F g) refl e (λ h. break-at p g false (above || false) c n h)
   break-at {sc} (fscope {F} {S} i f s p) g top above c n e =
-      passed f g (eqb f g) (record { target = g; kind = breakKind false top above }) c (breakTargetFrom S g false (or above false)) (breakAt F g) refl e
-      (λ h. true-false (sym s ∙ ap (has sc) h ∙ n)) (λ h. break-at p g false (or above false) c n h)
+      passed f g (eqb f g) (record { target = g; kind = breakKind false top above }) c (breakTargetFrom S g false (above || false)) (breakAt F g) refl e
+      (λ h. true-false (sym s ∙ ap (has sc) h ∙ n)) (λ h. break-at p g false (above || false) c n h)
   break-at {sc} (floop {F} {S} i f x w l ll o s p) g top above c n e =
-      found f g (eqb f g) (record { target = g; kind = breakKind true top above }) c (breakTargetFrom S g false (or above true)) (breakAt F g) refl e (λ h. break-at p g false (or above true) c n h)
+      found f g (eqb f g) (record { target = g; kind = breakKind true top above }) c (breakTargetFrom S g false (above || true)) (breakAt F g) refl e (λ h. break-at p g false (above || true) c n h)
 
   labeled-unlabeled : labeled ≡ unlabeled → ⊥
   labeled-unlabeled e = let z : _≡_ {A = ℕ} 0 1 = cc in omega arith
@@ -115,8 +114,8 @@ module _ (t : Table) where
   unfolding breakTargetFrom
   below-never [] g above c e k = some-none e
   below-never (x ∷ S) g above c e k =
-      either (eqb (targetBlock (x .target)) g) (record { target = g; kind = breakKind (isLoop (x .target)) false above }) c (breakTargetFrom S g false (or above (isLoop (x .target)))) ⊥ e
-      (λ h. kind-below (isLoop (x .target)) above (kind-of h ∙ k)) (λ h. below-never S g (or above (isLoop (x .target))) c h k)
+      either (eqb (targetBlock (x .target)) g) (record { target = g; kind = breakKind (isLoop (x .target)) false above }) c (breakTargetFrom S g false (above || isLoop (x .target))) ⊥ e
+      (λ h. kind-below (isLoop (x .target)) above (kind-of h ∙ k)) (λ h. below-never S g (above || isLoop (x .target)) c h k)
 
   break-out : {sc : Flags} {F : List Frame} {S : List Entry} → Framed sc F S → (g : ℕ) (top : Bool) (c : Resolution) → breakTargetFrom S g top false ≡ some c
       → c .kind ≡ unlabeled → breakOut F ≡ some g
@@ -136,20 +135,20 @@ module _ (t : Table) where
   unfolding breakTargetFrom
   break-exit fnone g top above c e k = absurd (some-none e)
   break-exit (flabel {F} {S} i f p) g top above c e k =
-      take f g (eqb f g) (record { target = g; kind = breakKind false top above }) c (breakTargetFrom S g false (or above false)) refl e (λ h. below-never S g (or above false) c h k)
+      take f g (eqb f g) (record { target = g; kind = breakKind false top above }) c (breakTargetFrom S g false (above || false)) refl e (λ h. below-never S g (above || false) c h k)
   break-exit (fscope {F} {S} i f s p) g top above c e k =
-      take f g (eqb f g) (record { target = g; kind = breakKind false top above }) c (breakTargetFrom S g false (or above false)) refl e (λ h. below-never S g (or above false) c h k)
+      take f g (eqb f g) (record { target = g; kind = breakKind false top above }) c (breakTargetFrom S g false (above || false)) refl e (λ h. below-never S g (above || false) c h k)
   break-exit (floop {F} {S} i f x w l ll o s p) g top above c e k =
-      either (eqb f g) (record { target = g; kind = breakKind true top above }) c (breakTargetFrom S g false (or above true)) (some x ≡ some g) e
-      (λ h. absurd (kind-loop top above (kind-of h ∙ k))) (λ h. absurd (below-never S g (or above true) c h k))
+      either (eqb f g) (record { target = g; kind = breakKind true top above }) c (breakTargetFrom S g false (above || true)) (some x ≡ some g) e
+      (λ h. absurd (kind-loop top above (kind-of h ∙ k))) (λ h. absurd (below-never S g (above || true) c h k))
 
   -- a break resolves to the block it names
   pub break-names : (S : List Entry) (g : ℕ) (top above : Bool) (c : Resolution) → breakTargetFrom S g top above ≡ some c → c .target ≡ g
   unfolding breakTargetFrom
   break-names [] g top above c e = absurd (some-none e)
   break-names (x ∷ S) g top above c e =
-      either (eqb (targetBlock (x .target)) g) (record { target = g; kind = breakKind (isLoop (x .target)) top above }) c (breakTargetFrom S g false (or above (isLoop (x .target)))) (c .target ≡ g) e
-      (λ h. sym (ap (λ (z : Resolution). z .target) h)) (λ h. break-names S g false (or above (isLoop (x .target))) c h)
+      either (eqb (targetBlock (x .target)) g) (record { target = g; kind = breakKind (isLoop (x .target)) top above }) c (breakTargetFrom S g false (above || isLoop (x .target))) (c .target ≡ g) e
+      (λ h. sym (ap (λ (z : Resolution). z .target) h)) (λ h. break-names S g false (above || isLoop (x .target)) c h)
 
   -- the break's row goes to its block
   pub break-target : {sc : Flags} {F : List Frame} {S : List Entry} → Framed sc F S → (g : ℕ) (c : Resolution) → breakTargetFrom S g true false ≡ some c
@@ -183,8 +182,8 @@ module _ (t : Table) where
   continue-below-never [] g above c e k = some-none e
   continue-below-never (x ∷ S) g above c e k =
       either (continuesAt (x .target) g) (record { target = targetBlock (x .target); kind = continueKind false above }) c
-      (continueTargetFrom S g false (or above (isLoop (x .target)))) ⊥ e
-      (λ h. continue-below above (kind-of h ∙ k)) (λ h. continue-below-never S g (or above (isLoop (x .target))) c h k)
+      (continueTargetFrom S g false (above || isLoop (x .target))) ⊥ e
+      (λ h. continue-below above (kind-of h ∙ k)) (λ h. continue-below-never S g (above || isLoop (x .target)) c h k)
 
   continue-out : {sc : Flags} {F : List Frame} {S : List Entry} → Framed sc F S → (g : ℕ) (top : Bool) (c : Resolution) → continueTargetFrom S g top false ≡ some c
       → c .kind ≡ unlabeled → continueOut F ≡ some g
@@ -200,11 +199,11 @@ module _ (t : Table) where
       → c .kind ≡ implicit → exit F ≡ some g
   unfolding continueTargetFrom
   continue-exit fnone g top above c e k = absurd (some-none e)
-  continue-exit (flabel {F} {S} i f p) g top above c e k = absurd (continue-below-never S g (or above false) c e k)
-  continue-exit (fscope {F} {S} i f s p) g top above c e k = absurd (continue-below-never S g (or above false) c e k)
+  continue-exit (flabel {F} {S} i f p) g top above c e k = absurd (continue-below-never S g (above || false) c e k)
+  continue-exit (fscope {F} {S} i f s p) g top above c e k = absurd (continue-below-never S g (above || false) c e k)
   continue-exit (floop {F} {S} i f x w l ll o s p) g top above c e k =
-      take x g (eqb x g) (record { target = f; kind = continueKind top above }) c (continueTargetFrom S g false (or above true)) refl e
-      (λ h. continue-below-never S g (or above true) c h k)
+      take x g (eqb x g) (record { target = f; kind = continueKind top above }) c (continueTargetFrom S g false (above || true)) refl e
+      (λ h. continue-below-never S g (above || true) c h k)
 
   -- the loop that was found is of a While with this test
   abbrev Of : ℕ → ℕ → Type 0
@@ -219,10 +218,10 @@ module _ (t : Table) where
   continue-of : {sc : Flags} {F : List Frame} {S : List Entry} → Framed sc F S → (g : ℕ) (top above : Bool) (c : Resolution) → continueTargetFrom S g top above ≡ some c → Of g (c .target)
   unfolding continueTargetFrom
   continue-of fnone g top above c e = absurd (some-none e)
-  continue-of (flabel {F} {S} i f p) g top above c e = continue-of p g false (or above false) c e
-  continue-of (fscope {F} {S} i f s p) g top above c e = continue-of p g false (or above false) c e
+  continue-of (flabel {F} {S} i f p) g top above c e = continue-of p g false (above || false) c e
+  continue-of (fscope {F} {S} i f s p) g top above c e = continue-of p g false (above || false) c e
   continue-of (floop {F} {S} i f x w l ll o s p) g top above c e =
-      found-of x g f w l (continueKind top above) (eqb x g) c (continueTargetFrom S g false (or above true)) refl s e (λ h. continue-of p g false (or above true) c h)
+      found-of x g f w l (continueKind top above) (eqb x g) c (continueTargetFrom S g false (above || true)) refl s e (λ h. continue-of p g false (above || true) c h)
 
   while-test : {x l f x′ l′ f′ : ℕ} → while x l f ≡ while x′ l′ f′ → x ≡ x′
   while-test e = cc
@@ -245,12 +244,12 @@ module _ (t : Table) where
         → Of g (c .target) → continueAt F (c .target) ≡ some g
     unfolding continueTargetFrom
     continue-at fnone g top above c e n = absurd (some-none e)
-    continue-at (flabel {F} {S} i f p) g top above c e n = continue-at p g false (or above false) c e n
-    continue-at (fscope {F} {S} i f s p) g top above c e n = continue-at p g false (or above false) c e n
+    continue-at (flabel {F} {S} i f p) g top above c e n = continue-at p g false (above || false) c e n
+    continue-at (fscope {F} {S} i f s p) g top above c e n = continue-at p g false (above || false) c e n
     continue-at (floop {F} {S} i f x w l ll o s p) g top above c e n =
         at-loop x g f (c .target) w l (eqb f (c .target)) (continueAt F (c .target)) refl s n
-        (λ z. either (eqb x g) (record { target = f; kind = continueKind top above }) c (continueTargetFrom S g false (or above true)) (continueAt F (c .target) ≡ some g) e
-        (λ h. absurd (z (ap (λ (y : Resolution). y .target) h))) (λ h. continue-at p g false (or above true) c h n))
+        (λ z. either (eqb x g) (record { target = f; kind = continueKind top above }) c (continueTargetFrom S g false (above || true)) (continueAt F (c .target) ≡ some g) e
+        (λ h. absurd (z (ap (λ (y : Resolution). y .target) h))) (λ h. continue-at p g false (above || true) c h n))
 
     pub continue-target : {sc : Flags} {F : List Frame} {S : List Entry} → Framed sc F S → (g : ℕ) (f : ℕ) (k : Kind)
         → continueTargetFrom S g true false ≡ some (record { target = f; kind = k }) → target F (jumpCompletion k f continue) ≡ some g

@@ -13,7 +13,7 @@ use Rattle.definition.specs.Tree.{Value, IF, WHILE, LABEL, SCOPE, RETURN
 use Rattle.definition.specs.Statement.{instructionStatements}
 use Rattle.definition.specs.Run.{Answers, Reason, returned, threw, no-answer-left, isGood, Run, stopped}
 use Rattle.definition.specs.BlockRun.{Move, go, halt, byAnswer, move, performing, blockRun}
-use Rattle.definition.specs.Completion.{Completion, normal, break, continue, stop, contains, loopContinues, breakable, labelled}
+use Rattle.definition.specs.Completion.{Completion, normal, break, continue, stop, loopContinues, breakable, labelled}
 use Rattle.definition.specs.TreeRun.{Completed, completed, completing, prefix, thenOn, then, choose, performs, afterBody, whileRounds, whileLoop, loop, runStatements}
 
 -- ---- where a completion leads: the statements around, from the innermost
@@ -212,7 +212,7 @@ module _ (t : Table) where
 
   label-on : (F : List Frame) (f b : ℕ) (ans : Answers) (tr : List ℕ) (e : Completion) (left : Answers)
       → LeadsOn (fLabel f ∷ F) b ans tr e left → EndsOn F f b ans tr (labelled (some f) e) left
-  unfolding labelled contains
+  unfolding labelled
   label-on F f b ans tr normal left (b′, h, p) = at f b′ h p
   label-on F f b ans tr (break none) left p = p
   label-on F f b ans tr (break (some x)) left (b′, h, p) = label-break F f b ans tr x left (eqb f x) b′ h p
@@ -247,7 +247,7 @@ module _ (t : Table) where
 
   loop-on : (F : List Frame) (f x b : ℕ) (ans : Answers) (tr : List ℕ) (e : Completion) (left : Answers)
       → LeadsOn (fLoop f x ∷ F) b ans tr e left → RoundOn F f x b ans tr e (loopContinues e (f ∷ [])) left
-  unfolding loopContinues labelled breakable contains
+  unfolding loopContinues labelled breakable
   loop-on F f x b ans tr normal left (b′, h, p) = at x b′ h p
   loop-on F f x b ans tr (break none) left (b′, h, p) = at f b′ h p
   loop-on F f x b ans tr (break (some z)) left (b′, h, p) = label-break F f b ans tr z left (eqb f z) b′ h p

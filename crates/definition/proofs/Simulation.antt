@@ -1,25 +1,25 @@
 -- The machine does what the walk says.
 use mathlib.Core.Path.{_≡_, refl, sym, ap, _∙_, subst, subst₂}
-use Prim.Native.Nat.{ℕ, zero, suc, _+_, _*_, _-_, _≤_, _<_}
-use native.Mathlib.Nat.{zero-add, suc-add, add-zero, add-suc, add-assoc, le-refl, le-trans}
+use Prim.Native.Nat.{ℕ, zero, suc, _+_, _-_, _≤_, _<_}
+use native.Mathlib.Nat.{zero-add, add-zero, le-refl}
 use native.Mathlib.Omega.{arith}
-use mathlib.Core.List.{List, [], _∷_, _++_, append-assoc, append-nil, reverse, reverse-append}
+use mathlib.Core.List.{List, [], _∷_, _++_, append-nil, reverse, reverse-append}
 use mathlib.Core.Option.{Option, none, some}
 use mathlib.Core.Bool.{Bool, true, false, not}
 use lib.ListN.{length, getD, take, drop, length-drop, length-reverse}
 use lib.Seq.{take-suc, getD-drop}
-use lib.Dec.{eqb, leb}
+use lib.Dec.{eqb}
 use borrow.Author.Tests.{lt-leb, le-leb, eq-eqb}
-use Rattle.table.specs.Table.{Table, Block, Case, Terminal, absent, unreachable, throw, return, goto, if, branch, switch, do-while, while, for, for-of, for-in, logical, ternary, optional, sequence, maybe-throw, try, scope, Variant, Break, Continue, Try, blockAt, terminalAt, instructionRowsAt, instructionRows, isAbsent, label}
+use Rattle.table.specs.Table.{Table, Block, Case, Terminal, absent, unreachable, throw, return, goto, if, branch, switch, do-while, while, for, for-of, for-in, logical, ternary, optional, sequence, maybe-throw, try, scope, Variant, Break, Continue, Try, blockAt, terminalAt, instructionRowsAt, isAbsent, label}
 use Rattle.definition.specs.Build.{accepted, Report, rejected, reported, report}
-use Rattle.definition.specs.Context.{Flags, has, add, ControlFlowTarget, targetBlock, target-case, Entry, Context, start, isScheduled, emit, withVisits, scheduleCatchHandler, markScopeFallthrough, pushed, schedule, scheduleLoop, unscheduledBy, popped, unscheduleTop, unschedule}
-use Rattle.definition.specs.Machine.{Frame, State, visiting, ended, choosing, popping, Turn, going, halt, turn, leave, blockRow, valueOut, updateOut, stmtOut, jumpOut, added, instrOut, scopeRow, hasUpdate, closingRowOf, closingRow, scheduled, scheduledIf, scheduledSwitch, unscheduledTop, unscheduled, unscheduledIf, opens, frameOf, secondPart, withEntries, withLeft, caseBuilt, into, intoLoop, complete, closeBy, close, no-case, caseAt, numberOfCases, chooseCase, firstCase, afterCases, resumeAt, resume, branchTurn, valueTurn, terminalTurn, depthLeft, visitTurn, step, begin, Gives, halts, goes, run}
+use Rattle.definition.specs.Context.{has, add, target-case, Entry, Context, start, isScheduled, emit, withVisits, scheduleCatchHandler, markScopeFallthrough, pushed, schedule, scheduleLoop, unscheduledBy, popped, unscheduleTop, unschedule}
+use Rattle.definition.specs.Machine.{Frame, State, visiting, ended, choosing, going, halt, turn, leave, blockRow, valueOut, updateOut, statementOut, jumpOut, added, instructionsOut, closingRowOf, closingRow, scheduled, scheduledIf, scheduledSwitch, unscheduledTop, unscheduled, unscheduledIf, opens, frameOf, secondPart, withEntries, into, intoLoop, complete, closeBy, close, noCase, caseAt, numberOfCases, chooseCase, switchColumns, resumeAt, resume, branchTurn, valueTurn, terminalTurn, depthLeft, visitTurn, step, begin, Gives, halts, goes}
 use Rattle.definition.specs.Result.{refused, Result, ok, _>>=_, refuseIf}
-use Rattle.definition.specs.Statement.{visitBreak, visitContinue, breakResolved, continueResolved, OptionalValue, visitUpdate, continueBlockOf, TerminalResult, BlockResult, TraverseBlock, enterBlock, unlessScheduled, unlessUnreachable, scheduleIf, unscheduleIf, markScopeFallthroughIf, traverseUnscheduled, AlternateResult, traverseAlternate, visitGoto, traverseEnclosed, loopIsTaken, traverseLoop, CasesResult, traverseCases, unscheduleAll, scheduleSwitch, scheduleIds, casesLastFirst, singleStatement, traverseConsequent, visitValueStatement, visitTerminal, instructionStatements, followedBy, thenNext, visitBlock, traverseBlock, buildTree}
-use Rattle.definition.specs.Tree.{Value, Statement, Statements, done, Cases, no-cases, CASE, Row, row, orNone, flag, present, countStatements, countCases, IF, INSTR, SWITCH, WHILE, FOR, FOROF, FORIN, DOWHILE, LABEL, TRY, SCOPE, rows, blockRows}
-use Rattle.definition.specs.Value.{visitValueBlock, mostDepth, mostVisits, beginVisit, ValueBlockResult, ValueTerminalResult, VisitValueBlock, visitValueBlockTerminal, valueBlockResultToSequence}
-use Rattle.definition.proofs.Rows.{stmtsOut, casesOut, bodyOut, body-out, performing-out, count-performing, followed-out, count-followed, rows-if, rows-else, rows-do, rows-while, rows-for, rows-forof, rows-forin, rows-label, rows-try, rows-scope, rows-value, rows-single, rows-case, rows-switch, rows-chain, count-chain}
-use Rattle.definition.proofs.Grow.{Good, good-bind, Any, any, Grows, value-grows, terminal-grows, update-grows, Kept, enter-grows, loop-kept, scopedIf-kept}
+use Rattle.definition.specs.Statement.{visitBreak, visitContinue, OptionalValue, visitUpdate, continueBlockOf, TerminalResult, BlockResult, TraverseBlock, enterBlock, unlessScheduled, unlessUnreachable, scheduleIf, unscheduleIf, markScopeFallthroughIf, traverseUnscheduled, AlternateResult, traverseAlternate, visitGoto, traverseEnclosed, loopIsTaken, traverseLoop, CasesResult, traverseCases, unscheduleAll, scheduleSwitch, scheduleIds, casesLastFirst, traverseConsequent, visitValueStatement, visitTerminal, instructionStatements, followedBy, thenNext, visitBlock, traverseBlock, buildTree}
+use Rattle.definition.specs.Tree.{Statement, Statements, done, Cases, no-cases, CASE, Row, row, orNone, countStatements, countCases, IF, INSTR, SWITCH, rows, updatePresent}
+use Rattle.definition.specs.Value.{visitValueBlock, beginVisit, ValueTerminalResult, VisitValueBlock, visitValueBlockTerminal, valueBlockResultToSequence}
+use Rattle.definition.proofs.Rows.{stmtsOut, casesOut, bodyOut, body-out, rows-if, rows-else, rows-do, rows-while, rows-for, rows-forof, rows-forin, rows-label, rows-try, rows-scope, rows-value, rows-single, rows-case, rows-switch, rows-chain, count-chain}
+use Rattle.definition.proofs.Grow.{Good, good-bind, Any, any, Grows, value-grows, terminal-grows, Kept, enter-grows, scopedIf-kept}
 use Rattle.definition.proofs.Never.{Fine, After, WalkFine, walk-fine, Free, untaken-free, reached-fine, schedule-free, or-false, false-of}
 use Rattle.definition.proofs.Tools.{true-false}
 
@@ -86,7 +86,7 @@ module _ {t : Table} {v : ℕ} {F : List Frame} {R : List Row} {n : ℕ} where
   sim-map (refused e q w) f g h = h
 
   -- a statement is complete
-  sim-leave : {R₁ : List Row} {g : Option ℕ} (s : Statement) {c : Context} → R₁ ≡ R ++ stmtOut s → v ≤ c .visits
+  sim-leave : {R₁ : List Row} {g : Option ℕ} (s : Statement) {c : Context} → R₁ ≡ R ++ statementOut s → v ≤ c .visits
       → Sim t v F R n (ok (leave g F R₁ (suc n) c)) (ok (record { statement = some s; next = g; context = c }))
   sim-leave {R₁} {g} s {c} e h = record { raw = (h, λ a q. subst (λ (z : List Row). Gives t (leave g F z (suc n) c) a) (sym e) q) }
 
@@ -204,17 +204,17 @@ closes t (suc (suc n)) fr F R c a h = goes refl (closes t (suc n) (withEntries (
 
 sim-close : {t : Table} {v : ℕ} {F : List Frame} {R : List Row} (fr : Frame) (ids : List ℕ) (e : Terminal) (R₁ : List Row) (m : Result Context) (s : Statement) (c : Context)
     → terminalAt t (fr .block) ≡ e → m ≡ unscheduleAll ids c → fr .entries ≡ length ids → Tops ids (c .stack)
-    → R₁ ++ (closingRowOf e (blockAt t (fr .block)) (fr .second) (fr .label) (fr .built) ∷ []) ≡ R ++ stmtOut s → v ≤ c .visits
+    → R₁ ++ (closingRowOf e (blockAt t (fr .block)) (fr .second) (fr .label) (fr .built) ∷ []) ≡ R ++ statementOut s → v ≤ c .visits
     → Sim t v F R (fr .count) (ok (close t fr F R₁ c)) (m >>= λ c1. ok (record { statement = some s; next = fr .label; context = c1 }))
 unfolding close
 sim-close {t} {v} {F} {R} fr ids e R₁ m s c q o k u r h =
     sim-by (λ c1. ok (record { statement = some s; next = fr .label; context = c1 })) (o ∙ pop-all ids c u)
     (record { raw = (rw (popAll-kept (length ids) c) h, λ a g. closing (fr .entries) k a g) })
   where
-    row-is : R₁ ++ (closingRow t (fr .block) (fr .second) (fr .label) (fr .built) ∷ []) ≡ R ++ stmtOut s
+    row-is : R₁ ++ (closingRow t (fr .block) (fr .second) (fr .label) (fr .built) ∷ []) ≡ R ++ statementOut s
     row-is = ap (λ (z : Terminal). R₁ ++ (closingRowOf z (blockAt t (fr .block)) (fr .second) (fr .label) (fr .built) ∷ [])) q ∙ r
 
-    closing : (z : ℕ) → z ≡ length ids → (a : Report) → Gives t (leave (fr .label) F (R ++ stmtOut s) (suc (fr .count)) (popAll (length ids) c)) a → Gives t (closeBy z t fr F R₁ c) a
+    closing : (z : ℕ) → z ≡ length ids → (a : Report) → Gives t (leave (fr .label) F (R ++ statementOut s) (suc (fr .count)) (popAll (length ids) c)) a → Gives t (closeBy z t fr F R₁ c) a
     closing z k a g = closes t z fr F R₁ c a
         (subst₂ (λ (y : List Row) (i : ℕ). Gives t (leave (fr .label) F y (suc (fr .count)) (popAll i c)) a) (sym row-is) (sym k) g)
 
@@ -228,9 +228,9 @@ Past c d = (c .visits < d .visits) × After c d
 cases-next : (t : Table) (i j : ℕ) → i + j < length (t .cases) → casesLastFirst t i (suc j) ≡ caseAt t (i + j) ∷ casesLastFirst t i j
 unfolding casesLastFirst
 cases-next t i j h =
-    ap (λ (l : List Case). reverse l) (take-suc (drop i (t .cases)) j no-case (omega (arith, length-drop i (t .cases))))
-    ∙ reverse-append (take j (drop i (t .cases))) (getD (drop i (t .cases)) j no-case ∷ [])
-    ∙ ap (λ (k : Case). k ∷ reverse (take j (drop i (t .cases)))) (getD-drop i (t .cases) j no-case)
+    ap (λ (l : List Case). reverse l) (take-suc (drop i (t .cases)) j noCase (omega (arith, length-drop i (t .cases))))
+    ∙ reverse-append (take j (drop i (t .cases))) (getD (drop i (t .cases)) j noCase ∷ [])
+    ∙ ap (λ (k : Case). k ∷ reverse (take j (drop i (t .cases)))) (getD-drop i (t .cases) j noCase)
 
 cases-none : (t : Table) (i : ℕ) → casesLastFirst t i 0 ≡ []
 unfolding casesLastFirst
@@ -351,9 +351,9 @@ module _ (t : Table) (d : ℕ) (inner : TraverseBlock) (ws : Walks t d inner) (w
             | true ↦ visitBreak b y (blockAt t b .id) c >>= λ s. into a 19 b (secondPart (frameOf b none 0 n)) F ((R ++ jumpOut s) ++ (blockRow (added s 0) ∷ [])) c
             | false ↦ ok (visiting y (frameOf b none 0 n ∷ F) R 0 c)
           ])
-          (_>>=_ {A = BlockResult} (elim z [ true ↦ visitBreak b y (blockAt t b .id) c >>= λ s. ok (record { statements = singleStatement s; context = c }) | false ↦ inner y c ]) K)
+          (_>>=_ {A = BlockResult} (elim z [ true ↦ visitBreak b y (blockAt t b .id) c >>= λ s. ok (record { statements = followedBy s done; context = c }) | false ↦ inner y c ]) K)
       at true =
-          sim-assoc (visitBreak b y (blockAt t b .id) c) _ K (sim-go _ _ _ (λ s. sim-ok _ K (other-way x y a b _ c (singleStatement s) q size h (rows-single R s))))
+          sim-assoc (visitBreak b y (blockAt t b .id) c) _ K (sim-go _ _ _ (λ s. sim-ok _ K (other-way x y a b _ c (followedBy s done) q size h (rows-single R s))))
       at false = sim-inner (frameOf b none 0 n) _ y R c K q size (λ r p. other-way x y a b _ (r .context) (r .statements) q size (omega arith) refl)
 
   -- ---- Label and scopes, loops: the last part closes the statement
@@ -363,7 +363,7 @@ module _ (t : Table) (d : ℕ) (inner : TraverseBlock) (ws : Walks t d inner) (w
 
   enclosed-sim : {v : ℕ} {F : List Frame} {R : List Row} {n : ℕ} (e : Terminal) (b x code at : ℕ) (g : Option ℕ) (c₀ c : Context) (make : Statements → Statement)
       → terminalAt t b ≡ e → Lasts e → length F + suc d ≡ 128 → v ≤ c .visits → Tops (scheduleIds g (c₀ .nextId)) (c .stack)
-      → ((s : Statements) → bodyOut R s ++ (closingRowOf e (blockAt t b) false g 0 ∷ []) ≡ R ++ stmtOut (make s))
+      → ((s : Statements) → bodyOut R s ++ (closingRowOf e (blockAt t b) false g 0 ∷ []) ≡ R ++ statementOut (make s))
       → Sim t v F R n (into x code at (labelled b g n) F R c) (traverseEnclosed inner x code at g c₀ c make)
   unfolding traverseEnclosed
   enclosed-sim {v} {F} {R} {n} e b x code at g c₀ c make q l size h u o =
@@ -374,7 +374,7 @@ module _ (t : Table) (d : ℕ) (inner : TraverseBlock) (ws : Walks t d inner) (w
 
   loop-sim : {v : ℕ} {F : List Frame} {R : List Row} {n : ℕ} (e : Terminal) (b l : ℕ) (bad : Bool) (w i : ℕ) (c : Context) (g : Option ℕ) (R₁ : List Row) (make : Statements → Statement)
       → terminalAt t b ≡ e → Lasts e → length F + suc d ≡ 128 → v ≤ w → Tops (i ∷ []) (c .stack)
-      → ((s : Statements) → bodyOut R₁ s ++ (closingRowOf e (blockAt t b) false g 0 ∷ []) ≡ R ++ stmtOut (make s))
+      → ((s : Statements) → bodyOut R₁ s ++ (closingRowOf e (blockAt t b) false g 0 ∷ []) ≡ R ++ statementOut (make s))
       → Sim t v F R n (intoLoop b l bad w (frameOf b g 1 n) F R₁ c) (traverseLoop inner b l bad w i c g make)
   unfolding traverseLoop intoLoop withVisits
   loop-sim {v} {F} {R} {n} e b l bad w i c g R₁ make q la size h u o =
@@ -389,7 +389,7 @@ module _ (t : Table) (d : ℕ) (inner : TraverseBlock) (ws : Walks t d inner) (w
 
   cases-sim : {v : ℕ} {F : List Frame} {R : List Row} {n : ℕ} (x i m f b : ℕ) (g : Option ℕ) (j : ℕ) (ids : List ℕ) (entries made : ℕ) (R₁ : List Row) (c : Context) (make : Cases → Statement)
       → terminalAt t b ≡ switch x i m f → length F + suc d ≡ 128 → j ≤ length (t .cases) - i → v ≤ c .visits → entries ≡ length ids → Tops ids (c .stack)
-      → ((z : Cases) → (R₁ ++ casesOut z) ++ (row 12 x (made + countCases z) (blockAt t b .id) (orNone g) 0 ∷ []) ≡ R ++ stmtOut (make z))
+      → ((z : Cases) → (R₁ ++ casesOut z) ++ (row 12 x (made + countCases z) (blockAt t b .id) (orNone g) 0 ∷ []) ≡ R ++ statementOut (make z))
       → Sim t v F R n (ok (choosing (switched b g entries j made n) F R₁ c))
       (traverseCases inner b f (casesLastFirst t i j) ids c >>= λ r. unscheduleAll (r .ids) (r .context) >>= λ c2. ok (record { statement = some (make (r .cases)); next = g; context = c2 }))
   unfolding step chooseCase traverseCases resumeAt closingRowOf
@@ -401,11 +401,11 @@ module _ (t : Table) (d : ℕ) (inner : TraverseBlock) (ws : Walks t d inner) (w
       K : CasesResult → Result TerminalResult
       K r = unscheduleAll (r .ids) (r .context) >>= λ c2. ok (record { statement = some (make (r .cases)); next = g; context = c2 })
 
-      e₀ : R₁ ++ (row 12 x made (blockAt t b .id) (orNone g) 0 ∷ []) ≡ R ++ stmtOut (make no-cases)
+      e₀ : R₁ ++ (row 12 x made (blockAt t b .id) (orNone g) 0 ∷ []) ≡ R ++ statementOut (make no-cases)
       e₀ = unfold casesOut in (rw (append-nil R₁, add-zero made) at (e no-cases))
   cases-sim {v} {F} {R} {n} x i m f b g (suc j) ids entries made R₁ c make q size few h k u e =
       sim-turn (choosing (switched b g entries (suc j) made n) F R₁ c) (chooseCase t i f (suc j) (switched b g entries (suc j) made n) F R₁ c) _
-      (ap (λ (z : Terminal). turn (chooseCase t (firstCase z) (afterCases z) (suc j) (switched b g entries (suc j) made n) F R₁ c)) q)
+      (ap (λ (z : Terminal). turn (chooseCase t (switchColumns z .first) (switchColumns z .fallthrough) (suc j) (switched b g entries (suc j) made n) F R₁ c)) q)
       (subst (λ (l : List Case). Sim t v F R n (chooseCase t i f (suc j) (switched b g entries (suc j) made n) F R₁ c) (traverseCases inner b f l ids c >>= K make)) (sym (cases-next t i j (omega arith)))
       (at (isScheduled c blk) refl (λ ids′ entries′ made′ R′ c′ make′ h′ k′ u′ e′. cases-sim x i m f b g j ids′ entries′ made′ R′ c′ make′ q size (omega arith) h′ k′ u′ e′)))
     where
@@ -422,7 +422,7 @@ module _ (t : Table) (d : ℕ) (inner : TraverseBlock) (ws : Walks t d inner) (w
       free r o p = unfold isScheduled in false-of (has (r .context .scheduled) blk) (λ z. true-false (sym (p .1 .sub blk z) ∙ or-false (has (c .scheduled) blk) (has (c .catchHandlers) blk) o))
 
       rows-on : (r : BlockResult) (z : Cases)
-          → ((bodyOut R₁ (r .statements) ++ (row 11 tst 0 0 0 0 ∷ [])) ++ casesOut z) ++ (row 12 x (suc made + countCases z) (blockAt t b .id) (orNone g) 0 ∷ []) ≡ R ++ stmtOut (make (CASE tst (r .statements) z))
+          → ((bodyOut R₁ (r .statements) ++ (row 11 tst 0 0 0 0 ∷ [])) ++ casesOut z) ++ (row 12 x (suc made + countCases z) (blockAt t b .id) (orNone g) 0 ∷ []) ≡ R ++ statementOut (make (CASE tst (r .statements) z))
       rows-on r z =
           let m : suc made + countCases z ≡ made + suc (countCases z) = omega arith in
           ap (λ (y : ℕ). ((bodyOut R₁ (r .statements) ++ (row 11 tst 0 0 0 0 ∷ [])) ++ casesOut z) ++ (row 12 x y (blockAt t b .id) (orNone g) 0 ∷ [])) m
@@ -431,7 +431,7 @@ module _ (t : Table) (d : ℕ) (inner : TraverseBlock) (ws : Walks t d inner) (w
 
       Again : Type 0
       Again = (ids′ : List ℕ) (entries′ made′ : ℕ) (R′ : List Row) (c′ : Context) (make′ : Cases → Statement) → v ≤ c′ .visits → entries′ ≡ length ids′ → Tops ids′ (c′ .stack)
-          → ((z : Cases) → (R′ ++ casesOut z) ++ (row 12 x (made′ + countCases z) (blockAt t b .id) (orNone g) 0 ∷ []) ≡ R ++ stmtOut (make′ z))
+          → ((z : Cases) → (R′ ++ casesOut z) ++ (row 12 x (made′ + countCases z) (blockAt t b .id) (orNone g) 0 ∷ []) ≡ R ++ statementOut (make′ z))
           → Sim t v F R n (ok (choosing (switched b g entries′ j made′ n) F R′ c′)) (traverseCases inner b f (casesLastFirst t i j) ids′ c′ >>= K make′)
 
       at : (y : Bool) → isScheduled c blk ≡ y → Again
@@ -503,7 +503,7 @@ module _ (t : Table) (d : ℕ) (inner : TraverseBlock) (ws : Walks t d inner) (w
   values x ft span v = value-grows t d x ft span v
 
   abbrev Updated : Option ℕ → ℕ → OptionalValue → Type 0
-  Updated u v w = (v ≤ w .visits) × (present (w .value) ≡ hasUpdate u)
+  Updated u v w = (v ≤ w .visits) × (updatePresent (w .value) ≡ updatePresent u)
 
   updates : (u : Option ℕ) (span v : ℕ) → Good (Updated u v) (visitUpdate visit u span v)
   unfolding visitUpdate
@@ -520,8 +520,8 @@ module _ (t : Table) (d : ℕ) (inner : TraverseBlock) (ws : Walks t d inner) (w
   unfolding terminalTurn visitTerminal
   terminal-sim absent b c q size h = record { raw = refl }
   terminal-sim unreachable b c q size h = silent none c h
-  terminal-sim (throw x) b c q size h = unfold stmtOut in sim-leave _ refl h
-  terminal-sim (return x) b c q size h = unfold stmtOut in sim-leave _ refl h
+  terminal-sim (throw x) b c q size h = unfold statementOut in sim-leave _ refl h
+  terminal-sim (return x) b c q size h = unfold statementOut in sim-leave _ refl h
   terminal-sim (goto g w) b c q size h = jumped c (visitGoto w b g (blockAt t b .id) c) h (jump-kept w b g (blockAt t b .id) c)
   terminal-sim {n = n} (if x y a f) b c q size h =
       sim-bind (λ g. Free g c) _ _ _ (reaches c f) (λ g free. sim-by _ (opened-if g c free)
@@ -594,7 +594,7 @@ module _ (t : Table) (d : ℕ) (inner : TraverseBlock) (ws : Walks t d inner) (w
   -- ---- the chain
 
   abbrev OnRows : List Row → ℕ → Option Statement → List Row
-  OnRows R b o = (R ++ instrOut t (instructionRowsAt t b)) ++ jumpOut o
+  OnRows R b o = (R ++ instructionsOut t (instructionRowsAt t b)) ++ jumpOut o
 
   abbrev OnCount : ℕ → ℕ → Option Statement → ℕ
   OnCount m b o = added o (m + length (instructionRowsAt t b))
@@ -623,13 +623,13 @@ module _ (t : Table) (d : ℕ) (inner : TraverseBlock) (ws : Walks t d inner) (w
       )
 
   visit-deep : (b : ℕ) (F : List Frame) (R : List Row) (m : ℕ) (c : Context) → length F + suc d ≡ 128
-      → visitTurn t b F R m c ≡ enterBlock t b c >>= λ c1. terminalTurn t (visitValueBlock t d) (terminalAt t b) b (blockAt t b) F (R ++ instrOut t (instructionRowsAt t b)) (m + length (instructionRowsAt t b)) c1
+      → visitTurn t b F R m c ≡ enterBlock t b c >>= λ c1. terminalTurn t (visitValueBlock t d) (terminalAt t b) b (blockAt t b) F (R ++ instructionsOut t (instructionRowsAt t b)) (m + length (instructionRowsAt t b)) c1
   unfolding visitTurn refuseIf _>>=_
   visit-deep b F R m c size =
       let e : depthLeft F ≡ d = omega arith in
       ap (λ (y : Bool). refuseIf y 30 b (c .visits) >>= λ _. enterBlock t b c >>= λ c1.
-      terminalTurn t (visitValueBlock t (depthLeft F)) (terminalAt t b) b (blockAt t b) F (R ++ instrOut t (instructionRowsAt t b)) (m + length (instructionRowsAt t b)) c1) (lt-leb 128 (length F) (omega arith))
-      ∙ ap (λ (z : ℕ). enterBlock t b c >>= λ c1. terminalTurn t (visitValueBlock t z) (terminalAt t b) b (blockAt t b) F (R ++ instrOut t (instructionRowsAt t b)) (m + length (instructionRowsAt t b)) c1) e
+      terminalTurn t (visitValueBlock t (depthLeft F)) (terminalAt t b) b (blockAt t b) F (R ++ instructionsOut t (instructionRowsAt t b)) (m + length (instructionRowsAt t b)) c1) (lt-leb 128 (length F) (omega arith))
+      ∙ ap (λ (z : ℕ). enterBlock t b c >>= λ c1. terminalTurn t (visitValueBlock t z) (terminalAt t b) b (blockAt t b) F (R ++ instructionsOut t (instructionRowsAt t b)) (m + length (instructionRowsAt t b)) c1) e
 
   enter-late : (b : ℕ) (c : Context) → 8192 ≤ c .visits → enterBlock t b c ≡ refused 31 b (c .visits)
   unfolding enterBlock beginVisit refuseIf _>>=_
@@ -642,10 +642,10 @@ module _ (t : Table) (d : ℕ) (inner : TraverseBlock) (ws : Walks t d inner) (w
   unfolding visitBlock step
   chain-sim zero b F R m c size lt =
       gives-turn t (visiting b F R m c) (refused 31 b (c .visits)) (rejected 31 b (c .visits))
-      (ap turn (visit-deep b F R m c size ∙ ap (λ (z : Result Context). z >>= λ c1. terminalTurn t (visitValueBlock t d) (terminalAt t b) b (blockAt t b) F (R ++ instrOut t (instructionRowsAt t b)) (m + length (instructionRowsAt t b)) c1) (enter-late b c (omega arith)) ∙ gone))
+      (ap turn (visit-deep b F R m c size ∙ ap (λ (z : Result Context). z >>= λ c1. terminalTurn t (visitValueBlock t d) (terminalAt t b) b (blockAt t b) F (R ++ instructionsOut t (instructionRowsAt t b)) (m + length (instructionRowsAt t b)) c1) (enter-late b c (omega arith)) ∙ gone))
       refl
     where
-      gone : (refused 31 b (c .visits) >>= λ c1. terminalTurn t (visitValueBlock t d) (terminalAt t b) b (blockAt t b) F (R ++ instrOut t (instructionRowsAt t b)) (m + length (instructionRowsAt t b)) c1) ≡ refused 31 b (c .visits)
+      gone : (refused 31 b (c .visits) >>= λ c1. terminalTurn t (visitValueBlock t d) (terminalAt t b) b (blockAt t b) F (R ++ instructionsOut t (instructionRowsAt t b)) (m + length (instructionRowsAt t b)) c1) ≡ refused 31 b (c .visits)
       gone = unfold _>>=_ in refl
   chain-sim (suc n) b F R m c size lt =
       at (enterBlock t b c) (enter-grows t b c) (ap turn (visit-deep b F R m c size)) (λ k R′ m′ c′ le. chain-sim n k F R′ m′ c′ size le)
@@ -654,7 +654,7 @@ module _ (t : Table) (d : ℕ) (inner : TraverseBlock) (ws : Walks t d inner) (w
       S = visiting b F R m c
 
       f : Context → Result State
-      f c1 = terminalTurn t (visitValueBlock t d) (terminalAt t b) b (blockAt t b) F (R ++ instrOut t (instructionRowsAt t b)) (m + length (instructionRowsAt t b)) c1
+      f c1 = terminalTurn t (visitValueBlock t d) (terminalAt t b) b (blockAt t b) F (R ++ instructionsOut t (instructionRowsAt t b)) (m + length (instructionRowsAt t b)) c1
 
       g : Context → Result BlockResult
       g c1 = visitTerminal t (visitValueBlock t d) inner (terminalAt t b) b (blockAt t b) c1 >>= λ s. thenNext t b (visitBlock t (visitValueBlock t d) inner n) (s .statement) (s .next) (s .context)
@@ -663,7 +663,7 @@ module _ (t : Table) (d : ℕ) (inner : TraverseBlock) (ws : Walks t d inner) (w
       Again = (k : ℕ) (R′ : List Row) (m′ : ℕ) (c′ : Context) → 8193 ≤ n + c′ .visits → Along t (visiting k F R′ m′ c′) (c′ .visits) F R′ m′ (visitBlock t (visitValueBlock t d) inner n k c′)
 
       after : (c1 : Context) (y : Result TerminalResult) → c1 .visits ≡ suc (c .visits) → step t S ≡ turn (f c1) → Again
-          → Beside t (c1 .visits) F (R ++ instrOut t (instructionRowsAt t b)) (m + length (instructionRowsAt t b)) (f c1) y
+          → Beside t (c1 .visits) F (R ++ instructionsOut t (instructionRowsAt t b)) (m + length (instructionRowsAt t b)) (f c1) y
           → Along t S (c .visits) F R m (y >>= λ s. thenNext t b (visitBlock t (visitValueBlock t d) inner n) (s .statement) (s .next) (s .context))
       after c1 (refused e p w) q st again u = unfold _>>=_ in gives-turn t S (f c1) (rejected e p w) st u
       after c1 (ok s) q st again (le, u) = unfold _>>=_ in
@@ -683,7 +683,7 @@ walk-sim t zero b F R m c size = gives-turn t (visiting b F R m c) (refused 30 b
     full : visitTurn t b F R m c ≡ refused 30 b (c .visits)
     full = unfold visitTurn refuseIf _>>=_ in
         ap (λ (y : Bool). refuseIf y 30 b (c .visits) >>= λ _. enterBlock t b c >>= λ c1.
-        terminalTurn t (visitValueBlock t (depthLeft F)) (terminalAt t b) b (blockAt t b) F (R ++ instrOut t (instructionRowsAt t b)) (m + length (instructionRowsAt t b)) c1) (le-leb 128 (length F) (omega arith))
+        terminalTurn t (visitValueBlock t (depthLeft F)) (terminalAt t b) b (blockAt t b) F (R ++ instructionsOut t (instructionRowsAt t b)) (m + length (instructionRowsAt t b)) c1) (le-leb 128 (length F) (omega arith))
 walk-sim t (suc d) b F R m c size = chain-sim t d (traverseBlock t d) (walk-sim t d) (walk-fine t d) 8193 b F R m c size (omega arith)
 
 -- the root list has ended

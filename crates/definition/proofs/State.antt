@@ -1,18 +1,17 @@
 -- What holds of the state of the statement walk over a plain table, and how each step keeps it.
 use mathlib.Core.Path.{_≡_, refl, sym, ap, _∙_, subst}
-use Prim.Native.Nat.{ℕ, zero, suc, _≤_, _<_}
-use native.Mathlib.Nat.{le-trans, lt-of-lt-of-le}
+use Prim.Native.Nat.{ℕ, suc, _<_}
 use native.Mathlib.Omega.{arith}
-use mathlib.Core.Logic.{_⊎_, inl, inr}
+use mathlib.Core.Logic.{inl, inr}
 use mathlib.Core.List.{List, [], _∷_}
-use mathlib.Core.Option.{Option, none, some}
-use mathlib.Core.Bool.{Bool, true, false}
+use mathlib.Core.Option.{none, some}
+use mathlib.Core.Bool.{Bool, true, false, _||_}
 use lib.ListN.{length}
 use lib.Dec.{eqb}
-use Rattle.table.specs.Table.{Table, Terminal, while, terminalAt, isAbsent}
-use Rattle.definition.specs.Context.{Flags, has, add, remove, or, no-flags, ControlFlowTarget, target-if, target-switch, target-case, target-loop, Entry, Context, start, isScheduled, emit, withVisits, markScopeFallthrough, pushed, schedule, scheduleLoop, unscheduledBy, popped, unscheduleTop, unschedule}
+use Rattle.table.specs.Table.{Table, while, terminalAt, isAbsent}
+use Rattle.definition.specs.Context.{Flags, has, add, remove, ControlFlowTarget, target-if, target-switch, target-case, target-loop, Entry, Context, start, isScheduled, emit, withVisits, markScopeFallthrough, pushed, schedule, scheduleLoop, unscheduledBy, popped, unscheduleTop, unschedule}
 use Rattle.definition.specs.Plain.{Plain, fallthroughOf}
-use Rattle.definition.specs.Result.{refused, Result, ok, _>>=_, refuseIf}
+use Rattle.definition.specs.Result.{refused, ok, refuseIf}
 use Rattle.definition.specs.Statement.{enterBlock, unlessScheduled}
 use Rattle.definition.specs.Value.{beginVisit}
 use Rattle.definition.proofs.Semantics.{Frame, fLabel, fScope, fLoop}
@@ -106,7 +105,7 @@ module _ (t : Table) where
   not-known pl em b f o e (loop-of w y g e′) = pl .no-loop b f w y f g e e′ refl
   not-known pl em b f o e (test-of w l g e′) = pl .no-test b f w f l g e e′ refl
 
-  both-false : (x y : Bool) → (x ≡ true → ⊥) → y ≡ false → or x y ≡ false
+  both-false : (x y : Bool) → (x ≡ true → ⊥) → y ≡ false → x || y ≡ false
   both-false true y n h = absurd (n refl)
   both-false false y n h = h
 

@@ -1,29 +1,27 @@
 -- An accepted walk over a plain table makes a tree that `Built` describes.
 use mathlib.Core.Path.{_≡_, refl, sym, ap, _∙_, subst}
-use Prim.Native.Nat.{ℕ, zero, suc, _≤_, _<_}
+use Prim.Native.Nat.{ℕ, zero, suc, _<_}
 use native.Mathlib.Omega.{arith}
-use mathlib.Core.Logic.{_⊎_, inl, inr}
 use mathlib.Core.List.{List, [], _∷_, _++_}
 use mathlib.Core.Option.{Option, none, some}
 use mathlib.Core.Bool.{Bool, true, false}
-use lib.ListN.{length}
-use lib.Dec.{T, eqb}
+use lib.Dec.{eqb}
 use borrow.Author.Tests.{eqb-true}
-use Rattle.table.specs.Table.{codeOf, Table, Block, Instruction, Operation, other, load-local, store-local, Terminal, absent, unreachable, throw, return, goto, if, branch, switch, do-while, while, for, for-of, for-in, logical, ternary, optional, sequence, maybe-throw, try, scope, Variant, Break, Continue, Try, blockAt, terminalAt, instructionAt, instructionRowsAt, instructionRows, isAbsent, isUnreachable, label}
-use Rattle.definition.specs.Context.{getBreakTarget, getContinueTarget, Resolution, has, add, Entry, target-if, target-loop, Context, start, isScheduled, withVisits, markScopeFallthrough, pushed, schedule, scheduleLoop, unschedule, breakTargetFrom, continueTargetFrom}
-use Rattle.definition.specs.Plain.{Plain, fallthroughOf, plainCodes, among, isBranch, isStore, endsInStore, NotBranch, otherNames, All}
-use Rattle.definition.specs.Result.{refused, Result, ok, _>>=_, refuseIf}
+use Rattle.table.specs.Table.{codeOf, Table, Block, Operation, other, load-local, store-local, Terminal, absent, unreachable, throw, return, goto, if, branch, switch, do-while, while, for, for-of, for-in, logical, ternary, optional, sequence, maybe-throw, try, scope, Variant, Break, Continue, Try, blockAt, terminalAt, instructionAt, instructionRowsAt, isAbsent, isUnreachable, label}
+use Rattle.definition.specs.Context.{getBreakTarget, getContinueTarget, Resolution, has, Entry, target-if, target-loop, Context, isScheduled, withVisits, markScopeFallthrough, pushed, scheduleLoop, unschedule, breakTargetFrom, continueTargetFrom}
+use Rattle.definition.specs.Plain.{Plain, fallthroughOf, plainCodes, isBranch, isStore, endsInStore, NotBranch, otherNames, All}
+use Rattle.definition.specs.Result.{Result, ok, _>>=_, refuseIf}
 use Rattle.definition.specs.Run.{Answers}
-use Rattle.definition.specs.Completion.{Completion, break, continue}
+use Rattle.definition.specs.Completion.{contains, Completion, break, continue}
 use Rattle.definition.specs.TreeRun.{performs, performsAll, runStatements, completed, prefix, then, thenOn, jumpCompletion}
-use Rattle.definition.specs.Statement.{breakToScope, visitBreak, visitContinue, TerminalResult, BlockResult, TraverseBlock, enterBlock, unlessScheduled, unlessUnreachable, scheduleIf, unscheduleIf, markScopeFallthroughIf, traverseUnscheduled, AlternateResult, traverseAlternate, breakResolved, continueResolved, visitGoto, traverseEnclosed, loopIsTaken, traverseLoop, visitTerminal, instructionStatements, followedBy, thenNext, visitBlock, traverseBlock, buildTree}
-use Rattle.definition.specs.Tree.{Kind, implicit, labeled, unlabeled, Value, PLAIN, LOAD, SEQ, Instructions, no-instructions, instruction, Statement, IF, WHILE, LABEL, SCOPE, RETURN, THROW, BREAK, CONTINUE, Statements, done, _▸_}
-use Rattle.definition.specs.Value.{visitValueBlock, branchWays, beginVisit, ValueBlockResult, VisitValueBlock, isThis, instructionsOf, wrapWithSequence, finalValue, finalPlace, storedToNamed, allButLast, last, extractValueBlockResult, branchValue, visitValueBlockAt, Ways}
+use Rattle.definition.specs.Statement.{breakToScope, visitBreak, visitContinue, TerminalResult, BlockResult, TraverseBlock, enterBlock, unlessScheduled, unlessUnreachable, scheduleIf, unscheduleIf, markScopeFallthroughIf, traverseUnscheduled, AlternateResult, traverseAlternate, breakResolved, continueResolved, visitGoto, traverseEnclosed, loopIsTaken, traverseLoop, visitTerminal, instructionStatements, followedBy, thenNext, visitBlock, traverseBlock}
+use Rattle.definition.specs.Tree.{Kind, implicit, labeled, unlabeled, Value, PLAIN, no-instructions, Statement, IF, WHILE, LABEL, SCOPE, BREAK, CONTINUE, Statements, done, _▸_}
+use Rattle.definition.specs.Value.{visitValueBlock, beginVisit, ValueBlockResult, VisitValueBlock, instructionsOf, wrapWithSequence, finalValue, storedToNamed, allButLast, last, extractValueBlockResult, branchValue, visitValueBlockAt}
 use Rattle.definition.proofs.Semantics.{Frame, fLabel, fScope, fLoop, target, Built, bReturn, bThrow, bJump, bIf, bIfOnly, bLabel, bScope, bWhile}
 use Rattle.definition.proofs.Ranged.{Ranged}
-use Rattle.definition.proofs.Tools.{true-false, refused-ok, ok-eq, bind-ok, unless-ok, below-blocks}
-use Rattle.definition.proofs.Resolve.{break-exit, break-names, Framed, break-target, continue-target}
-use Rattle.definition.proofs.State.{Known, ft-of, Inv, inv-start, inv-visited, Entered, enter-ok, ft-free, untaken-free, inv-label, inv-scope, inv-loop, schedule-ok, scheduleLoop-ok, Closed, unschedule-ok}
+use Rattle.definition.proofs.Tools.{true-false, refused-ok, ok-eq, bind-ok}
+use Rattle.definition.proofs.Resolve.{break-exit, break-names, break-target, continue-target}
+use Rattle.definition.proofs.State.{Known, ft-of, Inv, inv-visited, Entered, enter-ok, ft-free, untaken-free, inv-label, inv-scope, inv-loop, schedule-ok, scheduleLoop-ok, Closed, unschedule-ok}
 
 -- ---- the value of a test
 
@@ -43,7 +41,7 @@ module _ (t : Table) where
   front-final r [] = refl
   front-final r (q ∷ rs) = ap (λ (z : List ℕ). r ∷ z) (front-final q rs)
 
-  last-plain : (n k : ℕ) (o : Operation) → isStore o ≡ false → finalValue t n o k ≡ PLAIN n
+  last-plain : (n k : ℕ) (o : Operation) → isStore o ≡ false → finalValue n o k ≡ PLAIN n
   unfolding finalValue
   last-plain n k other e = refl
   last-plain n k (load-local p) e = refl
@@ -134,7 +132,7 @@ module _ (t : Table) where
       let (u, h, e₁) = bind-ok (refuseIf (isScheduled c b) code at (c .visits)) _ r e in w F b c r p n e₁
 
   -- the fallthrough of an entered block of a plain table is taken
-  plain-reachable : (m : Terminal) → among plainCodes (codeOf m) ≡ true → isUnreachable m ≡ false
+  plain-reachable : (m : Terminal) → contains plainCodes (codeOf m) ≡ true → isUnreachable m ≡ false
   plain-reachable absent h = refl
   plain-reachable unreachable h = absurd (true-false (sym h))
   plain-reachable (throw v) h = refl
@@ -384,8 +382,8 @@ module _ (t : Table) where
     -- ---- every end
 
     -- a terminal that no plain table has
-    not-plain : {m : Terminal} (b : ℕ) → terminalAt t b ≡ m → among plainCodes (codeOf m) ≡ false → ⊥
-    not-plain b e h = true-false (sym (pl .ends b) ∙ ap (λ (m : Terminal). among plainCodes (codeOf m)) e ∙ h)
+    not-plain : {m : Terminal} (b : ℕ) → terminalAt t b ≡ m → contains plainCodes (codeOf m) ≡ false → ⊥
+    not-plain b e h = true-false (sym (pl .ends b) ∙ ap (λ (m : Terminal). contains plainCodes (codeOf m)) e ∙ h)
 
     terminal-ok : {F : List Frame} {c₀ c : Context} (b : ℕ) (m : Terminal) (s : TerminalResult) → Entered t b F c₀ c → NotBranch t b → terminalAt t b ≡ m
         → visitTerminal t values inner m b (blockAt t b) c ≡ ok s → StepOk F b (c .stack) s

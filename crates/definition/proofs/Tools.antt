@@ -1,17 +1,16 @@
 -- What an accepted step tells of its parts, and the flags' laws.
-use mathlib.Core.Path.{_≡_, refl, sym, ap, _∙_, subst}
-use Prim.Native.Nat.{ℕ, zero, suc, _+_, _≤_, _<_}
-use native.Mathlib.Nat.{not-suc-le-zero, le-of-suc-le-suc, zero-lt-suc, le-trans, lt-of-lt-of-le}
+use mathlib.Core.Path.{_≡_, refl, sym, _∙_, subst}
+use Prim.Native.Nat.{ℕ, zero, suc, _<_}
+use native.Mathlib.Nat.{zero-lt-suc}
 use native.Mathlib.Omega.{arith}
 use mathlib.Core.Logic.{_⊎_, inl, inr}
 use mathlib.Core.List.{List, [], _∷_}
-use mathlib.Core.Option.{Option, none, some}
 use mathlib.Core.Bool.{Bool, true, false}
-use lib.ListN.{length, getD, set, length-set, replicate, getD-replicate, length-replicate}
+use lib.ListN.{length, getD, set, length-set, replicate, length-replicate}
 use lib.Seq.{getD-set-same, getD-set-other}
 use native.Mathlib.Decide.{ℕ-discrete}
-use Rattle.table.specs.Table.{Table, Block, noBlock, Terminal, absent, blockAt, terminalAt, isAbsent}
-use Rattle.definition.specs.Context.{or, Flags, no-flags, has, add, remove}
+use Rattle.table.specs.Table.{Table, Block, noBlock, terminalAt, isAbsent}
+use Rattle.definition.specs.Context.{Flags, noFlags, has, add, remove}
 use Rattle.definition.specs.Result.{refused, Result, ok, _>>=_, refuseIf}
 
 pub true-false : true ≡ false → ⊥
@@ -72,8 +71,8 @@ pub length-add : (s : Flags) (y n : ℕ) → length s ≡ n → length (add s y)
 unfolding add
 length-add s y n e = length-set s y true ∙ e
 
-pub has-none : (x : ℕ) → has no-flags x ≡ false
-unfolding has no-flags
+pub has-none : (x : ℕ) → has noFlags x ≡ false
+unfolding has noFlags
 has-none x = none-of 1024 x
   where
     none-of : (n i : ℕ) → getD (replicate n false) i false ≡ false
@@ -81,8 +80,8 @@ has-none x = none-of 1024 x
     none-of (suc n) zero = refl
     none-of (suc n) (suc i) = none-of n i
 
-pub length-none : length no-flags ≡ 1024
-unfolding no-flags
+pub length-none : length noFlags ≡ 1024
+unfolding noFlags
 length-none = length-replicate 1024 false
 
 -- ---- a block that is present is below the count
