@@ -28,7 +28,7 @@ use Rattle.control.specs.declared.Entry.{Entry}
 use Rattle.control.specs.declared.Resolved.the-variants as resolved
 use Rattle.control.specs.Abstraction.{contextOf, resolvedOf, resolutionOf, targetOf, stackOf, noEntry}
 use Rattle.control.specs.Contract.{Bounded, Named, Room, Created}
-use Rattle.definition.proofs.Tools.{length-none}
+use Rattle.definition.proofs.Flags.{length-none}
 use Rattle.control.proofs.ContextLaws.{stack-length, named-block}
 use Rattle.rows.specs.Rows.{Holds}
 use Rattle.rows.specs.Stack.{pushed}

@@ -13,7 +13,8 @@ use Rattle.definition.specs.Tree.{Row, row, rows}
 use Rattle.definition.specs.Result.{Result, ok, refused}
 use Rattle.definition.specs.Statement.{BlockResult, buildTree}
 use Rattle.definition.specs.Build.{Outcome, refusal, wordsOf, placed, reported, report, outcomeOf, afterCheck, built}
-use Rattle.definition.proofs.Never.{ofPaper, never}
+use Rattle.definition.proofs.Steps.{ofPaper}
+use Rattle.definition.proofs.Never.{never}
 use Rattle.definition.proofs.Checked.{Coded, coded}
 
 pub record Accepted (words : List ℕ) (lent : ℕ) : Type 0 where

@@ -16,7 +16,7 @@ use Rattle.definition.specs.Result.{Result, ok, refused}
 use Rattle.definition.specs.Statement.{BlockResult}
 use Rattle.definition.specs.Run.{Answers, returned, threw, no-answer-left, Run, stopped}
 use Rattle.definition.specs.BlockRun.{move, byAnswer, performing, blockRun}
-use Rattle.definition.specs.Completion.{contains, loopContinues, breakable, labelled}
+use Rattle.definition.specs.Completion.{loopContinues, breakable, labelled}
 use Rattle.definition.specs.TreeRun.{completed, completing, prefix, thenOn, then, choose, afterBody, whileRounds, whileLoop, loop, jumpCompletion, runStatement, reasonOf, treeRun}
 use Rattle.definition.specs.Plain.{Plain}
 use Rattle.definition.specs.RunLaw.{RunLaw}

@@ -16,7 +16,7 @@ use Rattle.definition.specs.Value.{VisitValueBlock, visitValueBlockTermi
 use Rattle.definition.specs.Statement.{BlockResult, TerminalResult, TraverseBlock, enterBlock, unlessScheduled, unlessUnreachable, scheduleIf, scheduleSwitch, unscheduleIf, markScopeFallthroughIf, breakToScope, breakResolved, visitBreak, continueResolved, visitContinue, visitGoto, traverseUnscheduled, AlternateResult, traverseAlternate, traverseConsequent, traverseEnclosed, traverseLoop, continueBlockOf, visitUpdate, casesLastFirst, traverseCases, unscheduleAll, scheduleIds, visitValueStatement, visitTerminal, instructionStatements, followedBy, thenNext, visitBlock, traverseBlock, buildTree}
 use Rattle.definition.specs.Plain.{fallthroughOf}
 use Rattle.definition.specs.Reading.{BelowNone, EmptyUnless, WellFormedStatement, WellFormed, WellFormedCases}
-use Rattle.definition.proofs.Grow.{Good, good-bind, good-unless, Any, any}
+use Rattle.definition.proofs.Steps.{Any, Good, good-bind, good-unless, good-any}
 use Rattle.definition.proofs.Ranged.{Ranged}
 
 good-pick : {A : Type 0} (P : A → Type 0) (y : Bool) (a b : Result A) → Good P a → Good P b → Good P (elim y [ true ↦ a | false ↦ b ])
@@ -111,14 +111,14 @@ module _ (t : Table) (values : VisitValueBlock) (inner : TraverseBlock) (wf : Wa
       → Good FormedStep (traverseEnclosed inner b code at g c c₁ make)
   unfolding traverseEnclosed
   enclosed-formed b code at g c c₁ make mk =
-      good-bind FormedBlock FormedStep _ _ (unscheduled-formed b code at c₁) (λ r h. good-bind Any FormedStep _ _ (any (unscheduleIf g (c .nextId) (r .context))) (λ c₂ _. mk (r .statements) h))
+      good-bind FormedBlock FormedStep _ _ (unscheduled-formed b code at c₁) (λ r h. good-bind Any FormedStep _ _ (good-any (unscheduleIf g (c .nextId) (r .context))) (λ c₂ _. mk (r .statements) h))
 
   loop-formed : (at l : ℕ) (taken : Bool) (v i : ℕ) (c : Context) (g : Option ℕ) (make : Statements → Statement) → ((s : Statements) → WellFormed s → WellFormedStatement (make s))
       → Good FormedStep (traverseLoop inner at l taken v i c g make)
   unfolding traverseLoop WalkFormed
   loop-formed at l taken v i c g make mk =
       good-unless FormedStep taken 16 at v _ (λ _.
-      good-bind FormedBlock FormedStep _ _ (wf l (withVisits v c)) (λ r h. good-bind Any FormedStep _ _ (any (unschedule i (r .context))) (λ c₂ _. mk (r .statements) h)))
+      good-bind FormedBlock FormedStep _ _ (wf l (withVisits v c)) (λ r h. good-bind Any FormedStep _ _ (good-any (unschedule i (r .context))) (λ c₂ _. mk (r .statements) h)))
 
   cases-formed : (at f : ℕ) (ks : List Case) (ids : List ℕ) (c : Context) → Good (λ r. WellFormedCases (r .cases)) (traverseCases inner at f ks ids c)
   unfolding traverseCases WalkFormed WellFormed
@@ -127,15 +127,15 @@ module _ (t : Table) (values : VisitValueBlock) (inner : TraverseBlock) (wf : Wa
       good-pick (λ r. WellFormedCases (r .cases)) (isScheduled c (k .block)) _ _
       (good-unless (λ r. WellFormedCases (r .cases)) _ 14 at (c .visits) _ (λ _. cases-formed at f ks ids c))
       (good-bind FormedBlock (λ r. WellFormedCases (r .cases)) _ _ (wf (k .block) c) (λ r h.
-      good-bind Any (λ r. WellFormedCases (r .cases)) _ _ (any (schedule (target-case (k .block)) (r .context))) (λ c₁ _.
+      good-bind Any (λ r. WellFormedCases (r .cases)) _ _ (good-any (schedule (target-case (k .block)) (r .context))) (λ c₁ _.
       good-bind (λ r. WellFormedCases (r .cases)) (λ r. WellFormedCases (r .cases)) _ _ (cases-formed at f ks (r .context .nextId ∷ ids) c₁) (λ z q. (h, q)))))
 
   value-formed : (m : Terminal) (at : ℕ) (k : Block) (f : ℕ) (c : Context) → Good FormedStep (visitValueStatement t values m at k f c)
   unfolding visitValueStatement WellFormed
   value-formed m at k f c =
-      good-bind Any FormedStep _ _ (any (scheduleIf (unlessScheduled c f) c)) (λ c₁ _.
-      good-bind Any FormedStep _ _ (any (visitValueBlockTerminal t values m (k .id) (k .span) (c₁ .visits) at)) (λ r _.
-      good-bind Any FormedStep _ _ (any (unscheduleIf (unlessScheduled c f) (c .nextId) (withVisits (r .visits) c₁))) (λ c₂ _. tt)))
+      good-bind Any FormedStep _ _ (good-any (scheduleIf (unlessScheduled c f) c)) (λ c₁ _.
+      good-bind Any FormedStep _ _ (good-any (visitValueBlockTerminal t values m (k .id) (k .span) (c₁ .visits) at)) (λ r _.
+      good-bind Any FormedStep _ _ (good-any (unscheduleIf (unlessScheduled c f) (c .nextId) (withVisits (r .visits) c₁))) (λ c₂ _. tt)))
 
   -- a terminal whose fallthrough and binding, if it has them, are below 65,535
   abbrev Small : Terminal → Type 0
@@ -154,56 +154,56 @@ module _ (t : Table) (values : VisitValueBlock) (inner : TraverseBlock) (wf : Wa
   terminal-formed (goto g v) at k c s = goto-formed v at g (k .id) c
   terminal-formed (if x y a f) at k c s =
       good-bind BelowNone FormedStep _ _ (reachable-formed t c f (s .0 f refl)) (λ g l.
-      good-bind Any FormedStep _ _ (any (scheduleIf g c)) (λ c₁ _.
+      good-bind Any FormedStep _ _ (good-any (scheduleIf g c)) (λ c₁ _.
       good-bind FormedBlock FormedStep _ _ (unscheduled-formed y 12 y c₁) (λ r h.
       good-bind FormedAlternate FormedStep _ _ (alternate-formed a f (r .context)) (λ z q.
-      good-bind Any FormedStep _ _ (any (unscheduleIf g (c .nextId) (z .context))) (λ c₂ _. (l, h, q .0, q .1))))))
+      good-bind Any FormedStep _ _ (good-any (unscheduleIf g (c .nextId) (z .context))) (λ c₂ _. (l, h, q .0, q .1))))))
   terminal-formed (branch x y a) at k c s =
       good-bind FormedBlock FormedStep _ _ (consequent-formed at y (k .id) c) (λ r h.
       good-bind FormedBlock FormedStep _ _ (unscheduled-formed a 19 at (r .context)) (λ z q. (tt, h, q, tt)))
   terminal-formed (switch x i n f) at k c s =
       good-bind BelowNone FormedStep _ _ (reachable-formed t c f (s .0 f refl)) (λ g l.
-      good-bind Any FormedStep _ _ (any (scheduleSwitch g c)) (λ c₁ _.
+      good-bind Any FormedStep _ _ (good-any (scheduleSwitch g c)) (λ c₁ _.
       good-bind (λ r. WellFormedCases (r .cases)) FormedStep _ _ (cases-formed at f (casesLastFirst t i n) (scheduleIds g (c .nextId)) c₁) (λ r h.
-      good-bind Any FormedStep _ _ (any (unscheduleAll (r .ids) (r .context))) (λ c₂ _. (l, h)))))
+      good-bind Any FormedStep _ _ (good-any (unscheduleAll (r .ids) (r .context))) (λ c₂ _. (l, h)))))
   terminal-formed (do-while l x f) at k c s =
-      good-bind Any FormedStep _ _ (any (scheduleLoop f x (some l) c)) (λ c₁ _.
+      good-bind Any FormedStep _ _ (good-any (scheduleLoop f x (some l) c)) (λ c₁ _.
       good-unless FormedStep _ 16 at (c₁ .visits) _ (λ _.
       good-bind FormedBlock FormedStep _ _ (wf l c₁) (λ r h.
-      good-bind Any FormedStep _ _ (any (values x none (k .span) (r .context .visits))) (λ v _.
-      good-bind Any FormedStep _ _ (any (unschedule (c .nextId) (withVisits (v .visits) (r .context)))) (λ c₂ _. (scheduled-formed c f (s .0 f refl), h))))))
+      good-bind Any FormedStep _ _ (good-any (values x none (k .span) (r .context .visits))) (λ v _.
+      good-bind Any FormedStep _ _ (good-any (unschedule (c .nextId) (withVisits (v .visits) (r .context)))) (λ c₂ _. (scheduled-formed c f (s .0 f refl), h))))))
   terminal-formed (while x l f) at k c s =
       good-bind BelowNone FormedStep _ _ (reachable-formed t c f (s .0 f refl)) (λ g q.
-      good-bind Any FormedStep _ _ (any (scheduleLoop f x (some l) c)) (λ c₁ _.
-      good-bind Any FormedStep _ _ (any (values x none (k .span) (c₁ .visits))) (λ v _. loop-formed at l _ (v .visits) (c .nextId) c₁ g (WHILE (k .id) g (v .value)) (λ z h. (q, h)))))
+      good-bind Any FormedStep _ _ (good-any (scheduleLoop f x (some l) c)) (λ c₁ _.
+      good-bind Any FormedStep _ _ (good-any (values x none (k .span) (c₁ .visits))) (λ v _. loop-formed at l _ (v .visits) (c .nextId) c₁ g (WHILE (k .id) g (v .value)) (λ z h. (q, h)))))
   terminal-formed (for i x u l f) at k c s =
-      good-bind Any FormedStep _ _ (any (scheduleLoop f (continueBlockOf u x) (some l) c)) (λ c₁ _.
-      good-bind Any FormedStep _ _ (any (values i none (k .span) (c₁ .visits))) (λ n _.
-      good-bind Any FormedStep _ _ (any (values x none (k .span) (n .visits))) (λ v _.
-      good-bind Any FormedStep _ _ (any (visitUpdate values u (k .span) (v .visits))) (λ w _. loop-formed at l _ (w .visits) (c .nextId) c₁ _ _ (λ z h. (scheduled-formed c f (s .0 f refl), h))))))
+      good-bind Any FormedStep _ _ (good-any (scheduleLoop f (continueBlockOf u x) (some l) c)) (λ c₁ _.
+      good-bind Any FormedStep _ _ (good-any (values i none (k .span) (c₁ .visits))) (λ n _.
+      good-bind Any FormedStep _ _ (good-any (values x none (k .span) (n .visits))) (λ v _.
+      good-bind Any FormedStep _ _ (good-any (visitUpdate values u (k .span) (v .visits))) (λ w _. loop-formed at l _ (w .visits) (c .nextId) c₁ _ _ (λ z h. (scheduled-formed c f (s .0 f refl), h))))))
   terminal-formed (for-of i x l f) at k c s =
-      good-bind Any FormedStep _ _ (any (scheduleLoop f i (some l) c)) (λ c₁ _.
-      good-bind Any FormedStep _ _ (any (values i none (k .span) (c₁ .visits))) (λ n _.
-      good-bind Any FormedStep _ _ (any (values x none (k .span) (n .visits))) (λ v _. loop-formed at l _ (v .visits) (c .nextId) c₁ _ _ (λ z h. (scheduled-formed c f (s .0 f refl), h)))))
+      good-bind Any FormedStep _ _ (good-any (scheduleLoop f i (some l) c)) (λ c₁ _.
+      good-bind Any FormedStep _ _ (good-any (values i none (k .span) (c₁ .visits))) (λ n _.
+      good-bind Any FormedStep _ _ (good-any (values x none (k .span) (n .visits))) (λ v _. loop-formed at l _ (v .visits) (c .nextId) c₁ _ _ (λ z h. (scheduled-formed c f (s .0 f refl), h)))))
   terminal-formed (for-in i l f) at k c s =
-      good-bind Any FormedStep _ _ (any (scheduleLoop f i (some l) c)) (λ c₁ _.
-      good-bind Any FormedStep _ _ (any (values i none (k .span) (c₁ .visits))) (λ n _. loop-formed at l _ (n .visits) (c .nextId) c₁ _ _ (λ z h. (scheduled-formed c f (s .0 f refl), h))))
+      good-bind Any FormedStep _ _ (good-any (scheduleLoop f i (some l) c)) (λ c₁ _.
+      good-bind Any FormedStep _ _ (good-any (values i none (k .span) (c₁ .visits))) (λ n _. loop-formed at l _ (n .visits) (c .nextId) c₁ _ _ (λ z h. (scheduled-formed c f (s .0 f refl), h))))
   terminal-formed (logical o x f) at k c s = value-formed (logical o x f) at k f c
   terminal-formed (ternary x f) at k c s = value-formed (ternary x f) at k f c
   terminal-formed (optional g x f) at k c s = value-formed (optional g x f) at k f c
   terminal-formed (label x f) at k c s =
       good-bind BelowNone FormedStep _ _ (reachable-formed t c f (s .0 f refl)) (λ g q.
-      good-bind Any FormedStep _ _ (any (scheduleIf g c)) (λ c₁ _. enclosed-formed x 17 at g c c₁ (LABEL (k .id) g) (λ z h. (q, h))))
+      good-bind Any FormedStep _ _ (good-any (scheduleIf g c)) (λ c₁ _. enclosed-formed x 17 at g c c₁ (LABEL (k .id) g) (λ z h. (q, h))))
   terminal-formed (sequence x f) at k c s = value-formed (sequence x f) at k f c
   terminal-formed (maybe-throw n) at k c s = tt
   terminal-formed (try x h f n) at k c s =
       good-bind BelowNone FormedStep _ _ (reachable-formed t c f (s .0 f refl)) (λ g q.
-      good-bind Any FormedStep _ _ (any (scheduleIf g c)) (λ c₁ _.
+      good-bind Any FormedStep _ _ (good-any (scheduleIf g c)) (λ c₁ _.
       good-bind FormedBlock FormedStep _ _ (wf x (scheduleCatchHandler h c₁)) (λ r p.
       good-bind FormedBlock FormedStep _ _ (wf h (r .context)) (λ z p₁.
-      good-bind Any FormedStep _ _ (any (unscheduleIf g (c .nextId) (z .context))) (λ c₂ _. (q, binding-formed n (λ i e. s .1 x h f i (ap (try x h f) e)), p, p₁))))))
+      good-bind Any FormedStep _ _ (good-any (unscheduleIf g (c .nextId) (z .context))) (λ c₂ _. (q, binding-formed n (λ i e. s .1 x h f i (ap (try x h f) e)), p, p₁))))))
   terminal-formed (scope p x f n) at k c s =
-      good-bind Any FormedStep _ _ (any (scheduleIf (unlessScheduled c f) c)) (λ c₁ _.
+      good-bind Any FormedStep _ _ (good-any (scheduleIf (unlessScheduled c f) c)) (λ c₁ _.
       enclosed-formed x 18 at (unlessScheduled c f) c (markScopeFallthroughIf (unlessScheduled c f) c₁) (SCOPE p n) (λ z h. h))
 
 -- ---- blocks
@@ -232,7 +232,7 @@ module _ (t : Table) (rg : Ranged t) where
   unfolding visitBlock WalkFormed
   chain-formed values inner w zero b c = tt
   chain-formed values inner w (suc n) b c =
-      good-bind Any FormedBlock _ _ (any (enterBlock t b c)) (λ c₁ _.
+      good-bind Any FormedBlock _ _ (good-any (enterBlock t b c)) (λ c₁ _.
       good-bind FormedStep FormedBlock _ _ (terminal-formed t values inner w (terminalAt t b) b (blockAt t b) c₁ (small b)) (λ s h.
       next-formed t b (visitBlock t values inner n) (s .statement) (s .next) (s .context) (chain-formed values inner w n) h))
 

@@ -1,5 +1,5 @@
 pub mod Semantics
-pub mod Tools
+pub mod Flags
 pub mod Resolve
 pub mod State
 pub mod Structure
@@ -7,9 +7,8 @@ pub mod Law
 pub mod Loops
 pub mod Never
 pub mod Rows
-pub mod Grow
-pub mod Bound
-pub mod Most
+pub mod Steps
+pub mod ValueWalk
 pub mod Flatten
 pub mod Simulation
 pub mod Invariant

@@ -9,157 +9,16 @@ use mathlib.Core.Bool.{Bool, true, false, not, _&&_, _||_}
 use lib.ListN.{getD, set}
 use lib.Dec.{T, eqb, leb, leb→le}
 use borrow.Author.Tests.{eq-eqb}
-use Rattle.table.specs.Table.{Table, Block, Case, Terminal, absent, unreachable, throw, return, goto, if, branch, switch, do-while, while, for, for-of, for-in, logical, ternary, optional, sequence, maybe-throw, try, scope, Variant, Break, Continue, Try, blockAt, terminalAt, instructionRows, isAbsent, isUnreachable, label}
+use Rattle.table.specs.Table.{Table, Block, Case, Terminal, absent, unreachable, throw, return, goto, if, branch, switch, do-while, while, for, for-of, for-in, logical, ternary, optional, sequence, maybe-throw, try, scope, Variant, Break, Continue, Try, blockAt, terminalAt, isAbsent, isUnreachable, label}
 use Rattle.definition.specs.Context.{Flags, has, add, remove, ControlFlowTarget, target-if, target-switch, target-case, target-loop, targetBlock, Entry, Context, start, isScheduled, emit, withVisits, markScopeFallthrough, scheduleCatchHandler, pushed, schedule, scheduleLoop, unscheduledBy, popped, unscheduleTop, unschedule, Resolution}
 use Rattle.definition.specs.Build.{rejected, report, reported}
 use Rattle.definition.specs.Result.{refused, Result, ok, _>>=_, refuseIf, alreadyScheduled, unscheduleOutOfOrder, maybeThrowInValueTerminal}
 use Rattle.definition.specs.Statement.{breakToScope, visitBreak, visitContinue, breakResolved, continueResolved, TerminalResult, BlockResult, TraverseBlock, enterBlock, unlessScheduled, unlessUnreachable, scheduleIf, unscheduleIf, markScopeFallthroughIf, traverseUnscheduled, traverseAlternate, visitGoto, traverseEnclosed, traverseLoop, traverseCases, unscheduleAll, scheduleSwitch, scheduleIds, casesLastFirst, visitUpdate, traverseConsequent, visitValueStatement, visitTerminal, thenNext, visitBlock, traverseBlock, buildTree}
 use Rattle.definition.specs.Tree.{Kind, implicit, labeled, unlabeled, Statement, Statements}
-use Rattle.definition.specs.Value.{visitValueBlock, Ways, beginVisit, ValueBlockResult, ValueTerminalResult, VisitValueBlock, extractOrRefuse, testBlockEnded, visitTestBlock, visitValueBlockTerminal, thenFallthrough, branchValue, maybeThrowValue, visitValueBlockAt}
-use Rattle.definition.proofs.Tools.{true-false, has-add, has-remove}
-
--- "10 missing block .. 31 visits": the refusals that a table can have
-abbrev pub ofPaper : ℕ → Bool
-ofPaper code = leb 10 code && leb code 31
-
--- an answer has the property, or the refusal is one of the paper's
-abbrev pub Fine : {A : Type 0} → (A → Type 0) → Result A → Type 0
-Fine P (ok a) = P a
-Fine P (refused c p v) = T (ofPaper c)
-
-pub fine-bind : {A B : Type 0} (P : A → Type 0) (Q : B → Type 0) (m : Result A) (f : A → Result B) → Fine P m → ((a : A) → P a → Fine Q (f a)) → Fine Q (m >>= f)
-unfolding _>>=_
-fine-bind P Q (ok a) f h k = k a h
-fine-bind P Q (refused c p v) f h k = h
-
--- a test, and what comes after it
-fine-unless : {B : Type 0} (Q : B → Type 0) (b : Bool) (c p v : ℕ) (f : Unit {0} → Result B) → T (ofPaper c) → (b ≡ false → Fine Q (f tt)) → Fine Q (refuseIf b c p v >>= f)
-unfolding _>>=_ refuseIf
-fine-unless Q true c p v f h k = h
-fine-unless Q false c p v f h k = k refl
-
--- a test with two ways on
-fine-pick : {A : Type 0} (P : A → Type 0) (y : Bool) (a b : Result A) → (y ≡ true → Fine P a) → (y ≡ false → Fine P b) → Fine P (elim y [ true ↦ a | false ↦ b ])
-fine-pick P true a b f g = f refl
-fine-pick P false a b f g = g refl
-
-abbrev Any : {A : Type 0} → A → Type 0
-Any a = Unit {0}
-
--- ---- values
-
-abbrev isMaybe : Terminal → Bool
-isMaybe absent = false
-isMaybe unreachable = false
-isMaybe (throw x) = false
-isMaybe (return x) = false
-isMaybe (goto g x) = false
-isMaybe (if x c a f) = false
-isMaybe (branch x c a) = false
-isMaybe (switch x i n f) = false
-isMaybe (do-while l x f) = false
-isMaybe (while x l f) = false
-isMaybe (for i x u l f) = false
-isMaybe (for-of i x l f) = false
-isMaybe (for-in i l f) = false
-isMaybe (logical o x f) = false
-isMaybe (ternary x f) = false
-isMaybe (optional g x f) = false
-isMaybe (label b f) = false
-isMaybe (sequence b f) = false
-isMaybe (maybe-throw k) = true
-isMaybe (try b h f n) = false
-isMaybe (scope p b f s) = false
-
-begin-fine : (t : Table) (b v : ℕ) → Fine Any (beginVisit t b v)
-unfolding beginVisit
-begin-fine t b v = fine-unless Any _ 31 b v _ tt (λ h. fine-unless Any _ 10 b (suc v) _ tt (λ h. tt))
-
-ValueFine : VisitValueBlock → Type 0
-ValueFine values = (b : ℕ) (ft : Option ℕ) (span v : ℕ) → Fine Any (values b ft span v)
-
-extractOr-fine : (t : Table) (b : ℕ) (rs : List ℕ) (v c at : ℕ) → T (ofPaper c) → Fine Any (extractOrRefuse t b rs v c at)
-unfolding extractOrRefuse
-extractOr-fine t b [] v c at h = h
-extractOr-fine t b (r ∷ rs) v c at h = tt
-
-testEnded-fine : (r : ValueBlockResult) (w : Option Ways) (at : ℕ) → Fine Any (testBlockEnded r w at)
-unfolding testBlockEnded
-testEnded-fine r none at = tt
-testEnded-fine r (some w) at = tt
-
-branchValue-fine : (t : Table) (b x i : ℕ) (rs : List ℕ) (v : ℕ) → Fine Any (branchValue t b x i rs v)
-unfolding branchValue
-branchValue-fine t b x i [] v = tt
-branchValue-fine t b x i (r ∷ rs) v = tt
-
-module _ (t : Table) (values : VisitValueBlock) (vf : ValueFine values) where
-  testBlock-fine : (b span v at : ℕ) → Fine Any (visitTestBlock t values b span v at)
-  unfolding visitTestBlock ValueFine
-  testBlock-fine b span v at = fine-bind Any Any _ _ (vf b none span v) (λ r _. testEnded-fine r _ at)
-
-  andFinal-fine : (k : Block) (span : ℕ) (m : Result ValueTerminalResult) → Fine Any m → Fine Any (thenFallthrough t values k span m)
-  unfolding thenFallthrough ValueFine
-  andFinal-fine k span m h = fine-bind Any Any m _ h (λ i _. fine-bind Any Any _ _ (vf _ _ _ _) (λ r _. tt))
-
-  terminal-value-fine : (m : Terminal) (id span v at : ℕ) → T (not (isMaybe m)) → Fine Any (visitValueBlockTerminal t values m id span v at)
-  unfolding visitValueBlockTerminal ValueFine
-  terminal-value-fine absent id span v at h = tt
-  terminal-value-fine unreachable id span v at h = tt
-  terminal-value-fine (throw x) id span v at h = tt
-  terminal-value-fine (return x) id span v at h = tt
-  terminal-value-fine (goto g x) id span v at h = tt
-  terminal-value-fine (if x c a f) id span v at h = tt
-  terminal-value-fine (branch x c a) id span v at h = tt
-  terminal-value-fine (switch x i n f) id span v at h = tt
-  terminal-value-fine (do-while l x f) id span v at h = tt
-  terminal-value-fine (while x l f) id span v at h = tt
-  terminal-value-fine (for i x u l f) id span v at h = tt
-  terminal-value-fine (for-of i x l f) id span v at h = tt
-  terminal-value-fine (for-in i l f) id span v at h = tt
-  terminal-value-fine (logical o x f) id span v at h = fine-bind Any Any _ _ (testBlock-fine x span v at) (λ s _. fine-bind Any Any _ _ (vf _ _ _ _) (λ l _. fine-bind Any Any _ _ (vf _ _ _ _) (λ r _. tt)))
-  terminal-value-fine (ternary x f) id span v at h = fine-bind Any Any _ _ (testBlock-fine x span v at) (λ s _. fine-bind Any Any _ _ (vf _ _ _ _) (λ l _. fine-bind Any Any _ _ (vf _ _ _ _) (λ r _. tt)))
-  terminal-value-fine (optional g x f) id span v at h = fine-bind Any Any _ _ (testBlock-fine x span v at) (λ s _. fine-bind Any Any _ _ (vf _ _ _ _) (λ l _. tt))
-  terminal-value-fine (label b f) id span v at h = tt
-  terminal-value-fine (sequence b f) id span v at h = fine-bind Any Any _ _ (vf _ _ _ _) (λ r _. tt)
-  terminal-value-fine (maybe-throw k) id span v at h = absurd h
-  terminal-value-fine (try b h′ f n) id span v at h = tt
-  terminal-value-fine (scope p b f s) id span v at h = tt
-
-  maybeThrow-fine : (b k : ℕ) (rs : List ℕ) (ft : Option ℕ) (span v : ℕ) (y : Bool) → Fine Any (maybeThrowValue t values b k rs ft span v y)
-  unfolding maybeThrowValue ValueFine
-  maybeThrow-fine b k rs ft span v true = extractOr-fine t k rs v 28 b tt
-  maybeThrow-fine b k rs ft span v false = fine-bind Any Any _ _ (vf k ft span v) (λ r _. tt)
-
-  valueAt-fine : (m : Terminal) (b : ℕ) (k : Block) (ft : Option ℕ) (span v : ℕ) → Fine Any (visitValueBlockAt t values m b k ft span v)
-  unfolding visitValueBlockAt
-  valueAt-fine absent b k ft span v = andFinal-fine k span _ (terminal-value-fine absent (k .id) (k .span) v b tt)
-  valueAt-fine unreachable b k ft span v = andFinal-fine k span _ (terminal-value-fine unreachable (k .id) (k .span) v b tt)
-  valueAt-fine (throw x) b k ft span v = andFinal-fine k span _ (terminal-value-fine (throw x) (k .id) (k .span) v b tt)
-  valueAt-fine (return x) b k ft span v = andFinal-fine k span _ (terminal-value-fine (return x) (k .id) (k .span) v b tt)
-  valueAt-fine (goto g x) b k ft span v = extractOr-fine t b (instructionRows k) v 24 b tt
-  valueAt-fine (if x c a f) b k ft span v = andFinal-fine k span _ (terminal-value-fine (if x c a f) (k .id) (k .span) v b tt)
-  valueAt-fine (branch x c a) b k ft span v = branchValue-fine t b x (k .id) (instructionRows k) v
-  valueAt-fine (switch x i n f) b k ft span v = andFinal-fine k span _ (terminal-value-fine (switch x i n f) (k .id) (k .span) v b tt)
-  valueAt-fine (do-while l x f) b k ft span v = andFinal-fine k span _ (terminal-value-fine (do-while l x f) (k .id) (k .span) v b tt)
-  valueAt-fine (while x l f) b k ft span v = andFinal-fine k span _ (terminal-value-fine (while x l f) (k .id) (k .span) v b tt)
-  valueAt-fine (for i x u l f) b k ft span v = andFinal-fine k span _ (terminal-value-fine (for i x u l f) (k .id) (k .span) v b tt)
-  valueAt-fine (for-of i x l f) b k ft span v = andFinal-fine k span _ (terminal-value-fine (for-of i x l f) (k .id) (k .span) v b tt)
-  valueAt-fine (for-in i l f) b k ft span v = andFinal-fine k span _ (terminal-value-fine (for-in i l f) (k .id) (k .span) v b tt)
-  valueAt-fine (logical o x f) b k ft span v = andFinal-fine k span _ (terminal-value-fine (logical o x f) (k .id) (k .span) v b tt)
-  valueAt-fine (ternary x f) b k ft span v = andFinal-fine k span _ (terminal-value-fine (ternary x f) (k .id) (k .span) v b tt)
-  valueAt-fine (optional g x f) b k ft span v = andFinal-fine k span _ (terminal-value-fine (optional g x f) (k .id) (k .span) v b tt)
-  valueAt-fine (label z f) b k ft span v = andFinal-fine k span _ (terminal-value-fine (label z f) (k .id) (k .span) v b tt)
-  valueAt-fine (sequence z f) b k ft span v = andFinal-fine k span _ (terminal-value-fine (sequence z f) (k .id) (k .span) v b tt)
-  valueAt-fine (maybe-throw n) b k ft span v = fine-unless Any _ 10 n v _ tt (λ h. maybeThrow-fine b n (instructionRows k) ft span v _)
-  valueAt-fine (try z h f n) b k ft span v = andFinal-fine k span _ (terminal-value-fine (try z h f n) (k .id) (k .span) v b tt)
-  valueAt-fine (scope p z f s) b k ft span v = andFinal-fine k span _ (terminal-value-fine (scope p z f s) (k .id) (k .span) v b tt)
-
-value-fine : (t : Table) (d : ℕ) → ValueFine (visitValueBlock t d)
-unfolding ValueFine visitValueBlock
-value-fine t zero b ft span v = tt
-value-fine t (suc d) b ft span v =
-    fine-bind Any Any _ _ (begin-fine t b v) (λ v1 _. fine-unless Any _ 23 b v1 _ tt (λ h. valueAt-fine t (visitValueBlock t d) (value-fine t d) (terminalAt t b) b (blockAt t b) ft span v1))
+use Rattle.definition.specs.Value.{visitValueBlock, beginVisit, VisitValueBlock}
+use Rattle.definition.proofs.Steps.{true-false, Any, ofPaper, Fine, fine-bind, fine-unless, fine-pick, fine-map}
+use Rattle.definition.proofs.Flags.{has-add, has-remove}
+use Rattle.definition.proofs.ValueWalk.{BlockTook, TerminalTook, VisitTook, isMaybeThrow, terminal-took, value-took}
 
 -- ---- the state: the stack as before, and nothing new scheduled
 
@@ -412,7 +271,7 @@ jump-fine Break b g i c = fine-bind Any (StepAfter c) _ _ (breakStmt-fine b g i 
 jump-fine Continue b g i c = fine-bind Any (StepAfter c) _ _ (continueStmt-fine g i c _) (λ s _. after-refl c)
 jump-fine Try b g i c = after-refl c
 
-module _ (t : Table) (values : VisitValueBlock) (vf : ValueFine values) (inner : TraverseBlock) (wf : WalkFine inner) where
+module _ (t : Table) (values : VisitValueBlock) (took : VisitTook t values) (inner : TraverseBlock) (wf : WalkFine inner) where
   fresh-fine : (b code at : ℕ) (c : Context) → T (ofPaper code) → Fine (λ r. After c (r .context)) (traverseUnscheduled inner b code at c)
   unfolding traverseUnscheduled WalkFine
   fresh-fine b code at c h = fine-unless (λ r. After c (r .context)) _ code at (c .visits) _ h (λ _. wf b c)
@@ -457,21 +316,21 @@ module _ (t : Table) (values : VisitValueBlock) (vf : ValueFine values) (inner :
       fine-pick (λ r. After c (r .context)) (isScheduled c y) _ _
       (λ _. fine-bind Any (λ r. After c (r .context)) _ _ (breakStmt-fine b y i c _) (λ s _. after-refl c)) (λ _. wf y c)
 
-  update-fine : (u : Option ℕ) (span v : ℕ) → Fine Any (visitUpdate values u span v)
-  unfolding visitUpdate ValueFine
-  update-fine none span v = tt
-  update-fine (some u) span v = fine-bind Any Any _ _ (vf u none span v) (λ r _. tt)
+  value-fine : (x : ℕ) (ft : Option ℕ) (span v : ℕ) → Fine Any (values x ft span v)
+  unfolding VisitTook
+  value-fine x ft span v = fine-map (BlockTook t v) Any (values x ft span v) (λ _ _. tt) (took x ft span v)
 
-  valueStmt-fine : (m : Terminal) (b : ℕ) (k : Block) (f : ℕ) (c : Context) → T (not (isMaybe m)) → Fine (StepAfter c) (visitValueStatement t values m b k f c)
+  update-fine : (u : Option ℕ) (span v : ℕ) → Fine Any (visitUpdate values u span v)
+  unfolding visitUpdate
+  update-fine none span v = tt
+  update-fine (some u) span v = fine-bind Any Any _ _ (value-fine u none span v) (λ r _. tt)
+
+  valueStmt-fine : (m : Terminal) (b : ℕ) (k : Block) (f : ℕ) (c : Context) → T (not (isMaybeThrow m)) → Fine (StepAfter c) (visitValueStatement t values m b k f c)
   unfolding visitValueStatement
   valueStmt-fine m b k f c h =
       fine-bind (λ d. Maybe (unlessScheduled c f) c d) (StepAfter c) _ _ (opened-fine (unlessScheduled c f) c (untaken-free c f)) (λ d p.
-      fine-bind Any (StepAfter c) _ _ (terminal-value-fine t values vf m (k .id) (k .span) (d .visits) b h) (λ r _.
+      fine-bind (TerminalTook t (d .visits)) (StepAfter c) _ _ (terminal-took t values took m (k .id) (k .span) (d .visits) b h) (λ r _.
       fine-bind (λ e. After c e) (StepAfter c) _ _ (closed-fine (unlessScheduled c f) c (withVisits (r .visits) d) (maybe-after (unlessScheduled c f) c p (to-visited (r .visits) (after-refl d)))) (λ e q. q)))
-
-  loop-values : (x : ℕ) (ft : Option ℕ) (span v : ℕ) → Fine Any (values x ft span v)
-  unfolding ValueFine
-  loop-values x ft span v = vf x ft span v
 
   terminal-fine : (m : Terminal) (b : ℕ) (k : Block) (c : Context) → isAbsent m ≡ false → Fine (StepAfter c) (visitTerminal t values inner m b k c)
   unfolding visitTerminal WalkFine
@@ -497,24 +356,24 @@ module _ (t : Table) (values : VisitValueBlock) (vf : ValueFine values) (inner :
   terminal-fine (do-while l x f) b k c h =
       fine-bind (λ d. InLoop f x l c d) (StepAfter c) _ _ (scheduleLoop-fine f x l c) (λ d p.
       fine-unless (StepAfter c) _ 16 b (d .visits) _ tt (λ _. fine-bind (λ r. After d (r .context)) (StepAfter c) _ _ (wf l d) (λ r q.
-      fine-bind Any (StepAfter c) _ _ (loop-values x none (k .span) (r .context .visits)) (λ v _.
+      fine-bind Any (StepAfter c) _ _ (value-fine x none (k .span) (r .context .visits)) (λ v _.
       fine-bind (λ e. After c e) (StepAfter c) _ _ (loop-off f x l c (withVisits (v .visits) (r .context)) (loop-after p (to-visited (v .visits) q))) (λ e q₁. q₁)))))
   terminal-fine (while x l f) b k c h =
       fine-bind (λ g. Free g c) (StepAfter c) _ _ (reached-fine t c f) (λ g fr.
       fine-bind (λ d. InLoop f x l c d) (StepAfter c) _ _ (scheduleLoop-fine f x l c) (λ d p.
-      fine-bind Any (StepAfter c) _ _ (loop-values x none (k .span) (d .visits)) (λ v _. loopBody-fine b l f x _ (v .visits) c d g _ p)))
+      fine-bind Any (StepAfter c) _ _ (value-fine x none (k .span) (d .visits)) (λ v _. loopBody-fine b l f x _ (v .visits) c d g _ p)))
   terminal-fine (for i x u l f) b k c h =
       fine-bind (λ d. InLoop f _ l c d) (StepAfter c) _ _ (scheduleLoop-fine f _ l c) (λ d p.
-      fine-bind Any (StepAfter c) _ _ (loop-values i none (k .span) (d .visits)) (λ n _.
-      fine-bind Any (StepAfter c) _ _ (loop-values x none (k .span) (n .visits)) (λ v _.
+      fine-bind Any (StepAfter c) _ _ (value-fine i none (k .span) (d .visits)) (λ n _.
+      fine-bind Any (StepAfter c) _ _ (value-fine x none (k .span) (n .visits)) (λ v _.
       fine-bind Any (StepAfter c) _ _ (update-fine u (k .span) (v .visits)) (λ w _. loopBody-fine b l f _ _ (w .visits) c d _ _ p))))
   terminal-fine (for-of i x l f) b k c h =
       fine-bind (λ d. InLoop f i l c d) (StepAfter c) _ _ (scheduleLoop-fine f i l c) (λ d p.
-      fine-bind Any (StepAfter c) _ _ (loop-values i none (k .span) (d .visits)) (λ n _.
-      fine-bind Any (StepAfter c) _ _ (loop-values x none (k .span) (n .visits)) (λ v _. loopBody-fine b l f i _ (v .visits) c d _ _ p)))
+      fine-bind Any (StepAfter c) _ _ (value-fine i none (k .span) (d .visits)) (λ n _.
+      fine-bind Any (StepAfter c) _ _ (value-fine x none (k .span) (n .visits)) (λ v _. loopBody-fine b l f i _ (v .visits) c d _ _ p)))
   terminal-fine (for-in i l f) b k c h =
       fine-bind (λ d. InLoop f i l c d) (StepAfter c) _ _ (scheduleLoop-fine f i l c) (λ d p.
-      fine-bind Any (StepAfter c) _ _ (loop-values i none (k .span) (d .visits)) (λ n _. loopBody-fine b l f i _ (n .visits) c d _ _ p))
+      fine-bind Any (StepAfter c) _ _ (value-fine i none (k .span) (d .visits)) (λ n _. loopBody-fine b l f i _ (n .visits) c d _ _ p))
   terminal-fine (logical o x f) b k c h = valueStmt-fine (logical o x f) b k f c tt
   terminal-fine (ternary x f) b k c h = valueStmt-fine (ternary x f) b k f c tt
   terminal-fine (optional g x f) b k c h = valueStmt-fine (optional g x f) b k f c tt
@@ -559,7 +418,7 @@ module _ (t : Table) (values : VisitValueBlock) (vf : ValueFine values) (inner :
 pub walk-fine : (t : Table) (d : ℕ) → WalkFine (traverseBlock t d)
 unfolding traverseBlock WalkFine
 walk-fine t zero b c = tt
-walk-fine t (suc d) b c = chain-fine t (visitValueBlock t d) (value-fine t d) (traverseBlock t d) (walk-fine t d) 8193 b c
+walk-fine t (suc d) b c = chain-fine t (visitValueBlock t d) (value-took t d) (traverseBlock t d) (walk-fine t d) 8193 b c
 
 -- every refusal of a table has one of the paper's codes, so none is a message that never occurs
 pub never : (t : Table) (c p v : ℕ) → buildTree t ≡ refused c p v → T (ofPaper c)

@@ -11,7 +11,7 @@ use borrow.Author.Tests.{eqb-true, eq-eqb, ne-eqb}
 use Rattle.table.specs.Table.{Table, Block, noBlock, Terminal, absent, unreachable, throw, return, goto, if, branch, switch, do-while, while, for, for-of, for-in, logical, ternary, optional, label, sequence, maybe-throw, try, scope, Break, Continue, Try, codeOf, terminalAt, instructionRowsAt}
 use Rattle.definition.specs.Completion.{contains}
 use Rattle.definition.specs.Plain.{Plain, plainCodes, isBranch, fallthroughOf, otherNames, endsInStore, NotBranch, All}
-use Rattle.definition.proofs.Tools.{true-false}
+use Rattle.definition.proofs.Steps.{true-false}
 
 -- ---- the test
 

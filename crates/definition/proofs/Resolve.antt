@@ -14,7 +14,7 @@ use Rattle.definition.specs.Completion.{break, continue}
 use Rattle.definition.specs.TreeRun.{jumpCompletion}
 use Rattle.definition.specs.Tree.{Kind, implicit, labeled, unlabeled}
 use Rattle.definition.proofs.Semantics.{Frame, fLabel, fScope, fLoop, exit, breakOut, breakAt, continueOut, continueAt, target, provided}
-use Rattle.definition.proofs.Tools.{true-false}
+use Rattle.definition.proofs.Steps.{true-false}
 
 module _ (t : Table) where
   -- the frames of a stack: a scope's fallthrough is in the set of those, and a loop is of some While

@@ -8,7 +8,7 @@ use mathlib.Core.Option.{Option, none, some}
 use mathlib.Core.Bool.{Bool, true, false, not}
 use lib.ListN.{length, getD, take, drop, length-drop, length-reverse}
 use lib.Seq.{take-suc, getD-drop}
-use lib.Dec.{eqb}
+use lib.Dec.{eqb, T}
 use borrow.Author.Tests.{lt-leb, le-leb, eq-eqb}
 use Rattle.table.specs.Table.{Table, Block, Case, Terminal, absent, unreachable, throw, return, goto, if, branch, switch, do-while, while, for, for-of, for-in, logical, ternary, optional, sequence, maybe-throw, try, scope, Variant, Break, Continue, Try, blockAt, terminalAt, instructionRowsAt, isAbsent, label}
 use Rattle.definition.specs.Build.{accepted, Report, rejected, reported, report}
@@ -19,9 +19,9 @@ use Rattle.definition.specs.Statement.{visitBreak, visitContinue, Option
 use Rattle.definition.specs.Tree.{Statement, Statements, done, Cases, no-cases, CASE, Row, row, orNone, countStatements, countCases, IF, INSTR, SWITCH, rows, updatePresent}
 use Rattle.definition.specs.Value.{visitValueBlock, beginVisit, ValueTerminalResult, VisitValueBlock, visitValueBlockTerminal, valueBlockResultToSequence}
 use Rattle.definition.proofs.Rows.{stmtsOut, casesOut, bodyOut, body-out, rows-if, rows-else, rows-do, rows-while, rows-for, rows-forof, rows-forin, rows-label, rows-try, rows-scope, rows-value, rows-single, rows-case, rows-switch, rows-chain, count-chain}
-use Rattle.definition.proofs.Grow.{Good, good-bind, Any, any, Grows, value-grows, terminal-grows, Kept, enter-grows, scopedIf-kept}
-use Rattle.definition.proofs.Never.{Fine, After, WalkFine, walk-fine, Free, untaken-free, reached-fine, schedule-free, or-false, false-of}
-use Rattle.definition.proofs.Tools.{true-false}
+use Rattle.definition.proofs.Steps.{true-false, Any, Good, good-bind, good-unless, good-any, Fine, fine-good}
+use Rattle.definition.proofs.ValueWalk.{BlockTook, TerminalTook, VisitTook, isMaybeThrow, terminal-took, value-took, begin-visit-took}
+use Rattle.definition.proofs.Never.{After, WalkFine, walk-fine, Free, untaken-free, reached-fine, schedule-free, or-false, false-of}
 
 -- what the rest of a turn comes to leads to a
 abbrev pub Under : Table → Result State → Report → Type 0
@@ -63,7 +63,7 @@ module _ {t : Table} {v : ℕ} {F : List Frame} {R : List Row} {n : ℕ} where
   sim-bind P (refused c q w) f g h k = record { raw = refl }
 
   sim-go : {A : Type 0} (m : Result A) (f : A → Result State) (g : A → Result TerminalResult) → ((a : A) → Sim t v F R n (f a) (g a)) → Sim t v F R n (m >>= f) (m >>= g)
-  sim-go m f g k = sim-bind Any m f g (any m) (λ a _. k a)
+  sim-go m f g k = sim-bind Any m f g (good-any m) (λ a _. k a)
 
   sim-assoc : {A B : Type 0} {x : Result State} (m : Result A) (f : A → Result B) (g : B → Result TerminalResult) → Sim t v F R n x (m >>= (λ a. f a >>= g)) → Sim t v F R n x ((m >>= f) >>= g)
   sim-assoc {x = x} m f g h = subst (λ (y : Result TerminalResult). Sim t v F R n x y) (sym (bind-assoc m f g)) h
@@ -183,16 +183,30 @@ unfolding scheduleSwitch scheduled Free
 opened-switch none c h = refl
 opened-switch (some f) c h = schedule-free _ c (h f refl)
 
+abbrev Kept : Context → Context → Type 0
+Kept c d = d .visits ≡ c .visits
+
+scope-marked-kept : (g : Option ℕ) (c : Context) → Kept c (markScopeFallthroughIf g c)
+unfolding markScopeFallthroughIf markScopeFallthrough
+scope-marked-kept none c = refl
+scope-marked-kept (some f) c = refl
+
+abbrev OneMore : Context → Context → Type 0
+OneMore c d = (c .visits < 8192) × (d .visits ≡ suc (c .visits))
+
+enter-counts : (t : Table) (b : ℕ) (c : Context) → Good (OneMore c) (enterBlock t b c)
+unfolding enterBlock emit withVisits
+enter-counts t b c =
+    good-bind (λ w. (c .visits < 8192) × (w ≡ suc (c .visits))) (OneMore c) _ _
+    (fine-good (λ w. (c .visits < 8192) × (w ≡ suc (c .visits))) (λ w. (c .visits < 8192) × (w ≡ suc (c .visits))) (beginVisit t b (c .visits)) (λ _ h. h) (begin-visit-took t b (c .visits)))
+    (λ w q. good-unless (OneMore c) _ 11 b w _ (λ h. q))
+
 abbrev InLoop : Context → Context → Type 0
 InLoop c d = Kept c d × Tops (c .nextId ∷ []) (d .stack)
 
 loop-pushed : (f k l : ℕ) (c : Context) → Good (InLoop c) (scheduleLoop f k (some l) c)
 unfolding scheduleLoop pushed
-loop-pushed f k l c = good-bind Any (InLoop c) _ _ (any (refuseIf (has (add (c .scheduled) f) k) 15 k (c .visits))) (λ _ _. (refl, (refl, tt)))
-
-fine-good : {A : Type 0} (P : A → Type 0) (m : Result A) → Fine P m → Good P m
-fine-good P (ok a) h = h
-fine-good P (refused c p v) h = tt
+loop-pushed f k l c = good-bind Any (InLoop c) _ _ (good-any (refuseIf (has (add (c .scheduled) f) k) 15 k (c .visits))) (λ _ _. (refl, (refl, tt)))
 
 -- ---- closing a statement
 
@@ -467,17 +481,17 @@ module _ (t : Table) (d : ℕ) (inner : TraverseBlock) (ws : Walks t d inner) (w
 
   jump-kept : (w : Variant) (b g i : ℕ) (c : Context) → Good (λ s. Kept c (s .context)) (visitGoto w b g i c)
   unfolding visitGoto
-  jump-kept Break b g i c = good-bind Any (λ s. Kept c (s .context)) _ _ (any (visitBreak b g i c)) (λ s _. refl)
-  jump-kept Continue b g i c = good-bind Any (λ s. Kept c (s .context)) _ _ (any (visitContinue g i c)) (λ s _. refl)
+  jump-kept Break b g i c = good-bind Any (λ s. Kept c (s .context)) _ _ (good-any (visitBreak b g i c)) (λ s _. refl)
+  jump-kept Continue b g i c = good-bind Any (λ s. Kept c (s .context)) _ _ (good-any (visitContinue g i c)) (λ s _. refl)
   jump-kept Try b g i c = refl
 
-  value-sim : {v : ℕ} {F : List Frame} {R : List Row} {n : ℕ} (e : Terminal) (b : ℕ) (k : Block) (f : ℕ) (c : Context) → v ≤ c .visits
+  value-sim : {v : ℕ} {F : List Frame} {R : List Row} {n : ℕ} (e : Terminal) (b : ℕ) (k : Block) (f : ℕ) (c : Context) → T (not (isMaybeThrow e)) → v ≤ c .visits
       → Sim t v F R n (valueTurn t visit e b k f F R n c) (visitValueStatement t visit e b k f c)
   unfolding valueTurn visitValueStatement
-  value-sim {v} {F} {R} {n} e b k f c h =
+  value-sim {v} {F} {R} {n} e b k f c m h =
       sim-by _ (opened-if g c (untaken-free c f))
       (subst (λ (w : ℕ). Sim t v F R n (visitValueBlockTerminal t visit e (k .id) (k .span) (c .visits) b >>= X) (visitValueBlockTerminal t visit e (k .id) (k .span) w b >>= Y)) (sym (kept-if g c))
-      (sim-bind (λ r. c .visits ≤ r .visits) _ X Y (terminal-grows t visit (value-grows t d) e (k .id) (k .span) (c .visits) b) (λ r q.
+      (sim-bind (λ r. c .visits ≤ r .visits) _ X Y (fine-good (TerminalTook t (c .visits)) (λ r. c .visits ≤ r .visits) (visitValueBlockTerminal t visit e (k .id) (k .span) (c .visits) b) (λ _ z. z .rises) (terminal-took t visit (value-took t d) e (k .id) (k .span) (c .visits) b m)) (λ r q.
       sim-by _ (off-if g (c .nextId) (withVisits (r .visits) (scheduledIf g c)) ∙ pop-all (scheduleIds g (c .nextId)) (withVisits (r .visits) (scheduledIf g c)) (unfold withVisits in tops-if g c) ∙ one g (withVisits (r .visits) (scheduledIf g c)))
       (sim-leave (INSTR (r .id) (r .place) (k .span) (r .value)) (rows-value R (r .id) (r .place) (k .span) (r .value)) (seen g r (omega arith))))))
     where
@@ -499,8 +513,8 @@ module _ (t : Table) (d : ℕ) (inner : TraverseBlock) (ws : Walks t d inner) (w
       Y r = unscheduleIf g (c .nextId) (withVisits (r .visits) (scheduledIf g c)) >>= λ c2. ok (record { statement = some (INSTR (r .id) (r .place) (k .span) (r .value)); next = g; context = c2 })
 
   values : (x : ℕ) (ft : Option ℕ) (span v : ℕ) → Good (λ r. v ≤ r .visits) (visit x ft span v)
-  unfolding Grows
-  values x ft span v = value-grows t d x ft span v
+  unfolding VisitTook
+  values x ft span v = fine-good (BlockTook t v) (λ r. v ≤ r .visits) (visit x ft span v) (λ _ h. h .rises) (value-took t d x ft span v)
 
   abbrev Updated : Option ℕ → ℕ → OptionalValue → Type 0
   Updated u v w = (v ≤ w .visits) × (updatePresent (w .value) ≡ updatePresent u)
@@ -511,7 +525,7 @@ module _ (t : Table) (d : ℕ) (inner : TraverseBlock) (ws : Walks t d inner) (w
   updates (some u) span v = good-bind (λ r. v ≤ r .visits) (Updated (some u) v) _ _ (values u none span v) (λ r q. (q, refl))
 
   reaches : (c : Context) (f : ℕ) → Good (λ g. Free g c) (unlessUnreachable t c f)
-  reaches c f = fine-good (λ g. Free g c) (unlessUnreachable t c f) (reached-fine t c f)
+  reaches c f = fine-good (λ g. Free g c) (λ g. Free g c) (unlessUnreachable t c f) (λ _ h. h) (reached-fine t c f)
 
   -- ---- every terminal
 
@@ -565,13 +579,13 @@ module _ (t : Table) (d : ℕ) (inner : TraverseBlock) (ws : Walks t d inner) (w
       sim-bind (λ w. c1 .visits ≤ w .visits) _ _ _ (values i none (blockAt t b .span) (c1 .visits)) (λ n p₁.
       loop-sim _ b l (loopIsTaken c l f) (n .visits) (c .nextId) c1 (unlessScheduled c f) _ _ q (unfold resumeAt in λ _ _ _ _ _. refl) size (omega arith) (p .1)
       (unfold closingRowOf in rows-forin R (blockAt t b .id) (unlessScheduled c f) (blockAt t b .span) (valueBlockResultToSequence t n (blockAt t b .span)))))
-  terminal-sim (logical o x f) b c q size h = value-sim (logical o x f) b (blockAt t b) f c h
-  terminal-sim (ternary x f) b c q size h = value-sim (ternary x f) b (blockAt t b) f c h
-  terminal-sim (optional g x f) b c q size h = value-sim (optional g x f) b (blockAt t b) f c h
+  terminal-sim (logical o x f) b c q size h = value-sim (logical o x f) b (blockAt t b) f c tt h
+  terminal-sim (ternary x f) b c q size h = value-sim (ternary x f) b (blockAt t b) f c tt h
+  terminal-sim (optional g x f) b c q size h = value-sim (optional g x f) b (blockAt t b) f c tt h
   terminal-sim {R = R} (label x f) b c q size h =
       sim-bind (λ g. Free g c) _ _ _ (reaches c f) (λ g free. sim-by _ (opened-if g c free)
       (enclosed-sim _ b x 17 b g c (scheduledIf g c) _ q (unfold resumeAt in λ _ _ _ _ _. refl) size (omega (arith, kept-if g c)) (tops-if g c) (unfold closingRowOf in rows-label R (blockAt t b .id) g)))
-  terminal-sim (sequence x f) b c q size h = value-sim (sequence x f) b (blockAt t b) f c h
+  terminal-sim (sequence x f) b c q size h = value-sim (sequence x f) b (blockAt t b) f c tt h
   terminal-sim (maybe-throw n) b c q size h = silent (unlessScheduled c n) c h
   terminal-sim {R = R} {n} (try x y f m) b c q size h =
       sim-bind (λ g. Free g c) _ _ _ (reaches c f) (λ g free. sim-by _ (opened-if g c free)
@@ -583,7 +597,7 @@ module _ (t : Table) (d : ℕ) (inner : TraverseBlock) (ws : Walks t d inner) (w
   terminal-sim {R = R} (scope p x f s) b c q size h =
       sim-by _ (opened-if (unlessScheduled c f) c (untaken-free c f))
       (enclosed-sim _ b x 18 b (unlessScheduled c f) c (markScopeFallthroughIf (unlessScheduled c f) (scheduledIf (unlessScheduled c f) c)) _ q (unfold resumeAt in λ _ _ _ _ _. refl) size
-      (omega (arith, kept-if (unlessScheduled c f) c, scopedIf-kept (unlessScheduled c f) (scheduledIf (unlessScheduled c f) c)))
+      (omega (arith, kept-if (unlessScheduled c f) c, scope-marked-kept (unlessScheduled c f) (scheduledIf (unlessScheduled c f) c)))
       (tops-same (scheduleIds (unlessScheduled c f) (c .nextId)) (scheduledIf (unlessScheduled c f) c) (markScopeFallthroughIf (unlessScheduled c f) (scheduledIf (unlessScheduled c f) c)) (marked (unlessScheduled c f) (scheduledIf (unlessScheduled c f) c)) (tops-if (unlessScheduled c f) c))
       (unfold closingRowOf in rows-scope R p s))
     where
@@ -648,7 +662,7 @@ module _ (t : Table) (d : ℕ) (inner : TraverseBlock) (ws : Walks t d inner) (w
       gone : (refused 31 b (c .visits) >>= λ c1. terminalTurn t (visitValueBlock t d) (terminalAt t b) b (blockAt t b) F (R ++ instructionsOut t (instructionRowsAt t b)) (m + length (instructionRowsAt t b)) c1) ≡ refused 31 b (c .visits)
       gone = unfold _>>=_ in refl
   chain-sim (suc n) b F R m c size lt =
-      at (enterBlock t b c) (enter-grows t b c) (ap turn (visit-deep b F R m c size)) (λ k R′ m′ c′ le. chain-sim n k F R′ m′ c′ size le)
+      at (enterBlock t b c) (enter-counts t b c) (ap turn (visit-deep b F R m c size)) (λ k R′ m′ c′ le. chain-sim n k F R′ m′ c′ size le)
     where
       S : State
       S = visiting b F R m c

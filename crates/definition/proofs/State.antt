@@ -16,7 +16,8 @@ use Rattle.definition.specs.Statement.{enterBlock, unlessScheduled}
 use Rattle.definition.specs.Value.{beginVisit}
 use Rattle.definition.proofs.Semantics.{Frame, fLabel, fScope, fLoop}
 use Rattle.definition.proofs.Ranged.{Ranged}
-use Rattle.definition.proofs.Tools.{true-false, refused-ok, ok-eq, bind-ok, unless-ok, has-add, has-remove, has-still, has-new, length-add, has-none, length-none, below-blocks}
+use Rattle.definition.proofs.Steps.{true-false, refused-ok, ok-eq, bind-ok, unless-ok}
+use Rattle.definition.proofs.Flags.{has-add, has-remove, has-still, has-new, length-add, has-none, length-none, below-blocks}
 use Rattle.definition.proofs.Resolve.{Framed, fnone, flabel, fscope, floop}
 
 module _ (t : Table) where

@@ -19,7 +19,7 @@ use Rattle.definition.specs.Tree.{Kind, implicit, labeled, unlabeled, Va
 use Rattle.definition.specs.Value.{visitValueBlock, beginVisit, ValueBlockResult, VisitValueBlock, instructionsOf, wrapWithSequence, finalValue, storedToNamed, allButLast, last, extractValueBlockResult, branchValue, visitValueBlockAt}
 use Rattle.definition.proofs.Semantics.{Frame, fLabel, fScope, fLoop, target, Built, bReturn, bThrow, bJump, bIf, bIfOnly, bLabel, bScope, bWhile}
 use Rattle.definition.proofs.Ranged.{Ranged}
-use Rattle.definition.proofs.Tools.{true-false, refused-ok, ok-eq, bind-ok}
+use Rattle.definition.proofs.Steps.{true-false, refused-ok, ok-eq, bind-ok}
 use Rattle.definition.proofs.Resolve.{break-exit, break-names, break-target, continue-target}
 use Rattle.definition.proofs.State.{Known, ft-of, Inv, inv-visited, Entered, enter-ok, ft-free, untaken-free, inv-label, inv-scope, inv-loop, schedule-ok, scheduleLoop-ok, Closed, unschedule-ok}
 
