@@ -16,12 +16,8 @@ use Rattle.definition.specs.Value.{VisitValueBlock, visitValueBlockTermi
 use Rattle.definition.specs.Statement.{BlockResult, TerminalResult, TraverseBlock, enterBlock, unlessScheduled, unlessUnreachable, scheduleIf, scheduleSwitch, unscheduleIf, markScopeFallthroughIf, breakToScope, breakResolved, visitBreak, continueResolved, visitContinue, visitGoto, traverseUnscheduled, AlternateResult, traverseAlternate, traverseConsequent, traverseEnclosed, traverseLoop, continueBlockOf, visitUpdate, casesLastFirst, traverseCases, unscheduleAll, scheduleIds, visitValueStatement, visitTerminal, instructionStatements, followedBy, thenNext, visitBlock, traverseBlock, buildTree}
 use Rattle.definition.specs.Plain.{fallthroughOf}
 use Rattle.definition.specs.Reading.{BelowNone, EmptyUnless, WellFormedStatement, WellFormed, WellFormedCases}
-use Rattle.definition.proofs.Steps.{Any, Good, good-bind, good-unless, good-any}
+use Rattle.definition.proofs.Steps.{Any, Good, good-bind, good-unless, good-pick, good-any}
 use Rattle.definition.proofs.Ranged.{Ranged}
-
-good-pick : {A : Type 0} (P : A → Type 0) (y : Bool) (a b : Result A) → Good P a → Good P b → Good P (elim y [ true ↦ a | false ↦ b ])
-good-pick P true a b f g = f
-good-pick P false a b f g = g
 
 abbrev FormedOption : Option Statement → Type 0
 FormedOption none = Unit {0}
@@ -85,10 +81,10 @@ goto-formed Break at b i c = good-bind FormedOption FormedStep _ _ (break-formed
 goto-formed Continue at b i c = good-bind WellFormedStatement FormedStep _ _ (continued-formed b i c (getContinueTarget c b)) (λ s h. h)
 goto-formed Try at b i c = tt
 
-single-formed : (s : Option Statement) → FormedOption s → WellFormed (followedBy s done)
+followed-formed : (s : Option Statement) (k : Statements) → FormedOption s → WellFormed k → WellFormed (followedBy s k)
 unfolding WellFormed
-single-formed none h = tt
-single-formed (some s) h = (h, tt)
+followed-formed none k h q = q
+followed-formed (some s) k h q = (h, q)
 
 -- ---- terminals
 
@@ -103,9 +99,9 @@ module _ (t : Table) (values : VisitValueBlock) (inner : TraverseBlock) (wf : Wa
       good-pick FormedAlternate (eqb a f) _ _ (tt, tt) (good-bind FormedBlock FormedAlternate _ _ (unscheduled-formed a 13 a c) (λ r h. (h, tt)))
 
   consequent-formed : (at y i : ℕ) (c : Context) → Good FormedBlock (traverseConsequent inner at y i c)
-  unfolding traverseConsequent WalkFormed
+  unfolding traverseConsequent WalkFormed WellFormed
   consequent-formed at y i c =
-      good-pick FormedBlock (isScheduled c y) _ _ (good-bind FormedOption FormedBlock _ _ (break-formed at y i c) (λ s h. single-formed s h)) (wf y c)
+      good-pick FormedBlock (isScheduled c y) _ _ (good-bind FormedOption FormedBlock _ _ (break-formed at y i c) (λ s h. followed-formed s done h tt)) (wf y c)
 
   enclosed-formed : (b code at : ℕ) (g : Option ℕ) (c c₁ : Context) (make : Statements → Statement) → ((s : Statements) → WellFormed s → WellFormedStatement (make s))
       → Good FormedStep (traverseEnclosed inner b code at g c c₁ make)
@@ -212,11 +208,6 @@ instructions-formed : (t : Table) (rs : List ℕ) (k : Statements) → WellForme
 unfolding instructionStatements WellFormed
 instructions-formed t [] k h = h
 instructions-formed t (r ∷ rs) k h = (tt, instructions-formed t rs k h)
-
-followed-formed : (s : Option Statement) (k : Statements) → FormedOption s → WellFormed k → WellFormed (followedBy s k)
-unfolding WellFormed
-followed-formed none k h q = q
-followed-formed (some s) k h q = (h, q)
 
 next-formed : (t : Table) (at : ℕ) (again : TraverseBlock) (s : Option Statement) (n : Option ℕ) (c : Context) → WalkFormed again → FormedOption s → Good FormedBlock (thenNext t at again s n c)
 unfolding thenNext WalkFormed WellFormed

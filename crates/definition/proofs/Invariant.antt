@@ -19,7 +19,7 @@ use Rattle.definition.specs.Statement.{breakToScope, visitBreak, visitCo
 use Rattle.definition.specs.Tree.{Kind, implicit, labeled, unlabeled, Statement, Row, row, BREAK, CONTINUE}
 use Rattle.definition.specs.Value.{visitValueBlock, beginVisit, ValueBlockResult, ValueTerminalResult, VisitValueBlock, visitValueBlockTerminal, valueBlockResultToSequence}
 use Rattle.definition.proofs.Flags.{length-none, below-blocks}
-use Rattle.definition.proofs.Steps.{true-false, Any, Good, good-bind, good-unless, good-any, fine-good}
+use Rattle.definition.proofs.Steps.{true-false, Any, Good, good-bind, good-unless, good-pick, good-any, fine-good}
 use Rattle.definition.proofs.ValueWalk.{sizeOf, value-out-size, sequence-size, Took, BlockTook, TerminalTook, VisitTook, isMaybeThrow, terminal-took, update-took, value-took}
 use Rattle.definition.proofs.Simulation.{machine-builds, gives-next, gives-halt, number-below}
 
@@ -349,10 +349,6 @@ continue-jump g i k = (le-refl 1, λ n. omega arith)
 no-jump : Jump none
 no-jump = (omega arith, λ n. omega arith)
 
-pick : {A : Type 0} (P : A → Type 0) (y : Bool) (a b : Result A) → Good P a → Good P b → Good P (elim y [ true ↦ a | false ↦ b ])
-pick P true a b p q = p
-pick P false a b p q = q
-
 scope-jump : (k : Kind) (at v : ℕ) → Good Jump (breakToScope k at v)
 unfolding breakToScope
 scope-jump implicit at v = no-jump
@@ -365,7 +361,7 @@ visitBreak-jump b g i c = at (getBreakTarget c g)
   where
     at : (r : Option Resolution) → Good Jump (breakResolved b g i c r)
     at none = unfold breakResolved in tt
-    at (some r) = unfold breakResolved in pick Jump (has (c .scopeFallthroughs) (r .target)) _ _ (scope-jump (r .kind) b (c .visits)) (break-jump (r .target) i (r .kind))
+    at (some r) = unfold breakResolved in good-pick Jump (has (c .scopeFallthroughs) (r .target)) _ _ (scope-jump (r .kind) b (c .visits)) (break-jump (r .target) i (r .kind))
 
 visitContinue-jump : (g i : ℕ) (c : Context) → Good (λ s. Jump (some s)) (visitContinue g i c)
 unfolding visitContinue
@@ -445,8 +441,8 @@ module _ (t : Table) (ck : Checked t) (d : ℕ) where
       at (throw x) q n = closed R c h
       at (return x) q n = closed R c h
       at (goto x v) q n = closed R c h
-      at (if x y a g) q n = pick (Fit t p) (fr .second) _ _ (closed R c h) (pick (Fit t p) (eqb a g) _ _ (closed R c h) (into-again a 13 a (n .1)))
-      at (branch x y a) q n = pick (Fit t p) (fr .second) _ _ (closed R c h) (into-again a 19 (fr .block) (n .1))
+      at (if x y a g) q n = good-pick (Fit t p) (fr .second) _ _ (closed R c h) (good-pick (Fit t p) (eqb a g) _ _ (closed R c h) (into-again a 13 a (n .1)))
+      at (branch x y a) q n = good-pick (Fit t p) (fr .second) _ _ (closed R c h) (into-again a 19 (fr .block) (n .1))
       at (switch x i m g) q n =
           choose-fit t (caseBuilt fr)
           (inside-held t c 1 (inside-out t (row 11 (caseAt t (i + fr .left) .test) 0 0 0 0 ∷ []) (fr .count) 3 h (omega arith) (omega (arith, h .tallied))) (scheduled-held (target-case (caseAt t (i + fr .left) .block)) c) (omega arith) (omega (arith, h .stack)))
@@ -463,7 +459,7 @@ module _ (t : Table) (ck : Checked t) (d : ℕ) where
       at (label x g) q n = closed R c h
       at (sequence x g) q n = closed R c h
       at (maybe-throw x) q n = closed R c h
-      at (try x y g m) q n = pick (Fit t p) (fr .second) _ _ (closed R c h) (again y (n .1))
+      at (try x y g m) q n = good-pick (Fit t p) (fr .second) _ _ (closed R c h) (again y (n .1))
       at (scope x y g m) q n = closed R c h
 
   -- ---- a Switch takes its next case
@@ -476,7 +472,7 @@ module _ (t : Table) (ck : Checked t) (d : ℕ) where
   case-fit {p} (suc j) fr F R c e q h o f =
       let x : ℕ = switchColumns (terminalAt t (fr .block)) .first in
       let b : ℕ = caseAt t (x + j) .block in
-      pick (Fit t p) (isScheduled c b) _ _
+      good-pick (Fit t p) (isScheduled c b) _ _
       (good-bind Any (Fit t p) _ _ (good-any (refuseIf (not (eqb b (switchColumns (terminalAt t (fr .block)) .fallthrough))) 14 (fr .block) (c .visits))) (λ _ _.
       choose-fit t (withLeft j fr) h (omega arith) (omega arith) refl (omega arith) (omega arith) q (record { block = o .block; label = o .label; entries = o .entries; case = λ z. omega (arith, o .case z) }) f))
       (push-fit t (withLeft j fr) b h (omega arith) (omega arith) refl (omega arith) (omega arith)
@@ -548,7 +544,7 @@ module _ (t : Table) (ck : Checked t) (d : ℕ) where
 
     branch-fit : (x y a : ℕ) → isSwitch (terminalAt t b) ≡ false → y < length (t .blocks) → a < length (t .blocks) → Good (Fit t p) (branchTurn b y a (blockAt t b .id) F R m c)
     unfolding branchTurn
-    branch-fit x y a z k l = pick (Fit t p) (isScheduled c y) _ _
+    branch-fit x y a z k l = good-pick (Fit t p) (isScheduled c y) _ _
         (good-bind Jump (Fit t p) _ _ (visitBreak-jump b y (blockAt t b .id) c) (λ s q.
         into-fit (secondPart (frameOf b none 0 m)) a 19 b (inside-out t (blockRow (added s 0) ∷ []) m 3 (inside-out t (jumpOut s) m 4 h (omega (arith, q .0)) (omega (arith, h .tallied))) (omega arith)
         (omega (arith, length-append R (jumpOut s), h .tallied))) (omega arith) (omega arith) refl (omega arith) (omega arith) (later (framed b none 0 m below tt (omega arith) z)) f l))

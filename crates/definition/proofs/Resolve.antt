@@ -1,18 +1,18 @@
 -- A break or a continue that the stack resolves goes where its ending leads.
-use mathlib.Core.Path.{_≡_, refl, sym, ap, _∙_}
+use mathlib.Core.Path.{_≡_, refl, sym, ap, _∙_, subst}
 use Prim.Native.Nat.{ℕ}
 use mathlib.Core.List.{List, [], _∷_}
 use mathlib.Core.Option.{Option, none, some}
-use mathlib.Core.Bool.{Bool, true, false, _||_}
+use mathlib.Core.Bool.{Bool, true, false, _||_, not}
 use native.Mathlib.Omega.{arith}
-use lib.Dec.{eqb}
+use lib.Dec.{eqb, T}
 use borrow.Author.Tests.{eqb-true, eqb-false}
 use Rattle.table.specs.Table.{Table, while, terminalAt}
 use Rattle.definition.specs.Context.{Flags, has, target-if, target-loop, Entry, targetBlock, isLoop, continuesAt, breakKind, breakTargetFrom, Resolution, continueKind, continueTargetFrom}
 use Rattle.definition.specs.Plain.{Plain, fallthroughOf}
 use Rattle.definition.specs.Completion.{break, continue}
 use Rattle.definition.specs.TreeRun.{jumpCompletion}
-use Rattle.definition.specs.Tree.{Kind, implicit, labeled, unlabeled}
+use Rattle.definition.specs.Tree.{Kind, implicit, labeled, unlabeled, kindNumber}
 use Rattle.definition.proofs.Semantics.{Frame, fLabel, fScope, fLoop, exit, breakOut, breakAt, continueOut, continueAt, target, provided}
 use Rattle.definition.proofs.Steps.{true-false}
 
@@ -69,39 +69,32 @@ module _ (t : Table) where
   break-at {sc} (floop {F} {S} i f x w l ll o s p) g top above c n e =
       found f g (eqb f g) (record { target = g; kind = breakKind true top above }) c (breakTargetFrom S g false (above || true)) (breakAt F g) refl e (λ h. break-at p g false (above || true) c n h)
 
-  labeled-unlabeled : labeled ≡ unlabeled → ⊥
-  labeled-unlabeled e = let z : _≡_ {A = ℕ} 0 1 = cc in omega arith
-
-  implicit-unlabeled : implicit ≡ unlabeled → ⊥
-  implicit-unlabeled e = let z : _≡_ {A = ℕ} 0 1 = cc in omega arith
-
-  labeled-implicit : labeled ≡ implicit → ⊥
-  labeled-implicit e = let z : _≡_ {A = ℕ} 0 1 = cc in omega arith
-
-  unlabeled-implicit : unlabeled ≡ implicit → ⊥
-  unlabeled-implicit e = let z : _≡_ {A = ℕ} 0 1 = cc in omega arith
+  apart : (k k′ : Kind) → T (not (eqb (kindNumber k) (kindNumber k′))) → k ≡ k′ → ⊥
+  apart implicit k′ h e = subst (λ (z : Kind). T (not (eqb 0 (kindNumber z)))) (sym e) h
+  apart labeled k′ h e = subst (λ (z : Kind). T (not (eqb 1 (kindNumber z)))) (sym e) h
+  apart unlabeled k′ h e = subst (λ (z : Kind). T (not (eqb 2 (kindNumber z)))) (sym e) h
 
   kind-above : (x top : Bool) → breakKind x top true ≡ unlabeled → ⊥
   unfolding breakKind
-  kind-above true top e = labeled-unlabeled e
-  kind-above false true e = implicit-unlabeled e
-  kind-above false false e = labeled-unlabeled e
+  kind-above true top e = apart labeled unlabeled tt e
+  kind-above false true e = apart implicit unlabeled tt e
+  kind-above false false e = apart labeled unlabeled tt e
 
   kind-other : (top above : Bool) → breakKind false top above ≡ unlabeled → ⊥
   unfolding breakKind
-  kind-other true above e = implicit-unlabeled e
-  kind-other false above e = labeled-unlabeled e
+  kind-other true above e = apart implicit unlabeled tt e
+  kind-other false above e = apart labeled unlabeled tt e
 
   kind-below : (x above : Bool) → breakKind x false above ≡ implicit → ⊥
   unfolding breakKind
-  kind-below true true e = labeled-implicit e
-  kind-below true false e = unlabeled-implicit e
-  kind-below false above e = labeled-implicit e
+  kind-below true true e = apart labeled implicit tt e
+  kind-below true false e = apart unlabeled implicit tt e
+  kind-below false above e = apart labeled implicit tt e
 
   kind-loop : (top above : Bool) → breakKind true top above ≡ implicit → ⊥
   unfolding breakKind
-  kind-loop top true e = labeled-implicit e
-  kind-loop top false e = unlabeled-implicit e
+  kind-loop top true e = apart labeled implicit tt e
+  kind-loop top false e = apart unlabeled implicit tt e
 
   above-never : (S : List Entry) (g : ℕ) (top : Bool) (c : Resolution) → breakTargetFrom S g top true ≡ some c → c .kind ≡ unlabeled → ⊥
   unfolding breakTargetFrom
@@ -167,8 +160,8 @@ module _ (t : Table) where
 
   continue-below : (above : Bool) → continueKind false above ≡ implicit → ⊥
   unfolding continueKind
-  continue-below true e = labeled-implicit e
-  continue-below false e = unlabeled-implicit e
+  continue-below true e = apart labeled implicit tt e
+  continue-below false e = apart unlabeled implicit tt e
 
   continue-above-never : (S : List Entry) (g : ℕ) (top : Bool) (c : Resolution) → continueTargetFrom S g top true ≡ some c → c .kind ≡ labeled
   unfolding continueTargetFrom
@@ -193,7 +186,7 @@ module _ (t : Table) where
   continue-out (fscope {F} {S} i f s p) g top c e k = continue-out p g false c e k
   continue-out (floop {F} {S} i f x w l ll o s p) g top c e k =
       take x g (eqb x g) (record { target = f; kind = continueKind top false }) c (continueTargetFrom S g false true) refl e
-      (λ h. labeled-unlabeled (sym (continue-above-never S g false c h) ∙ k))
+      (λ h. apart labeled unlabeled tt (sym (continue-above-never S g false c h) ∙ k))
 
   continue-exit : {sc : Flags} {F : List Frame} {S : List Entry} → Framed sc F S → (g : ℕ) (top above : Bool) (c : Resolution) → continueTargetFrom S g top above ≡ some c
       → c .kind ≡ implicit → exit F ≡ some g

@@ -18,7 +18,7 @@ use Rattle.definition.specs.Result.{refused, Result, ok, _>>=_, refuseIf
 use Rattle.definition.specs.Statement.{visitBreak, visitContinue, OptionalValue, visitUpdate, continueBlockOf, TerminalResult, BlockResult, TraverseBlock, enterBlock, unlessScheduled, unlessUnreachable, scheduleIf, unscheduleIf, markScopeFallthroughIf, traverseUnscheduled, AlternateResult, traverseAlternate, visitGoto, traverseEnclosed, loopIsTaken, traverseLoop, CasesResult, traverseCases, unscheduleAll, scheduleSwitch, scheduleIds, casesLastFirst, traverseConsequent, visitValueStatement, visitTerminal, instructionStatements, followedBy, thenNext, visitBlock, traverseBlock, buildTree}
 use Rattle.definition.specs.Tree.{Statement, Statements, done, Cases, no-cases, CASE, Row, row, orNone, countStatements, countCases, IF, INSTR, SWITCH, rows, updatePresent}
 use Rattle.definition.specs.Value.{visitValueBlock, beginVisit, ValueTerminalResult, VisitValueBlock, visitValueBlockTerminal, valueBlockResultToSequence}
-use Rattle.definition.proofs.Rows.{stmtsOut, casesOut, bodyOut, body-out, rows-if, rows-else, rows-do, rows-while, rows-for, rows-forof, rows-forin, rows-label, rows-try, rows-scope, rows-value, rows-single, rows-case, rows-switch, rows-chain, count-chain}
+use Rattle.definition.proofs.Rows.{statementsOut, casesOut, blockOut, block-rows, rows-if, rows-else, rows-do-while, rows-while, rows-for, rows-for-of, rows-for-in, rows-label, rows-try, rows-scope, rows-value, rows-single, rows-case, rows-switch, rows-chain, count-chain}
 use Rattle.definition.proofs.Steps.{true-false, Any, Good, good-bind, good-unless, good-any, Fine, fine-good}
 use Rattle.definition.proofs.ValueWalk.{BlockTook, TerminalTook, VisitTook, isMaybeThrow, terminal-took, value-took, begin-visit-took}
 use Rattle.definition.proofs.Never.{After, WalkFine, walk-fine, Free, untaken-free, reached-fine, schedule-free, or-false, false-of}
@@ -49,7 +49,7 @@ record Sim (t : Table) (v : ℕ) (F : List Frame) (R : List Row) (n : ℕ) (x : 
 
 -- a list of statements is walked from the state s
 abbrev Along : Table → State → ℕ → List Frame → List Row → ℕ → Result BlockResult → Type 0
-Along t s v F R m (ok r) = (v < r .context .visits) × ((a : Report) → Gives t (ended F (R ++ stmtsOut (r .statements)) (m + countStatements (r .statements)) (r .context)) a → Gives t s a)
+Along t s v F R m (ok r) = (v < r .context .visits) × ((a : Report) → Gives t (ended F (R ++ statementsOut (r .statements)) (m + countStatements (r .statements)) (r .context)) a → Gives t s a)
 Along t s v F R m (refused c q w) = Gives t s (rejected c q w)
 
 unfoldable pub Walks : Table → ℕ → TraverseBlock → Type 0
@@ -288,18 +288,18 @@ module _ (t : Table) (d : ℕ) (inner : TraverseBlock) (ws : Walks t d inner) (w
   -- the frame awaits a list of a statement with the terminal e: open, visit inside, close
   sim-inner : {v : ℕ} {F : List Frame} {R : List Row} {n : ℕ} (fr : Frame) (e : Terminal) (b : ℕ) (R₁ : List Row) (c : Context) (rest : BlockResult → Result TerminalResult)
       → terminalAt t (fr .block) ≡ e → length F + suc d ≡ 128
-      → ((r : BlockResult) → Past c (r .context) → Sim t v F R n (resumeAt t visit e (blockAt t (fr .block)) fr F (bodyOut R₁ (r .statements)) (r .context)) (rest r))
+      → ((r : BlockResult) → Past c (r .context) → Sim t v F R n (resumeAt t visit e (blockAt t (fr .block)) fr F (blockOut R₁ (r .statements)) (r .context)) (rest r))
       → Sim t v F R n (ok (visiting b (fr ∷ F) R₁ 0 c)) (inner b c >>= rest)
   unfolding _>>=_ Walks WalkFine
   sim-inner {v} {F} {R} {n} fr e b R₁ c rest q size k = at (inner b c) (ws b (fr ∷ F) R₁ 0 c (omega arith)) (wf b c)
     where
-      under : (r : BlockResult) (a : Report) → Under t (resumeAt t visit e (blockAt t (fr .block)) fr F (bodyOut R₁ (r .statements)) (r .context)) a
-          → Under t (resume t visit fr F (bodyOut R₁ (r .statements)) (r .context)) a
-      under r a h = subst (λ (z : Terminal). Under t (resumeAt t visit z (blockAt t (fr .block)) fr F (bodyOut R₁ (r .statements)) (r .context)) a) (sym q) h
+      under : (r : BlockResult) (a : Report) → Under t (resumeAt t visit e (blockAt t (fr .block)) fr F (blockOut R₁ (r .statements)) (r .context)) a
+          → Under t (resume t visit fr F (blockOut R₁ (r .statements)) (r .context)) a
+      under r a h = subst (λ (z : Terminal). Under t (resumeAt t visit z (blockAt t (fr .block)) fr F (blockOut R₁ (r .statements)) (r .context)) a) (sym q) h
 
       after : (r : BlockResult) (z : Result TerminalResult)
-          → ((a : Report) → Gives t (ended (fr ∷ F) (R₁ ++ stmtsOut (r .statements)) (0 + countStatements (r .statements)) (r .context)) a → Gives t (visiting b (fr ∷ F) R₁ 0 c) a)
-          → Beside t v F R n (resumeAt t visit e (blockAt t (fr .block)) fr F (bodyOut R₁ (r .statements)) (r .context)) z
+          → ((a : Report) → Gives t (ended (fr ∷ F) (R₁ ++ statementsOut (r .statements)) (0 + countStatements (r .statements)) (r .context)) a → Gives t (visiting b (fr ∷ F) R₁ 0 c) a)
+          → Beside t v F R n (resumeAt t visit e (blockAt t (fr .block)) fr F (blockOut R₁ (r .statements)) (r .context)) z
           → Beside t v F R n (ok (visiting b (fr ∷ F) R₁ 0 c)) z
       after r (refused x y w) go u = go (rejected x y w) (resumes fr F _ _ (r .context) (rejected x y w) size (under r _ u))
       after r (ok s) go (g, u) = (g, λ a h. go a (resumes fr F _ _ (r .context) a size (under r a (u a h))))
@@ -310,7 +310,7 @@ module _ (t : Table) (d : ℕ) (inner : TraverseBlock) (ws : Walks t d inner) (w
 
   sim-into : {v : ℕ} {F : List Frame} {R : List Row} {n : ℕ} (fr : Frame) (e : Terminal) (b code at : ℕ) (R₁ : List Row) (c : Context) (rest : BlockResult → Result TerminalResult)
       → terminalAt t (fr .block) ≡ e → length F + suc d ≡ 128
-      → ((r : BlockResult) → Past c (r .context) → Sim t v F R n (resumeAt t visit e (blockAt t (fr .block)) fr F (bodyOut R₁ (r .statements)) (r .context)) (rest r))
+      → ((r : BlockResult) → Past c (r .context) → Sim t v F R n (resumeAt t visit e (blockAt t (fr .block)) fr F (blockOut R₁ (r .statements)) (r .context)) (rest r))
       → Sim t v F R n (into b code at fr F R₁ c) (traverseUnscheduled inner b code at c >>= rest)
   unfolding into traverseUnscheduled
   sim-into fr e b code at R₁ c rest q size k =
@@ -323,7 +323,7 @@ module _ (t : Table) (d : ℕ) (inner : TraverseBlock) (ws : Walks t d inner) (w
 
   if-else : {v : ℕ} {F : List Frame} {R : List Row} {n : ℕ} (x y a f : ℕ) (g : Option ℕ) (i b : ℕ) (c : Context) (th : Statements)
       → terminalAt t b ≡ if x y a f → length F + suc d ≡ 128 → v ≤ c .visits → Tops (scheduleIds g i) (c .stack)
-      → Sim t v F R n (resumeAt t visit (if x y a f) (blockAt t b) (labelled b g n) F (bodyOut R th) c)
+      → Sim t v F R n (resumeAt t visit (if x y a f) (blockAt t b) (labelled b g n) F (blockOut R th) c)
       (traverseAlternate inner a f c >>= λ s. unscheduleIf g i (s .context) >>= λ c2. ok (record { statement = some (IF x (blockAt t b .id) g th (s .present) (s .statements)); next = g; context = c2 }))
   unfolding traverseAlternate resumeAt closingRowOf
   if-else {v} {F} {R} {n} x y a f g i b c th q size h u = at (eqb a f)
@@ -332,7 +332,7 @@ module _ (t : Table) (d : ℕ) (inner : TraverseBlock) (ws : Walks t d inner) (w
       K s = unscheduleIf g i (s .context) >>= λ c2. ok (record { statement = some (IF x (blockAt t b .id) g th (s .present) (s .statements)); next = g; context = c2 })
 
       at : (y : Bool) → Sim t v F R n
-          (elim y [ true ↦ ok (close t (labelled b g n) F (bodyOut R th) c) | false ↦ into a 13 a (secondPart (labelled b g n)) F (bodyOut R th) c ])
+          (elim y [ true ↦ ok (close t (labelled b g n) F (blockOut R th) c) | false ↦ into a 13 a (secondPart (labelled b g n)) F (blockOut R th) c ])
           (_>>=_ {A = AlternateResult} (elim y [ true ↦ ok (record { present = false; statements = done; context = c }) | false ↦ traverseUnscheduled inner a 13 a c >>= λ r. ok (record { present = true; statements = r .statements; context = r .context }) ]) K)
       at true = sim-ok _ K (sim-close (labelled b g n) (scheduleIds g i) _ _ _ _ c q (off-if g i c) (ids-if g i) u (rows-if R x (blockAt t b .id) g th done) h)
       at false =
@@ -341,14 +341,14 @@ module _ (t : Table) (d : ℕ) (inner : TraverseBlock) (ws : Walks t d inner) (w
           (rows-else R x (blockAt t b .id) g th (r .statements)) (omega arith))))
 
   other-way : {v : ℕ} {F : List Frame} {R : List Row} {n : ℕ} (x y a b : ℕ) (R₂ : List Row) (c : Context) (th : Statements)
-      → terminalAt t b ≡ branch x y a → length F + suc d ≡ 128 → v ≤ c .visits → R₂ ≡ bodyOut R th
+      → terminalAt t b ≡ branch x y a → length F + suc d ≡ 128 → v ≤ c .visits → R₂ ≡ blockOut R th
       → Sim t v F R n (into a 19 b (secondPart (frameOf b none 0 n)) F R₂ c)
       (traverseUnscheduled inner a 19 b c >>= λ s. ok (record { statement = some (IF x (blockAt t b .id) none th true (s .statements)); next = none; context = s .context }))
   unfolding resumeAt closingRowOf
   other-way {R = R} {n} x y a b R₂ c th q size h e =
       sim-into (secondPart (frameOf b none 0 n)) _ a 19 b _ c _ q size (λ r p.
       sim-bound (r .context) _ (sim-close (secondPart (frameOf b none 0 n)) [] _ _ _ _ (r .context) q (unfold unscheduleAll in refl) refl tt
-      (ap (λ (z : List Row). bodyOut z (r .statements) ++ (row 10 x 1 (blockAt t b .id) (orNone none) 0 ∷ [])) e ∙ rows-else R x (blockAt t b .id) none th (r .statements)) (omega arith)))
+      (ap (λ (z : List Row). blockOut z (r .statements) ++ (row 10 x 1 (blockAt t b .id) (orNone none) 0 ∷ [])) e ∙ rows-else R x (blockAt t b .id) none th (r .statements)) (omega arith)))
 
   branch-sim : {v : ℕ} {F : List Frame} {R : List Row} {n : ℕ} (x y a b : ℕ) (c : Context) → terminalAt t b ≡ branch x y a → length F + suc d ≡ 128 → v ≤ c .visits
       → Sim t v F R n (branchTurn b y a (blockAt t b .id) F R n c)
@@ -377,7 +377,7 @@ module _ (t : Table) (d : ℕ) (inner : TraverseBlock) (ws : Walks t d inner) (w
 
   enclosed-sim : {v : ℕ} {F : List Frame} {R : List Row} {n : ℕ} (e : Terminal) (b x code at : ℕ) (g : Option ℕ) (c₀ c : Context) (make : Statements → Statement)
       → terminalAt t b ≡ e → Lasts e → length F + suc d ≡ 128 → v ≤ c .visits → Tops (scheduleIds g (c₀ .nextId)) (c .stack)
-      → ((s : Statements) → bodyOut R s ++ (closingRowOf e (blockAt t b) false g 0 ∷ []) ≡ R ++ statementOut (make s))
+      → ((s : Statements) → blockOut R s ++ (closingRowOf e (blockAt t b) false g 0 ∷ []) ≡ R ++ statementOut (make s))
       → Sim t v F R n (into x code at (labelled b g n) F R c) (traverseEnclosed inner x code at g c₀ c make)
   unfolding traverseEnclosed
   enclosed-sim {v} {F} {R} {n} e b x code at g c₀ c make q l size h u o =
@@ -388,7 +388,7 @@ module _ (t : Table) (d : ℕ) (inner : TraverseBlock) (ws : Walks t d inner) (w
 
   loop-sim : {v : ℕ} {F : List Frame} {R : List Row} {n : ℕ} (e : Terminal) (b l : ℕ) (bad : Bool) (w i : ℕ) (c : Context) (g : Option ℕ) (R₁ : List Row) (make : Statements → Statement)
       → terminalAt t b ≡ e → Lasts e → length F + suc d ≡ 128 → v ≤ w → Tops (i ∷ []) (c .stack)
-      → ((s : Statements) → bodyOut R₁ s ++ (closingRowOf e (blockAt t b) false g 0 ∷ []) ≡ R ++ statementOut (make s))
+      → ((s : Statements) → blockOut R₁ s ++ (closingRowOf e (blockAt t b) false g 0 ∷ []) ≡ R ++ statementOut (make s))
       → Sim t v F R n (intoLoop b l bad w (frameOf b g 1 n) F R₁ c) (traverseLoop inner b l bad w i c g make)
   unfolding traverseLoop intoLoop withVisits
   loop-sim {v} {F} {R} {n} e b l bad w i c g R₁ make q la size h u o =
@@ -436,10 +436,10 @@ module _ (t : Table) (d : ℕ) (inner : TraverseBlock) (ws : Walks t d inner) (w
       free r o p = unfold isScheduled in false-of (has (r .context .scheduled) blk) (λ z. true-false (sym (p .1 .sub blk z) ∙ or-false (has (c .scheduled) blk) (has (c .catchHandlers) blk) o))
 
       rows-on : (r : BlockResult) (z : Cases)
-          → ((bodyOut R₁ (r .statements) ++ (row 11 tst 0 0 0 0 ∷ [])) ++ casesOut z) ++ (row 12 x (suc made + countCases z) (blockAt t b .id) (orNone g) 0 ∷ []) ≡ R ++ statementOut (make (CASE tst (r .statements) z))
+          → ((blockOut R₁ (r .statements) ++ (row 11 tst 0 0 0 0 ∷ [])) ++ casesOut z) ++ (row 12 x (suc made + countCases z) (blockAt t b .id) (orNone g) 0 ∷ []) ≡ R ++ statementOut (make (CASE tst (r .statements) z))
       rows-on r z =
           let m : suc made + countCases z ≡ made + suc (countCases z) = omega arith in
-          ap (λ (y : ℕ). ((bodyOut R₁ (r .statements) ++ (row 11 tst 0 0 0 0 ∷ [])) ++ casesOut z) ++ (row 12 x y (blockAt t b .id) (orNone g) 0 ∷ [])) m
+          ap (λ (y : ℕ). ((blockOut R₁ (r .statements) ++ (row 11 tst 0 0 0 0 ∷ [])) ++ casesOut z) ++ (row 12 x y (blockAt t b .id) (orNone g) 0 ∷ [])) m
           ∙ ap (λ (y : List Row). y ++ (row 12 x (made + suc (countCases z)) (blockAt t b .id) (orNone g) 0 ∷ [])) (sym (rows-case R₁ tst (r .statements) z))
           ∙ e (CASE tst (r .statements) z)
 
@@ -555,7 +555,7 @@ module _ (t : Table) (d : ℕ) (inner : TraverseBlock) (ws : Walks t d inner) (w
       sim-inner (frameOf b (unlessScheduled c f) 1 n) _ l _ c1 _ q size (λ r p₁.
       sim-bind (λ w. r .context .visits ≤ w .visits) _ _ _ (values x none (blockAt t b .span) (r .context .visits)) (λ w p₂.
       sim-close (frameOf b (unlessScheduled c f) 1 n) (c .nextId ∷ []) _ _ _ _ (withVisits (w .visits) (r .context)) q (off-loop (c .nextId) (withVisits (w .visits) (r .context))) refl
-      (tops-same (c .nextId ∷ []) c1 (r .context) (p₁ .1 .same) (p .1)) (rows-do R (blockAt t b .id) (unlessScheduled c f) (r .statements) (w .value)) (omega arith)))))
+      (tops-same (c .nextId ∷ []) c1 (r .context) (p₁ .1 .same) (p .1)) (rows-do-while R (blockAt t b .id) (unlessScheduled c f) (r .statements) (w .value)) (omega arith)))))
   terminal-sim {R = R} (while x l f) b c q size h =
       sim-go _ _ _ (λ g. sim-bind (InLoop c) _ _ _ (loop-pushed f x l c) (λ c1 p.
       sim-bind (λ w. c1 .visits ≤ w .visits) _ _ _ (values x none (blockAt t b .span) (c1 .visits)) (λ w p₁.
@@ -566,19 +566,19 @@ module _ (t : Table) (d : ℕ) (inner : TraverseBlock) (ws : Walks t d inner) (w
       sim-bind (λ w. n .visits ≤ w .visits) _ _ _ (values x none (blockAt t b .span) (n .visits)) (λ w p₂.
       sim-bind (Updated u (w .visits)) _ _ _ (updates u (blockAt t b .span) (w .visits)) (λ z p₃.
       loop-sim _ b l (loopIsTaken c l f) (z .visits) (c .nextId) c1 (unlessScheduled c f) _ _ q (unfold resumeAt in λ _ _ _ _ _. refl) size (omega arith) (p .1)
-      (unfold closingRowOf in λ s. ap (λ (y : ℕ). bodyOut (((R ++ valueOut (valueBlockResultToSequence t n (blockAt t b .span))) ++ valueOut (w .value)) ++ updateOut (z .value)) s ++ (row 15 (blockAt t b .id) (orNone (unlessScheduled c f)) y 0 0 ∷ [])) (sym (p₃ .1))
+      (unfold closingRowOf in λ s. ap (λ (y : ℕ). blockOut (((R ++ valueOut (valueBlockResultToSequence t n (blockAt t b .span))) ++ valueOut (w .value)) ++ updateOut (z .value)) s ++ (row 15 (blockAt t b .id) (orNone (unlessScheduled c f)) y 0 0 ∷ [])) (sym (p₃ .1))
       ∙ rows-for R (blockAt t b .id) (unlessScheduled c f) (valueBlockResultToSequence t n (blockAt t b .span)) (w .value) (z .value) s)))))
   terminal-sim {R = R} (for-of i x l f) b c q size h =
       sim-bind (InLoop c) _ _ _ (loop-pushed f i l c) (λ c1 p.
       sim-bind (λ w. c1 .visits ≤ w .visits) _ _ _ (values i none (blockAt t b .span) (c1 .visits)) (λ n p₁.
       sim-bind (λ w. n .visits ≤ w .visits) _ _ _ (values x none (blockAt t b .span) (n .visits)) (λ w p₂.
       loop-sim _ b l (loopIsTaken c l f) (w .visits) (c .nextId) c1 (unlessScheduled c f) _ _ q (unfold resumeAt in λ _ _ _ _ _. refl) size (omega arith) (p .1)
-      (unfold closingRowOf in rows-forof R (blockAt t b .id) (unlessScheduled c f) (blockAt t b .span) (valueBlockResultToSequence t n (blockAt t b .span)) (valueBlockResultToSequence t w (blockAt t b .span))))))
+      (unfold closingRowOf in rows-for-of R (blockAt t b .id) (unlessScheduled c f) (blockAt t b .span) (valueBlockResultToSequence t n (blockAt t b .span)) (valueBlockResultToSequence t w (blockAt t b .span))))))
   terminal-sim {R = R} (for-in i l f) b c q size h =
       sim-bind (InLoop c) _ _ _ (loop-pushed f i l c) (λ c1 p.
       sim-bind (λ w. c1 .visits ≤ w .visits) _ _ _ (values i none (blockAt t b .span) (c1 .visits)) (λ n p₁.
       loop-sim _ b l (loopIsTaken c l f) (n .visits) (c .nextId) c1 (unlessScheduled c f) _ _ q (unfold resumeAt in λ _ _ _ _ _. refl) size (omega arith) (p .1)
-      (unfold closingRowOf in rows-forin R (blockAt t b .id) (unlessScheduled c f) (blockAt t b .span) (valueBlockResultToSequence t n (blockAt t b .span)))))
+      (unfold closingRowOf in rows-for-in R (blockAt t b .id) (unlessScheduled c f) (blockAt t b .span) (valueBlockResultToSequence t n (blockAt t b .span)))))
   terminal-sim (logical o x f) b c q size h = value-sim (logical o x f) b (blockAt t b) f c tt h
   terminal-sim (ternary x f) b c q size h = value-sim (ternary x f) b (blockAt t b) f c tt h
   terminal-sim (optional g x f) b c q size h = value-sim (optional g x f) b (blockAt t b) f c tt h
@@ -620,8 +620,8 @@ module _ (t : Table) (d : ℕ) (inner : TraverseBlock) (ws : Walks t d inner) (w
   unfolding thenNext
   chain-on S v F R m b o none c again lt u ih = (lt, λ a q. u a (subst₂ (λ (z : List Row) (y : ℕ). Gives t (ended F z y c) a) e₁ e₂ q))
     where
-      e₁ : R ++ stmtsOut (instructionStatements t (instructionRowsAt t b) (followedBy o done)) ≡ OnRows R b o
-      e₁ = rows-chain R t (instructionRowsAt t b) o done ∙ unfold stmtsOut in append-nil (OnRows R b o)
+      e₁ : R ++ statementsOut (instructionStatements t (instructionRowsAt t b) (followedBy o done)) ≡ OnRows R b o
+      e₁ = rows-chain R t (instructionRowsAt t b) o done ∙ unfold statementsOut in append-nil (OnRows R b o)
 
       e₂ : m + countStatements (instructionStatements t (instructionRowsAt t b) (followedBy o done)) ≡ OnCount m b o
       e₂ = count-chain m t (instructionRowsAt t b) o done ∙ add-zero (OnCount m b o)
@@ -701,11 +701,11 @@ walk-sim t zero b F R m c size = gives-turn t (visiting b F R m c) (refused 30 b
 walk-sim t (suc d) b F R m c size = chain-sim t d (traverseBlock t d) (walk-sim t d) (walk-fine t d) 8193 b F R m c size (omega arith)
 
 -- the root list has ended
-root-ends : (t : Table) (r : BlockResult) → Gives t (ended [] ([] ++ stmtsOut (r .statements)) (0 + countStatements (r .statements)) (r .context)) (accepted (rows (r .statements)) (r .context .visits))
+root-ends : (t : Table) (r : BlockResult) → Gives t (ended [] ([] ++ statementsOut (r .statements)) (0 + countStatements (r .statements)) (r .context)) (accepted (rows (r .statements)) (r .context .visits))
 unfolding step
 root-ends t r =
-    halts (ap (λ (z : ℕ). halt (accepted (stmtsOut (r .statements) ++ (blockRow z ∷ [])) (r .context .visits))) (zero-add (countStatements (r .statements)))
-    ∙ ap (λ (z : List Row). halt (accepted z (r .context .visits))) (sym (body-out (r .statements) [])))
+    halts (ap (λ (z : ℕ). halt (accepted (statementsOut (r .statements) ++ (blockRow z ∷ [])) (r .context .visits))) (zero-add (countStatements (r .statements)))
+    ∙ ap (λ (z : List Row). halt (accepted z (r .context .visits))) (sym (block-rows (r .statements) [])))
 
 -- the machine gives what the definition gives, for every table
 pub machine-builds : (t : Table) → Gives t (begin t) (report t)

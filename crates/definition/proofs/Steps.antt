@@ -57,6 +57,11 @@ good-bind P Q step next h k = holds-bind Any P Q step next h k
 pub good-unless : {B : Type 0} (Q : B → Type 0) (test : Bool) (code at visits : ℕ) (next : Unit {0} → Result B) → (test ≡ false → Good Q (next tt)) → Good Q (refuseIf test code at visits >>= next)
 good-unless Q test code at visits next k = holds-unless Any Q test code at visits next tt k
 
+-- a test with two ways on
+pub good-pick : {A : Type 0} (P : A → Type 0) (test : Bool) (yes-step no-step : Result A) → Good P yes-step → Good P no-step → Good P (elim test [ true ↦ yes-step | false ↦ no-step ])
+good-pick P true yes-step no-step h k = h
+good-pick P false yes-step no-step h k = k
+
 pub good-any : {A : Type 0} (step : Result A) → Good Any step
 good-any (ok a) = tt
 good-any (refused code at visits) = tt
@@ -75,7 +80,6 @@ fine-bind P Q step next h k = holds-bind (λ code. T (ofPaper code)) P Q step ne
 pub fine-unless : {B : Type 0} (Q : B → Type 0) (test : Bool) (code at visits : ℕ) (next : Unit {0} → Result B) → T (ofPaper code) → (test ≡ false → Fine Q (next tt)) → Fine Q (refuseIf test code at visits >>= next)
 fine-unless Q test code at visits next c k = holds-unless (λ code. T (ofPaper code)) Q test code at visits next c k
 
--- a test with two ways on
 pub fine-pick : {A : Type 0} (P : A → Type 0) (test : Bool) (yes-step no-step : Result A) → (test ≡ true → Fine P yes-step) → (test ≡ false → Fine P no-step) → Fine P (elim test [ true ↦ yes-step | false ↦ no-step ])
 fine-pick P true yes-step no-step f g = f refl
 fine-pick P false yes-step no-step f g = g refl
