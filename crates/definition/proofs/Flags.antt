@@ -25,6 +25,10 @@ set-false [] y = refl
 set-false (a ∷ s) zero = refl
 set-false (a ∷ s) (suc y) = set-false s y
 
+pub has-removed : (s : Flags) (y : ℕ) → has (remove s y) y ≡ false
+unfolding has remove
+has-removed s y = set-false s y
+
 pub has-remove : (s : Flags) (y x : ℕ) → has (remove s y) x ≡ true → has s x ≡ true
 unfolding has remove
 has-remove s y x e =

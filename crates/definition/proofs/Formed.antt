@@ -219,18 +219,18 @@ module _ (t : Table) (rg : Ranged t) where
   small : (b : ℕ) → ((f : ℕ) → fallthroughOf (terminalAt t b) ≡ some f → f < largest) × ((x h f n : ℕ) → terminalAt t b ≡ try x h f (some n) → n < largest)
   small b = ((λ f e. omega (arith, rg .fallthroughs b f e, rg .few)), rg .bindings b)
 
-  chain-formed : (values : VisitValueBlock) (inner : TraverseBlock) → WalkFormed inner → (n : ℕ) → WalkFormed (visitBlock t values inner n)
+  visit-block-formed : (values : VisitValueBlock) (inner : TraverseBlock) → WalkFormed inner → (n : ℕ) → WalkFormed (visitBlock t values inner n)
   unfolding visitBlock WalkFormed
-  chain-formed values inner w zero b c = tt
-  chain-formed values inner w (suc n) b c =
+  visit-block-formed values inner w zero b c = tt
+  visit-block-formed values inner w (suc n) b c =
       good-bind Any FormedBlock _ _ (good-any (enterBlock t b c)) (λ c₁ _.
       good-bind FormedStep FormedBlock _ _ (terminal-formed t values inner w (terminalAt t b) b (blockAt t b) c₁ (small b)) (λ s h.
-      next-formed t b (visitBlock t values inner n) (s .statement) (s .next) (s .context) (chain-formed values inner w n) h))
+      next-formed t b (visitBlock t values inner n) (s .statement) (s .next) (s .context) (visit-block-formed values inner w n) h))
 
   walk-formed : (d : ℕ) → WalkFormed (traverseBlock t d)
   unfolding traverseBlock WalkFormed
   walk-formed zero b c = tt
-  walk-formed (suc d) b c = chain-formed (visitValueBlock t d) (traverseBlock t d) (walk-formed d) 8193 b c
+  walk-formed (suc d) b c = visit-block-formed (visitValueBlock t d) (traverseBlock t d) (walk-formed d) 8193 b c
 
   pub tree-formed : (r : BlockResult) → buildTree t ≡ ok r → WellFormed (r .statements)
   unfolding buildTree WalkFormed

@@ -135,10 +135,6 @@ is-not : (a : Bool) → a ≡ false → not a ≡ true
 is-not true h = sym h
 is-not false h = refl
 
-is-not-when : (a : Bool) → (a ≡ true → ⊥) → not a ≡ true
-is-not-when true n = absurd (n refl)
-is-not-when false n = refl
-
 by-cases : {P : Type 0} (a : Bool) → (a ≡ true → P) → (a ≡ false → P) → P
 by-cases true f g = f refl
 by-cases false f g = g refl
@@ -262,9 +258,6 @@ is-this f (some g) h = ap some (eqb-true g f h)
 
 this-is : (f : ℕ) (o : Option ℕ) → o ≡ some f → isFallthrough f o ≡ true
 this-is f o e = ap (λ (z : Option ℕ). isFallthrough f z) e ∙ eq-eqb f f refl
-
-some-eq : {x y : ℕ} → some x ≡ some y → x ≡ y
-some-eq e = cc
 
 module _ (t : Table) where
   branches-none : (ns : List ℕ) → noBranches t ns ≡ true → All (NotBranch t) ns

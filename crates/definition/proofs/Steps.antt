@@ -2,12 +2,19 @@
 use mathlib.Core.Path.{_≡_, refl}
 use Prim.Native.Nat.{ℕ}
 use native.Mathlib.Omega.{arith}
+use mathlib.Core.Option.{Option, none, some}
 use mathlib.Core.Bool.{Bool, true, false, _&&_}
 use lib.Dec.{T, leb}
 use Rattle.definition.specs.Result.{Result, ok, refused, _>>=_, refuseIf}
 
 pub true-false : true ≡ false → ⊥
 true-false e = let z : _≡_ {A = ℕ} 0 1 = cc in omega arith
+
+pub none-some : {A : Type 0} {a : A} → _≡_ {A = Option A} none (some a) → ⊥
+none-some e = let z : _≡_ {A = ℕ} 0 1 = cc in omega arith
+
+pub some-eq : {A : Type 0} {a b : A} → some a ≡ some b → a ≡ b
+some-eq e = cc
 
 -- ---- an accepted step
 
