@@ -146,6 +146,14 @@ VisitTook t visit = (block : ℕ) (fallthrough : Option ℕ) (span visits : ℕ)
 at-rest : {t : Table} {spare size : ℕ} (visits : ℕ) → (FewRows t → size ≤ spare) → Took t spare size visits visits
 at-rest visits h = record { rises = le-refl visits; most = λ q. q; paid = λ few. omega (arith, h few) }
 
+-- one step and then another
+both : {t : Table} {spare₁ spare₂ size₁ size₂ before between after : ℕ} → Took t spare₁ size₁ before between → Took t spare₂ size₂ between after → Took t (spare₁ + spare₂) (size₁ + size₂) before after
+both a b = record { rises = le-trans (a .rises) (b .rises); most = λ h. b .most (a .most h); paid = λ few. omega (arith, a .paid few, b .paid few) }
+
+-- and with so many rows more
+with-rows : {t : Table} {spare spare₁ size size₁ before after : ℕ} → (FewRows t → size₁ + spare ≤ size + spare₁) → Took t spare size before after → Took t spare₁ size₁ before after
+with-rows h a = record { rises = a .rises; most = a .most; paid = λ few. omega (arith, a .paid few, h few) }
+
 -- "92" is given to a MaybeThrow only
 abbrev pub isMaybeThrow : Terminal → Bool
 isMaybeThrow terminal = eqb (codeOf terminal) 18
@@ -198,29 +206,17 @@ module _ (t : Table) (visit : VisitValueBlock) (visit-took : VisitTook t visit) 
   terminal-took (logical operator test fallthrough) id span visits at h =
       fine-bind (TestTook t visits) (TerminalTook t visits) _ _ (test-took test span visits at) (λ tested a.
       fine-bind (BlockTook t (tested .test .visits)) (TerminalTook t visits) _ _ (nested _ _ _ _) (λ left b.
-      fine-bind (BlockTook t (left .visits)) (TerminalTook t visits) _ _ (nested _ _ _ _) (λ right c. record {
-        rises = le-trans (a .rises) (le-trans (b .rises) (c .rises));
-        most = λ m. c .most (b .most (a .most m));
-        paid = λ few. omega (arith, a .paid few, b .paid few, c .paid few);
-      })))
+      fine-bind (BlockTook t (left .visits)) (TerminalTook t visits) _ _ (nested _ _ _ _) (λ right c. with-rows (λ _. omega arith) (both a (both b c)))))
   terminal-took (ternary test fallthrough) id span visits at h =
       fine-bind (TestTook t visits) (TerminalTook t visits) _ _ (test-took test span visits at) (λ tested a.
       fine-bind (BlockTook t (tested .test .visits)) (TerminalTook t visits) _ _ (nested _ _ _ _) (λ consequent b.
-      fine-bind (BlockTook t (consequent .visits)) (TerminalTook t visits) _ _ (nested _ _ _ _) (λ alternate c. record {
-        rises = le-trans (a .rises) (le-trans (b .rises) (c .rises));
-        most = λ m. c .most (b .most (a .most m));
-        paid = λ few. omega (arith, a .paid few, b .paid few, c .paid few);
-      })))
+      fine-bind (BlockTook t (consequent .visits)) (TerminalTook t visits) _ _ (nested _ _ _ _) (λ alternate c. with-rows (λ _. omega arith) (both a (both b c)))))
   terminal-took (optional flag test fallthrough) id span visits at h =
       fine-bind (TestTook t visits) (TerminalTook t visits) _ _ (test-took test span visits at) (λ tested a.
-      fine-bind (BlockTook t (tested .test .visits)) (TerminalTook t visits) _ _ (nested _ _ _ _) (λ consequent b. record {
-        rises = le-trans (a .rises) (b .rises);
-        most = λ m. b .most (a .most m);
-        paid = λ few. omega (arith, a .paid few, b .paid few);
-      }))
+      fine-bind (BlockTook t (tested .test .visits)) (TerminalTook t visits) _ _ (nested _ _ _ _) (λ consequent b. with-rows (λ _. omega arith) (both a b)))
   terminal-took (label block fallthrough) id span visits at h = tt
   terminal-took (sequence block fallthrough) id span visits at h =
-      fine-bind (BlockTook t visits) (TerminalTook t visits) _ _ (nested _ _ _ _) (λ inner a. record { rises = a .rises; most = a .most; paid = λ few. omega (arith, a .paid few) })
+      fine-bind (BlockTook t visits) (TerminalTook t visits) _ _ (nested _ _ _ _) (λ inner a. with-rows (λ _. omega arith) a)
   terminal-took (maybe-throw continuation) id span visits at h = absurd h
   terminal-took (try block handler fallthrough binding) id span visits at h = tt
   terminal-took (scope pruned block fallthrough number) id span visits at h = tt
@@ -230,22 +226,16 @@ module _ (t : Table) (visit : VisitValueBlock) (visit-took : VisitTook t visit) 
   unfolding thenFallthrough
   then-fallthrough-took block span before terminal rows h =
       fine-bind (TerminalTook t before) (EnteredTook t before) terminal _ h (λ init a.
-      fine-bind (BlockTook t (init .visits)) (EnteredTook t before) _ _ (nested _ _ _ _) (λ final b. record {
-        rises = le-trans (a .rises) (b .rises);
-        most = λ m. b .most (a .most m);
-        paid = λ few. omega (arith, a .paid few, b .paid few, rows few, instructions-of-size t (instructionRows block) (singleInstruction (init .id) (init .place) span (init .value)));
-      }))
+      fine-bind (BlockTook t (init .visits)) (EnteredTook t before) _ _ (nested _ _ _ _) (λ final b.
+      with-rows (λ few. omega (arith, rows few, instructions-of-size t (instructionRows block) (singleInstruction (init .id) (init .place) span (init .value)))) (both a b)))
 
   maybe-throw-took : (number continuation : ℕ) (rows : List ℕ) (fallthrough : Option ℕ) (span visits : ℕ) (own : Bool) → (FewRows t → length rows ≤ 4096)
       → Fine (EnteredTook t visits) (maybeThrowValue t visit number continuation rows fallthrough span visits own)
   unfolding maybeThrowValue
   maybe-throw-took number continuation rows fallthrough span visits true few = extract-took t continuation rows visits 28 number tt few
   maybe-throw-took number continuation rows fallthrough span visits false few =
-      fine-bind (BlockTook t visits) (EnteredTook t visits) _ _ (nested continuation fallthrough span visits) (λ final a. record {
-        rises = a .rises;
-        most = a .most;
-        paid = λ f. omega (arith, a .paid f, few f, wrapped-size t rows (final .id) (final .value));
-      })
+      fine-bind (BlockTook t visits) (EnteredTook t visits) _ _ (nested continuation fallthrough span visits) (λ final a.
+      with-rows (λ f. omega (arith, few f, wrapped-size t rows (final .id) (final .value))) a)
 
   block-took : (m : Terminal) (number : ℕ) (outer : Option ℕ) (span visits : ℕ) → Fine (EnteredTook t visits) (visitValueBlockAt t visit m number (blockAt t number) outer span visits)
   unfolding visitValueBlockAt
@@ -286,11 +276,8 @@ module _ (t : Table) (visit : VisitValueBlock) (visit-took : VisitTook t visit) 
   unfolding visitUpdate updateOut
   update-took none span visits = at-rest visits (λ few. omega arith)
   update-took (some update) span visits =
-      fine-bind (BlockTook t visits) (λ w. Took t 0 (length (updateOut (w .value))) visits (w .visits)) _ _ (nested update none span visits) (λ r a. record {
-        rises = a .rises;
-        most = a .most;
-        paid = λ few. omega (arith, a .paid few, value-out-size (r .value));
-      })
+      fine-bind (BlockTook t visits) (λ w. Took t 0 (length (updateOut (w .value))) visits (w .visits)) _ _ (nested update none span visits) (λ r a.
+      with-rows (λ _. omega (arith, value-out-size (r .value))) a)
 
 pub value-took : (t : Table) (depthLeft : ℕ) → VisitTook t (visitValueBlock t depthLeft)
 unfolding VisitTook visitValueBlock
