@@ -1,4 +1,4 @@
--- What the caller sees as accepted: the check passed, the walk gave a tree, and the buffer was long enough for its rows.
+-- What the caller sees as accepted: the check passed, the walk gave a tree, and the buffer was long enough for its rows. For proofs/Law.
 use mathlib.Core.Path.{_≡_, refl, sym, ap, _∙_, subst}
 use Prim.Native.Nat.{ℕ, zero, suc, _*_, _-_, _/_}
 use native.Mathlib.Omega.{arith}

@@ -1,4 +1,4 @@
--- What the proofs over the table need of the check of its words, from the table's promise; and that a refusal of the check is no acceptance.
+-- Words that the check accepts give a table that is `Ranged`, and no refusal of the check has the code 0. For proofs/Law and proofs/Accepted.
 use mathlib.Core.Path.{_≡_, refl, sym, subst}
 use Prim.Native.Nat.{ℕ, zero, suc, _+_, _<_}
 use native.Mathlib.Omega.{arith}

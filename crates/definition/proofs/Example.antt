@@ -1,4 +1,4 @@
--- Demand 3 is not empty: W of paper 01 with instructions, and two loops of which the inner continues the outer, are plain (by the test), are
+-- For the reader: demand 3 is not empty. W of paper 01 with instructions, and two loops of which the inner continues the outer, are plain (by the test), are
 -- accepted, and run as they should (by computation); and the law at both.
 use mathlib.Core.Path.{_≡_, refl}
 use Prim.Native.Nat.{ℕ}

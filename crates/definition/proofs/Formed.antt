@@ -1,5 +1,5 @@
 -- Over any checked table: the tree that the build makes is well-formed. A label is a fallthrough, so a block; and an alternate that is not
--- present is empty.
+-- present is empty. For proofs/Law.
 use mathlib.Core.Path.{_≡_, refl, ap, subst}
 use Prim.Native.Nat.{ℕ, zero, suc, _<_}
 use native.Mathlib.Omega.{arith}

@@ -1,5 +1,5 @@
 -- What holds in every state that the machine reaches from a checked table: the numbers that the code's sums and indices need, and a potential that
--- every turn lowers.
+-- every turn lowers. For the code's loop (crates/build, proofs/DriverLaws).
 use mathlib.Core.Path.{_≡_, refl, sym, ap, _∙_, subst}
 use Prim.Native.Nat.{ℕ, zero, suc, _+_, _*_, _-_, _≤_, _<_}
 use native.Mathlib.Nat.{le-refl}
@@ -245,17 +245,18 @@ record Fit (t : Table) (p : ℕ) (s : State) : Type 0 where
   lower : potential s < p
   sound : Sound t s
 
--- what is known inside a turn: s turns may be begun, i ids given out, and r rows put out; e entries are this statement's, and u cases of it are built
-record Inside (p s i e u r : ℕ) (F : List Frame) (R : List Row) (m : ℕ) (c : Context) : Type 0 where
-  visits : c .visits ≤ 8192
-  ids : c .nextId + (i + (2 * (8192 - c .visits) + length F)) ≤ 16384
-  lower : 2053 * (8192 - c .visits) + (s + turnsOfAll F) < p
-  stack : length (c .stack) ≡ e + entriesOf F
-  marked : suc (u + (builtOf F + length F)) ≤ marks (c .emitted)
-  depth : length F < 128
-  flags : length (c .emitted) ≡ 1024
-  tallied : m + countOf F ≤ length R
-  paid : r + (length R + 3 * length F) ≤ 8208 * c .visits
+-- what is known inside a turn from a state of potential p: of the statement in hand so many turns may still be begun, ids given out and rows put
+-- out; `entries` of the stack are its own, and so many cases of it are built
+record Inside (p turnsLeft idsLeft entries casesBuilt rowsLeft : ℕ) (frames : List Frame) (rows : List Row) (count : ℕ) (cx : Context) : Type 0 where
+  visits : cx .visits ≤ 8192
+  ids : cx .nextId + (idsLeft + (2 * (8192 - cx .visits) + length frames)) ≤ 16384
+  lower : 2053 * (8192 - cx .visits) + (turnsLeft + turnsOfAll frames) < p
+  stack : length (cx .stack) ≡ entries + entriesOf frames
+  marked : suc (casesBuilt + (builtOf frames + length frames)) ≤ marks (cx .emitted)
+  depth : length frames < 128
+  flags : length (cx .emitted) ≡ 1024
+  tallied : count + countOf frames ≤ length rows
+  paid : rowsLeft + (length rows + 3 * length frames) ≤ 8208 * cx .visits
 
 module _ (t : Table) where
   leave-fit : {p s i u r : ℕ} (g : Option ℕ) {F : List Frame} {R : List Row} {m : ℕ} {c : Context} → Inside p s i 0 u r F R m c → 1 ≤ s → 1 ≤ i → 2 ≤ r

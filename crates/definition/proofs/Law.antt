@@ -1,4 +1,5 @@
--- The run law of plain tables: the block run and the tree run both stop, with the same rows, the same answers taken and for the same reason.
+-- Demand 3, proved: for an accepted plain table the block run and the tree run both stop, with the same rows, the same answers taken and for
+-- the same reason; and the rows of any accepted table are read as one tree. For whoever calls the build (crates/build, proofs/Demand3).
 use mathlib.Core.Path.{_≡_, refl, sym, ap, _∙_}
 use Prim.Native.Nat.{ℕ, zero, suc, _+_}
 use mathlib.Core.List.{List, []}

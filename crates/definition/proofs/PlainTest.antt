@@ -1,4 +1,4 @@
--- A Boolean test of plainness, and that it holds exactly of the plain tables: a table is shown plain by computation.
+-- A Boolean test of plainness, and that it holds exactly of the plain tables: a table is shown plain by computation. For proofs/Example.
 use mathlib.Core.Path.{_≡_, refl, sym, ap, _∙_, subst}
 use mathlib.Core.Logic.{_↔_}
 use Prim.Native.Nat.{ℕ, zero, suc}

@@ -1,5 +1,5 @@
 -- The rows determine the tree: a reader, a stack machine over the rows, gives every well-formed tree back from its rows. So one list of rows
--- is read as one tree.
+-- is read as one tree. For proofs/Law.
 use mathlib.Core.Path.{_≡_, refl, sym, ap, _∙_}
 use Prim.Native.Nat.{ℕ, zero, suc, _+_}
 use native.Mathlib.Nat.{zero-add, add-zero}

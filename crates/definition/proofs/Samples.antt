@@ -1,4 +1,4 @@
--- The ★ samples of paper 01, from their words and the length of a lent buffer: one tabulated claim over `built`, by computation.
+-- The ★ samples of paper 01, from their words and the length of a lent buffer: one tabulated claim over `built`, by computation. For the reader.
 use mathlib.Core.Path.{_≡_, refl}
 use Prim.Native.Nat.{ℕ, _*_, _-_}
 use mathlib.Core.List.{List, [], _∷_, _++_, map}

@@ -1,4 +1,4 @@
--- The run law for what the build makes: from a description of the tree, the block run and the tree run agree.
+-- From `Built`, a description of the tree that a plain table gives: the block run goes where the tree run goes. For proofs/Law.
 use mathlib.Core.Path.{_≡_, refl, sym, ap, _∙_, subst}
 use Prim.Native.Nat.{ℕ, zero, suc, _≤_}
 use native.Mathlib.Nat.{le-refl, le-trans, le-of-suc-le-suc, not-suc-le-zero, le-step}

@@ -1,4 +1,4 @@
--- The machine does what the walk says.
+-- The machine of specs/Machine gives what the definition gives. For proofs/Invariant, and through it for the code (crates/build).
 use mathlib.Core.Path.{_≡_, refl, sym, ap, _∙_, subst, subst₂}
 use Prim.Native.Nat.{ℕ, zero, suc, _+_, _-_, _≤_, _<_}
 use native.Mathlib.Nat.{zero-add, add-zero, le-refl}

@@ -1,4 +1,4 @@
--- What holds of the state of the statement walk over a plain table, and how each step keeps it.
+-- What holds of the state of the statement walk over a plain table, and how each step keeps it. For proofs/Structure.
 use mathlib.Core.Path.{_≡_, refl, sym, ap, _∙_, subst}
 use Prim.Native.Nat.{ℕ, suc, _<_}
 use native.Mathlib.Omega.{arith}

@@ -1,4 +1,4 @@
--- An accepted walk over a plain table makes a tree that `Built` describes.
+-- An accepted walk over a plain table makes a tree that `Built` describes. For proofs/Law.
 use mathlib.Core.Path.{_≡_, refl, sym, ap, _∙_, subst}
 use Prim.Native.Nat.{ℕ, zero, suc, _<_}
 use native.Mathlib.Omega.{arith}
