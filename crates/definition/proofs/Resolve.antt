@@ -1,4 +1,4 @@
--- Over a plain table: a break or a continue that the stack resolves leads where its completion leads in the tree. For proofs/Structure.
+-- Over a plain table: a break or a continue that the stack resolves leads where its completion leads in the tree. For proofs/State and proofs/Structure.
 use mathlib.Core.Path.{_≡_, refl, sym, ap, _∙_, subst}
 use Prim.Native.Nat.{ℕ}
 use mathlib.Core.List.{List, [], _∷_}

@@ -1,4 +1,4 @@
--- From `Built`, a description of the tree that a plain table gives: the block run goes where the tree run goes. For proofs/Law.
+-- From `Built`, a description of the tree that a plain table gives: the block run goes where the tree run goes. For proofs/Structure, which gives `Built`, and proofs/Law.
 use mathlib.Core.Path.{_≡_, refl, sym, ap, _∙_, subst}
 use Prim.Native.Nat.{ℕ, zero, suc, _≤_}
 use native.Mathlib.Nat.{le-refl, le-trans, le-of-suc-le-suc, not-suc-le-zero, le-step}
