@@ -3,7 +3,7 @@ use Prim.Native.Nat.{ℕ, zero, suc, _+_, _-_, _≤_, _<_}
 use native.Mathlib.Omega.{arith}
 use native.Mathlib.Numerals.{add-one}
 use mathlib.Core.Path.{_≡_, refl, sym, ap, _∙_, subst}
-use mathlib.Core.Bool.{Bool, true, false, not}
+use mathlib.Core.Bool.{Bool, true, false}
 use mathlib.Core.List.{List, [], _∷_}
 use mathlib.Core.Option.{Option, none, some}
 use lib.ListN.{length, getD, set, length-set}
@@ -45,15 +45,11 @@ schedule-changed target cx r s h e small w = rw (e, h .state) (record {
     stored-pushed′ : (visits : ℕ) → contextOf visits (stored (withEntry target (add (cx .scheduled) (targetBlock (targetOf target))) cx)) ≡ pushed (targetOf target) (add (cx .scheduled) (targetBlock (targetOf target))) (contextOf visits cx)
     stored-pushed′ visits = stored-pushed visits target (add (cx .scheduled) (targetBlock (targetOf target))) cx (omega (arith, w .tall))
 
-owned : (was : Bool) → not was ≡ elim was [ true ↦ false | false ↦ true ]
-owned true = refl
-owned false = refl
-
 pub loop-changed : (f k l : ℕ) (cx r s : Context) → ScheduledLoop f k l cx r → s ≡ stored r → cx .len < 1152 → Whole cx
     → Changed (ScheduleLoop f k l) cx s
 unfolding scheduledLoop contextOf stored add
 loop-changed f k l cx r s h e small w = rw (e, h .state) (record {
-  context = λ visits. rw (← (owned (has (add (add (cx .scheduled) f) k) l))) (stored-pushed visits (loopTarget (cx .scheduled) f k l) (loopScheduled (cx .scheduled) f k l) cx (omega (arith, w .tall)));
+  context = λ visits. stored-pushed visits (loopTarget (cx .scheduled) f k l) (loopScheduled (cx .scheduled) f k l) cx (omega (arith, w .tall));
   whole = record {
     bounded = subst (λ (z : Context). Bounded (set (z .stack) (z .len - 1) (z .pushed)) (z .len)) (h .state) (h .bounded (w .bounded));
     wide = length-set (set (set (cx .scheduled) f true) k true) l true ∙ length-set (set (cx .scheduled) f true) k true ∙ length-set (cx .scheduled) f true ∙ w .wide;

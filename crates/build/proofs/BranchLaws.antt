@@ -2,7 +2,7 @@
 use Prim.Native.Nat.{ℕ, zero, suc, _+_, _-_, _≤_, _<_}
 use native.Mathlib.Omega.{arith}
 use mathlib.Core.Path.{_≡_, refl, sym, ap, _∙_, subst}
-use mathlib.Core.Bool.{Bool, true, false}
+use mathlib.Core.Bool.{Bool, true, false, _||_}
 use mathlib.Core.List.{List, [], _∷_, _++_, append-nil, append-assoc}
 use mathlib.Core.Option.{Option, none, some}
 use lib.Dec.{eqb}
@@ -11,7 +11,7 @@ use borrow.Author.Tests.{eq-eqb, ne-eqb}
 use Rattle.table.specs.Words.{blockWord, blockCount}
 use Rattle.table.specs.Table.{Table, Terminal, tableOf, terminalOf, terminalAt, blockAt, branch, unlessNone}
 use Rattle.definition.specs.Build.{rejected}
-use Rattle.definition.specs.Context.{Flags, or, has, isScheduled, getBreakTarget, Resolution}
+use Rattle.definition.specs.Context.{Flags, has, isScheduled, getBreakTarget, Resolution}
 use Rattle.definition.specs.Context as definition
 use Rattle.definition.specs.Machine.{State, visiting, Turn, going, halt, turn, into, jumpOut, added, blockRow, branchTurn, terminalTurn, secondPart}
 use Rattle.definition.specs.Machine as machine
@@ -59,18 +59,18 @@ module _ (w : List ℕ) (p : Position) (en : Entered w p) (code : blockWord w (p
     abbrev On : definition.Context → Type 0
     On = BranchSeen w p S H O resolved
 
-    pub branch-nested : (x : ℕ) (b : List ℕ) (plan : Plan) → x ≡ col 4 → or (has S x) (has H x) ≡ false → plan ≡ nesting x (openFrame p 65535 0) (p .depth + 1) (p .rows) (p .visits) 65535 65535 Nothing
+    pub branch-nested : (x : ℕ) (b : List ℕ) (plan : Plan) → x ≡ col 4 → has S x || has H x ≡ false → plan ≡ nesting x (openFrame p 65535 0) (p .depth + 1) (p .rows) (p .visits) 65535 65535 Nothing
         → Planned (terminalStep w p) On [] (p .depth) (p .rows) b plan b
     branch-nested x b plan t f e = subst (λ (z : Plan). Planned (terminalStep w p) On [] (p .depth) (p .rows) b z b) (sym e) (record {
       out = [];
       held = λ _ before h. rw (append-nil before) h;
-      same = λ F R C d o. rw (append-nil R) (ap turn (branch-is false F R C (seen-scheduled S H (p .visits) C (o .sets) (col 4) ∙ ap (λ (k : ℕ). or (has S k) (has H k)) (sym t) ∙ f)) ∙ turn-ok _
+      same = λ F R C d o. rw (append-nil R) (ap turn (branch-is false F R C (seen-scheduled S H (p .visits) C (o .sets) (col 4) ∙ ap (λ (k : ℕ). has S k || has H k) (sym t) ∙ f)) ∙ turn-ok _
           ∙ ap (λ (k : ℕ). going (visiting k (machine.frameOf (p .block) none 0 (p .count) ∷ F) R 0 C)) (sym t)
           ∙ sym (nest-applied x (openFrame p 65535 0) (p .depth + 1) (p .rows) (p .visits) 65535 65535 Nothing F R C ∙ rw (none-is, visits-same (p .visits) C (o .sets .visits), within-all (p .depth + 1 - 1) F (omega (arith, d)))));
       fitting = λ _. record { change = tt; handler = rw none-is tt; scope = rw none-is tt; deep = λ _. omega arith; next = omega arith; nested = tt };
     })
 
-    module _ (x y id : ℕ) (b : List ℕ) (jump : Jumped) (b₁ : List ℕ) (t : x ≡ col 4) (u : y ≡ col 5) (i : id ≡ col 8) (busy : or (has S (col 4)) (has H (col 4)) ≡ true) (met : JumpMet (breakOutcome (p .block) x id resolved) O (p .visits) (p .rows) b jump b₁) where
+    module _ (x y id : ℕ) (b : List ℕ) (jump : Jumped) (b₁ : List ℕ) (t : x ≡ col 4) (u : y ≡ col 5) (i : id ≡ col 8) (busy : has S (col 4) || has H (col 4) ≡ true) (met : JumpMet (breakOutcome (p .block) x id resolved) O (p .visits) (p .rows) b jump b₁) where
       abbrev st : Option Statement
       st = met .statement
 
@@ -99,21 +99,21 @@ module _ (w : List ℕ) (p : Position) (en : Entered w p) (code : blockWord w (p
       unfolding _>>=_
       went F R C z o = jumped F R C o ∙ ap (λ (y : Bool). jumpedTo y jump st (p .visits) >>= rest F R C) (eq-eqb (jump .code) 0 z)
 
-      pub branch-taken : (plan : Plan) (b′ : List ℕ) → jump .code ≡ 0 → or (has S y) (has H y) ≡ true → plan ≡ refusing p 19 (p .block) → Planned (terminalStep w p) On [] (p .depth) (p .rows) b plan b′
+      pub branch-taken : (plan : Plan) (b′ : List ℕ) → jump .code ≡ 0 → has S y || has H y ≡ true → plan ≡ refusing p 19 (p .block) → Planned (terminalStep w p) On [] (p .depth) (p .rows) b plan b′
       branch-taken plan b′ z f e = subst (λ (k : Plan). Planned (terminalStep w p) On [] (p .depth) (p .rows) b k b′) (sym e) (record {
         out = [];
         held = λ k. absurd (omega (arith, k));
-        same = λ F R C d o. ap turn (went F R C z o ∙ into-busy (col 5) 19 (p .block) _ F _ C (seen-scheduled S H (p .visits) C (o .sets) (col 5) ∙ ap (λ (k : ℕ). or (has S k) (has H k)) (sym u) ∙ f)) ∙ turn-refused 19 (p .block) (C .visits)
+        same = λ F R C d o. ap turn (went F R C z o ∙ into-busy (col 5) 19 (p .block) _ F _ C (seen-scheduled S H (p .visits) C (o .sets) (col 5) ∙ ap (λ (k : ℕ). has S k || has H k) (sym u) ∙ f)) ∙ turn-refused 19 (p .block) (C .visits)
             ∙ ap (λ (v : ℕ). halt (rejected 19 (p .block) v)) (o .sets .visits) ∙ sym (refuse-applied p 19 (p .block) F (R ++ []) C (λ k. omega arith));
         fitting = λ k. absurd (omega (arith, k));
       })
 
-      pub branch-other : (op n rows′ : ℕ) (plan : Plan) (b′ : List ℕ) → jump .code ≡ 0 → op ≡ 9 → n ≡ jump .count → Written b₁ (jump .rows) (row op n 0 0 0 0) b′ rows′ → or (has S y) (has H y) ≡ false
+      pub branch-other : (op n rows′ : ℕ) (plan : Plan) (b′ : List ℕ) → jump .code ≡ 0 → op ≡ 9 → n ≡ jump .count → Written b₁ (jump .rows) (row op n 0 0 0 0) b′ rows′ → has S y || has H y ≡ false
           → plan ≡ nesting y (second (openFrame p 65535 0)) (p .depth + 1) rows′ (p .visits) 65535 65535 Nothing → Planned (terminalStep w p) On [] (p .depth) (p .rows) b plan b′
       branch-other op n rows′ plan b′ z o₉ c h f e = subst (λ (k : Plan). Planned (terminalStep w p) On [] (p .depth) (p .rows) b k b′) (sym e) (record {
         out = jumpOut st ++ (row op n 0 0 0 0 ∷ []);
         held = λ _ before k. rw (sym (append-assoc before (jumpOut st) (row op n 0 0 0 0 ∷ []))) (row-held b₁ b′ (jump .rows) rows′ (row op n 0 0 0 0) h (before ++ jumpOut st) (met .held z before k));
-        same = λ F R C d o. ap turn (went F R C z o ∙ into-free (col 5) 19 (p .block) _ F _ C (seen-scheduled S H (p .visits) C (o .sets) (col 5) ∙ ap (λ (k : ℕ). or (has S k) (has H k)) (sym u) ∙ f)) ∙ turn-ok _
+        same = λ F R C d o. ap turn (went F R C z o ∙ into-free (col 5) 19 (p .block) _ F _ C (seen-scheduled S H (p .visits) C (o .sets) (col 5) ∙ ap (λ (k : ℕ). has S k || has H k) (sym u) ∙ f)) ∙ turn-ok _
             ∙ ap (λ (k : ℕ). going (visiting k (secondPart (machine.frameOf (p .block) none 0 (p .count)) ∷ F) ((R ++ jumpOut st) ++ (blockRow (added st 0) ∷ [])) 0 C)) (sym u)
             ∙ ap (λ (l : List Row). going (visiting y (secondPart (machine.frameOf (p .block) none 0 (p .count)) ∷ F) l 0 C)) (rows-are R)
             ∙ sym (nest-applied y (second (openFrame p 65535 0)) (p .depth + 1) rows′ (p .visits) 65535 65535 Nothing F (R ++ (jumpOut st ++ (row op n 0 0 0 0 ∷ []))) C

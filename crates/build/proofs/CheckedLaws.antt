@@ -13,7 +13,7 @@ use Rattle.table.specs.Promise.{Promise, InRange, BelowUnlessNone}
 use Rattle.table.specs.Table.{Table, Block, Case, Terminal, absent, unreachable, throw, return, goto, if, branch, switch, do-while, while, for, for-of, for-in, logical, ternary, optional, label, sequence, maybe-throw, try, scope, tableOf, caseOf, blockAt, terminalAt, noBlock, rowsFrom, instructionRowsAt}
 use Rattle.table.proofs.TableLaws.{length-blocks, length-cases, case-at}
 use Rattle.table.proofs.RangeLaws.{in-range, run-in-range, case-block}
-use Rattle.definition.specs.Machine.{caseAt, no-case}
+use Rattle.definition.specs.Machine.{caseAt, noCase}
 use Rattle.definition.proofs.Invariant.{Checked, Below, NamesBelow}
 
 below-option : (n : ℕ) (o : Option ℕ) → BelowUnlessNone n o → Below n o
@@ -63,7 +63,7 @@ module _ (w : List ℕ) (pr : Promise w) where
 
   case-below : (case : ℕ) → case < caseCount w → caseAt (tableOf w) case .block < blockCount w
   unfolding caseOf
-  case-below case h = rw (case-at w case no-case h) (case-block w pr case h)
+  case-below case h = rw (case-at w case noCase h) (case-block w pr case h)
 
   pub checked-table : Checked (tableOf w)
   unfolding tableOf

@@ -16,7 +16,7 @@ use Rattle.definition.specs.Context as definition
 use Rattle.definition.specs.Machine.{State, popping, Turn, going, turn, leave, unscheduled, complete, closeBy, close, closingRowOf, closingRow, withEntries}
 use Rattle.definition.specs.Machine as machine
 use Rattle.definition.specs.Result.{Result, ok}
-use Rattle.definition.specs.Tree.{Row, row, orNone, flag}
+use Rattle.definition.specs.Tree.{Row, row, orNone, flagOf}
 use Rattle.rows.specs.Rows.{Holds, Written}
 use Rattle.rows.specs.Stack as stack
 use Rattle.rows.proofs.StackLaws.{push-row-after}
@@ -55,7 +55,7 @@ module _ (w : List ℕ) (frame : Frame) (h : frame .block < blockCount w) where
 
 -- an If and a Branch close alike
 pub closing-if : (w : List ℕ) (frame : Frame) → frame .block < blockCount w → 5 ≤ blockWord w (frame .block) 2 → blockWord w (frame .block) 2 < 7
-    → closingRowAt w frame ≡ row 10 (blockWord w (frame .block) 3) (flag (frame .second)) (blockWord w (frame .block) 8) (frame .label) 0
+    → closingRowAt w frame ≡ row 10 (blockWord w (frame .block) 3) (flagOf (frame .second)) (blockWord w (frame .block) 8) (frame .label) 0
 unfolding terminalOf closingRowOf blockOf
 closing-if w frame h least most = at (eqb code 5) refl
   where
@@ -63,7 +63,7 @@ closing-if w frame h least most = at (eqb code 5) refl
     code = blockWord w (frame .block) 2
 
     closed : ℕ → Row
-    closed n = row 10 (blockWord w (frame .block) 3) (flag (frame .second)) (blockWord w (frame .block) 8) n 0
+    closed n = row 10 (blockWord w (frame .block) 3) (flagOf (frame .second)) (blockWord w (frame .block) 8) n 0
 
     at : (y : Bool) → eqb code 5 ≡ y → closingRowAt w frame ≡ closed (frame .label)
     at true e = closing-by w frame h 5 (eqb-true code 5 e) ∙ ap closed (or-none (frame .label))

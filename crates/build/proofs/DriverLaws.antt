@@ -3,7 +3,7 @@ use Prim.Native.Nat.{ℕ, zero, suc, _+_, _-_, _≤_, _<_}
 use native.Mathlib.Nat.{le-refl}
 use native.Mathlib.Omega.{arith}
 use mathlib.Core.Path.{_≡_, refl, sym, ap, _∙_, subst}
-use mathlib.Core.Bool.{Bool, true, false}
+use mathlib.Core.Bool.{Bool, true, false, _||_}
 use mathlib.Core.List.{List, [], _∷_, _++_}
 use mathlib.Core.Option.{Option, none, some}
 use lib.Dec.{eqb}
@@ -28,7 +28,7 @@ use Rattle.control.specs.declared.Entry.{Entry}
 use Rattle.control.specs.declared.Resolved.the-variants as resolved
 use Rattle.control.specs.Abstraction.{contextOf, resolvedOf, resolutionOf, targetOf, stackOf, noEntry}
 use Rattle.control.specs.Contract.{Bounded, Named, Room, Created}
-use Rattle.definition.proofs.Tools.{length-none}
+use Rattle.definition.proofs.Flags.{length-none}
 use Rattle.control.proofs.ContextLaws.{stack-length, named-block}
 use Rattle.rows.specs.Rows.{Holds}
 use Rattle.rows.specs.Stack.{pushed}
@@ -216,10 +216,10 @@ break-below entries zero b top above named r e = absurd (none-some e)
 break-below entries (suc n) b top above named r e = at (eqb (definition.targetBlock (targetOf (getD entries n noEntry .target))) b) refl e (λ t a h. break-below entries n b t a (λ k l. named k (omega arith)) r h)
   where
     at : (y : Bool) → eqb (definition.targetBlock (targetOf (getD entries n noEntry .target))) b ≡ y
-        → elim y [ true ↦ some (record { target = b; kind = definition.breakKind (definition.isLoop (targetOf (getD entries n noEntry .target))) top above }) | false ↦ definition.breakTargetFrom (stackOf entries n) b false (definition.or above (definition.isLoop (targetOf (getD entries n noEntry .target)))) ] ≡ some r
+        → elim y [ true ↦ some (record { target = b; kind = definition.breakKind (definition.isLoop (targetOf (getD entries n noEntry .target))) top above }) | false ↦ definition.breakTargetFrom (stackOf entries n) b false (above || definition.isLoop (targetOf (getD entries n noEntry .target))) ] ≡ some r
         → ((t a : Bool) → definition.breakTargetFrom (stackOf entries n) b t a ≡ some r → r .target < 1024) → r .target < 1024
     at true q h again = let t : b ≡ r .target = ap target-or (h) in let same : definition.targetBlock (targetOf (getD entries n noEntry .target)) ≡ b = eqb-true _ _ q in omega (arith, t, same, named-block (getD entries n noEntry .target) (named n (omega arith)))
-    at false q h again = again false (definition.or above (definition.isLoop (targetOf (getD entries n noEntry .target)))) h
+    at false q h again = again false (above || definition.isLoop (targetOf (getD entries n noEntry .target))) h
 
 continue-below : (entries : List Entry) (n b : ℕ) (top above : Bool) → ((k : ℕ) → k < n → Named (getD entries k noEntry .target)) → (r : definition.Resolution) → definition.continueTargetFrom (stackOf entries n) b top above ≡ some r → r .target < 1024
 unfolding stackOf definition.continueTargetFrom
@@ -227,10 +227,10 @@ continue-below entries zero b top above named r e = absurd (none-some e)
 continue-below entries (suc n) b top above named r e = at (definition.continuesAt (targetOf (getD entries n noEntry .target)) b) e (λ t a h. continue-below entries n b t a (λ k l. named k (omega arith)) r h)
   where
     at : (y : Bool)
-        → elim y [ true ↦ some (record { target = definition.targetBlock (targetOf (getD entries n noEntry .target)); kind = definition.continueKind top above }) | false ↦ definition.continueTargetFrom (stackOf entries n) b false (definition.or above (definition.isLoop (targetOf (getD entries n noEntry .target)))) ] ≡ some r
+        → elim y [ true ↦ some (record { target = definition.targetBlock (targetOf (getD entries n noEntry .target)); kind = definition.continueKind top above }) | false ↦ definition.continueTargetFrom (stackOf entries n) b false (above || definition.isLoop (targetOf (getD entries n noEntry .target))) ] ≡ some r
         → ((t a : Bool) → definition.continueTargetFrom (stackOf entries n) b t a ≡ some r → r .target < 1024) → r .target < 1024
     at true h again = let t : definition.targetBlock (targetOf (getD entries n noEntry .target)) ≡ r .target = ap target-or (h) in omega (arith, t, named-block (getD entries n noEntry .target) (named n (omega arith)))
-    at false h again = again false (definition.or above (definition.isLoop (targetOf (getD entries n noEntry .target)))) h
+    at false h again = again false (above || definition.isLoop (targetOf (getD entries n noEntry .target))) h
 
 pub found-below : (cx : Context) (jump : Jump) (found : Resolved) → Whole cx → ((visits : ℕ) → resolvedOf found ≡ foundBy jump (contextOf visits cx)) → FoundBelow found
 unfolding contextOf definition.getBreakTarget definition.getContinueTarget

@@ -9,7 +9,7 @@ use lib.Dec.{eqb}
 use lib.ListN.{getD}
 use Rattle.definition.specs.Context.{Flags, has}
 use Rattle.definition.specs.Context as definition
-use Rattle.definition.specs.Machine.{stmtOut}
+use Rattle.definition.specs.Machine.{statementOut}
 use Rattle.definition.specs.Result.{Result, ok, refused, _>>=_}
 use Rattle.definition.specs.Statement.{breakResolved, breakToScope, continueResolved}
 use Rattle.definition.specs.Tree.{Row, row, Kind, implicit, labeled, unlabeled, kindNumber, BREAK, CONTINUE, Statement}
@@ -60,7 +60,7 @@ break-out at id O v n found b r h k e block = subst (λ (z : Jumped). JumpMet (b
 pub break-row : (at id : ℕ) (O : Flags) (v n n′ : ℕ) (found : Resolution) (op target number : ℕ) (b b′ : List ℕ) (r : Jumped) → getD O (found .target) false ≡ false
     → op ≡ 24 → target ≡ found .target → number ≡ kindNumber (kindOf (found .kind)) → Written b n (row op target id number 0 0) b′ n′
     → r ≡ record { code = 0; at = 0; rows = n′; count = 1 } → (block : ℕ) → JumpMet (breakOutcome at block id (Found found)) O v n b r b′
-unfolding breakResolved has stmtOut
+unfolding breakResolved has statementOut
 break-row at id O v n n′ found op target number b b′ r h o t k w e block = subst (λ (z : Jumped). JumpMet (breakOutcome at block id (Found found)) O v n b z b′) (sym e) (record {
   statement = some (BREAK (found .target) id (kindOf (found .kind)));
   same = λ C s. ap (λ (y : Bool). elim y [ true ↦ breakToScope (kindOf (found .kind)) at (C .visits) | false ↦ ok (some (BREAK (found .target) id (kindOf (found .kind)))) ]) (ap (λ (l : Flags). getD l (found .target) false) (s .scopeFallthroughs) ∙ h);
@@ -77,7 +77,7 @@ continue-none block id n b r e v O = subst (λ (z : Jumped). JumpMet (continueOu
 pub continue-row : (id n n′ : ℕ) (found : Resolution) (op target number : ℕ) (b b′ : List ℕ) (r : Jumped)
     → op ≡ 25 → target ≡ found .target → number ≡ kindNumber (kindOf (found .kind)) → Written b n (row op target id number 0 0) b′ n′
     → r ≡ record { code = 0; at = 0; rows = n′; count = 1 } → (block v : ℕ) (O : Flags) → JumpMet (continueOutcome block id (Found found)) O v n b r b′
-unfolding continueResolved _>>=_ stmtOut
+unfolding continueResolved _>>=_ statementOut
 continue-row id n n′ found op target number b b′ r o t k w e block v O = subst (λ (z : Jumped). JumpMet (continueOutcome block id (Found found)) O v n b z b′) (sym e) (record {
   statement = some (CONTINUE (found .target) id (kindOf (found .kind)));
   same = λ C s. refl;

@@ -3,7 +3,7 @@ use Prim.Native.Nat.{ℕ, zero, suc, _+_, _-_, _*_, _≤_, _<_}
 use native.Mathlib.Numerals.{add-one}
 use native.Mathlib.Omega.{arith}
 use mathlib.Core.Path.{_≡_, refl, sym, ap, _∙_, subst}
-use mathlib.Core.Bool.{Bool, true, false}
+use mathlib.Core.Bool.{Bool, true, false, _||_}
 use mathlib.Core.List.{List, [], _∷_, _++_, append-nil, append-assoc}
 use mathlib.Core.Option.{Option, none, some}
 use lib.Dec.{eqb}
@@ -16,7 +16,7 @@ use Rattle.table.specs.Promise.{Promise, InRange, BelowUnlessNone}
 use Rattle.table.specs.Table.{Table, Block, Terminal, absent, unreachable, throw, return, goto, if, branch, switch, do-while, while, for, for-of, for-in, logical, ternary, optional, label, sequence, maybe-throw, try, scope, tableOf, terminalOf, terminalAt, blockAt, unlessNone}
 use Rattle.table.proofs.RangeLaws.{in-range}
 use Rattle.definition.specs.Build.{rejected}
-use Rattle.definition.specs.Context.{Flags, or, has, add, remove, isScheduled, pushed, popped, target-if, withVisits, scheduleLoop, unscheduledBy}
+use Rattle.definition.specs.Context.{Flags, has, add, remove, isScheduled, pushed, popped, target-if, withVisits, scheduleLoop, unscheduledBy}
 use Rattle.definition.specs.Context as definition
 use Rattle.definition.specs.Machine.{State, visiting, ended, Turn, going, halt, turn, leave, intoLoop, scheduled, scheduledIf, unscheduled, unscheduledTop, unscheduledIf, valueOut, updateOut, valueTurn, terminalTurn}
 use Rattle.definition.specs.Machine as machine
@@ -147,11 +147,11 @@ inserted-has : (S : Flags) (f c : ℕ) → f < length S → has (add S f) c ≡ 
 unfolding has add
 inserted-has S f c h = at (ℕ-discrete c f)
   where
-    at : Dec (c ≡ f) → getD (set S f true) c false ≡ or (eqb c f) (getD S c false)
+    at : Dec (c ≡ f) → getD (set S f true) c false ≡ eqb c f || getD S c false
     at (yes e) = rw (e, eq-eqb f f refl, getD-set-same S f true false h)
     at (no e) = rw (ne-eqb c f e, getD-set-other S f c true false e)
 
-or-swap : (x y : Bool) → or x y ≡ or y x
+or-swap : (x y : Bool) → x || y ≡ y || x
 or-swap true true = refl
 or-swap true false = refl
 or-swap false true = refl
@@ -175,7 +175,7 @@ module _ (S H : Flags) (v : ℕ) (C : definition.Context) (seen : Seen S H v C) 
 
   loop-taken : loopIsTaken C l f ≡ loopTaken S H l f
   unfolding loopIsTaken
-  loop-taken = ap (λ (z : Bool). or z (eqb l f)) (seen-scheduled S H v C seen l) ∙ or-swap (or (has S l) (has H l)) (eqb l f)
+  loop-taken = ap (λ (z : Bool). z || eqb l f) (seen-scheduled S H v C seen l) ∙ or-swap (has S l || has H l) (eqb l f)
 
 visits-inside : (f c l v : ℕ) (C : definition.Context) → withVisits v (scheduledLoop f c l C) ≡ scheduledLoop f c l (withVisits v C)
 unfolding withVisits scheduledLoop pushed
@@ -322,14 +322,14 @@ module _ (w : List ℕ) (S H : Flags) (p : Position) (en : Entered w p) where
   Loops e f c l values = (F : List machine.Frame) (R : List Row) (C : definition.Context)
       → terminalTurn (tableOf w) visit e (p .block) (blockAt (tableOf w) (p .block)) F R (p .count) C ≡ loopTurn (p .block) f c l (unlessScheduled C f) (p .count) values F R C
 
-  turns : (e : Terminal) (f c l n : ℕ) (values : ℕ → Result Made) → Ends e → Loops e f c l values → f < blockCount w → n ≡ unlessTaken (or (has S f) (has H f)) f → Turns f c l n values
+  turns : (e : Terminal) (f c l n : ℕ) (values : ℕ → Result Made) → Ends e → Loops e f c l values → f < blockCount w → n ≡ unlessTaken (has S f || has H f) f → Turns f c l n values
   turns e f c l n values q loops h o F R C seen = ap turn (step-by w p e F R C q ∙ loops F R C)
       ∙ ap (λ (z : Option ℕ). turn (loopTurn (p .block) f c l z (p .count) values F R C)) (label-scheduled w (en .promise) S H (p .visits) C seen f (few-blocks w (en .promise) f h) ∙ ap unlessNone (sym o))
 
   span-is : blockAt (tableOf w) (p .block) .span ≡ span
   span-is = span-at w (p .block) (en .block)
 
-  pub do-while-turns : (l c f n : ℕ) → Ends (do-while l c f) → f < blockCount w → n ≡ unlessTaken (or (has S f) (has H f)) f → Turns f c l n (λ v. ok (noneMade v))
+  pub do-while-turns : (l c f n : ℕ) → Ends (do-while l c f) → f < blockCount w → n ≡ unlessTaken (has S f || has H f) f → Turns f c l n (λ v. ok (noneMade v))
   unfolding terminalTurn loopTurn _>>=_
   do-while-turns l c f n q h o = turns (do-while l c f) f c l n (λ v. ok (noneMade v)) q (λ F R C. then-same (scheduleLoop f c (some l) C) _ _ (λ inside. rw (append-nil R))) h o
 
@@ -338,12 +338,12 @@ module _ (w : List ℕ) (S H : Flags) (p : Position) (en : Entered w p) where
     abbrev body : Made → Result State
     body made = intoLoop (p .block) l (loopIsTaken C l f) (made .visits) (machine.frameOf (p .block) taken 1 (p .count)) F (R ++ made .out) inside
 
-  pub for-in-turns : (c l f n : ℕ) → Ends (for-in c l f) → f < blockCount w → n ≡ unlessTaken (or (has S f) (has H f)) f → Turns f c l n (λ v. valueMade visit (flatForm (tableOf w) span) c span (noneMade v))
+  pub for-in-turns : (c l f n : ℕ) → Ends (for-in c l f) → f < blockCount w → n ≡ unlessTaken (has S f || has H f) f → Turns f c l n (λ v. valueMade visit (flatForm (tableOf w) span) c span (noneMade v))
   unfolding terminalTurn loopTurn
   for-in-turns c l f n q h o = turns (for-in c l f) f c l n _ q (λ F R C. rw span-is (then-same (scheduleLoop f c (some l) C) _ _ (λ inside.
       sym (value-then visit (flatForm (tableOf w) span) c span (noneMade (inside .visits)) (body f l F R C inside (unlessScheduled C f)))))) h o
 
-  pub for-of-turns : (c test l f n : ℕ) → Ends (for-of c test l f) → f < blockCount w → n ≡ unlessTaken (or (has S f) (has H f)) f → Turns f c l n (λ v. forOfMade (tableOf w) visit c test span (noneMade v))
+  pub for-of-turns : (c test l f n : ℕ) → Ends (for-of c test l f) → f < blockCount w → n ≡ unlessTaken (has S f || has H f) f → Turns f c l n (λ v. forOfMade (tableOf w) visit c test span (noneMade v))
   unfolding terminalTurn loopTurn
   for-of-turns c test l f n q h o = turns (for-of c test l f) f c l n _ q (λ F R C. rw span-is (then-same (scheduleLoop f c (some l) C) _ _ (λ inside.
       let k : Made → Result State = body f l F R C inside (unlessScheduled C f) in
@@ -354,7 +354,7 @@ module _ (w : List ℕ) (S H : Flags) (p : Position) (en : Entered w p) where
       value-then visit flat test span (record { out = valueOut (flat first); visits = first .visits }) k
       ∙ then-same (visit test none span (first .visits)) _ _ (λ tested. rw (append-assoc R (valueOut (flat first)) (valueOut (flat tested))))))))) h o
 
-  pub for-turns : (init test : ℕ) (update : Option ℕ) (l f n : ℕ) → Ends (for init test update l f) → f < blockCount w → n ≡ unlessTaken (or (has S f) (has H f)) f
+  pub for-turns : (init test : ℕ) (update : Option ℕ) (l f n : ℕ) → Ends (for init test update l f) → f < blockCount w → n ≡ unlessTaken (has S f || has H f) f
       → Turns f (continueBlockOf update test) l n (λ v. forMade (tableOf w) visit init test update span (noneMade v))
   unfolding terminalTurn loopTurn
   for-turns init test update l f n q h o = turns (for init test update l f) f (continueBlockOf update test) l n _ q (λ F R C. rw span-is (then-same (scheduleLoop f (continueBlockOf update test) (some l) C) _ _ (λ inside.
@@ -379,7 +379,7 @@ module _ (w : List ℕ) (S H : Flags) (p : Position) (en : Entered w p) where
   while-asks c l f F R C = rw span-is (then-same (unlessUnreachable (tableOf w) C f) _ _ (λ taken. then-same (scheduleLoop f c (some l) C) _ _ (λ inside.
       sym (value-then visit plainForm c span (noneMade (inside .visits)) (body f l F R C inside taken)))))
 
-  pub while-turns : (c l f n : ℕ) → Ends (while c l f) → f < blockCount w → (blockWord w f 2 ≡ 0 → ⊥) → n ≡ unlessTaken (or (eqb (blockWord w f 2) 1) (or (has S f) (has H f))) f
+  pub while-turns : (c l f n : ℕ) → Ends (while c l f) → f < blockCount w → (blockWord w f 2 ≡ 0 → ⊥) → n ≡ unlessTaken (eqb (blockWord w f 2) 1 || (has S f || has H f)) f
       → Turns f c l n (λ v. valueMade visit plainForm c span (noneMade v))
   while-turns c l f n q h z o F R C seen = ap turn (step-by w p (while c l f) F R C q ∙ while-asks c l f F R C)
       ∙ reach-same w S H p (en .promise) f n h (few-blocks w (en .promise) f h) z o (λ taken. loopTurn (p .block) f c l taken (p .count) (λ v. valueMade visit plainForm c span (noneMade v)) F R C) C seen
@@ -463,7 +463,7 @@ continue-is test update = at (eqb update 65535)
     at false = refl
 
 pub for-turns-at : (w : List ℕ) (S H : Flags) (p : Position) (en : Entered w p) (init test update l f c n : ℕ) → terminalAt (tableOf w) (p .block) ≡ for init test (unlessNone update) l f
-    → c ≡ continuesAt (eqb update 65535) test update → f < blockCount w → n ≡ unlessTaken (or (has S f) (has H f)) f
+    → c ≡ continuesAt (eqb update 65535) test update → f < blockCount w → n ≡ unlessTaken (has S f || has H f) f
     → Turns w S H p en f c l n (λ v. forMade (tableOf w) (visitValueBlock (tableOf w) (127 - p .depth)) init test (unlessNone update) (blockWord w (p .block) 9) (noneMade v))
 for-turns-at w S H p en init test update l f c n q o h z = rw (o ∙ sym (continue-is test update)) (for-turns w S H p en init test (unlessNone update) l f n q h z)
 
@@ -480,15 +480,15 @@ id-taken : (f v : ℕ) (C : definition.Context) → has (C .scheduled) f ≡ fal
 unfolding unscheduled unscheduledTop unscheduledBy popped withVisits scheduled pushed idTaken
 id-taken f v C e = ap (λ (S : Flags). popped (C .stack) S (withVisits v (pushed (target-if f) (add (C .scheduled) f) C))) (remove-added (C .scheduled) f e)
 
-or-left : (x y : Bool) → or x y ≡ false → x ≡ false
+or-left : (x y : Bool) → x || y ≡ false → x ≡ false
 or-left true y e = e
 or-left false y e = refl
 
-module _ (S H : Flags) (v : ℕ) (C : definition.Context) (seen : Seen S H v C) (f n : ℕ) (h : f < 1024) (o : n ≡ unlessTaken (or (has S f) (has H f)) f) where
+module _ (S H : Flags) (v : ℕ) (C : definition.Context) (seen : Seen S H v C) (f n : ℕ) (h : f < 1024) (o : n ≡ unlessTaken (has S f || has H f) f) where
   value-context : (after : ℕ) → unscheduledIf (unlessNone n) (withVisits after (scheduledIf (unlessNone n) C)) ≡ changed (takeIdIf (eqb n 65535)) (withVisits after C)
-  value-context after = by (or (has S f) (has H f)) refl o
+  value-context after = by (has S f || has H f) refl o
     where
-      by : (y : Bool) → or (has S f) (has H f) ≡ y → n ≡ unlessTaken y f → unscheduledIf (unlessNone n) (withVisits after (scheduledIf (unlessNone n) C)) ≡ changed (takeIdIf (eqb n 65535)) (withVisits after C)
+      by : (y : Bool) → has S f || has H f ≡ y → n ≡ unlessTaken y f → unscheduledIf (unlessNone n) (withVisits after (scheduledIf (unlessNone n) C)) ≡ changed (takeIdIf (eqb n 65535)) (withVisits after C)
       by true e q = rw (q, none-is)
       by false e q = rw (q, some-is f (λ z. omega arith), ne-eqb f 65535 (λ z. omega arith)) (id-taken f after C (ap (λ (z : Flags). has z f) (seen .scheduled) ∙ or-left (has S f) (has H f) e))
 
@@ -546,7 +546,7 @@ module _ (w : List ℕ) (S H : Flags) (p : Position) (en : Entered w p) (f : ℕ
       fitting = λ e. absurd (z e);
     })
 
-    pub value-statement-left : (n rows : ℕ) (plan : Plan) (b′ : List ℕ) → r .code ≡ 0 → n ≡ unlessTaken (or (has S f) (has H f)) f
+    pub value-statement-left : (n rows : ℕ) (plan : Plan) (b′ : List ℕ) → r .code ≡ 0 → n ≡ unlessTaken (has S f || has H f) f
         → Written b₁ (r .tally .rows) (row 4 (r .id) (r .place) (blockWord w (p .block) 9) 0 0) b′ rows
         → plan ≡ leaving n (p .depth) (p .count + 1) rows (r .tally .visits) (takeIdIf (eqb n 65535)) → PlannedRows w S H p b plan b′
     value-statement-left n rows plan b′ z o put e = subst (λ (y : Plan). PlannedRows w S H p b y b′) (sym e) (record {

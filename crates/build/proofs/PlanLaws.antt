@@ -14,7 +14,7 @@ use borrow.Author.Tests.{eq-eqb, ne-eqb, eqb-true, eqb-false}
 use native.Mathlib.Decide.{ℕ-discrete}
 use Rattle.table.specs.Table.{Table, unlessNone}
 use Rattle.definition.specs.Build.{Report, accepted, rejected}
-use Rattle.definition.specs.Context.{Flags, or, has, add, remove, isScheduled, pushed, popped, target-if, target-switch, withVisits, scheduleCatchHandler, markScopeFallthrough, unscheduledBy}
+use Rattle.definition.specs.Context.{Flags, has, add, remove, isScheduled, pushed, popped, target-if, target-switch, withVisits, scheduleCatchHandler, markScopeFallthrough, unscheduledBy}
 use Rattle.definition.specs.Context as definition
 use Rattle.definition.specs.Machine.{State, visiting, ended, choosing, popping, Turn, going, halt, turn, leave, into, opens, scheduled, unscheduled, unscheduledTop}
 use Rattle.definition.specs.Machine as machine

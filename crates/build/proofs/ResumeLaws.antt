@@ -2,7 +2,7 @@
 use Prim.Native.Nat.{ℕ, zero, suc, _+_, _-_, _≤_, _<_}
 use native.Mathlib.Omega.{arith}
 use mathlib.Core.Path.{_≡_, refl, sym, ap, _∙_, subst}
-use mathlib.Core.Bool.{Bool, true, false, not}
+use mathlib.Core.Bool.{Bool, true, false, not, _||_}
 use mathlib.Core.List.{List, [], _∷_, _++_, append-nil, append-assoc}
 use mathlib.Core.Option.{Option, none, some}
 use lib.Dec.{eqb}
@@ -14,9 +14,9 @@ use Rattle.table.specs.Table.{Table, Block, Case, Terminal, absent, unreachable
 use Rattle.table.proofs.TableLaws.{block-at, case-at, length-blocks, length-cases}
 use Rattle.table.proofs.RangeLaws.{in-range, case-block}
 use Rattle.definition.specs.Build.{rejected, accepted}
-use Rattle.definition.specs.Context.{Flags, or, has, isScheduled, target-case, withVisits}
+use Rattle.definition.specs.Context.{Flags, has, isScheduled, target-case, withVisits}
 use Rattle.definition.specs.Context as definition
-use Rattle.definition.specs.Machine.{State, visiting, ended, choosing, popping, Turn, going, halt, turn, into, scheduled, secondPart, caseBuilt, withLeft, close, closeBy, no-case, caseAt, chooseCase, firstCase, afterCases, resumeAt, blockRow, valueOut, step}
+use Rattle.definition.specs.Machine.{State, visiting, ended, choosing, popping, Turn, going, halt, turn, into, scheduled, secondPart, caseBuilt, withLeft, close, closeBy, noCase, caseAt, chooseCase, switchColumns, resumeAt, blockRow, valueOut, step}
 use Rattle.definition.specs.Machine as machine
 use Rattle.definition.specs.Result.{Result, ok, refused, _>>=_, refuseIf}
 use Rattle.definition.specs.Tree.{Row, row}
@@ -113,10 +113,10 @@ module _ (w : List ℕ) (p : Position) (frame : Frame) where
   -- it goes on with a second part that must not be scheduled
   pub resumed-alternate : (S H : Flags) (block code at : ℕ) (plan : Plan) (buffer : List ℕ)
       → ((F : List machine.Frame) (R : List Row) (C : definition.Context) → resumeStep w p frame F R C ≡ into block code at (secondPart (frameOf frame)) F R C)
-      → 1 ≤ p .depth → (code ≡ 0 → ⊥) → plan ≡ alternating (or (has S block) (has H block)) p frame block code at → PlannedResume w S H p frame buffer plan buffer
-  resumed-alternate S H block code at plan buffer e deep nz q = subst (λ (y : Plan). PlannedResume w S H p frame buffer y buffer) (sym q) (by (or (has S block) (has H block)) refl)
+      → 1 ≤ p .depth → (code ≡ 0 → ⊥) → plan ≡ alternating (has S block || has H block) p frame block code at → PlannedResume w S H p frame buffer plan buffer
+  resumed-alternate S H block code at plan buffer e deep nz q = subst (λ (y : Plan). PlannedResume w S H p frame buffer y buffer) (sym q) (by (has S block || has H block) refl)
     where
-      by : (y : Bool) → or (has S block) (has H block) ≡ y → PlannedResume w S H p frame buffer (alternating y p frame block code at) buffer
+      by : (y : Bool) → has S block || has H block ≡ y → PlannedResume w S H p frame buffer (alternating y p frame block code at) buffer
       by true u = record {
         out = [];
         held = λ z. absurd (nz z);
@@ -222,7 +222,7 @@ module _ (w : List ℕ) (p : Position) (frame : Frame) where
       number = col 4 + frame .left
 
       case-is : caseAt t number ≡ caseOf w number
-      case-is = case-at w number no-case (re .case code)
+      case-is = case-at w number noCase (re .case code)
 
       pub case-below : caseWord w number 1 < 1024
       case-below = few-blocks w (re .promise) (caseWord w number 1) (case-block w (re .promise) number (re .case code))
@@ -336,7 +336,7 @@ module _ (w : List ℕ) (p : Position) (frame : Frame) (ch : Choosing w p frame)
   choice left F R C = chooseCase (tableOf w) (column 4) (column 6) left (frameOf frame) F R C
 
   choose-by : (F : List machine.Frame) (R : List Row) (C : definition.Context) → chooseStep w frame F R C ≡ choice (frame .left) F R C
-  choose-by F R C = ap (λ (e : Terminal). chooseCase (tableOf w) (firstCase e) (afterCases e) (frame .left) (frameOf frame) F R C) at-switch
+  choose-by F R C = ap (λ (e : Terminal). chooseCase (tableOf w) (switchColumns e .first) (switchColumns e .fallthrough) (frame .left) (frameOf frame) F R C) at-switch
 
   -- none is left
   pub choice-closes : {S H : Flags} {buffer buffer′ : List ℕ} {plan : Plan} → frame .left ≡ 0 → PlannedClose w p frame buffer plan buffer′ → PlannedChoice w S H p frame buffer plan buffer′
@@ -368,22 +368,22 @@ module _ (w : List ℕ) (p : Position) (frame : Frame) (ch : Choosing w p frame)
         let e : n ≡ suc n - 1 = omega arith in
         ap (λ (k : ℕ). chosen (isScheduled C (caseAt (tableOf w) (column 4 + k) .block)) (caseAt (tableOf w) (column 4 + k) .block) k F R C) e
 
-    case-chosen : (busy : Bool) (F : List machine.Frame) (R : List Row) (C : definition.Context) → Seen S H (p .visits) C → or (has S (caseWord w last 1)) (has H (caseWord w last 1)) ≡ busy
+    case-chosen : (busy : Bool) (F : List machine.Frame) (R : List Row) (C : definition.Context) → Seen S H (p .visits) C → has S (caseWord w last 1) || has H (caseWord w last 1) ≡ busy
         → chooseStep w frame F R C ≡ chosen busy (caseWord w last 1) (frame .left - 1) F R C
     unfolding caseOf
     case-chosen busy F R C seen e = choose-by F R C ∙ more (frame .left) F R C some-left
-        ∙ ap (λ (k : Case). chosen (isScheduled C (k .block)) (k .block) (frame .left - 1) F R C) (case-at w last no-case last-below)
+        ∙ ap (λ (k : Case). chosen (isScheduled C (k .block)) (k .block) (frame .left - 1) F R C) (case-at w last noCase last-below)
         ∙ ap (λ (y : Bool). chosen y (caseWord w last 1) (frame .left - 1) F R C) (seen-scheduled S H (p .visits) C seen (caseWord w last 1) ∙ e)
 
     fits : Fitting (frameOf frame ∷ []) (p .depth) (choosingNext (leftLess frame) (p .depth) (p .rows) (p .visits) Nothing)
     fits = record { change = tt; handler = rw none-is tt; scope = rw none-is tt; deep = λ _. ch .closing .depth; next = omega arith; nested = refl }
 
-    pub choice-visits : (block : ℕ) (plan : Plan) (buffer : List ℕ) → block ≡ caseWord w last 1 → or (has S block) (has H block) ≡ false
+    pub choice-visits : (block : ℕ) (plan : Plan) (buffer : List ℕ) → block ≡ caseWord w last 1 → has S block || has H block ≡ false
         → plan ≡ nesting block (leftLess frame) (p .depth) (p .rows) (p .visits) 65535 65535 Nothing → PlannedChoice w S H p frame buffer plan buffer
     choice-visits block plan buffer u e q = subst (λ (y : Plan). PlannedChoice w S H p frame buffer y buffer) (sym q) (record {
       out = [];
       held = λ _ before h. rw (append-nil before) h;
-      same = λ F R C d seen. rw (append-nil R) (ap turn (case-chosen false F R C seen (ap (λ (k : ℕ). or (has S k) (has H k)) (sym u) ∙ e) ∙ ap (λ (k : ℕ). chosen false k (frame .left - 1) F R C) (sym u)) ∙ turn-ok _
+      same = λ F R C d seen. rw (append-nil R) (ap turn (case-chosen false F R C seen (ap (λ (k : ℕ). has S k || has H k) (sym u) ∙ e) ∙ ap (λ (k : ℕ). chosen false k (frame .left - 1) F R C) (sym u)) ∙ turn-ok _
           ∙ sym (nest-applied block (leftLess frame) (p .depth) (p .rows) (p .visits) 65535 65535 Nothing (frameOf frame ∷ F) R C ∙ rw (none-is, visits-same (p .visits) C (seen .visits), within-rest (p .depth) (frameOf frame) F d)));
       fitting = λ _. record { change = tt; handler = rw none-is tt; scope = rw none-is tt; deep = λ _. ch .closing .depth; next = omega arith; nested = tt };
     })
@@ -391,13 +391,13 @@ module _ (w : List ℕ) (p : Position) (frame : Frame) (ch : Choosing w p frame)
     abbrev refusal : (same : Bool) → List machine.Frame → List Row → definition.Context → Result State
     refusal same F R C = refuseIf (not same) 14 (frame .block) (C .visits) >>= λ _. ok (choosing (withLeft (frame .left - 1) (frameOf frame)) F R C)
 
-    case-busy : (block : ℕ) (same : Bool) (F : List machine.Frame) (R : List Row) (C : definition.Context) → Seen S H (p .visits) C → block ≡ caseWord w last 1 → or (has S block) (has H block) ≡ true → eqb block (column 6) ≡ same
+    case-busy : (block : ℕ) (same : Bool) (F : List machine.Frame) (R : List Row) (C : definition.Context) → Seen S H (p .visits) C → block ≡ caseWord w last 1 → has S block || has H block ≡ true → eqb block (column 6) ≡ same
         → chooseStep w frame F R C ≡ refusal same F R C
     case-busy block same F R C seen u e z =
-        case-chosen true F R C seen (ap (λ (k : ℕ). or (has S k) (has H k)) (sym u) ∙ e)
+        case-chosen true F R C seen (ap (λ (k : ℕ). has S k || has H k) (sym u) ∙ e)
         ∙ ap (λ (k : ℕ). refusal (eqb k (column 6)) F R C) (sym u) ∙ ap (λ (y : Bool). refusal y F R C) z
 
-    pub choice-refused : (block : ℕ) (plan : Plan) (buffer : List ℕ) → block ≡ caseWord w last 1 → or (has S block) (has H block) ≡ true → (block ≡ column 6 → ⊥)
+    pub choice-refused : (block : ℕ) (plan : Plan) (buffer : List ℕ) → block ≡ caseWord w last 1 → has S block || has H block ≡ true → (block ≡ column 6 → ⊥)
         → plan ≡ refusing p 14 (frame .block) → PlannedChoice w S H p frame buffer plan buffer
     unfolding _>>=_ refuseIf
     choice-refused block plan buffer u e z q = subst (λ (y : Plan). PlannedChoice w S H p frame buffer y buffer) (sym q) (record {
@@ -408,7 +408,7 @@ module _ (w : List ℕ) (p : Position) (frame : Frame) (ch : Choosing w p frame)
       fitting = λ y. absurd (let o : _≡_ {A = ℕ} 14 0 = y in omega arith);
     })
 
-    pub choice-skips : (block : ℕ) (plan : Plan) (buffer : List ℕ) → block ≡ caseWord w last 1 → or (has S block) (has H block) ≡ true → block ≡ column 6
+    pub choice-skips : (block : ℕ) (plan : Plan) (buffer : List ℕ) → block ≡ caseWord w last 1 → has S block || has H block ≡ true → block ≡ column 6
         → plan ≡ choosingNext (leftLess frame) (p .depth) (p .rows) (p .visits) Nothing → PlannedChoice w S H p frame buffer plan buffer
     unfolding _>>=_ refuseIf
     choice-skips block plan buffer u e z q = subst (λ (y : Plan). PlannedChoice w S H p frame buffer y buffer) (sym q) (record {

@@ -3,7 +3,7 @@ use Prim.Native.Nat.{ℕ, zero, suc, _+_, _-_, _≤_, _<_}
 use native.Mathlib.Numerals.{add-one}
 use native.Mathlib.Omega.{arith}
 use mathlib.Core.Path.{_≡_, refl, sym, ap, _∙_, subst}
-use mathlib.Core.Bool.{Bool, true, false}
+use mathlib.Core.Bool.{Bool, true, false, _||_}
 use mathlib.Core.List.{List, [], _∷_, _++_, append-nil}
 use mathlib.Core.Option.{Option, none, some}
 use mathlib.Core.Logic.{_⊎_, inl, inr}
@@ -16,7 +16,7 @@ use Rattle.table.specs.Words.{blockCount, placeCount, caseCount, blockWord}
 use Rattle.table.specs.Promise.{Promise, InRange}
 use Rattle.table.specs.Table.{Table, Block, Terminal, tableOf, terminalOf, terminalAt, blockAt, unlessNone, scope, throw, return}
 use Rattle.definition.specs.Build.{rejected}
-use Rattle.definition.specs.Context.{Flags, or, has, pushed, isScheduled, markScopeFallthrough}
+use Rattle.definition.specs.Context.{Flags, has, pushed, isScheduled, markScopeFallthrough}
 use Rattle.definition.specs.Context as definition
 use Rattle.definition.specs.Machine.{State, visiting, ended, Turn, going, halt, turn, leave, into, opens, scheduled, scheduledIf, terminalTurn}
 use Rattle.definition.specs.Machine as machine
@@ -68,17 +68,17 @@ refused-applied plan F R C h = ap (λ (y : Bool). elim y [ true ↦ onward (plan
 module _ (w : List ℕ) (S H : Flags) (p : Position) (en : Entered w p) where
   -- a scope's code is 20 or 21: its terminal is a scope
   pub scope-nested : (pruned : Bool) (f n y : ℕ) (plan : Plan) → terminalAt (tableOf w) (p .block) ≡ scope pruned (blockWord w (p .block) 3) (blockWord w (p .block) 4) (blockWord w (p .block) 5)
-      → f ≡ blockWord w (p .block) 4 → n ≡ unlessTaken (or (has S f) (has H f)) f → y ≡ blockWord w (p .block) 3
-      → plan ≡ withScope (enclosing (scheduledWith (or (has S y) (has H y)) n y) p n y 18 (p .block)) n → PlannedBare w S H p plan
+      → f ≡ blockWord w (p .block) 4 → n ≡ unlessTaken (has S f || has H f) f → y ≡ blockWord w (p .block) 3
+      → plan ≡ withScope (enclosing (scheduledWith (has S y || has H y) n y) p n y 18 (p .block)) n → PlannedBare w S H p plan
   unfolding terminalTurn
-  scope-nested pruned f n y plan q s r t e = subst (λ (z : Plan). PlannedBare w S H p z) (sym (e ∙ ap (λ (k : ℕ). withScope (enclosing (scheduledWith (or (has S k) (has H k)) n k) p n k 18 (p .block)) n) t))
+  scope-nested pruned f n y plan q s r t e = subst (λ (z : Plan). PlannedBare w S H p z) (sym (e ∙ ap (λ (k : ℕ). withScope (enclosing (scheduledWith (has S k || has H k) n k) p n k 18 (p .block)) n) t))
       (bare-planned w S H p (E busy) (rows busy) (λ F R C d seen. ap turn (step-by w p _ F R C q) ∙ ap (λ (g : Option ℕ). turn (into x 18 (p .block) (machine.frameOf (p .block) g (opens g) (p .count)) F R (markScopeFallthroughIf g (scheduledIf g C)))) (label-is C seen) ∙ by F R C d seen busy refl) (fits busy))
     where
       x : ℕ
       x = blockWord w (p .block) 3
 
       busy : Bool
-      busy = or (eqb x n) (or (has S x) (has H x))
+      busy = eqb x n || (has S x || has H x)
 
       E : Bool → Plan
       E b = withScope (enclosing b p n x 18 (p .block)) n
@@ -87,11 +87,11 @@ module _ (w : List ℕ) (S H : Flags) (p : Position) (en : Entered w p) where
       below = let g : InRange (blockCount w) (placeCount w) (caseCount w) (scope pruned (blockWord w (p .block) 3) (blockWord w (p .block) 4) (blockWord w (p .block) 5)) = ranges w (en .promise) (p .block) (en .block) _ q in
           (few-blocks w (en .promise) _ (g .0), few-blocks w (en .promise) _ (g .1))
 
-      n-is : n ≡ unlessTaken (or (has S (blockWord w (p .block) 4)) (has H (blockWord w (p .block) 4))) (blockWord w (p .block) 4)
-      n-is = r ∙ ap (λ (k : ℕ). unlessTaken (or (has S k) (has H k)) k) s
+      n-is : n ≡ unlessTaken (has S (blockWord w (p .block) 4) || has H (blockWord w (p .block) 4)) (blockWord w (p .block) 4)
+      n-is = r ∙ ap (λ (k : ℕ). unlessTaken (has S k || has H k) k) s
 
       l : Label n
-      l = rw n-is (label-taken (or (has S (blockWord w (p .block) 4)) (has H (blockWord w (p .block) 4))) (blockWord w (p .block) 4) (below .1))
+      l = rw n-is (label-taken (has S (blockWord w (p .block) 4) || has H (blockWord w (p .block) 4)) (blockWord w (p .block) 4) (below .1))
 
       label-is : (C : definition.Context) → Seen S H (p .visits) C → unlessScheduled C (blockWord w (p .block) 4) ≡ unlessNone n
       label-is C seen = label-scheduled w (en .promise) S H (p .visits) C seen (blockWord w (p .block) 4) (below .1) ∙ ap unlessNone (sym n-is)

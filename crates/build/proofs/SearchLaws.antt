@@ -2,7 +2,7 @@
 use Prim.Native.Nat.{ℕ, zero, suc, _-_, _<_, _≤_}
 use native.Mathlib.Omega.{arith}
 use mathlib.Core.Path.{_≡_, refl, sym, ap, _∙_, subst}
-use mathlib.Core.Bool.{Bool, true, false}
+use mathlib.Core.Bool.{Bool, true, false, _||_}
 use mathlib.Core.List.{List}
 use mathlib.Core.Option.{Option, none, some}
 use borrow.Author.Tests.{eqb-true, eqb-false}
@@ -10,7 +10,7 @@ use Rattle.table.specs.Words.{blockCount, placeCount, caseCount, blockWord}
 use Rattle.table.specs.Promise.{Promise, InRange}
 use Rattle.table.specs.Table.{Terminal, Variant, absent, unreachable, throw, return, goto, if, branch, switch, do-while, while, for, for-of, for-in, logical, ternary, optional, label, sequence, maybe-throw, try, scope, Break, Continue, Try, codeOf, tableOf, terminalOf, terminalAt, variantOf}
 use Rattle.table.proofs.RangeLaws.{in-range}
-use Rattle.definition.specs.Context.{Flags, or, has, isScheduled, isLoop, breakTargetFrom, continueTargetFrom, getBreakTarget, getContinueTarget}
+use Rattle.definition.specs.Context.{Flags, has, isScheduled, isLoop, breakTargetFrom, continueTargetFrom, getBreakTarget, getContinueTarget}
 use Rattle.definition.specs.Context as definition
 use Rattle.control.specs.declared.Context.{Context}
 use Rattle.control.specs.declared.Entry.{Entry}
@@ -96,7 +96,7 @@ module _ (w : List ℕ) (S H : Flags) (b : ℕ) (pr : Promise w) (below : b < bl
     pub branch-breaks : (n : ℕ) → n ≡ blockWord w b 4 → Searches w S H b (jump.Break n)
     branch-breaks n s = record { resolves = λ cx _ _. subst (λ (z : Terminal). Resolves z cx (getBreakTarget cx n)) (sym branch-at) (λ _. ap (getBreakTarget cx) s) }
 
-    pub branch-goes : or (has S (blockWord w b 4)) (has H (blockWord w b 4)) ≡ false → Searches w S H b Nothing
+    pub branch-goes : has S (blockWord w b 4) || has H (blockWord w b 4) ≡ false → Searches w S H b Nothing
     unfolding isScheduled
     branch-goes e = record { resolves = λ cx s h. subst (λ (z : Terminal). Resolves z cx none) (sym branch-at) (λ q. absurd (differ (sym q ∙ rw (s, h) e))) }
       where
@@ -121,7 +121,7 @@ search-start (jump.Break b) cx n e = record { within = omega (arith, e); rest = 
 search-start (jump.Continue b) cx n e = record { within = omega (arith, e); rest = rw e refl }
 
 module _ (cx : Context) (at : ℕ) (top above : Bool) where
-  pub search-on : (sought : Jump) → Searching sought cx at top above → (at ≡ 0 → ⊥) → isMet sought (lastTarget (cx .stack) at) ≡ false → Searching sought cx (at - 1) false (or above (isLoop (lastTarget (cx .stack) at)))
+  pub search-on : (sought : Jump) → Searching sought cx at top above → (at ≡ 0 → ⊥) → isMet sought (lastTarget (cx .stack) at) ≡ false → Searching sought cx (at - 1) false (above || isLoop (lastTarget (cx .stack) at))
   search-on Nothing h f m = record { within = omega (arith, h .within); rest = refl }
   search-on (jump.Break b) h f m = record { within = omega (arith, h .within); rest = h .rest ∙ break-missed _ _ _ _ _ f (eqb-false _ _ m) }
   search-on (jump.Continue b) h f m = record { within = omega (arith, h .within); rest = h .rest ∙ continue-missed _ _ _ _ _ f m }

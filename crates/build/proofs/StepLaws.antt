@@ -2,7 +2,7 @@
 use Prim.Native.Nat.{ℕ, zero, suc, _+_, _-_, _≤_, _<_}
 use native.Mathlib.Omega.{arith}
 use mathlib.Core.Path.{_≡_, refl, sym, ap, _∙_, subst}
-use mathlib.Core.Bool.{Bool, true, false}
+use mathlib.Core.Bool.{Bool, true, false, _||_}
 use mathlib.Core.List.{List, [], _∷_, _++_, append-nil}
 use mathlib.Core.Option.{Option, none, some}
 use mathlib.Core.Logic.{_⊎_, inl, inr}
@@ -17,7 +17,7 @@ use Rattle.table.specs.Table.{Table, Block, Terminal, tableOf, terminalOf, bloc
 use Rattle.table.proofs.TableLaws.{block-at}
 use Rattle.table.proofs.RangeLaws.{code-known, in-range}
 use Rattle.definition.specs.Build.{rejected}
-use Rattle.definition.specs.Context.{Flags, or, has, add, isScheduled, pushed, target-if, withVisits, scheduleCatchHandler}
+use Rattle.definition.specs.Context.{Flags, has, add, isScheduled, pushed, target-if, withVisits, scheduleCatchHandler}
 use Rattle.definition.specs.Context as definition
 use Rattle.definition.specs.Machine.{State, visiting, ended, choosing, Turn, going, halt, turn, into, opens, scheduled, scheduledIf}
 use Rattle.definition.specs.Machine as machine
@@ -81,24 +81,24 @@ code-at ws b pr h = ap codeOf (end-at ws b h) ∙ code-of (blockWord ws b 2) _ _
 
 -- ---- sets
 
-pub scheduled-push : (n x : ℕ) (C : definition.Context) → n < length (C .scheduled) → isScheduled (scheduled (target-if n) C) x ≡ or (eqb x n) (isScheduled C x)
+pub scheduled-push : (n x : ℕ) (C : definition.Context) → n < length (C .scheduled) → isScheduled (scheduled (target-if n) C) x ≡ eqb x n || isScheduled C x
 unfolding isScheduled scheduled pushed has add
 scheduled-push n x C h = at (ℕ-discrete x n)
   where
-    at : Dec (x ≡ n) → or (getD (set (C .scheduled) n true) x false) (getD (C .catchHandlers) x false) ≡ or (eqb x n) (or (getD (C .scheduled) x false) (getD (C .catchHandlers) x false))
+    at : Dec (x ≡ n) → getD (set (C .scheduled) n true) x false || getD (C .catchHandlers) x false ≡ eqb x n || (getD (C .scheduled) x false || getD (C .catchHandlers) x false)
     at (yes e) = rw (e, eq-eqb n n refl, getD-set-same (C .scheduled) n true false h)
     at (no e) = rw (ne-eqb x n e, getD-set-other (C .scheduled) n x true false e)
 
 -- ---- labels
 
-pub seen-scheduled : (S H : Flags) (v : ℕ) (C : definition.Context) → Seen S H v C → (x : ℕ) → isScheduled C x ≡ or (has S x) (has H x)
+pub seen-scheduled : (S H : Flags) (v : ℕ) (C : definition.Context) → Seen S H v C → (x : ℕ) → isScheduled C x ≡ has S x || has H x
 unfolding isScheduled
 seen-scheduled S H v C seen x = rw (seen .scheduled, seen .handlers)
 
 module _ (ws : List ℕ) (pr : Promise ws) (S H : Flags) (v : ℕ) (C : definition.Context) (seen : Seen S H v C) where
-  pub label-scheduled : (f : ℕ) → f < 1024 → unlessScheduled C f ≡ unlessNone (unlessTaken (or (has S f) (has H f)) f)
+  pub label-scheduled : (f : ℕ) → f < 1024 → unlessScheduled C f ≡ unlessNone (unlessTaken (has S f || has H f) f)
   unfolding unlessScheduled
-  label-scheduled f h = rw (seen-scheduled S H v C seen f, unlessScheduled) (at (or (has S f) (has H f)))
+  label-scheduled f h = rw (seen-scheduled S H v C seen f, unlessScheduled) (at (has S f || has H f))
     where
       at : (y : Bool) → elim y [ true ↦ none | false ↦ some f ] ≡ unlessNone (unlessTaken y f)
       at true = sym none-is
@@ -108,11 +108,11 @@ module _ (ws : List ℕ) (pr : Promise ws) (S H : Flags) (v : ℕ) (C : definiti
   unfolding unlessUnreachable refuseIf _>>=_
   label-missing f h e = rw (code-at ws f pr h ∙ e)
 
-  pub label-reached : (f : ℕ) → f < blockCount ws → f < 1024 → (blockWord ws f 2 ≡ 0 → ⊥) → unlessUnreachable (tableOf ws) C f ≡ ok (unlessNone (unlessTaken (or (eqb (blockWord ws f 2) 1) (or (has S f) (has H f))) f))
+  pub label-reached : (f : ℕ) → f < blockCount ws → f < 1024 → (blockWord ws f 2 ≡ 0 → ⊥) → unlessUnreachable (tableOf ws) C f ≡ ok (unlessNone (unlessTaken (eqb (blockWord ws f 2) 1 || (has S f || has H f)) f))
   unfolding unlessUnreachable refuseIf _>>=_
   label-reached f h k e = rw (code-at ws f pr h, ne-eqb (blockWord ws f 2) 0 e) (at (eqb (blockWord ws f 2) 1))
     where
-      at : (y : Bool) → ok (elim y [ true ↦ none | false ↦ unlessScheduled C f ]) ≡ ok (unlessNone (unlessTaken (or y (or (has S f) (has H f))) f))
+      at : (y : Bool) → ok (elim y [ true ↦ none | false ↦ unlessScheduled C f ]) ≡ ok (unlessNone (unlessTaken (y || (has S f || has H f)) f))
       at true = ap ok (sym none-is)
       at false = ap ok (label-scheduled f k)
 
@@ -135,13 +135,13 @@ unfolding into refuseIf _>>=_
 into-free block code at fr F R C e = rw e
 
 -- whether a block is scheduled once the label is
-pub busy-with : (S H : Flags) (v n block : ℕ) (C : definition.Context) → Label n → block < 1024 → Seen S H v C → isScheduled (scheduledIf (unlessNone n) C) block ≡ or (eqb block n) (or (has S block) (has H block))
+pub busy-with : (S H : Flags) (v n block : ℕ) (C : definition.Context) → Label n → block < 1024 → Seen S H v C → isScheduled (scheduledIf (unlessNone n) C) block ≡ eqb block n || (has S block || has H block)
 unfolding Label
 busy-with S H v n block C (inl e) k seen =
     ap (λ (z : Option ℕ). isScheduled (scheduledIf z C) block) (ap unlessNone e ∙ none-is) ∙ seen-scheduled S H v C seen block
-    ∙ sym (ap (λ (y : Bool). or y (or (has S block) (has H block))) (ne-eqb block n (λ q. omega arith)))
+    ∙ sym (ap (λ (y : Bool). y || (has S block || has H block)) (ne-eqb block n (λ q. omega arith)))
 busy-with S H v n block C (inr h) k seen =
-    ap (λ (z : Option ℕ). isScheduled (scheduledIf z C) block) (some-is n (λ q. omega arith)) ∙ scheduled-push n block C (wide h) ∙ ap (λ (y : Bool). or (eqb block n) y) (seen-scheduled S H v C seen block)
+    ap (λ (z : Option ℕ). isScheduled (scheduledIf z C) block) (some-is n (λ q. omega arith)) ∙ scheduled-push n block C (wide h) ∙ ap (λ (y : Bool). eqb block n || y) (seen-scheduled S H v C seen block)
   where
     wide : n < 1024 → n < length (C .scheduled)
     wide h = rw (seen .scheduled) (omega (arith, seen .wide))
@@ -150,8 +150,8 @@ busy-with S H v n block C (inr h) k seen =
 pub enclose-same : (S H : Flags) (p : Position) (n block code at : ℕ) (F : List machine.Frame) (R : List Row) (C : definition.Context)
     → Label n → block < 1024 → (code ≡ 0 → ⊥) → Seen S H (p .visits) C → length F ≡ p .depth
     → turn (into block code at (machine.frameOf (p .block) (unlessNone n) (opens (unlessNone n)) (p .count)) F R (scheduledIf (unlessNone n) C))
-    ≡ applied (enclosing (scheduledWith (or (has S block) (has H block)) n block) p n block code at) F R C
-enclose-same S H p n block code at F R C l k nz seen d = by (or (eqb block n) (or (has S block) (has H block))) refl
+    ≡ applied (enclosing (scheduledWith (has S block || has H block) n block) p n block code at) F R C
+enclose-same S H p n block code at F R C l k nz seen d = by (eqb block n || (has S block || has H block)) refl
   where
     fr : machine.Frame
     fr = machine.frameOf (p .block) (unlessNone n) (opens (unlessNone n)) (p .count)
@@ -159,14 +159,14 @@ enclose-same S H p n block code at F R C l k nz seen d = by (or (eqb block n) (o
     D : definition.Context
     D = scheduledIf (unlessNone n) C
 
-    busy : isScheduled D block ≡ or (eqb block n) (or (has S block) (has H block))
+    busy : isScheduled D block ≡ eqb block n || (has S block || has H block)
     busy = busy-with S H (p .visits) n block C l k seen
 
     visits : (z : Option ℕ) → scheduledIf z C .visits ≡ p .visits
     visits none = seen .visits
     visits (some f) = unfold scheduled pushed in seen .visits
 
-    by : (y : Bool) → or (eqb block n) (or (has S block) (has H block)) ≡ y → turn (into block code at fr F R D) ≡ applied (enclosing y p n block code at) F R C
+    by : (y : Bool) → eqb block n || (has S block || has H block) ≡ y → turn (into block code at fr F R D) ≡ applied (enclosing y p n block code at) F R C
     by true e = ap turn (into-busy block code at fr F R D (busy ∙ e) ∙ ap (λ (v : ℕ). refused code at v) (visits (unlessNone n))) ∙ turn-refused code at (p .visits) ∙ sym (refuse-applied p code at F R C nz)
     by false e =
         ap turn (into-free block code at fr F R D (busy ∙ e)) ∙ turn-ok _

@@ -17,7 +17,7 @@ use Rattle.table.proofs.RangeLaws.{code-known}
 use Rattle.definition.specs.Build.{rejected}
 use Rattle.definition.specs.Context.{Flags, has, emit, withVisits, isScheduled, getBreakTarget, getContinueTarget}
 use Rattle.definition.specs.Context as definition
-use Rattle.definition.specs.Machine.{State, Turn, halt, turn, visiting, step, visitTurn, terminalTurn, instrOut, depthLeft}
+use Rattle.definition.specs.Machine.{State, Turn, halt, turn, visiting, step, visitTurn, terminalTurn, instructionsOut, depthLeft}
 use Rattle.definition.specs.Machine as machine
 use Rattle.definition.specs.Result.{Result, ok, refused, _>>=_, refuseIf}
 use Rattle.definition.specs.Statement.{enterBlock}
@@ -105,7 +105,7 @@ module _ (t : Table) (b : ℕ) (F : List machine.Frame) (R : List Row) (m : ℕ)
   too-deep h = rw (le-leb 128 (length F) h)
 
   inside : Result definition.Context → Result State
-  inside entered = entered >>= λ D. terminalTurn t (visitValueBlock t (depthLeft F)) (terminalAt t b) b (blockAt t b) F (R ++ instrOut t (instructionRowsAt t b)) (m + length (instructionRowsAt t b)) D
+  inside entered = entered >>= λ D. terminalTurn t (visitValueBlock t (depthLeft F)) (terminalAt t b) b (blockAt t b) F (R ++ instructionsOut t (instructionRowsAt t b)) (m + length (instructionRowsAt t b)) D
 
   not-deep : length F < 128 → visitTurn t b F R m C ≡ inside (enterBlock t b C)
   unfolding visitTurn refuseIf _>>=_ inside
@@ -131,7 +131,7 @@ module _ (t : Table) (b : ℕ) (F : List machine.Frame) (R : List Row) (m : ℕ)
   unfolding inside _>>=_
   inside-refused c a v = refl
 
-  inside-ok : (D : definition.Context) → inside (ok D) ≡ terminalTurn t (visitValueBlock t (depthLeft F)) (terminalAt t b) b (blockAt t b) F (R ++ instrOut t (instructionRowsAt t b)) (m + length (instructionRowsAt t b)) D
+  inside-ok : (D : definition.Context) → inside (ok D) ≡ terminalTurn t (visitValueBlock t (depthLeft F)) (terminalAt t b) b (blockAt t b) F (R ++ instructionsOut t (instructionRowsAt t b)) (m + length (instructionRowsAt t b)) D
   unfolding inside _>>=_
   inside-ok D = refl
 
@@ -218,7 +218,7 @@ module _ (w : List ℕ) (E S H Z : Flags) (p : Position) (found : Resolved) (her
             (λ y. subst (λ (d : ℕ). Fitting [] d plan) ed (m .fitting y))
           where
             lines : List Row
-            lines = instrOut (tableOf w) (instructionRowsAt (tableOf w) b)
+            lines = instructionsOut (tableOf w) (instructionRowsAt (tableOf w) b)
 
             written : (before : List Row) → Holds buffer (p .rows) (pushed before []) → Holds buffer₁ (q .rows) (pushed (before ++ lines) [])
             written before h = subst (λ (X : List Row). Holds buffer₁ (q .rows) X)

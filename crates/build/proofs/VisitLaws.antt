@@ -2,7 +2,7 @@
 use Prim.Native.Nat.{ℕ, zero, suc, _+_, _-_, _≤_, _<_}
 use native.Mathlib.Omega.{arith}
 use mathlib.Core.Path.{_≡_, refl, sym, ap, _∙_, subst}
-use mathlib.Core.Bool.{Bool, true, false}
+use mathlib.Core.Bool.{Bool, true, false, _||_}
 use mathlib.Core.List.{List, [], _∷_, _++_, append-nil}
 use mathlib.Core.Option.{Option, none, some}
 use mathlib.Core.Logic.{_⊎_, inl, inr}
@@ -15,7 +15,7 @@ use Rattle.table.specs.Table.{Table, Block, Case, Terminal, tableOf, terminalOf
 use Rattle.table.proofs.TableLaws.{length-cases}
 use Rattle.table.proofs.RangeLaws.{in-range}
 use Rattle.definition.specs.Build.{rejected}
-use Rattle.definition.specs.Context.{Flags, or, has, pushed, withVisits, scheduleCatchHandler, markScopeFallthrough, isScheduled, add, target-if}
+use Rattle.definition.specs.Context.{Flags, has, pushed, withVisits, scheduleCatchHandler, markScopeFallthrough, isScheduled, add, target-if}
 use Rattle.definition.specs.Context as definition
 use Rattle.definition.specs.Machine.{State, visiting, ended, choosing, Turn, going, halt, turn, leave, into, opens, scheduled, scheduledIf, scheduledSwitch, withLeft, numberOfCases, terminalTurn}
 use Rattle.definition.specs.Machine as machine
@@ -65,7 +65,7 @@ missing-same w S H p pr f h e k F R C seen =
     ∙ sym (refuse-applied p 10 f F R C (λ z. omega arith))
 
 pub reach-same : (w : List ℕ) (S H : Flags) (p : Position) → Promise w → (f n : ℕ) → f < blockCount w → f < 1024 → (blockWord w f 2 ≡ 0 → ⊥)
-    → n ≡ unlessTaken (or (eqb (blockWord w f 2) 1) (or (has S f) (has H f))) f → (k : Option ℕ → Result State) (C : definition.Context) → Seen S H (p .visits) C
+    → n ≡ unlessTaken (eqb (blockWord w f 2) 1 || (has S f || has H f)) f → (k : Option ℕ → Result State) (C : definition.Context) → Seen S H (p .visits) C
     → turn (unlessUnreachable (tableOf w) C f >>= k) ≡ turn (k (unlessNone n))
 unfolding _>>=_
 reach-same w S H p pr f n h u e q k C seen = ap (λ (z : Result (Option ℕ)). turn (z >>= k)) (label-reached w pr S H (p .visits) C seen f h u e) ∙ ap (λ (z : ℕ). turn (k (unlessNone z))) (sym q)
@@ -120,10 +120,10 @@ module _ (w : List ℕ) (S H : Flags) (p : Position) (en : Entered w p) where
 
   -- the label that the code takes
   abbrev Reached : ℕ → ℕ → Type 0
-  Reached f n = n ≡ unlessTaken (or (eqb (blockWord w f 2) 1) (or (has S f) (has H f))) f
+  Reached f n = n ≡ unlessTaken (eqb (blockWord w f 2) 1 || (has S f || has H f)) f
 
   pub reached-label : (g f n : ℕ) → g < blockCount w → f ≡ g → Reached f n → Label n
-  reached-label g f n h s q = rw q (label-taken (or (eqb (blockWord w f 2) 1) (or (has S f) (has H f))) f (rw s (few-blocks w (en .promise) g h)))
+  reached-label g f n h s q = rw q (label-taken (eqb (blockWord w f 2) 1 || (has S f || has H f)) f (rw s (few-blocks w (en .promise) g h)))
 
   reached-same : (e : Terminal) (g : ℕ) (k : Rest) (f n : ℕ) (plan : Plan) → At e → Asks e g k → g < blockCount w → f ≡ g → (blockWord w f 2 ≡ 0 → ⊥) → Reached f n
       → (plan .code ≡ 0 → plan .position .rows ≡ p .rows) → (plan .code ≡ 0 → Fitting [] (p .depth) plan)
@@ -131,7 +131,7 @@ module _ (w : List ℕ) (S H : Flags) (p : Position) (en : Entered w p) where
       → PlannedBare w S H p plan
   reached-same e g k f n plan q asks h s z r rows fit same = bare-planned w S H p plan rows (λ F R C d seen.
       ap turn (step-by w p e F R C q ∙ asks F R C)
-      ∙ reach-same w S H p (en .promise) g n h (few-blocks w (en .promise) g h) (λ y. z (ap (λ (x : ℕ). blockWord w x 2) s ∙ y)) (r ∙ ap (λ (x : ℕ). unlessTaken (or (eqb (blockWord w x 2) 1) (or (has S x) (has H x))) x) s) (k F R C) C seen
+      ∙ reach-same w S H p (en .promise) g n h (few-blocks w (en .promise) g h) (λ y. z (ap (λ (x : ℕ). blockWord w x 2) s ∙ y)) (r ∙ ap (λ (x : ℕ). unlessTaken (eqb (blockWord w x 2) 1 || (has S x || has H x)) x) s) (k F R C) C seen
       ∙ same F R C d seen) fit
 
   abbrev here : List machine.Frame → List Row → definition.Context → Option ℕ → machine.Frame
@@ -140,14 +140,14 @@ module _ (w : List ℕ) (S H : Flags) (p : Position) (en : Entered w p) where
   -- and then one nested block
   reached-enclosed : (e : Terminal) (g x code at : ℕ) (f n y : ℕ) (plan : Plan) → At e
       → Asks e g (λ F R C taken. into x code at (here F R C taken) F R (scheduledIf taken C)) → g < blockCount w → x < blockCount w → (code ≡ 0 → ⊥)
-      → f ≡ g → (blockWord w f 2 ≡ 0 → ⊥) → Reached f n → y ≡ x → plan ≡ enclosing (scheduledWith (or (has S y) (has H y)) n y) p n x code at → PlannedBare w S H p plan
-  reached-enclosed e g x code at f n y plan q asks h u nz s z r t o = subst (λ (z : Plan). PlannedBare w S H p z) (sym (o ∙ ap (λ (k : ℕ). enclosing (scheduledWith (or (has S k) (has H k)) n k) p n x code at) t))
+      → f ≡ g → (blockWord w f 2 ≡ 0 → ⊥) → Reached f n → y ≡ x → plan ≡ enclosing (scheduledWith (has S y || has H y) n y) p n x code at → PlannedBare w S H p plan
+  reached-enclosed e g x code at f n y plan q asks h u nz s z r t o = subst (λ (z : Plan). PlannedBare w S H p z) (sym (o ∙ ap (λ (k : ℕ). enclosing (scheduledWith (has S k || has H k) n k) p n x code at) t))
       (reached-same e g (λ F R C taken. into x code at (here F R C taken) F R (scheduledIf taken C)) f n E q asks h s z r
       (λ _. enclosing-rows busy p n x code at) (enclosing-fits busy p n x code at l nz)
       (λ F R C d seen. enclose-same S H p n x code at F R C l (few-blocks w (en .promise) x u) nz seen d))
     where
       busy : Bool
-      busy = scheduledWith (or (has S x) (has H x)) n x
+      busy = scheduledWith (has S x || has H x) n x
 
       E : Plan
       E = enclosing busy p n x code at
@@ -174,9 +174,9 @@ module _ (w : List ℕ) (S H : Flags) (p : Position) (en : Entered w p) where
     if-missing f plan s z r = reached-missing _ (blockWord w (p .block) 6) _ f plan if-at if-asks (if-ranges .3) s z r
 
     pub if-nested : (f n y : ℕ) (plan : Plan) → f ≡ blockWord w (p .block) 6 → (blockWord w f 2 ≡ 0 → ⊥) → Reached f n → y ≡ blockWord w (p .block) 4
-        → plan ≡ enclosing (scheduledWith (or (has S y) (has H y)) n y) p n y 12 y → PlannedBare w S H p plan
+        → plan ≡ enclosing (scheduledWith (has S y || has H y) n y) p n y 12 y → PlannedBare w S H p plan
     if-nested f n y plan s z r t e = reached-enclosed _ (blockWord w (p .block) 6) (blockWord w (p .block) 4) 12 (blockWord w (p .block) 4) f n y plan if-at if-asks (if-ranges .3) (if-ranges .1) (λ x. omega arith) s z r t
-        (e ∙ ap (λ (k : ℕ). enclosing (scheduledWith (or (has S y) (has H y)) n y) p n k 12 k) t)
+        (e ∙ ap (λ (k : ℕ). enclosing (scheduledWith (has S y || has H y) n y) p n k 12 k) t)
 
   -- ---- Label
 
@@ -196,9 +196,9 @@ module _ (w : List ℕ) (S H : Flags) (p : Position) (en : Entered w p) where
     label-absent f plan s z r = reached-missing _ (blockWord w (p .block) 4) _ f plan label-at label-asks (label-ranges .1) s z r
 
     pub label-nested : (f n y : ℕ) (plan : Plan) → f ≡ blockWord w (p .block) 4 → (blockWord w f 2 ≡ 0 → ⊥) → Reached f n → y ≡ blockWord w (p .block) 3
-        → plan ≡ enclosing (scheduledWith (or (has S y) (has H y)) n y) p n y 17 (p .block) → PlannedBare w S H p plan
+        → plan ≡ enclosing (scheduledWith (has S y || has H y) n y) p n y 17 (p .block) → PlannedBare w S H p plan
     label-nested f n y plan s z r t e = reached-enclosed _ (blockWord w (p .block) 4) (blockWord w (p .block) 3) 17 (p .block) f n y plan label-at label-asks (label-ranges .1) (label-ranges .0) (λ x. omega arith) s z r t
-        (e ∙ ap (λ (k : ℕ). enclosing (scheduledWith (or (has S y) (has H y)) n y) p n k 17 (p .block)) t)
+        (e ∙ ap (λ (k : ℕ). enclosing (scheduledWith (has S y || has H y) n y) p n k 17 (p .block)) t)
 
   -- ---- Switch
 
@@ -305,13 +305,13 @@ module _ (w : List ℕ) (S H : Flags) (p : Position) (en : Entered w p) where
   -- ---- MaybeThrow and Unreachable
 
   abbrev Taken : ℕ → ℕ → Type 0
-  Taken f n = n ≡ unlessTaken (or (has S f) (has H f)) f
+  Taken f n = n ≡ unlessTaken (has S f || has H f) f
 
   pub maybe-throw-left : (f n : ℕ) (plan : Plan) → blockWord w (p .block) 2 ≡ 18 → f ≡ blockWord w (p .block) 3 → Taken f n → plan ≡ leaving n (p .depth) (p .count) (p .rows) (p .visits) Nothing → PlannedBare w S H p plan
   unfolding terminalTurn terminalOf
   maybe-throw-left f n plan code s q e = subst (λ (y : Plan). PlannedBare w S H p y) (sym e) (bare-planned w S H p (leaving n (p .depth) (p .count) (p .rows) (p .visits) Nothing) (λ _. refl) (λ F R C d seen.
       ap turn (step-by w p _ F R C (end-by w (p .block) (en .block) 18 code)) ∙ turn-ok _
-      ∙ ap (λ (z : Option ℕ). going (leave z F R (p .count) C)) (label-scheduled w (en .promise) S H (p .visits) C seen (blockWord w (p .block) 3) (few-blocks w (en .promise) _ below) ∙ ap unlessNone (sym (q ∙ ap (λ (k : ℕ). unlessTaken (or (has S k) (has H k)) k) s)))
+      ∙ ap (λ (z : Option ℕ). going (leave z F R (p .count) C)) (label-scheduled w (en .promise) S H (p .visits) C seen (blockWord w (p .block) 3) (few-blocks w (en .promise) _ below) ∙ ap unlessNone (sym (q ∙ ap (λ (k : ℕ). unlessTaken (has S k || has H k) k) s)))
       ∙ sym (leave-applied n (p .depth) (p .count) (p .rows) (p .visits) Nothing F R C ∙ rw (visits-same (p .visits) C (seen .visits), within-all (p .depth) F d)))
       (λ _. record { change = tt; handler = rw none-is tt; scope = rw none-is tt; deep = λ z. absurd (let o : _≡_ {A = ℕ} 0 1 = cc in omega arith); next = omega arith; nested = leave-nested (eqb n 65535) }))
     where
@@ -329,5 +329,5 @@ pub continuation-below : (w : List ℕ) (p : Position) → Entered w p → block
 unfolding terminalOf
 continuation-below w p en code = ranges w (en .promise) (p .block) (en .block) _ (end-by w (p .block) (en .block) 18 code)
 
-pub taken-most : (S H : Flags) (f n : ℕ) → n ≡ unlessTaken (or (has S f) (has H f)) f → f < 1024 → n ≤ 65535
-taken-most S H f n e h = rw e (label-most (unlessTaken (or (has S f) (has H f)) f) (label-taken (or (has S f) (has H f)) f h))
+pub taken-most : (S H : Flags) (f n : ℕ) → n ≡ unlessTaken (has S f || has H f) f → f < 1024 → n ≤ 65535
+taken-most S H f n e h = rw e (label-most (unlessTaken (has S f || has H f) f) (label-taken (has S f || has H f) f h))

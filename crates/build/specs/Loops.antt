@@ -1,13 +1,13 @@
 -- Loops: the values that are made before a body, the turn that all loops share, and its plan. And value terminals as statements.
 use Prim.Native.Nat.{ℕ, zero, suc, _+_, _-_, _*_, _≤_, _<_}
 use mathlib.Core.Path.{_≡_}
-use mathlib.Core.Bool.{Bool, true, false}
+use mathlib.Core.Bool.{Bool, true, false, _||_}
 use mathlib.Core.List.{List, [], _∷_, _++_}
 use mathlib.Core.Option.{Option, none, some}
 use lib.Dec.{eqb}
 use Rattle.table.specs.Words.{blockCount, blockWord}
 use Rattle.table.specs.Table.{Table, Terminal, absent, unreachable, throw, return, goto, if, branch, switch, do-while, while, for, for-of, for-in, logical, ternary, optional, label, sequence, maybe-throw, try, scope, tableOf, unlessNone}
-use Rattle.definition.specs.Context.{Flags, or, has}
+use Rattle.definition.specs.Context.{Flags, has}
 use Rattle.definition.specs.Context as definition
 use Rattle.definition.specs.Machine.{State, intoLoop, valueOut}
 use Rattle.definition.specs.Machine as machine
@@ -128,7 +128,7 @@ enteringLoop true taken p values blocks = enteringBody taken p values blocks
 
 -- a loop block is the loop's fallthrough, or is scheduled
 abbrev pub loopTaken : Flags → Flags → (loop fallthrough : ℕ) → Bool
-loopTaken scheduledSet handlerSet loop fallthrough = or (eqb loop fallthrough) (or (has scheduledSet loop) (has handlerSet loop))
+loopTaken scheduledSet handlerSet loop fallthrough = eqb loop fallthrough || (has scheduledSet loop || has handlerSet loop)
 
 abbrev pub continuesAt : (noUpdate : Bool) → (test update : ℕ) → ℕ
 continuesAt true test update = test

@@ -1,7 +1,7 @@
 -- What a plan means for the machine of turns.
 use Prim.Native.Nat.{ℕ, zero, suc, _+_, _-_, _≤_, _<_}
 use mathlib.Core.Path.{_≡_}
-use mathlib.Core.Bool.{Bool, true, false}
+use mathlib.Core.Bool.{Bool, true, false, not, _||_}
 use mathlib.Core.List.{List, [], _∷_}
 use mathlib.Core.Option.{Option, none, some}
 use lib.Dec.{eqb}
@@ -52,7 +52,7 @@ stateAt Halt block frames rows count cx = ended frames rows count cx
 -- `schedule_loop` where the continue block is not scheduled
 unfoldable pub scheduledLoop : (fallthrough continueBlock loopBlock : ℕ) → definition.Context → definition.Context
 scheduledLoop fallthrough continueBlock loopBlock cx =
-    pushed (target-loop fallthrough continueBlock (some loopBlock) (elim (has (add (add (cx .scheduled) fallthrough) continueBlock) loopBlock) [ true ↦ false | false ↦ true ]))
+    pushed (target-loop fallthrough continueBlock (some loopBlock) (not (has (add (add (cx .scheduled) fallthrough) continueBlock) loopBlock)))
     (add (add (add (cx .scheduled) fallthrough) continueBlock) loopBlock) cx
 
 unfoldable pub idTaken : definition.Context → definition.Context
@@ -203,7 +203,7 @@ scheduleSwitch false taken = Schedule (Switch taken)
 
 -- a block is scheduled, or will be once the label is
 abbrev pub scheduledWith : (busy : Bool) → (label block : ℕ) → Bool
-scheduledWith busy taken block = definition.or (eqb block taken) busy
+scheduledWith busy taken block = eqb block taken || busy
 
 abbrev pub enclosing : (busy : Bool) → Position → (label block code at : ℕ) → Plan
 enclosing true p taken block code at = refusing p code at

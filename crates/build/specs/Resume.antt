@@ -9,7 +9,7 @@ use Rattle.table.specs.Promise.{Promise}
 use Rattle.table.specs.Table.{tableOf, terminalAt, blockAt, unlessNone}
 use Rattle.definition.specs.Context.{Flags}
 use Rattle.definition.specs.Context as definition
-use Rattle.definition.specs.Machine.{State, close, closingRow, resumeAt, chooseCase, firstCase, afterCases}
+use Rattle.definition.specs.Machine.{State, close, closingRow, resumeAt, chooseCase, switchColumns}
 use Rattle.definition.specs.Machine as machine
 use Rattle.definition.specs.Result.{Result, ok}
 use Rattle.definition.specs.Tree.{Row, row}
@@ -96,7 +96,7 @@ resumeStep words p frame frames before cx =
 
 abbrev pub chooseStep : List ℕ → Frame → List machine.Frame → List Row → definition.Context → Result State
 chooseStep words frame frames before cx =
-    chooseCase (tableOf words) (firstCase (terminalAt (tableOf words) (frame .block))) (afterCases (terminalAt (tableOf words) (frame .block))) (frame .left) (frameOf frame) frames before cx
+    chooseCase (tableOf words) (switchColumns (terminalAt (tableOf words) (frame .block)) .first) (switchColumns (terminalAt (tableOf words) (frame .block)) .fallthrough) (frame .left) (frameOf frame) frames before cx
 
 abbrev pub PlannedClose : List ℕ → Position → Frame → List ℕ → Plan → List ℕ → Type 0
 PlannedClose words p frame = PlannedFor (closeStep words frame) (Begun (p .visits)) p frame

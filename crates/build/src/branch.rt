@@ -18,10 +18,10 @@ use rows::put;
 use table::words::block_word;
 ghost use mathlib.Core.Path.{_≡_};
 ghost use mathlib.Core.List.{[]};
-ghost use mathlib.Core.Bool.{true};
+ghost use mathlib.Core.Bool.{true, _||_};
 ghost use Prim.Native.Nat.{_+_, _≤_, _<_};
 ghost use Rattle.table.specs.Words.{blockWord};
-ghost use Rattle.definition.specs.Context.{or, has};
+ghost use Rattle.definition.specs.Context.{has};
 ghost use Rattle.build.specs.Jumps.{FoundBelow, afterJump, GotoSeen, BranchSeen};
 ghost use Rattle.build.specs.Planned.{Entered, Planned, terminalStep};
 
@@ -82,7 +82,7 @@ fn branch_break<'a>(
     requires { ⌜ Entered (now words) p ⌝ }
     requires { ⌜ blockWord (now words) (p .block) 2 ≡ 6 ⌝ }
     requires { ⌜ FoundBelow resolved ⌝ }
-    requires { ⌜ or (has (now scheduled) (blockWord (now words) (p .block) 4)) (has (now «catch_handlers») (blockWord (now words) (p .block) 4)) ≡ true ⌝ }
+    requires { ⌜ has (now scheduled) (blockWord (now words) (p .block) 4) || has (now «catch_handlers») (blockWord (now words) (p .block) 4) ≡ true ⌝ }
     ensures { λ r. ⌜ Planned (terminalStep (now (words .entry)) p) (BranchSeen (now (words .entry)) p (now (scheduled .entry)) (now («catch_handlers» .entry)) (now (scopes .entry)) resolved) [] (p .depth) (p .rows) (now (tree .entry)) r (now (tree .exit)) ⌝ }
 {
     let consequent = block_word(words, p.block, 4);

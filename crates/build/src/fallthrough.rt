@@ -14,7 +14,8 @@ ghost use Prim.Native.Nat.{_+_, _≤_, _<_};
 ghost use lib.Dec.{eqb};
 ghost use Rattle.table.specs.Words.{blockCount, blockWord};
 ghost use Rattle.table.specs.Promise.{Promise};
-ghost use Rattle.definition.specs.Context.{or, has};
+ghost use mathlib.Core.Bool.{_||_};
+ghost use Rattle.definition.specs.Context.{has};
 ghost use Rattle.build.specs.Plans.{unlessTaken, entriesIf, scheduleIf, scheduleSwitch, scheduledWith, enclosing};
 
 // A block's number as the sets and the stack have it.
@@ -31,7 +32,7 @@ pub fn scheduled_at<'a>(
     block: u32,
 ) -> bool
     requires { ⌜ block < 1024 ⌝ }
-    ensures { λ r. ⌜ r ≡ or (has (now (scheduled .entry)) block) (has (now («catch_handlers» .entry)) block) ⌝ }
+    ensures { λ r. ⌜ r ≡ has (now (scheduled .entry)) block || has (now («catch_handlers» .entry)) block ⌝ }
 {
     is_scheduled(scheduled, catch_handlers, narrow(block))
 }
@@ -52,7 +53,7 @@ pub fn unless_scheduled<'a>(
     fallthrough: u32,
 ) -> u32
     requires { ⌜ fallthrough < 1024 ⌝ }
-    ensures { λ r. ⌜ r ≡ unlessTaken (or (has (now (scheduled .entry)) fallthrough) (has (now («catch_handlers» .entry)) fallthrough)) fallthrough ⌝ }
+    ensures { λ r. ⌜ r ≡ unlessTaken (has (now (scheduled .entry)) fallthrough || has (now («catch_handlers» .entry)) fallthrough) fallthrough ⌝ }
 {
     unless_taken(
         scheduled_at(scheduled, catch_handlers, fallthrough),
@@ -61,7 +62,7 @@ pub fn unless_scheduled<'a>(
 }
 
 fn either(first: bool, second: bool) -> bool
-    ensures { λ r. ⌜ r ≡ or first second ⌝ }
+    ensures { λ r. ⌜ r ≡ first || second ⌝ }
 {
     if first {
         return true;
@@ -78,7 +79,7 @@ pub fn unless_unreachable<'a>(
 ) -> u32
     requires { ⌜ Promise (now words) ⌝ }
     requires { ⌜ fallthrough < blockCount (now words) ⌝ }
-    ensures { λ r. ⌜ r ≡ unlessTaken (or (eqb (blockWord (now (words .entry)) fallthrough 2) 1) (or (has (now (scheduled .entry)) fallthrough) (has (now («catch_handlers» .entry)) fallthrough))) fallthrough ⌝ }
+    ensures { λ r. ⌜ r ≡ unlessTaken (eqb (blockWord (now (words .entry)) fallthrough 2) 1 || (has (now (scheduled .entry)) fallthrough || has (now («catch_handlers» .entry)) fallthrough)) fallthrough ⌝ }
 {
     let unreachable = block_word(words, fallthrough, 2) == 1;
     let taken = scheduled_at(scheduled, catch_handlers, fallthrough);

@@ -41,8 +41,8 @@ ghost use lib.Dec.{eqb};
 ghost use Rattle.table.specs.Words.{blockCount, blockWord};
 ghost use Rattle.table.specs.Promise.{Promise};
 ghost use Rattle.table.specs.Table.{unlessNone};
-ghost use Rattle.definition.specs.Context.{or, has};
-ghost use Rattle.definition.specs.Machine as machine;
+ghost use mathlib.Core.Bool.{_||_};
+ghost use Rattle.definition.specs.Context.{has};
 ghost use Rattle.definition.specs.Tree as tree_rows;
 ghost use Rattle.rows.specs.Rows.{Written};
 ghost use Rattle.build.specs.declared.plan.Stage.the-variants.{Ended, Choose};
@@ -72,7 +72,7 @@ fn row(op: u32, a: u32, b: u32, c: u32, d: u32) -> ClosingRow
 }
 
 fn flag(value: bool) -> u32
-    ensures { λ r. ⌜ r ≡ tree_rows.flag value ⌝ }
+    ensures { λ r. ⌜ r ≡ tree_rows.flagOf value ⌝ }
 {
     if value {
         return 1;
@@ -81,7 +81,7 @@ fn flag(value: bool) -> u32
 }
 
 fn has_update(update: u32) -> u32
-    ensures { λ r. ⌜ r ≡ machine.hasUpdate (unlessNone update) ⌝ }
+    ensures { λ r. ⌜ r ≡ tree_rows.updatePresent (unlessNone update) ⌝ }
 {
     if update == NONE {
         return 0;
@@ -159,7 +159,7 @@ fn alternate<'a>(
     at: u32,
 ) -> Plan
     requires { ⌜ block < 1024 ⌝ }
-    ensures { λ r. ⌜ r ≡ alternating (or (has (now (scheduled .entry)) block) (has (now («catch_handlers» .entry)) block)) p frame block code at ⌝ }
+    ensures { λ r. ⌜ r ≡ alternating (has (now (scheduled .entry)) block || has (now («catch_handlers» .entry)) block) p frame block code at ⌝ }
 {
     if scheduled_at(scheduled, catch_handlers, block) {
         return refuse(p, code, at);

@@ -5,15 +5,15 @@ use native.Mathlib.Nat.{eq-or-lt-of-le}
 use native.Mathlib.Omega.{arith}
 use native.Mathlib.Numerals.{add-one}
 use mathlib.Core.List.{List, _∷_}
-use mathlib.Core.Bool.{Bool, true, false, not}
+use mathlib.Core.Bool.{Bool, true, false, not, _||_}
 use mathlib.Core.Logic.{⊎-elim}
 use lib.ListN.{getD, set, length, replicate}
 use lib.Seq.{getD-set-same, getD-set-other}
 use lib.Dec.{eqb}
 use borrow.Author.Tests.{eq-eqb, eqb-true, eqb-false}
-use Rattle.definition.specs.Result.{ok, _>>=_, refuseIf, already-scheduled}
+use Rattle.definition.specs.Result.{ok, _>>=_, refuseIf, alreadyScheduled}
 use Rattle.definition.specs.Context as definition
-use Rattle.definition.specs.Context.{Flags, or, has, add, no-flags, start, isScheduled, emit, markScopeFallthrough, scheduleCatchHandler, targetBlock, pushed, popped, schedule, scheduleLoop, unscheduledBy, unschedule, unscheduleTop}
+use Rattle.definition.specs.Context.{Flags, has, add, noFlags, start, isScheduled, emit, markScopeFallthrough, scheduleCatchHandler, targetBlock, pushed, popped, schedule, scheduleLoop, unscheduledBy, unschedule, unscheduleTop}
 use Rattle.definition.specs.Machine as machine
 use Rattle.control.specs.declared.ControlFlowTarget.{ControlFlowTarget}
 use Rattle.control.specs.declared.ControlFlowTarget.the-variants.{If, Switch, Case, Loop}
@@ -35,7 +35,7 @@ has-other flags added block h = getD-set-other flags added block true false h
 -- the continue block, tested once the fallthrough is inserted
 pub continue-scheduled : (flags : Flags) (fallthrough continueBlock : ℕ) → continueBlock < length flags → has (add flags fallthrough) continueBlock ≡ continueScheduled flags fallthrough continueBlock
 continue-scheduled flags fallthrough continueBlock h =
-    elim (eqb continueBlock fallthrough) as (λ y. eqb continueBlock fallthrough ≡ y → has (add flags fallthrough) continueBlock ≡ or y (has flags continueBlock)) [
+    elim (eqb continueBlock fallthrough) as (λ y. eqb continueBlock fallthrough ≡ y → has (add flags fallthrough) continueBlock ≡ (y || has flags continueBlock)) [
       | true ↦ λ same. ap (λ (block : ℕ). has (add flags block) continueBlock) (sym (eqb-true _ _ same)) ∙ has-added flags continueBlock h
       | false ↦ λ other. has-other flags fallthrough continueBlock (eqb-false _ _ other)
     ] refl
@@ -86,14 +86,14 @@ module _ (visits block : ℕ) (cx : Context) where
   unfolding contextOf scheduleCatchHandler
   schedules-catch-handler = refl
 
-  pub is-scheduled : isScheduled (contextOf visits cx) block ≡ or (has (cx .scheduled) block) (has (cx .«catch_handlers») block)
+  pub is-scheduled : isScheduled (contextOf visits cx) block ≡ has (cx .scheduled) block || has (cx .«catch_handlers») block
   unfolding contextOf isScheduled
   is-scheduled = refl
 
 -- ---- the steps
 
 pub created : Created (record { emitted = replicate 1024 false; «catch_handlers» = replicate 1024 false; «scope_fallthroughs» = replicate 1024 false; len = 0; scheduled = replicate 1024 false; pushed = noEntry; «next_schedule_id» = 0; stack = replicate 1152 noEntry })
-unfolding contextOf start no-flags stackOf
+unfolding contextOf start noFlags stackOf
 created = record { context = refl; len = refl; id = refl; stack = refl; bounded = record { most = omega arith; named = λ k below. let absurd-below : ⊥ = omega arith in absurd absurd-below } }
 
 pub stored-pushed : (visits : ℕ) (target : ControlFlowTarget) (flags : Flags) (cx : Context) → cx .len < length (cx .stack) → contextOf visits (stored (withEntry target flags cx)) ≡ pushed (targetOf target) flags (contextOf visits cx)
@@ -117,23 +117,19 @@ module _ (target : ControlFlowTarget) (cx : Context) (named : Named target) (roo
   unfolding schedule contextOf machine.scheduled
   scheduled = record {
     state = refl;
-    context = λ visits. ap (λ x. refuseIf (has (cx .scheduled) (targetBlock (targetOf target))) already-scheduled (targetBlock (targetOf target)) visits >>= λ _. ok x) (sym (stored-pushed visits target _ cx inside));
+    context = λ visits. ap (λ x. refuseIf (has (cx .scheduled) (targetBlock (targetOf target))) alreadyScheduled (targetBlock (targetOf target)) visits >>= λ _. ok x) (sym (stored-pushed visits target _ cx inside));
     pushes = λ visits. stored-pushed visits target _ cx inside;
     len = refl;
     id = refl;
     bounded = bounded-stored _ _ _ named inside (room .len);
   }
 
-owned : (was : Bool) → not was ≡ elim was [ true ↦ false | false ↦ true ]
-owned true = refl
-owned false = refl
-
 module _ (fallthrough continueBlock loopBlock : ℕ) (cx : Context) (named : (fallthrough < 1024) × (continueBlock < 1024) × (loopBlock < 1024)) (room : Room cx) (inside : cx .len < length (cx .stack)) (flags : continueBlock < length (cx .scheduled)) where
   pub scheduled-loop : ScheduledLoop fallthrough continueBlock loopBlock cx (withEntry (loopTarget (cx .scheduled) fallthrough continueBlock loopBlock) (loopScheduled (cx .scheduled) fallthrough continueBlock loopBlock) cx)
   unfolding scheduleLoop contextOf
   scheduled-loop = record {
     state = refl;
-    context = λ visits. rw (← (continue-scheduled (cx .scheduled) fallthrough continueBlock flags), ← (owned (has (add (add (cx .scheduled) fallthrough) continueBlock) loopBlock))) (ap (λ x. refuseIf (has (add (cx .scheduled) fallthrough) continueBlock) 15 continueBlock visits >>= λ _. ok x) (sym (stored-pushed visits (loopTarget (cx .scheduled) fallthrough continueBlock loopBlock) _ cx inside)));
+    context = λ visits. rw (← (continue-scheduled (cx .scheduled) fallthrough continueBlock flags)) (ap (λ x. refuseIf (has (add (cx .scheduled) fallthrough) continueBlock) 15 continueBlock visits >>= λ _. ok x) (sym (stored-pushed visits (loopTarget (cx .scheduled) fallthrough continueBlock loopBlock) _ cx inside)));
     pushes = λ visits. stored-pushed visits (loopTarget (cx .scheduled) fallthrough continueBlock loopBlock) _ cx inside;
     len = refl;
     id = refl;

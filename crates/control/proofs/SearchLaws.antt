@@ -4,11 +4,11 @@ use Prim.Native.Nat.{ℕ, _-_, _<_}
 use native.Mathlib.Omega.{arith}
 use mathlib.Core.List.{List, _∷_}
 use mathlib.Core.Option.{none, some}
-use mathlib.Core.Bool.{Bool, true, false}
+use mathlib.Core.Bool.{Bool, true, false, _||_}
 use lib.ListN.{getD}
 use borrow.Author.Tests.{eq-eqb, ne-eqb}
 use Rattle.definition.specs.Context as definition
-use Rattle.definition.specs.Context.{or, targetBlock, isLoop, continuesAt, breakKind, breakTargetFrom, continueTargetFrom}
+use Rattle.definition.specs.Context.{targetBlock, isLoop, continuesAt, breakKind, breakTargetFrom, continueTargetFrom}
 use Rattle.control.specs.declared.Entry.{Entry}
 use Rattle.control.specs.Abstraction.{targetOf, entryOf, noEntry, stackOf}
 use Rattle.control.specs.Contract.{breakTo, continueTo}
@@ -19,7 +19,7 @@ module _ (entry : definition.Entry) (below : List definition.Entry) (block : ℕ
   unfolding breakTargetFrom
   break-at found = rw (breakTargetFrom, eq-eqb _ _ found, ← found)
 
-  break-below : (targetBlock (entry .target) ≡ block → ⊥) → breakTargetFrom (entry ∷ below) block top above ≡ breakTargetFrom below block false (or above (isLoop (entry .target)))
+  break-below : (targetBlock (entry .target) ≡ block → ⊥) → breakTargetFrom (entry ∷ below) block top above ≡ breakTargetFrom below block false (above || isLoop (entry .target))
   unfolding breakTargetFrom
   break-below missed = rw (breakTargetFrom, ne-eqb _ _ missed)
 
@@ -27,7 +27,7 @@ module _ (entry : definition.Entry) (below : List definition.Entry) (block : ℕ
   unfolding continueTargetFrom
   continue-at found = rw (continueTargetFrom, found)
 
-  continue-below : continuesAt (entry .target) block ≡ false → continueTargetFrom (entry ∷ below) block top above ≡ continueTargetFrom below block false (or above (isLoop (entry .target)))
+  continue-below : continuesAt (entry .target) block ≡ false → continueTargetFrom (entry ∷ below) block top above ≡ continueTargetFrom below block false (above || isLoop (entry .target))
   unfolding continueTargetFrom
   continue-below missed = rw (continueTargetFrom, missed)
 
@@ -46,7 +46,7 @@ module _ (entries : List Entry) (block : ℕ) (top above : Bool) (n : ℕ) where
   pub break-found : (n ≡ 0 → ⊥) → targetBlock (lastTarget entries n) ≡ block → breakTargetFrom (stackOf entries n) block top above ≡ some (breakTo (lastTarget entries n) top above)
   break-found f found = ap (λ (stack : List definition.Entry). breakTargetFrom stack block top above) (top-first entries n f) ∙ break-at _ _ block top above found
 
-  pub break-missed : (n ≡ 0 → ⊥) → (targetBlock (lastTarget entries n) ≡ block → ⊥) → breakTargetFrom (stackOf entries n) block top above ≡ breakTargetFrom (stackOf entries (n - 1)) block false (or above (isLoop (lastTarget entries n)))
+  pub break-missed : (n ≡ 0 → ⊥) → (targetBlock (lastTarget entries n) ≡ block → ⊥) → breakTargetFrom (stackOf entries n) block top above ≡ breakTargetFrom (stackOf entries (n - 1)) block false (above || isLoop (lastTarget entries n))
   break-missed f missed = ap (λ (stack : List definition.Entry). breakTargetFrom stack block top above) (top-first entries n f) ∙ break-below _ _ block top above missed
 
   pub continue-none : n ≡ 0 → continueTargetFrom (stackOf entries n) block top above ≡ none
@@ -56,5 +56,5 @@ module _ (entries : List Entry) (block : ℕ) (top above : Bool) (n : ℕ) where
   pub continue-found : (n ≡ 0 → ⊥) → continuesAt (lastTarget entries n) block ≡ true → continueTargetFrom (stackOf entries n) block top above ≡ some (continueTo (lastTarget entries n) top above)
   continue-found f found = ap (λ (stack : List definition.Entry). continueTargetFrom stack block top above) (top-first entries n f) ∙ continue-at _ _ block top above found
 
-  pub continue-missed : (n ≡ 0 → ⊥) → continuesAt (lastTarget entries n) block ≡ false → continueTargetFrom (stackOf entries n) block top above ≡ continueTargetFrom (stackOf entries (n - 1)) block false (or above (isLoop (lastTarget entries n)))
+  pub continue-missed : (n ≡ 0 → ⊥) → continuesAt (lastTarget entries n) block ≡ false → continueTargetFrom (stackOf entries n) block top above ≡ continueTargetFrom (stackOf entries (n - 1)) block false (above || isLoop (lastTarget entries n))
   continue-missed f missed = ap (λ (stack : List definition.Entry). continueTargetFrom stack block top above) (top-first entries n f) ∙ continue-below _ _ block top above missed

@@ -2,14 +2,14 @@
 use Prim.Native.Nat.{ℕ, _+_, _-_, _≤_, _<_}
 use mathlib.Core.Path.{_≡_}
 use mathlib.Core.Option.{some}
-use mathlib.Core.Bool.{Bool, not}
+use mathlib.Core.Bool.{Bool, not, _||_}
 use mathlib.Core.List.{List}
 use lib.ListN.{getD, set, replicate}
 use lib.Dec.{eqb}
-use Rattle.definition.specs.Result.{ok, _>>=_, refuseIf, already-scheduled}
+use Rattle.definition.specs.Result.{ok, _>>=_, refuseIf, alreadyScheduled}
 use Rattle.definition.specs.Context as definition
 use Rattle.definition.specs.Machine as machine
-use Rattle.definition.specs.Context.{Flags, or, has, add, targetBlock, isLoop, breakKind, continueKind, pushed, unscheduledBy, start, schedule, scheduleLoop, unschedule}
+use Rattle.definition.specs.Context.{Flags, has, add, targetBlock, isLoop, breakKind, continueKind, pushed, unscheduledBy, start, schedule, scheduleLoop, unschedule}
 use Rattle.control.specs.declared.ControlFlowTarget.{ControlFlowTarget}
 use Rattle.control.specs.declared.ControlFlowTarget.the-variants.{If, Switch, Case, Loop}
 use Rattle.control.specs.declared.Entry.{Entry}
@@ -18,7 +18,7 @@ use Rattle.control.specs.Abstraction.{targetOf, noEntry, contextOf, stor
 
 -- whether the continue block is scheduled once the fallthrough is inserted
 abbrev pub continueScheduled : Flags → (fallthrough continueBlock : ℕ) → Bool
-continueScheduled scheduled fallthrough continueBlock = or (eqb continueBlock fallthrough) (has scheduled continueBlock)
+continueScheduled scheduled fallthrough continueBlock = eqb continueBlock fallthrough || has scheduled continueBlock
 
 -- the blocks that a target names are among the 1,024
 abbrev pub Named : ControlFlowTarget → Type 0
@@ -71,7 +71,7 @@ pub record Created (r : Context) : Type 0 where
 
 pub record Scheduled (target : ControlFlowTarget) (self r : Context) : Type 0 where
   pub state : r ≡ withEntry target (add (self .scheduled) (targetBlock (targetOf target))) self
-  pub context : (visits : ℕ) → schedule (targetOf target) (contextOf visits self) ≡ (refuseIf (has (self .scheduled) (targetBlock (targetOf target))) already-scheduled (targetBlock (targetOf target)) visits >>= λ _. ok (contextOf visits (stored r)))
+  pub context : (visits : ℕ) → schedule (targetOf target) (contextOf visits self) ≡ (refuseIf (has (self .scheduled) (targetBlock (targetOf target))) alreadyScheduled (targetBlock (targetOf target)) visits >>= λ _. ok (contextOf visits (stored r)))
   pub pushes : (visits : ℕ) → contextOf visits (stored r) ≡ machine.scheduled (targetOf target) (contextOf visits self)
   pub len : r .len ≡ self .len + 1
   pub id : r .«next_schedule_id» ≡ self .«next_schedule_id» + 1

@@ -7,7 +7,8 @@
 // (docs/PERFORMANCE.md has the times, also of the two searches, which do read it.)
 ghost use mathlib.Core.Path.{_≡_};
 ghost use Prim.Native.Nat.{ℕ, _≤_, _<_};
-ghost use Rattle.definition.specs.Context.{add, has, targetBlock, isLoop, continuesAt, or, breakKind, continueKind, unscheduledBy, getBreakTarget, getContinueTarget};
+ghost use mathlib.Core.Bool.{_||_};
+ghost use Rattle.definition.specs.Context.{add, has, targetBlock, isLoop, continuesAt, breakKind, continueKind, unscheduledBy, getBreakTarget, getContinueTarget};
 ghost use Rattle.definition.specs.Tree.{kindNumber};
 ghost use Rattle.control.specs.Abstraction.{targetOf, kindOf, resolutionOf, resolvedOf, contextOf};
 ghost use Rattle.control.specs.Contract.{continueScheduled, Named, Room, Last, Created, Scheduled, ScheduledLoop, Unscheduled, breakTo, continueTo};
@@ -146,7 +147,7 @@ pub fn is_scheduled<'a>(
     block: u16,
 ) -> bool
     requires { ⌜ block < 1024 ⌝ }
-    ensures { λ r. ⌜ r ≡ or (has (now (scheduled .entry)) block) (has (now («catch_handlers» .entry)) block) ⌝ }
+    ensures { λ r. ⌜ r ≡ has (now (scheduled .entry)) block || has (now («catch_handlers» .entry)) block ⌝ }
 {
     let at = block as usize;
     if scheduled[at] {
@@ -206,7 +207,7 @@ fn remove_target(scheduled: &mut [bool; 1024], target: ControlFlowTarget)
 
 // Whether a loop lies above the entry below this one.
 pub fn or_loop(has_preceding_loop: bool, target: ControlFlowTarget) -> bool
-    ensures { λ r. ⌜ r ≡ or «has_preceding_loop» (isLoop (targetOf target)) ⌝ }
+    ensures { λ r. ⌜ r ≡ «has_preceding_loop» || isLoop (targetOf target) ⌝ }
 {
     let loop_here = target.is_loop();
     if has_preceding_loop {

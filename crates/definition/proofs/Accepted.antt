@@ -1,4 +1,4 @@
--- What the caller sees as accepted: the check passed, the walk gave a tree, and the buffer was long enough for its rows.
+-- What the caller sees as accepted: the check passed, the walk gave a tree, and the buffer was long enough for its rows. For proofs/Law.
 use mathlib.Core.Path.{_≡_, refl, sym, ap, _∙_, subst}
 use Prim.Native.Nat.{ℕ, zero, suc, _*_, _-_, _/_}
 use native.Mathlib.Omega.{arith}
@@ -13,7 +13,8 @@ use Rattle.definition.specs.Tree.{Row, row, rows}
 use Rattle.definition.specs.Result.{Result, ok, refused}
 use Rattle.definition.specs.Statement.{BlockResult, buildTree}
 use Rattle.definition.specs.Build.{Outcome, refusal, wordsOf, placed, reported, report, outcomeOf, afterCheck, built}
-use Rattle.definition.proofs.Never.{ofPaper, never}
+use Rattle.definition.proofs.Steps.{ofPaper}
+use Rattle.definition.proofs.Never.{never}
 use Rattle.definition.proofs.Checked.{Coded, coded}
 
 pub record Accepted (words : List ℕ) (lent : ℕ) : Type 0 where

@@ -1,9 +1,9 @@
--- What the proofs over the table need of the check of its words, from the table's promise; and that a refusal of the check is no acceptance.
+-- Words that the check accepts give a table that is `Ranged`, and no refusal of the check has the code 0. For proofs/Law and proofs/Accepted.
 use mathlib.Core.Path.{_≡_, refl, sym, subst}
 use Prim.Native.Nat.{ℕ, zero, suc, _+_, _<_}
 use native.Mathlib.Omega.{arith}
 use mathlib.Core.List.{List, [], _∷_}
-use mathlib.Core.Option.{Option, none, some}
+use mathlib.Core.Option.{some}
 use mathlib.Core.Bool.{Bool, true, false}
 use lib.ListN.{length, List·getD-eq-default}
 use lib.Dec.{T, eqb, leb, ltb}
@@ -17,9 +17,7 @@ use Rattle.table.proofs.RangeLaws.{in-range}
 use Rattle.table.proofs.TableLaws.{length-blocks}
 use Rattle.definition.specs.Plain.{fallthroughOf}
 use Rattle.definition.proofs.Ranged.{Ranged}
-
-none-some : {y : ℕ} → _≡_ {A = Option ℕ} none (some y) → ⊥
-none-some e = let z : _≡_ {A = ℕ} 0 1 = cc in omega arith
+use Rattle.definition.proofs.Steps.{none-some}
 
 below : {n g f : ℕ} → g < n → some g ≡ some f → f < n
 below {n} {g} {f} h e = let z : g ≡ f = cc in subst (λ (k : ℕ). k < n) z h

@@ -1,5 +1,5 @@
 -- Over any checked table: the tree that the build makes is well-formed. A label is a fallthrough, so a block; and an alternate that is not
--- present is empty.
+-- present is empty. For proofs/Law.
 use mathlib.Core.Path.{_≡_, refl, ap, subst}
 use Prim.Native.Nat.{ℕ, zero, suc, _<_}
 use native.Mathlib.Omega.{arith}
@@ -13,15 +13,11 @@ use Rattle.definition.specs.Tree.{Kind, implicit, labeled, unlabeled, St
 use Rattle.definition.specs.Result.{Result, ok}
 use Rattle.definition.specs.Context.{has, Context, start, isScheduled, withVisits, scheduleCatchHandler, target-case, schedule, scheduleLoop, unschedule, Resolution, getBreakTarget, getContinueTarget}
 use Rattle.definition.specs.Value.{VisitValueBlock, visitValueBlockTerminal, visitValueBlock}
-use Rattle.definition.specs.Statement.{BlockResult, TerminalResult, TraverseBlock, enterBlock, unlessScheduled, unlessUnreachable, scheduleIf, scheduleSwitch, unscheduleIf, markScopeFallthroughIf, breakToScope, breakResolved, visitBreak, continueResolved, visitContinue, visitGoto, traverseUnscheduled, AlternateResult, traverseAlternate, singleStatement, traverseConsequent, traverseEnclosed, traverseLoop, continueBlockOf, visitUpdate, casesLastFirst, traverseCases, unscheduleAll, scheduleIds, visitValueStatement, visitTerminal, instructionStatements, followedBy, thenNext, visitBlock, traverseBlock, buildTree}
+use Rattle.definition.specs.Statement.{BlockResult, TerminalResult, TraverseBlock, enterBlock, unlessScheduled, unlessUnreachable, scheduleIf, scheduleSwitch, unscheduleIf, markScopeFallthroughIf, breakToScope, breakResolved, visitBreak, continueResolved, visitContinue, visitGoto, traverseUnscheduled, AlternateResult, traverseAlternate, traverseConsequent, traverseEnclosed, traverseLoop, continueBlockOf, visitUpdate, casesLastFirst, traverseCases, unscheduleAll, scheduleIds, visitValueStatement, visitTerminal, instructionStatements, followedBy, thenNext, visitBlock, traverseBlock, buildTree}
 use Rattle.definition.specs.Plain.{fallthroughOf}
 use Rattle.definition.specs.Reading.{BelowNone, EmptyUnless, WellFormedStatement, WellFormed, WellFormedCases}
-use Rattle.definition.proofs.Grow.{Good, good-bind, good-unless, Any, any}
+use Rattle.definition.proofs.Steps.{Any, Good, good-bind, good-unless, good-pick, good-any}
 use Rattle.definition.proofs.Ranged.{Ranged}
-
-good-pick : {A : Type 0} (P : A → Type 0) (y : Bool) (a b : Result A) → Good P a → Good P b → Good P (elim y [ true ↦ a | false ↦ b ])
-good-pick P true a b f g = f
-good-pick P false a b f g = g
 
 abbrev FormedOption : Option Statement → Type 0
 FormedOption none = Unit {0}
@@ -85,10 +81,10 @@ goto-formed Break at b i c = good-bind FormedOption FormedStep _ _ (break-formed
 goto-formed Continue at b i c = good-bind WellFormedStatement FormedStep _ _ (continued-formed b i c (getContinueTarget c b)) (λ s h. h)
 goto-formed Try at b i c = tt
 
-single-formed : (s : Option Statement) → FormedOption s → WellFormed (singleStatement s)
+followed-formed : (s : Option Statement) (k : Statements) → FormedOption s → WellFormed k → WellFormed (followedBy s k)
 unfolding WellFormed
-single-formed none h = tt
-single-formed (some s) h = (h, tt)
+followed-formed none k h q = q
+followed-formed (some s) k h q = (h, q)
 
 -- ---- terminals
 
@@ -103,22 +99,22 @@ module _ (t : Table) (values : VisitValueBlock) (inner : TraverseBlock) (wf : Wa
       good-pick FormedAlternate (eqb a f) _ _ (tt, tt) (good-bind FormedBlock FormedAlternate _ _ (unscheduled-formed a 13 a c) (λ r h. (h, tt)))
 
   consequent-formed : (at y i : ℕ) (c : Context) → Good FormedBlock (traverseConsequent inner at y i c)
-  unfolding traverseConsequent WalkFormed
+  unfolding traverseConsequent WalkFormed WellFormed
   consequent-formed at y i c =
-      good-pick FormedBlock (isScheduled c y) _ _ (good-bind FormedOption FormedBlock _ _ (break-formed at y i c) (λ s h. single-formed s h)) (wf y c)
+      good-pick FormedBlock (isScheduled c y) _ _ (good-bind FormedOption FormedBlock _ _ (break-formed at y i c) (λ s h. followed-formed s done h tt)) (wf y c)
 
   enclosed-formed : (b code at : ℕ) (g : Option ℕ) (c c₁ : Context) (make : Statements → Statement) → ((s : Statements) → WellFormed s → WellFormedStatement (make s))
       → Good FormedStep (traverseEnclosed inner b code at g c c₁ make)
   unfolding traverseEnclosed
   enclosed-formed b code at g c c₁ make mk =
-      good-bind FormedBlock FormedStep _ _ (unscheduled-formed b code at c₁) (λ r h. good-bind Any FormedStep _ _ (any (unscheduleIf g (c .nextId) (r .context))) (λ c₂ _. mk (r .statements) h))
+      good-bind FormedBlock FormedStep _ _ (unscheduled-formed b code at c₁) (λ r h. good-bind Any FormedStep _ _ (good-any (unscheduleIf g (c .nextId) (r .context))) (λ c₂ _. mk (r .statements) h))
 
   loop-formed : (at l : ℕ) (taken : Bool) (v i : ℕ) (c : Context) (g : Option ℕ) (make : Statements → Statement) → ((s : Statements) → WellFormed s → WellFormedStatement (make s))
       → Good FormedStep (traverseLoop inner at l taken v i c g make)
   unfolding traverseLoop WalkFormed
   loop-formed at l taken v i c g make mk =
       good-unless FormedStep taken 16 at v _ (λ _.
-      good-bind FormedBlock FormedStep _ _ (wf l (withVisits v c)) (λ r h. good-bind Any FormedStep _ _ (any (unschedule i (r .context))) (λ c₂ _. mk (r .statements) h)))
+      good-bind FormedBlock FormedStep _ _ (wf l (withVisits v c)) (λ r h. good-bind Any FormedStep _ _ (good-any (unschedule i (r .context))) (λ c₂ _. mk (r .statements) h)))
 
   cases-formed : (at f : ℕ) (ks : List Case) (ids : List ℕ) (c : Context) → Good (λ r. WellFormedCases (r .cases)) (traverseCases inner at f ks ids c)
   unfolding traverseCases WalkFormed WellFormed
@@ -127,15 +123,15 @@ module _ (t : Table) (values : VisitValueBlock) (inner : TraverseBlock) (wf : Wa
       good-pick (λ r. WellFormedCases (r .cases)) (isScheduled c (k .block)) _ _
       (good-unless (λ r. WellFormedCases (r .cases)) _ 14 at (c .visits) _ (λ _. cases-formed at f ks ids c))
       (good-bind FormedBlock (λ r. WellFormedCases (r .cases)) _ _ (wf (k .block) c) (λ r h.
-      good-bind Any (λ r. WellFormedCases (r .cases)) _ _ (any (schedule (target-case (k .block)) (r .context))) (λ c₁ _.
+      good-bind Any (λ r. WellFormedCases (r .cases)) _ _ (good-any (schedule (target-case (k .block)) (r .context))) (λ c₁ _.
       good-bind (λ r. WellFormedCases (r .cases)) (λ r. WellFormedCases (r .cases)) _ _ (cases-formed at f ks (r .context .nextId ∷ ids) c₁) (λ z q. (h, q)))))
 
   value-formed : (m : Terminal) (at : ℕ) (k : Block) (f : ℕ) (c : Context) → Good FormedStep (visitValueStatement t values m at k f c)
   unfolding visitValueStatement WellFormed
   value-formed m at k f c =
-      good-bind Any FormedStep _ _ (any (scheduleIf (unlessScheduled c f) c)) (λ c₁ _.
-      good-bind Any FormedStep _ _ (any (visitValueBlockTerminal t values m (k .id) (k .span) (c₁ .visits) at)) (λ r _.
-      good-bind Any FormedStep _ _ (any (unscheduleIf (unlessScheduled c f) (c .nextId) (withVisits (r .visits) c₁))) (λ c₂ _. tt)))
+      good-bind Any FormedStep _ _ (good-any (scheduleIf (unlessScheduled c f) c)) (λ c₁ _.
+      good-bind Any FormedStep _ _ (good-any (visitValueBlockTerminal t values m (k .id) (k .span) (c₁ .visits) at)) (λ r _.
+      good-bind Any FormedStep _ _ (good-any (unscheduleIf (unlessScheduled c f) (c .nextId) (withVisits (r .visits) c₁))) (λ c₂ _. tt)))
 
   -- a terminal whose fallthrough and binding, if it has them, are below 65,535
   abbrev Small : Terminal → Type 0
@@ -154,56 +150,56 @@ module _ (t : Table) (values : VisitValueBlock) (inner : TraverseBlock) (wf : Wa
   terminal-formed (goto g v) at k c s = goto-formed v at g (k .id) c
   terminal-formed (if x y a f) at k c s =
       good-bind BelowNone FormedStep _ _ (reachable-formed t c f (s .0 f refl)) (λ g l.
-      good-bind Any FormedStep _ _ (any (scheduleIf g c)) (λ c₁ _.
+      good-bind Any FormedStep _ _ (good-any (scheduleIf g c)) (λ c₁ _.
       good-bind FormedBlock FormedStep _ _ (unscheduled-formed y 12 y c₁) (λ r h.
       good-bind FormedAlternate FormedStep _ _ (alternate-formed a f (r .context)) (λ z q.
-      good-bind Any FormedStep _ _ (any (unscheduleIf g (c .nextId) (z .context))) (λ c₂ _. (l, h, q .0, q .1))))))
+      good-bind Any FormedStep _ _ (good-any (unscheduleIf g (c .nextId) (z .context))) (λ c₂ _. (l, h, q .0, q .1))))))
   terminal-formed (branch x y a) at k c s =
       good-bind FormedBlock FormedStep _ _ (consequent-formed at y (k .id) c) (λ r h.
       good-bind FormedBlock FormedStep _ _ (unscheduled-formed a 19 at (r .context)) (λ z q. (tt, h, q, tt)))
   terminal-formed (switch x i n f) at k c s =
       good-bind BelowNone FormedStep _ _ (reachable-formed t c f (s .0 f refl)) (λ g l.
-      good-bind Any FormedStep _ _ (any (scheduleSwitch g c)) (λ c₁ _.
+      good-bind Any FormedStep _ _ (good-any (scheduleSwitch g c)) (λ c₁ _.
       good-bind (λ r. WellFormedCases (r .cases)) FormedStep _ _ (cases-formed at f (casesLastFirst t i n) (scheduleIds g (c .nextId)) c₁) (λ r h.
-      good-bind Any FormedStep _ _ (any (unscheduleAll (r .ids) (r .context))) (λ c₂ _. (l, h)))))
+      good-bind Any FormedStep _ _ (good-any (unscheduleAll (r .ids) (r .context))) (λ c₂ _. (l, h)))))
   terminal-formed (do-while l x f) at k c s =
-      good-bind Any FormedStep _ _ (any (scheduleLoop f x (some l) c)) (λ c₁ _.
+      good-bind Any FormedStep _ _ (good-any (scheduleLoop f x (some l) c)) (λ c₁ _.
       good-unless FormedStep _ 16 at (c₁ .visits) _ (λ _.
       good-bind FormedBlock FormedStep _ _ (wf l c₁) (λ r h.
-      good-bind Any FormedStep _ _ (any (values x none (k .span) (r .context .visits))) (λ v _.
-      good-bind Any FormedStep _ _ (any (unschedule (c .nextId) (withVisits (v .visits) (r .context)))) (λ c₂ _. (scheduled-formed c f (s .0 f refl), h))))))
+      good-bind Any FormedStep _ _ (good-any (values x none (k .span) (r .context .visits))) (λ v _.
+      good-bind Any FormedStep _ _ (good-any (unschedule (c .nextId) (withVisits (v .visits) (r .context)))) (λ c₂ _. (scheduled-formed c f (s .0 f refl), h))))))
   terminal-formed (while x l f) at k c s =
       good-bind BelowNone FormedStep _ _ (reachable-formed t c f (s .0 f refl)) (λ g q.
-      good-bind Any FormedStep _ _ (any (scheduleLoop f x (some l) c)) (λ c₁ _.
-      good-bind Any FormedStep _ _ (any (values x none (k .span) (c₁ .visits))) (λ v _. loop-formed at l _ (v .visits) (c .nextId) c₁ g (WHILE (k .id) g (v .value)) (λ z h. (q, h)))))
+      good-bind Any FormedStep _ _ (good-any (scheduleLoop f x (some l) c)) (λ c₁ _.
+      good-bind Any FormedStep _ _ (good-any (values x none (k .span) (c₁ .visits))) (λ v _. loop-formed at l _ (v .visits) (c .nextId) c₁ g (WHILE (k .id) g (v .value)) (λ z h. (q, h)))))
   terminal-formed (for i x u l f) at k c s =
-      good-bind Any FormedStep _ _ (any (scheduleLoop f (continueBlockOf u x) (some l) c)) (λ c₁ _.
-      good-bind Any FormedStep _ _ (any (values i none (k .span) (c₁ .visits))) (λ n _.
-      good-bind Any FormedStep _ _ (any (values x none (k .span) (n .visits))) (λ v _.
-      good-bind Any FormedStep _ _ (any (visitUpdate values u (k .span) (v .visits))) (λ w _. loop-formed at l _ (w .visits) (c .nextId) c₁ _ _ (λ z h. (scheduled-formed c f (s .0 f refl), h))))))
+      good-bind Any FormedStep _ _ (good-any (scheduleLoop f (continueBlockOf u x) (some l) c)) (λ c₁ _.
+      good-bind Any FormedStep _ _ (good-any (values i none (k .span) (c₁ .visits))) (λ n _.
+      good-bind Any FormedStep _ _ (good-any (values x none (k .span) (n .visits))) (λ v _.
+      good-bind Any FormedStep _ _ (good-any (visitUpdate values u (k .span) (v .visits))) (λ w _. loop-formed at l _ (w .visits) (c .nextId) c₁ _ _ (λ z h. (scheduled-formed c f (s .0 f refl), h))))))
   terminal-formed (for-of i x l f) at k c s =
-      good-bind Any FormedStep _ _ (any (scheduleLoop f i (some l) c)) (λ c₁ _.
-      good-bind Any FormedStep _ _ (any (values i none (k .span) (c₁ .visits))) (λ n _.
-      good-bind Any FormedStep _ _ (any (values x none (k .span) (n .visits))) (λ v _. loop-formed at l _ (v .visits) (c .nextId) c₁ _ _ (λ z h. (scheduled-formed c f (s .0 f refl), h)))))
+      good-bind Any FormedStep _ _ (good-any (scheduleLoop f i (some l) c)) (λ c₁ _.
+      good-bind Any FormedStep _ _ (good-any (values i none (k .span) (c₁ .visits))) (λ n _.
+      good-bind Any FormedStep _ _ (good-any (values x none (k .span) (n .visits))) (λ v _. loop-formed at l _ (v .visits) (c .nextId) c₁ _ _ (λ z h. (scheduled-formed c f (s .0 f refl), h)))))
   terminal-formed (for-in i l f) at k c s =
-      good-bind Any FormedStep _ _ (any (scheduleLoop f i (some l) c)) (λ c₁ _.
-      good-bind Any FormedStep _ _ (any (values i none (k .span) (c₁ .visits))) (λ n _. loop-formed at l _ (n .visits) (c .nextId) c₁ _ _ (λ z h. (scheduled-formed c f (s .0 f refl), h))))
+      good-bind Any FormedStep _ _ (good-any (scheduleLoop f i (some l) c)) (λ c₁ _.
+      good-bind Any FormedStep _ _ (good-any (values i none (k .span) (c₁ .visits))) (λ n _. loop-formed at l _ (n .visits) (c .nextId) c₁ _ _ (λ z h. (scheduled-formed c f (s .0 f refl), h))))
   terminal-formed (logical o x f) at k c s = value-formed (logical o x f) at k f c
   terminal-formed (ternary x f) at k c s = value-formed (ternary x f) at k f c
   terminal-formed (optional g x f) at k c s = value-formed (optional g x f) at k f c
   terminal-formed (label x f) at k c s =
       good-bind BelowNone FormedStep _ _ (reachable-formed t c f (s .0 f refl)) (λ g q.
-      good-bind Any FormedStep _ _ (any (scheduleIf g c)) (λ c₁ _. enclosed-formed x 17 at g c c₁ (LABEL (k .id) g) (λ z h. (q, h))))
+      good-bind Any FormedStep _ _ (good-any (scheduleIf g c)) (λ c₁ _. enclosed-formed x 17 at g c c₁ (LABEL (k .id) g) (λ z h. (q, h))))
   terminal-formed (sequence x f) at k c s = value-formed (sequence x f) at k f c
   terminal-formed (maybe-throw n) at k c s = tt
   terminal-formed (try x h f n) at k c s =
       good-bind BelowNone FormedStep _ _ (reachable-formed t c f (s .0 f refl)) (λ g q.
-      good-bind Any FormedStep _ _ (any (scheduleIf g c)) (λ c₁ _.
+      good-bind Any FormedStep _ _ (good-any (scheduleIf g c)) (λ c₁ _.
       good-bind FormedBlock FormedStep _ _ (wf x (scheduleCatchHandler h c₁)) (λ r p.
       good-bind FormedBlock FormedStep _ _ (wf h (r .context)) (λ z p₁.
-      good-bind Any FormedStep _ _ (any (unscheduleIf g (c .nextId) (z .context))) (λ c₂ _. (q, binding-formed n (λ i e. s .1 x h f i (ap (try x h f) e)), p, p₁))))))
+      good-bind Any FormedStep _ _ (good-any (unscheduleIf g (c .nextId) (z .context))) (λ c₂ _. (q, binding-formed n (λ i e. s .1 x h f i (ap (try x h f) e)), p, p₁))))))
   terminal-formed (scope p x f n) at k c s =
-      good-bind Any FormedStep _ _ (any (scheduleIf (unlessScheduled c f) c)) (λ c₁ _.
+      good-bind Any FormedStep _ _ (good-any (scheduleIf (unlessScheduled c f) c)) (λ c₁ _.
       enclosed-formed x 18 at (unlessScheduled c f) c (markScopeFallthroughIf (unlessScheduled c f) c₁) (SCOPE p n) (λ z h. h))
 
 -- ---- blocks
@@ -212,11 +208,6 @@ instructions-formed : (t : Table) (rs : List ℕ) (k : Statements) → WellForme
 unfolding instructionStatements WellFormed
 instructions-formed t [] k h = h
 instructions-formed t (r ∷ rs) k h = (tt, instructions-formed t rs k h)
-
-followed-formed : (s : Option Statement) (k : Statements) → FormedOption s → WellFormed k → WellFormed (followedBy s k)
-unfolding WellFormed
-followed-formed none k h q = q
-followed-formed (some s) k h q = (h, q)
 
 next-formed : (t : Table) (at : ℕ) (again : TraverseBlock) (s : Option Statement) (n : Option ℕ) (c : Context) → WalkFormed again → FormedOption s → Good FormedBlock (thenNext t at again s n c)
 unfolding thenNext WalkFormed WellFormed
@@ -228,18 +219,18 @@ module _ (t : Table) (rg : Ranged t) where
   small : (b : ℕ) → ((f : ℕ) → fallthroughOf (terminalAt t b) ≡ some f → f < largest) × ((x h f n : ℕ) → terminalAt t b ≡ try x h f (some n) → n < largest)
   small b = ((λ f e. omega (arith, rg .fallthroughs b f e, rg .few)), rg .bindings b)
 
-  chain-formed : (values : VisitValueBlock) (inner : TraverseBlock) → WalkFormed inner → (n : ℕ) → WalkFormed (visitBlock t values inner n)
+  visit-block-formed : (values : VisitValueBlock) (inner : TraverseBlock) → WalkFormed inner → (n : ℕ) → WalkFormed (visitBlock t values inner n)
   unfolding visitBlock WalkFormed
-  chain-formed values inner w zero b c = tt
-  chain-formed values inner w (suc n) b c =
-      good-bind Any FormedBlock _ _ (any (enterBlock t b c)) (λ c₁ _.
+  visit-block-formed values inner w zero b c = tt
+  visit-block-formed values inner w (suc n) b c =
+      good-bind Any FormedBlock _ _ (good-any (enterBlock t b c)) (λ c₁ _.
       good-bind FormedStep FormedBlock _ _ (terminal-formed t values inner w (terminalAt t b) b (blockAt t b) c₁ (small b)) (λ s h.
-      next-formed t b (visitBlock t values inner n) (s .statement) (s .next) (s .context) (chain-formed values inner w n) h))
+      next-formed t b (visitBlock t values inner n) (s .statement) (s .next) (s .context) (visit-block-formed values inner w n) h))
 
   walk-formed : (d : ℕ) → WalkFormed (traverseBlock t d)
   unfolding traverseBlock WalkFormed
   walk-formed zero b c = tt
-  walk-formed (suc d) b c = chain-formed (visitValueBlock t d) (traverseBlock t d) (walk-formed d) 8193 b c
+  walk-formed (suc d) b c = visit-block-formed (visitValueBlock t d) (traverseBlock t d) (walk-formed d) 8193 b c
 
   pub tree-formed : (r : BlockResult) → buildTree t ≡ ok r → WellFormed (r .statements)
   unfolding buildTree WalkFormed

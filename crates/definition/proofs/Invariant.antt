@@ -1,27 +1,26 @@
 -- What holds in every state that the machine reaches from a checked table: the numbers that the code's sums and indices need, and a potential that
--- every turn lowers.
+-- every turn lowers. For the code's loop (crates/build, proofs/DriverLaws).
 use mathlib.Core.Path.{_≡_, refl, sym, ap, _∙_, subst}
 use Prim.Native.Nat.{ℕ, zero, suc, _+_, _*_, _-_, _≤_, _<_}
-use native.Mathlib.Nat.{le-refl, zero-lt-suc}
+use native.Mathlib.Nat.{le-refl}
 use native.Mathlib.Omega.{arith}
 use mathlib.Core.List.{List, [], _∷_, _++_, append-assoc, append-nil}
 use mathlib.Core.Option.{Option, none, some}
 use mathlib.Core.Bool.{Bool, true, false, not}
 use lib.ListN.{length, getD, set, length-set, length-append}
-use lib.Dec.{eqb, leb}
+use lib.Dec.{eqb, T}
 use borrow.Author.Tests.{leb-false}
-use Rattle.table.specs.Table.{Table, Block, Case, Terminal, absent, unreachable, throw, return, goto, if, branch, switch, do-while, while, for, for-of, for-in, logical, ternary, optional, sequence, maybe-throw, try, scope, Variant, Break, Continue, Try, blockAt, terminalAt, instructionRowsAt, isAbsent, isUnreachable, label}
+use Rattle.table.specs.Table.{Table, Terminal, absent, unreachable, throw, return, goto, if, branch, switch, do-while, while, for, for-of, for-in, logical, ternary, optional, sequence, maybe-throw, try, scope, Variant, Break, Continue, Try, blockAt, terminalAt, instructionRowsAt, isUnreachable, label}
 use Rattle.definition.specs.Build.{Report, report}
-use Rattle.definition.specs.Context.{getBreakTarget, getContinueTarget, Resolution, Flags, has, add, ControlFlowTarget, target-if, target-switch, target-case, targetBlock, Entry, Context, start, no-flags, isScheduled, emit, withVisits, scheduleCatchHandler, markScopeFallthrough, pushed, scheduleLoop, unscheduledBy, popped}
-use Rattle.definition.specs.Machine.{Frame, State, visiting, ended, choosing, popping, Turn, going, halt, turn, leave, blockRow, valueOut, updateOut, stmtOut, jumpOut, added, instrOut, closingRow, scheduled, scheduledIf, scheduledSwitch, unscheduledTop, unscheduled, unscheduledIf, opens, frameOf, secondPart, withEntries, withLeft, caseBuilt, into, intoLoop, complete, closeBy, close, no-case, caseAt, numberOfCases, chooseCase, firstCase, afterCases, resumeAt, resume, branchTurn, valueTurn, terminalTurn, depthLeft, visitTurn, step, begin, Gives, halts, goes, run}
-use Rattle.definition.specs.Result.{refused, Result, ok, _>>=_, refuseIf}
-use Rattle.definition.specs.Statement.{breakToScope, visitBreak, visitContinue, breakResolved, continueResolved, visitUpdate, OptionalValue, continueBlockOf, TerminalResult, enterBlock, unlessScheduled, unlessUnreachable, markScopeFallthroughIf, visitGoto, loopIsTaken, casesLastFirst}
+use Rattle.definition.specs.Context.{getBreakTarget, getContinueTarget, Resolution, Flags, has, add, ControlFlowTarget, target-if, target-switch, target-case, Entry, Context, start, isScheduled, emit, withVisits, scheduleCatchHandler, markScopeFallthrough, pushed, scheduleLoop, popped}
+use Rattle.definition.specs.Machine.{Frame, State, visiting, ended, choosing, popping, Turn, going, halt, turn, leave, blockRow, valueOut, updateOut, statementOut, jumpOut, added, instructionsOut, closingRow, scheduled, scheduledIf, scheduledSwitch, unscheduledTop, unscheduled, unscheduledIf, opens, frameOf, secondPart, withLeft, caseBuilt, into, intoLoop, closeBy, close, caseAt, numberOfCases, chooseCase, switchColumns, resumeAt, resume, branchTurn, valueTurn, terminalTurn, depthLeft, visitTurn, step, begin, Gives, run}
+use Rattle.definition.specs.Result.{refused, Result, ok, refuseIf}
+use Rattle.definition.specs.Statement.{breakToScope, visitBreak, visitContinue, breakResolved, continueResolved, visitUpdate, OptionalValue, continueBlockOf, TerminalResult, enterBlock, unlessScheduled, unlessUnreachable, markScopeFallthroughIf, visitGoto, loopIsTaken}
 use Rattle.definition.specs.Tree.{Kind, implicit, labeled, unlabeled, Statement, Row, row, BREAK, CONTINUE}
 use Rattle.definition.specs.Value.{visitValueBlock, beginVisit, ValueBlockResult, ValueTerminalResult, VisitValueBlock, visitValueBlockTerminal, valueBlockResultToSequence}
-use Rattle.definition.proofs.Tools.{length-none, below-blocks, true-false}
-use Rattle.definition.proofs.Grow.{Good, good-bind, good-unless, Any, any, Grows, value-grows, terminal-grows, update-grows}
-use Rattle.definition.proofs.Most.{Few, FewT, Fews, value-few, terminal-few, update-few}
-use Rattle.definition.proofs.Bound.{sizeV, size-out, sequence-size, Cheap, Less, Cheaps, terminal-cheap, update-cheap, value-cheap}
+use Rattle.definition.proofs.Flags.{length-none, below-blocks}
+use Rattle.definition.proofs.Steps.{true-false, Any, Good, good-bind, good-unless, good-pick, good-any, fine-good}
+use Rattle.definition.proofs.ValueWalk.{sizeOf, value-out-size, sequence-size, Took, BlockTook, TerminalTook, VisitTook, isMaybeThrow, terminal-took, update-took, value-took}
 use Rattle.definition.proofs.Simulation.{machine-builds, gives-next, gives-halt, number-below}
 
 -- ---- what the check of the words promises of a table
@@ -126,7 +125,7 @@ pub record Framed (t : Table) (chosen : ℕ) (frame : Frame) : Type 0 where
   pub block : frame .block < length (t .blocks)
   pub label : Below (length (t .blocks)) (frame .label)
   pub entries : frame .entries ≤ suc (frame .built)
-  pub case : isSwitch (terminalAt t (frame .block)) ≡ true → frame .left < chosen + (length (t .cases) - firstCase (terminalAt t (frame .block)))
+  pub case : isSwitch (terminalAt t (frame .block)) ≡ true → frame .left < chosen + (length (t .cases) - switchColumns (terminalAt t (frame .block)) .first)
 
 abbrev pub Frames : Table → List Frame → Type 0
 Frames t [] = Unit {0}
@@ -246,17 +245,18 @@ record Fit (t : Table) (p : ℕ) (s : State) : Type 0 where
   lower : potential s < p
   sound : Sound t s
 
--- what is known inside a turn: s turns may be begun, i ids given out, and r rows put out; e entries are this statement's, and u cases of it are built
-record Inside (p s i e u r : ℕ) (F : List Frame) (R : List Row) (m : ℕ) (c : Context) : Type 0 where
-  visits : c .visits ≤ 8192
-  ids : c .nextId + (i + (2 * (8192 - c .visits) + length F)) ≤ 16384
-  lower : 2053 * (8192 - c .visits) + (s + turnsOfAll F) < p
-  stack : length (c .stack) ≡ e + entriesOf F
-  marked : suc (u + (builtOf F + length F)) ≤ marks (c .emitted)
-  depth : length F < 128
-  flags : length (c .emitted) ≡ 1024
-  tallied : m + countOf F ≤ length R
-  paid : r + (length R + 3 * length F) ≤ 8208 * c .visits
+-- what is known inside a turn from a state of potential p: of the statement in hand so many turns may still be begun, ids given out and rows put
+-- out; `entries` of the stack are its own, and so many cases of it are built
+record Inside (p turnsLeft idsLeft entries casesBuilt rowsLeft : ℕ) (frames : List Frame) (rows : List Row) (count : ℕ) (cx : Context) : Type 0 where
+  visits : cx .visits ≤ 8192
+  ids : cx .nextId + (idsLeft + (2 * (8192 - cx .visits) + length frames)) ≤ 16384
+  lower : 2053 * (8192 - cx .visits) + (turnsLeft + turnsOfAll frames) < p
+  stack : length (cx .stack) ≡ entries + entriesOf frames
+  marked : suc (casesBuilt + (builtOf frames + length frames)) ≤ marks (cx .emitted)
+  depth : length frames < 128
+  flags : length (cx .emitted) ≡ 1024
+  tallied : count + countOf frames ≤ length rows
+  paid : rowsLeft + (length rows + 3 * length frames) ≤ 8208 * cx .visits
 
 module _ (t : Table) where
   leave-fit : {p s i u r : ℕ} (g : Option ℕ) {F : List Frame} {R : List Row} {m : ℕ} {c : Context} → Inside p s i 0 u r F R m c → 1 ≤ s → 1 ≤ i → 2 ≤ r
@@ -321,12 +321,18 @@ module _ (t : Table) where
 
 -- ---- what values take
 
-good-all3 : {A : Type 0} (P Q S : A → Type 0) (m : Result A) → Good P m → Good Q m → Good S m → Good (λ a. P a × Q a × S a) m
-good-all3 P Q S (ok a) h k l = (h, k, l)
-good-all3 P Q S (refused e p v) h k l = tt
+-- from so many visits, at most 8,192
+abbrev Taken : (spare size before after : ℕ) → Type 0
+Taken spare size before after = (before ≤ after) × (after ≤ 8192) × (size + 8200 * before ≤ spare + 8200 * after)
 
-abbrev Took : ℕ → ValueBlockResult → Type 0
-Took v w = (v ≤ w .visits) × (w .visits ≤ 8192) × (sizeV (w .value) + 8200 * v ≤ 8200 * w .visits)
+abbrev BlockTaken : ℕ → ValueBlockResult → Type 0
+BlockTaken before r = Taken 0 (sizeOf (r .value)) before (r .visits)
+
+abbrev TerminalTaken : ℕ → ValueTerminalResult → Type 0
+TerminalTaken before r = Taken 3 (sizeOf (r .value)) before (r .visits)
+
+abbrev UpdateTaken : ℕ → OptionalValue → Type 0
+UpdateTaken before r = Taken 0 (length (updateOut (r .value))) before (r .visits)
 
 -- ---- jumps
 
@@ -334,19 +340,15 @@ abbrev Jump : Option Statement → Type 0
 Jump o = (length (jumpOut o) ≤ 1) × ((n : ℕ) → added o n ≤ length (jumpOut o) + n)
 
 break-jump : (g i : ℕ) (k : Kind) → Jump (some (BREAK g i k))
-unfolding stmtOut
+unfolding statementOut
 break-jump g i k = (le-refl 1, λ n. omega arith)
 
 continue-jump : (g i : ℕ) (k : Kind) → Jump (some (CONTINUE g i k))
-unfolding stmtOut
+unfolding statementOut
 continue-jump g i k = (le-refl 1, λ n. omega arith)
 
 no-jump : Jump none
 no-jump = (omega arith, λ n. omega arith)
-
-pick : {A : Type 0} (P : A → Type 0) (y : Bool) (a b : Result A) → Good P a → Good P b → Good P (elim y [ true ↦ a | false ↦ b ])
-pick P true a b p q = p
-pick P false a b p q = q
 
 scope-jump : (k : Kind) (at v : ℕ) → Good Jump (breakToScope k at v)
 unfolding breakToScope
@@ -360,7 +362,7 @@ visitBreak-jump b g i c = at (getBreakTarget c g)
   where
     at : (r : Option Resolution) → Good Jump (breakResolved b g i c r)
     at none = unfold breakResolved in tt
-    at (some r) = unfold breakResolved in pick Jump (has (c .scopeFallthroughs) (r .target)) _ _ (scope-jump (r .kind) b (c .visits)) (break-jump (r .target) i (r .kind))
+    at (some r) = unfold breakResolved in good-pick Jump (has (c .scopeFallthroughs) (r .target)) _ _ (scope-jump (r .kind) b (c .visits)) (break-jump (r .target) i (r .kind))
 
 visitContinue-jump : (g i : ℕ) (c : Context) → Good (λ s. Jump (some s)) (visitContinue g i c)
 unfolding visitContinue
@@ -389,30 +391,25 @@ module _ (t : Table) (ck : Checked t) (d : ℕ) where
   abbrev visit : VisitValueBlock
   visit = visitValueBlock t d
 
-  vals : (x : ℕ) (ft : Option ℕ) (span v : ℕ) → v ≤ 8192 → Good (Took v) (visit x ft span v)
-  unfolding Grows Fews Cheaps
-  vals x ft span v h = good-all3 (λ r. v ≤ r .visits) Few (Cheap v) (visit x ft span v) (value-grows t d x ft span v) (value-few t d x ft span v h) (value-cheap t (ck .counts) d x ft span v)
+  taken : {spare size before after : ℕ} → before ≤ 8192 → Took t spare size before after → Taken spare size before after
+  taken h took = (took .rises, took .most h, took .paid (ck .counts))
 
-  abbrev TookT : ℕ → ValueTerminalResult → Type 0
-  TookT v w = (v ≤ w .visits) × (w .visits ≤ 8192) × (sizeV (w .value) + 8200 * v ≤ 3 + 8200 * w .visits)
+  values : (x : ℕ) (ft : Option ℕ) (span v : ℕ) → v ≤ 8192 → Good (BlockTaken v) (visit x ft span v)
+  unfolding VisitTook
+  values x ft span v h = fine-good (BlockTook t v) (BlockTaken v) (visit x ft span v) (λ _ took. taken h took) (value-took t d x ft span v)
 
-  terminals : (e : Terminal) (id span v at : ℕ) → v ≤ 8192 → Good (TookT v) (visitValueBlockTerminal t visit e id span v at)
-  terminals e id span v at h =
-      good-all3 (λ r. v ≤ r .visits) FewT (Less v) (visitValueBlockTerminal t visit e id span v at) (terminal-grows t visit (value-grows t d) e id span v at) (terminal-few t visit (value-few t d) e id span v at h)
-      (terminal-cheap t (ck .counts) visit (value-cheap t (ck .counts) d) e id span v at)
+  terminals : (e : Terminal) (id span v at : ℕ) → T (not (isMaybeThrow e)) → v ≤ 8192 → Good (TerminalTaken v) (visitValueBlockTerminal t visit e id span v at)
+  terminals e id span v at m h =
+      fine-good (TerminalTook t v) (TerminalTaken v) (visitValueBlockTerminal t visit e id span v at) (λ _ took. taken h took) (terminal-took t visit (value-took t d) e id span v at m)
 
-  abbrev TookU : ℕ → OptionalValue → Type 0
-  TookU v w = (v ≤ w .visits) × (w .visits ≤ 8192) × (length (updateOut (w .value)) + 8200 * v ≤ 8200 * w .visits)
-
-  updates : (u : Option ℕ) (span v : ℕ) → v ≤ 8192 → Good (TookU v) (visitUpdate visit u span v)
+  updates : (u : Option ℕ) (span v : ℕ) → v ≤ 8192 → Good (UpdateTaken v) (visitUpdate visit u span v)
   updates u span v h =
-      good-all3 (λ r. v ≤ r .visits) (λ z. z .visits ≤ 8192) (λ w. length (updateOut (w .value)) + 8200 * v ≤ 8200 * w .visits) (visitUpdate visit u span v) (update-grows t visit (value-grows t d) u span v) (update-few t visit (value-few t d) u span v h)
-      (update-cheap t (ck .counts) visit (value-cheap t (ck .counts) d) u span v)
+      fine-good (λ r. Took t 0 (length (updateOut (r .value))) v (r .visits)) (UpdateTaken v) (visitUpdate visit u span v) (λ _ took. taken h took) (update-took t visit (value-took t d) u span v)
 
   into-fit : {p s i e u r : ℕ} (fr : Frame) (b code at : ℕ) {F : List Frame} {R : List Row} {c : Context} → Inside p s i e u r F R (fr .count) c → turnsOf fr ≤ s → 1 ≤ i → fr .entries ≡ e → fr .built ≤ u → 3 ≤ r
       → Framed t 0 fr → Frames t F → b < length (t .blocks) → Good (Fit t p) (into b code at fr F R c)
   unfolding into
-  into-fit {p} fr b code at {c = c} h a k e u r o f q = good-bind Any (Fit t p) _ _ (any (refuseIf (isScheduled c b) code at (c .visits))) (λ _ _. push-fit t fr b h a k e u r o f q)
+  into-fit {p} fr b code at {c = c} h a k e u r o f q = good-bind Any (Fit t p) _ _ (good-any (refuseIf (isScheduled c b) code at (c .visits))) (λ _ _. push-fit t fr b h a k e u r o f q)
 
   framed : (b : ℕ) (g : Option ℕ) (entries count : ℕ) → b < length (t .blocks) → Below (length (t .blocks)) g → entries ≤ 1 → isSwitch (terminalAt t b) ≡ false → Framed t 0 (frameOf b g entries count)
   framed b g entries count h k l q = record { block = h; label = k; entries = omega arith; case = λ e. absurd (true-false (sym e ∙ q)) }
@@ -445,14 +442,14 @@ module _ (t : Table) (ck : Checked t) (d : ℕ) where
       at (throw x) q n = closed R c h
       at (return x) q n = closed R c h
       at (goto x v) q n = closed R c h
-      at (if x y a g) q n = pick (Fit t p) (fr .second) _ _ (closed R c h) (pick (Fit t p) (eqb a g) _ _ (closed R c h) (into-again a 13 a (n .1)))
-      at (branch x y a) q n = pick (Fit t p) (fr .second) _ _ (closed R c h) (into-again a 19 (fr .block) (n .1))
+      at (if x y a g) q n = good-pick (Fit t p) (fr .second) _ _ (closed R c h) (good-pick (Fit t p) (eqb a g) _ _ (closed R c h) (into-again a 13 a (n .1)))
+      at (branch x y a) q n = good-pick (Fit t p) (fr .second) _ _ (closed R c h) (into-again a 19 (fr .block) (n .1))
       at (switch x i m g) q n =
           choose-fit t (caseBuilt fr)
           (inside-held t c 1 (inside-out t (row 11 (caseAt t (i + fr .left) .test) 0 0 0 0 ∷ []) (fr .count) 3 h (omega arith) (omega (arith, h .tallied))) (scheduled-held (target-case (caseAt t (i + fr .left) .block)) c) (omega arith) (omega (arith, h .stack)))
           (omega arith) (omega arith) refl (le-refl _) (omega arith) (ap isSwitch q) (record { block = o .block; label = o .label; entries = omega (arith, o .entries); case = λ z. omega (arith, o .case z) }) f
-      at (do-while l x g) q n = good-bind (Took (c .visits)) (Fit t p) _ _ (vals x none (blockAt t (fr .block) .span) (c .visits) (h .visits)) (λ w k.
-          closed _ _ (inside-visited t (valueOut (w .value)) (w .visits) 4 h (k .0) (k .1) (omega (arith, size-out (w .value), k .0, k .2))))
+      at (do-while l x g) q n = good-bind (BlockTaken (c .visits)) (Fit t p) _ _ (values x none (blockAt t (fr .block) .span) (c .visits) (h .visits)) (λ w k.
+          closed _ _ (inside-visited t (valueOut (w .value)) (w .visits) 4 h (k .0) (k .1) (omega (arith, value-out-size (w .value), k .0, k .2))))
       at (while x l g) q n = closed R c h
       at (for i x v l g) q n = closed R c h
       at (for-of i x l g) q n = closed R c h
@@ -463,21 +460,21 @@ module _ (t : Table) (ck : Checked t) (d : ℕ) where
       at (label x g) q n = closed R c h
       at (sequence x g) q n = closed R c h
       at (maybe-throw x) q n = closed R c h
-      at (try x y g m) q n = pick (Fit t p) (fr .second) _ _ (closed R c h) (again y (n .1))
+      at (try x y g m) q n = good-pick (Fit t p) (fr .second) _ _ (closed R c h) (again y (n .1))
       at (scope x y g m) q n = closed R c h
 
   -- ---- a Switch takes its next case
 
   case-fit : {p : ℕ} (j : ℕ) (fr : Frame) (F : List Frame) (R : List Row) (c : Context) → fr .left ≡ j → isSwitch (terminalAt t (fr .block)) ≡ true
       → Inside p (suc (2 * fr .left + fr .entries)) 1 (fr .entries) (fr .built) 3 F R (fr .count) c → Framed t 1 fr → Frames t F
-      → Good (Fit t p) (chooseCase t (firstCase (terminalAt t (fr .block))) (afterCases (terminalAt t (fr .block))) j fr F R c)
+      → Good (Fit t p) (chooseCase t (switchColumns (terminalAt t (fr .block)) .first) (switchColumns (terminalAt t (fr .block)) .fallthrough) j fr F R c)
   unfolding chooseCase
   case-fit zero fr F R c e q h o f = close-fit t fr R c h (omega arith) (omega arith) (omega arith) (omega arith) o f
   case-fit {p} (suc j) fr F R c e q h o f =
-      let x : ℕ = firstCase (terminalAt t (fr .block)) in
+      let x : ℕ = switchColumns (terminalAt t (fr .block)) .first in
       let b : ℕ = caseAt t (x + j) .block in
-      pick (Fit t p) (isScheduled c b) _ _
-      (good-bind Any (Fit t p) _ _ (any (refuseIf (not (eqb b (afterCases (terminalAt t (fr .block))))) 14 (fr .block) (c .visits))) (λ _ _.
+      good-pick (Fit t p) (isScheduled c b) _ _
+      (good-bind Any (Fit t p) _ _ (good-any (refuseIf (not (eqb b (switchColumns (terminalAt t (fr .block)) .fallthrough))) 14 (fr .block) (c .visits))) (λ _ _.
       choose-fit t (withLeft j fr) h (omega arith) (omega arith) refl (omega arith) (omega arith) q (record { block = o .block; label = o .label; entries = o .entries; case = λ z. omega (arith, o .case z) }) f))
       (push-fit t (withLeft j fr) b h (omega arith) (omega arith) refl (omega arith) (omega arith)
       (record { block = o .block; label = o .label; entries = o .entries; case = λ z. omega (arith, o .case z) }) f (ck .caseBlocks (x + j) (omega (arith, o .case q))))
@@ -524,31 +521,31 @@ module _ (t : Table) (ck : Checked t) (d : ℕ) where
     unfolding intoLoop
     loop-fit g l bad v S c₁ k q z y a w u =
         let o : Framed t 0 (frameOf b g 1 m) = framed b g 1 m below q (omega arith) z in
-        good-bind Any (Fit t p) _ _ (any (refuseIf bad 16 b v)) (λ _ _.
+        good-bind Any (Fit t p) _ _ (good-any (refuseIf bad 16 b v)) (λ _ _.
         push-fit t (frameOf b g 1 m) l (inside-visited t S v 3 (inside-held t c {e₁ = 1} 1 h k (omega arith) (omega (arith, h .stack))) a w (omega arith)) (omega arith) (omega arith) refl (omega arith) (omega arith) o f y)
 
-    value-fit : (e : Terminal) (g : ℕ) → g < length (t .blocks) → Good (Fit t p) (valueTurn t visit e b (blockAt t b) g F R m c)
+    value-fit : (e : Terminal) (g : ℕ) → T (not (isMaybeThrow e)) → g < length (t .blocks) → Good (Fit t p) (valueTurn t visit e b (blockAt t b) g F R m c)
     unfolding valueTurn
-    value-fit e g k = good-bind (TookT (c .visits)) (Fit t p) _ _ (terminals e (blockAt t b .id) (blockAt t b .span) (c .visits) b (h .visits)) (λ w q.
+    value-fit e g z k = good-bind (TerminalTaken (c .visits)) (Fit t p) _ _ (terminals e (blockAt t b .id) (blockAt t b .span) (c .visits) b z (h .visits)) (λ w q.
         at (unlessScheduled c g) (taken-below c g k) w q)
       where
-        leaving : (g : Option ℕ) (w : ValueTerminalResult) (c₁ : Context) → TookT (c .visits) w → Below (length (t .blocks)) g → Inside p 2052 1 0 0 5 F (R ++ valueOut (w .value)) m c₁
+        leaving : (g : Option ℕ) (w : ValueTerminalResult) (c₁ : Context) → TerminalTaken (c .visits) w → Below (length (t .blocks)) g → Inside p 2052 1 0 0 5 F (R ++ valueOut (w .value)) m c₁
             → Fit t p (leave g F ((R ++ valueOut (w .value)) ++ (row 4 (w .id) (w .place) (blockAt t b .span) 0 0 ∷ [])) (suc m) c₁)
         leaving g w c₁ q k x = leave-fit t g (inside-out t (row 4 (w .id) (w .place) (blockAt t b .span) 0 0 ∷ []) (suc m) 2 x (omega arith) (omega (arith, x .tallied))) (omega arith) (omega arith) (omega arith) f k
 
-        at : (g : Option ℕ) → Below (length (t .blocks)) g → (w : ValueTerminalResult) → TookT (c .visits) w
+        at : (g : Option ℕ) → Below (length (t .blocks)) g → (w : ValueTerminalResult) → TerminalTaken (c .visits) w
             → Fit t p (leave g F ((R ++ valueOut (w .value)) ++ (row 4 (w .id) (w .place) (blockAt t b .span) 0 0 ∷ [])) (suc m) (unscheduledIf g (withVisits (w .visits) (scheduledIf g c))))
-        at none k w q = leaving none w (withVisits (w .visits) c) q k (inside-visited t (valueOut (w .value)) (w .visits) 5 (inside-held t c 1 h (held c) (omega arith) (omega (arith, h .stack))) (q .0) (q .1) (omega (arith, size-out (w .value), q .0, q .2)))
+        at none k w q = leaving none w (withVisits (w .visits) c) q k (inside-visited t (valueOut (w .value)) (w .visits) 5 (inside-held t c 1 h (held c) (omega arith) (omega (arith, h .stack))) (q .0) (q .1) (omega (arith, value-out-size (w .value), q .0, q .2)))
         at (some x) k w q =
             let s : Held c 1 (suc (length (c .stack))) (scheduled (target-if x) c) = scheduled-held (target-if x) c in
             let y : Inside p 2052 1 1 0 5 F (R ++ valueOut (w .value)) m (withVisits (w .visits) (scheduled (target-if x) c)) =
-            inside-visited t (valueOut (w .value)) (w .visits) 5 (inside-held t c {e₁ = 1} 1 h s (omega arith) (omega (arith, h .stack))) (omega (arith, q .0, s .seen)) (q .1) (omega (arith, size-out (w .value), q .0, q .2, s .seen)) in
+            inside-visited t (valueOut (w .value)) (w .visits) 5 (inside-held t c {e₁ = 1} 1 h s (omega arith) (omega (arith, h .stack))) (omega (arith, q .0, s .seen)) (q .1) (omega (arith, value-out-size (w .value), q .0, q .2, s .seen)) in
             leaving (some x) w (unscheduled (withVisits (w .visits) (scheduled (target-if x) c))) q k
             (inside-held t (withVisits (w .visits) (scheduled (target-if x) c)) {e₁ = 0} 1 y (unscheduled-held (withVisits (w .visits) (scheduled (target-if x) c)) (entriesOf F) (omega (arith, y .stack))) (omega arith) (omega arith))
 
     branch-fit : (x y a : ℕ) → isSwitch (terminalAt t b) ≡ false → y < length (t .blocks) → a < length (t .blocks) → Good (Fit t p) (branchTurn b y a (blockAt t b .id) F R m c)
     unfolding branchTurn
-    branch-fit x y a z k l = pick (Fit t p) (isScheduled c y) _ _
+    branch-fit x y a z k l = good-pick (Fit t p) (isScheduled c y) _ _
         (good-bind Jump (Fit t p) _ _ (visitBreak-jump b y (blockAt t b .id) c) (λ s q.
         into-fit (secondPart (frameOf b none 0 m)) a 19 b (inside-out t (blockRow (added s 0) ∷ []) m 3 (inside-out t (jumpOut s) m 4 h (omega (arith, q .0)) (omega (arith, h .tallied))) (omega arith)
         (omega (arith, length-append R (jumpOut s), h .tallied))) (omega arith) (omega arith) refl (omega arith) (omega arith) (later (framed b none 0 m below tt (omega arith) z)) f l))
@@ -570,7 +567,7 @@ module _ (t : Table) (ck : Checked t) (d : ℕ) where
         choose-fit t (withLeft (numberOfCases t i k) (frameOf b l (opens l) m)) (inside-held t c 1 h (switch-held l c) (omega arith) (omega (arith, h .stack))) (omega (arith, number-below t i k, ck .cases, opens-one l)) (omega arith) refl (omega arith) (omega arith)
         (ap isSwitch q) (record { block = below; label = w; entries = omega (arith, opens-one l); case = λ z. fits (number-below t i k) }) f)
       where
-        fits : numberOfCases t i k ≤ length (t .cases) - i → numberOfCases t i k < 1 + (length (t .cases) - firstCase (terminalAt t b))
+        fits : numberOfCases t i k ≤ length (t .cases) - i → numberOfCases t i k < 1 + (length (t .cases) - switchColumns (terminalAt t b) .first)
         fits u = rw q (omega (arith, u))
     terminal-fit (do-while l x g) q n = good-bind (Held c 1 (suc (length (c .stack)))) (Fit t p) _ _ (loop-held g x l c) (λ c₁ k. at c₁ k)
       where
@@ -581,15 +578,15 @@ module _ (t : Table) (ck : Checked t) (d : ℕ) where
         at c₁ k = none-out c₁ (loop-fit (unlessScheduled c g) l (loopIsTaken c l g) (c₁ .visits) [] c₁ k (taken-below c g (n .2)) (ap isSwitch q) (n .0) (le-refl _) (omega (arith, k .seen, h .visits)) (omega arith))
     terminal-fit (while x l g) q n = good-bind (Below (length (t .blocks))) (Fit t p) _ _ (reach-below c g (n .2)) (λ o k.
         good-bind (Held c 1 (suc (length (c .stack)))) (Fit t p) _ _ (loop-held g x l c) (λ c₁ k₁.
-        good-bind (Took (c₁ .visits)) (Fit t p) _ _ (vals x none (blockAt t b .span) (c₁ .visits) (omega (arith, k₁ .seen, h .visits))) (λ w u.
-        loop-fit o l _ (w .visits) (valueOut (w .value)) c₁ k₁ k (ap isSwitch q) (n .1) (u .0) (u .1) (omega (arith, size-out (w .value), u .0, u .2)))))
+        good-bind (BlockTaken (c₁ .visits)) (Fit t p) _ _ (values x none (blockAt t b .span) (c₁ .visits) (omega (arith, k₁ .seen, h .visits))) (λ w u.
+        loop-fit o l _ (w .visits) (valueOut (w .value)) c₁ k₁ k (ap isSwitch q) (n .1) (u .0) (u .1) (omega (arith, value-out-size (w .value), u .0, u .2)))))
     terminal-fit (for i x v l g) q n = good-bind (Held c 1 (suc (length (c .stack)))) (Fit t p) _ _ (loop-held g (continueBlockOf v x) l c) (λ c₁ k₁.
-        good-bind (Took (c₁ .visits)) (Fit t p) _ _ (vals i none (blockAt t b .span) (c₁ .visits) (omega (arith, k₁ .seen, h .visits))) (λ w u.
-        good-bind (Took (w .visits)) (Fit t p) _ _ (vals x none (blockAt t b .span) (w .visits) (u .1)) (λ y u₁.
-        good-bind (TookU (y .visits)) (Fit t p) _ _ (updates v (blockAt t b .span) (y .visits) (u₁ .1)) (λ z u₂.
+        good-bind (BlockTaken (c₁ .visits)) (Fit t p) _ _ (values i none (blockAt t b .span) (c₁ .visits) (omega (arith, k₁ .seen, h .visits))) (λ w u.
+        good-bind (BlockTaken (w .visits)) (Fit t p) _ _ (values x none (blockAt t b .span) (w .visits) (u .1)) (λ y u₁.
+        good-bind (UpdateTaken (y .visits)) (Fit t p) _ _ (updates v (blockAt t b .span) (y .visits) (u₁ .1)) (λ z u₂.
         together (valueOut (valueBlockResultToSequence t w (blockAt t b .span))) (valueOut (y .value)) (updateOut (z .value)) c₁ (z .visits)
         (loop-fit (unlessScheduled c g) l (loopIsTaken c l g) (z .visits) _ c₁ k₁ (taken-below c g (n .4)) (ap isSwitch q) (n .3) (omega (arith, u .0, u₁ .0, u₂ .0)) (u₂ .1)
-        (omega (arith, long (valueOut (valueBlockResultToSequence t w (blockAt t b .span))) (valueOut (y .value)) (updateOut (z .value)), size-out (valueBlockResultToSequence t w (blockAt t b .span)), sequence-size t w (blockAt t b .span), size-out (y .value), u .0, u₁ .0, u₂ .0, u .2, u₁ .2, u₂ .2)))))))
+        (omega (arith, long (valueOut (valueBlockResultToSequence t w (blockAt t b .span))) (valueOut (y .value)) (updateOut (z .value)), value-out-size (valueBlockResultToSequence t w (blockAt t b .span)), sequence-size t w (blockAt t b .span), value-out-size (y .value), u .0, u₁ .0, u₂ .0, u .2, u₁ .2, u₂ .2)))))))
       where
         long : (A B C : List Row) → length (A ++ (B ++ C)) ≡ length A + (length B + length C)
         long A B C = omega (arith, length-append A (B ++ C), length-append B C)
@@ -598,24 +595,24 @@ module _ (t : Table) (ck : Checked t) (d : ℕ) where
             → Good (Fit t p) (intoLoop b l (loopIsTaken c l g) v (frameOf b (unlessScheduled c g) 1 m) F (((R ++ A) ++ B) ++ C) c₁)
         together A B C c₁ v w = subst (λ (z : List Row). Good (Fit t p) (intoLoop b l (loopIsTaken c l g) v (frameOf b (unlessScheduled c g) 1 m) F z c₁)) (sym (append-assoc (R ++ A) B C ∙ append-assoc R A (B ++ C))) w
     terminal-fit (for-of i x l g) q n = good-bind (Held c 1 (suc (length (c .stack)))) (Fit t p) _ _ (loop-held g i l c) (λ c₁ k₁.
-        good-bind (Took (c₁ .visits)) (Fit t p) _ _ (vals i none (blockAt t b .span) (c₁ .visits) (omega (arith, k₁ .seen, h .visits))) (λ w u.
-        good-bind (Took (w .visits)) (Fit t p) _ _ (vals x none (blockAt t b .span) (w .visits) (u .1)) (λ y u₁.
+        good-bind (BlockTaken (c₁ .visits)) (Fit t p) _ _ (values i none (blockAt t b .span) (c₁ .visits) (omega (arith, k₁ .seen, h .visits))) (λ w u.
+        good-bind (BlockTaken (w .visits)) (Fit t p) _ _ (values x none (blockAt t b .span) (w .visits) (u .1)) (λ y u₁.
         together (valueOut (valueBlockResultToSequence t w (blockAt t b .span))) (valueOut (valueBlockResultToSequence t y (blockAt t b .span))) c₁ (y .visits)
         (loop-fit (unlessScheduled c g) l (loopIsTaken c l g) (y .visits) _ c₁ k₁ (taken-below c g (n .3)) (ap isSwitch q) (n .2) (omega (arith, u .0, u₁ .0)) (u₁ .1)
-        (omega (arith, length-append (valueOut (valueBlockResultToSequence t w (blockAt t b .span))) (valueOut (valueBlockResultToSequence t y (blockAt t b .span))), size-out (valueBlockResultToSequence t w (blockAt t b .span)), sequence-size t w (blockAt t b .span), size-out (valueBlockResultToSequence t y (blockAt t b .span)), sequence-size t y (blockAt t b .span), u .0, u₁ .0, u .2, u₁ .2))))))
+        (omega (arith, length-append (valueOut (valueBlockResultToSequence t w (blockAt t b .span))) (valueOut (valueBlockResultToSequence t y (blockAt t b .span))), value-out-size (valueBlockResultToSequence t w (blockAt t b .span)), sequence-size t w (blockAt t b .span), value-out-size (valueBlockResultToSequence t y (blockAt t b .span)), sequence-size t y (blockAt t b .span), u .0, u₁ .0, u .2, u₁ .2))))))
       where
         together : (A B : List Row) (c₁ : Context) (v : ℕ) → Good (Fit t p) (intoLoop b l (loopIsTaken c l g) v (frameOf b (unlessScheduled c g) 1 m) F (R ++ (A ++ B)) c₁)
             → Good (Fit t p) (intoLoop b l (loopIsTaken c l g) v (frameOf b (unlessScheduled c g) 1 m) F ((R ++ A) ++ B) c₁)
         together A B c₁ v w = subst (λ (z : List Row). Good (Fit t p) (intoLoop b l (loopIsTaken c l g) v (frameOf b (unlessScheduled c g) 1 m) F z c₁)) (sym (append-assoc R A B)) w
     terminal-fit (for-in i l g) q n = good-bind (Held c 1 (suc (length (c .stack)))) (Fit t p) _ _ (loop-held g i l c) (λ c₁ k₁.
-        good-bind (Took (c₁ .visits)) (Fit t p) _ _ (vals i none (blockAt t b .span) (c₁ .visits) (omega (arith, k₁ .seen, h .visits))) (λ w u.
+        good-bind (BlockTaken (c₁ .visits)) (Fit t p) _ _ (values i none (blockAt t b .span) (c₁ .visits) (omega (arith, k₁ .seen, h .visits))) (λ w u.
         loop-fit (unlessScheduled c g) l (loopIsTaken c l g) (w .visits) (valueOut (valueBlockResultToSequence t w (blockAt t b .span))) c₁ k₁ (taken-below c g (n .2)) (ap isSwitch q) (n .1) (u .0) (u .1)
-        (omega (arith, size-out (valueBlockResultToSequence t w (blockAt t b .span)), sequence-size t w (blockAt t b .span), u .0, u .2))))
-    terminal-fit (logical o x g) q n = value-fit (logical o x g) g (n .1)
-    terminal-fit (ternary x g) q n = value-fit (ternary x g) g (n .1)
-    terminal-fit (optional o x g) q n = value-fit (optional o x g) g (n .1)
+        (omega (arith, value-out-size (valueBlockResultToSequence t w (blockAt t b .span)), sequence-size t w (blockAt t b .span), u .0, u .2))))
+    terminal-fit (logical o x g) q n = value-fit (logical o x g) g tt (n .1)
+    terminal-fit (ternary x g) q n = value-fit (ternary x g) g tt (n .1)
+    terminal-fit (optional o x g) q n = value-fit (optional o x g) g tt (n .1)
     terminal-fit (label x g) q n = good-bind (Below (length (t .blocks))) (Fit t p) _ _ (reach-below c g (n .1)) (λ l k. enclosed-fit l x 17 b (scheduledIf l c) (if-held l c) k (ap isSwitch q) (n .0))
-    terminal-fit (sequence x g) q n = value-fit (sequence x g) g (n .1)
+    terminal-fit (sequence x g) q n = value-fit (sequence x g) g tt (n .1)
     terminal-fit (maybe-throw x) q n = leave-fit t (unlessScheduled c x) h (omega arith) (omega arith) (omega arith) f (taken-below c x n)
     terminal-fit (try x y g k) q n = good-bind (Below (length (t .blocks))) (Fit t p) _ _ (reach-below c g (n .2)) (λ l w.
         let o : Framed t 0 (frameOf b l (opens l) m) = framed b l (opens l) m below w (opens-one l) (ap isSwitch q) in
@@ -626,8 +623,8 @@ module _ (t : Table) (ck : Checked t) (d : ℕ) where
         let r : Held (scheduledIf l c) 0 (length (scheduledIf l c .stack)) (markScopeFallthroughIf l (scheduledIf l c)) = scoped-held l (scheduledIf l c) in
         enclosed-fit l x 18 b (markScopeFallthroughIf l (scheduledIf l c)) (record { ids = omega (arith, s .ids, r .ids); seen = r .seen ∙ s .seen; marked = r .marked ∙ s .marked; flags = r .flags ∙ s .flags; stack = r .stack ∙ s .stack }) (taken-below c g (n .1)) (ap isSwitch q) (n .0)
 
-instr-two : (t : Table) (rs : List ℕ) → length (instrOut t rs) ≡ 2 * length rs
-unfolding instrOut
+instr-two : (t : Table) (rs : List ℕ) → length (instructionsOut t rs) ≡ 2 * length rs
+unfolding instructionsOut
 instr-two t [] = omega arith
 instr-two t (r ∷ rs) = omega (arith, instr-two t rs)
 
@@ -639,12 +636,12 @@ module _ (t : Table) (ck : Checked t) where
       good-unless (Fit t p) _ 30 b (c .visits) _ (λ q.
       let deep : length F < 128 = leb-false 128 (length F) q in
       good-bind (Entered c) (Fit t p) _ _ (enter-sound t b c (ck .blocks) (h .flags)) (λ c₁ e.
-      terminal-fit t ck (depthLeft F) b F (R ++ instrOut t (instructionRowsAt t b)) (m + length (instructionRowsAt t b)) c₁ below f (inside c₁ deep e) (terminalAt t b) refl (ck .names b)))
+      terminal-fit t ck (depthLeft F) b F (R ++ instructionsOut t (instructionRowsAt t b)) (m + length (instructionRowsAt t b)) c₁ below f (inside c₁ deep e) (terminalAt t b) refl (ck .names b)))
     where
       p : ℕ
       p = 2053 * (8192 - c .visits) + turnsOfAll F
 
-      inside : (c₁ : Context) → length F < 128 → Entered c c₁ → Inside p 2052 2 0 0 16 F (R ++ instrOut t (instructionRowsAt t b)) (m + length (instructionRowsAt t b)) c₁
+      inside : (c₁ : Context) → length F < 128 → Entered c c₁ → Inside p 2052 2 0 0 16 F (R ++ instructionsOut t (instructionRowsAt t b)) (m + length (instructionRowsAt t b)) c₁
       inside c₁ deep e = record {
         visits = omega (arith, e .fewer, e .seen);
         ids = omega (arith, e .ids, e .seen, e .fewer, h .ids);
@@ -653,8 +650,8 @@ module _ (t : Table) (ck : Checked t) where
         marked = omega (arith, e .marked, h .marked);
         depth = deep;
         flags = e .flags;
-        tallied = omega (arith, length-append R (instrOut t (instructionRowsAt t b)), instr-two t (instructionRowsAt t b), h .tallied);
-        paid = omega (arith, length-append R (instrOut t (instructionRowsAt t b)), instr-two t (instructionRowsAt t b), ck .counts b, e .seen, h .paid);
+        tallied = omega (arith, length-append R (instructionsOut t (instructionRowsAt t b)), instr-two t (instructionRowsAt t b), h .tallied);
+        paid = omega (arith, length-append R (instructionsOut t (instructionRowsAt t b)), instr-two t (instructionRowsAt t b), ck .counts b, e .seen, h .paid);
       }
 
   abbrev Next : ℕ → Turn → Type 0
@@ -704,7 +701,7 @@ module _ (t : Table) (ck : Checked t) where
       next-of _ (resume t (visitValueBlock t (depthLeft F)) fr F (R ++ (blockRow m ∷ [])) c)
       (resume-fit t ck (depthLeft F) (terminalAt t (fr .block)) fr F (R ++ (blockRow m ∷ [])) c refl (ck .names (fr .block)) (ended-inside fr F R m c h) o f)
   step-next (choosing fr F R c) (q, o, f, h) =
-      next-of _ (chooseCase t (firstCase (terminalAt t (fr .block))) (afterCases (terminalAt t (fr .block))) (fr .left) fr F R c)
+      next-of _ (chooseCase t (switchColumns (terminalAt t (fr .block)) .first) (switchColumns (terminalAt t (fr .block)) .fallthrough) (fr .left) fr F R c)
       (case-fit t ck 0 (fr .left) fr F R c refl q (holds-inside (suc (2 * fr .left + fr .entries)) fr F R c h (omega arith)) o f)
   step-next (popping fr F R c) (o, f, h) = close-fit t fr R c (holds-inside (suc (fr .entries)) fr F R c h (omega arith)) (le-refl _) (omega arith) (le-refl _) (omega arith) o f
 

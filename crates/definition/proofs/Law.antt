@@ -1,8 +1,9 @@
--- The run law of plain tables: the block run and the tree run both stop, with the same rows, the same answers taken and for the same reason.
+-- Demand 3, proved: for an accepted plain table the block run and the tree run both stop, with the same rows, the same answers taken and for
+-- the same reason; and the rows of any accepted table are read as one tree. For whoever calls the build (crates/build, proofs/Demand3).
 use mathlib.Core.Path.{_≡_, refl, sym, ap, _∙_}
 use Prim.Native.Nat.{ℕ, zero, suc, _+_}
 use mathlib.Core.List.{List, []}
-use mathlib.Core.Option.{Option, none, some}
+use mathlib.Core.Option.{none, some}
 use native.Mathlib.Nat.{zero-add, suc-add}
 use native.Mathlib.Omega.{arith}
 use Rattle.table.specs.Table.{Table, tableOf, blockAt, terminalAt, instructionRowsAt}
@@ -19,7 +20,7 @@ use Rattle.definition.specs.TreeRun.{runStatements, reasonOf, treeRun}
 use Rattle.definition.specs.Plain.{Plain}
 use Rattle.definition.specs.RunLaw.{Agree, RunLaw}
 use Rattle.definition.proofs.Semantics.{Built, LeadsOn, runs}
-use Rattle.definition.proofs.State.{inv-start}
+use Rattle.definition.proofs.State.{start-ok}
 use Rattle.definition.proofs.Structure.{WalkOk, walk-ok}
 use Rattle.definition.proofs.Loops.{takes-statements}
 use Rattle.definition.proofs.Checked.{ranged}
@@ -27,68 +28,66 @@ use Rattle.definition.proofs.Ranged.{Ranged}
 use Rattle.definition.proofs.Accepted.{Accepted, accepted-of, rows-of-buffer, words-rows}
 use Rattle.definition.proofs.Formed.{tree-formed}
 use Rattle.definition.proofs.Readings.{one-reading}
+use Rattle.definition.proofs.Steps.{none-some}
 
 -- ---- more steps change nothing: there is one block run
 
-unfinished-stopped : {tr : List ℕ} {a : Answers} {r : Reason} → unfinished ≡ stopped tr a r → ⊥
+unfinished-stopped : {performed : List ℕ} {a : Answers} {r : Reason} → unfinished ≡ stopped performed a r → ⊥
 unfinished-stopped e = let z : _≡_ {A = ℕ} 0 1 = cc in omega arith
 
 -- what stops goes on stopping alike
 abbrev Still : Run → Run → Type 0
-Still x y = (tr : List ℕ) (a : Answers) (r : Reason) → x ≡ stopped tr a r → y ≡ stopped tr a r
+Still x y = (performed : List ℕ) (a : Answers) (r : Reason) → x ≡ stopped performed a r → y ≡ stopped performed a r
 
 performing-still : (rs : List ℕ) (x y : Run) → Still x y → Still (performing rs x) (performing rs y)
 unfolding performing
-performing-still rs unfinished y f tr a r e = absurd (unfinished-stopped e)
-performing-still rs (stopped tr′ a′ r′) y f tr a r e = ap (λ (z : Run). performing rs z) (f tr′ a′ r′ refl) ∙ e
+performing-still rs unfinished y f performed a r e = absurd (unfinished-stopped e)
+performing-still rs (stopped performed′ a′ r′) y f performed a r e = ap (λ (z : Run). performing rs z) (f performed′ a′ r′ refl) ∙ e
 
-one-more : (t : Table) (n b : ℕ) (ans : Answers) → Still (blockRun t n b ans) (blockRun t (suc n) b ans)
+one-more : (t : Table) (n b : ℕ) (answers : Answers) → Still (blockRun t n b answers) (blockRun t (suc n) b answers)
 unfolding blockRun
-one-more t zero b ans = λ tr a r e. absurd (unfinished-stopped e)
-one-more t (suc n) b ans = performing-still (instructionRowsAt t b) _ _ (at (move (terminalAt t b) (blockAt t b .id) ans) (λ b′ a′. one-more t n b′ a′))
+one-more t zero b answers = λ performed a r e. absurd (unfinished-stopped e)
+one-more t (suc n) b answers = performing-still (instructionRowsAt t b) _ _ (at (move (terminalAt t b) (blockAt t b .id) answers) (λ b′ a′. one-more t n b′ a′))
   where
     at : (m : Move) → ((b′ : ℕ) (a′ : Answers) → Still (blockRun t n b′ a′) (blockRun t (suc n) b′ a′))
-        → Still (elim m [ go x y ↦ blockRun t n x y | halt e ↦ stopped [] ans e ]) (elim m [ go x y ↦ blockRun t (suc n) x y | halt e ↦ stopped [] ans e ])
+        → Still (elim m [ go x y ↦ blockRun t n x y | halt e ↦ stopped [] answers e ]) (elim m [ go x y ↦ blockRun t (suc n) x y | halt e ↦ stopped [] answers e ])
     at (go x y) f = f x y
-    at (halt q) f = λ tr a r e. e
+    at (halt q) f = λ performed a r e. e
 
-pub more-steps : (t : Table) (more n b : ℕ) (ans : Answers) (tr : List ℕ) (left : Answers) (r : Reason)
-    → blockRun t n b ans ≡ stopped tr left r → blockRun t (more + n) b ans ≡ stopped tr left r
-more-steps t zero n b ans tr left r e = rw zero-add e
-more-steps t (suc more) n b ans tr left r e = rw suc-add (one-more t (more + n) b ans tr left r (more-steps t more n b ans tr left r e))
+pub more-steps : (t : Table) (more n b : ℕ) (answers : Answers) (performed : List ℕ) (left : Answers) (r : Reason)
+    → blockRun t n b answers ≡ stopped performed left r → blockRun t (more + n) b answers ≡ stopped performed left r
+more-steps t zero n b answers performed left r e = rw zero-add e
+more-steps t (suc more) n b answers performed left r e = rw suc-add (one-more t (more + n) b answers performed left r (more-steps t more n b answers performed left r e))
 
 -- ---- what the build makes of a plain table agrees with it
 
-none-some : (y : ℕ) → _≡_ {A = Option ℕ} none (some y) → ⊥
-none-some y e = let z : _≡_ {A = ℕ} 0 1 = cc in omega arith
-
-agree-on : (t : Table) (s : Statements) (ans : Answers) (e : Completion) → runStatements s ans .completion ≡ e
-    → LeadsOn t [] (t .entry) ans (runStatements s ans .rows) e (runStatements s ans .left) → Agree t s ans
+agree-on : (t : Table) (s : Statements) (answers : Answers) (e : Completion) → runStatements s answers .completion ≡ e
+    → LeadsOn t [] (t .entry) answers (runStatements s answers .rows) e (runStatements s answers .left) → Agree t s answers
 unfolding treeRun reasonOf
-agree-on t s ans normal h (b, k, p) = absurd (none-some b k)
-agree-on t s ans (break none) h (b, k, p) = absurd (none-some b k)
-agree-on t s ans (break (some x)) h (b, k, p) = absurd (none-some b k)
-agree-on t s ans (continue none) h (b, k, p) = absurd (none-some b k)
-agree-on t s ans (continue (some x)) h (b, k, p) = absurd (none-some b k)
-agree-on t s ans (stop r) h p = record {
+agree-on t s answers normal h (b, k, p) = absurd (none-some k)
+agree-on t s answers (break none) h (b, k, p) = absurd (none-some k)
+agree-on t s answers (break (some x)) h (b, k, p) = absurd (none-some k)
+agree-on t s answers (continue none) h (b, k, p) = absurd (none-some k)
+agree-on t s answers (continue (some x)) h (b, k, p) = absurd (none-some k)
+agree-on t s answers (stop r) h p = record {
   steps = p .steps;
-  performed = runStatements s ans .rows;
-  taken = takes-statements s ans .taken;
-  left = runStatements s ans .left;
+  performed = runStatements s answers .rows;
+  taken = takes-statements s answers .taken;
+  left = runStatements s answers .left;
   reason = r;
-  block-run = λ more. more-steps t more (p .steps) (t .entry) ans (runStatements s ans .rows) (runStatements s ans .left) r (p .runs);
-  tree-run = ap (λ (e : Completion). stopped (runStatements s ans .rows) (runStatements s ans .left) (reasonOf e)) h;
-  answers-taken = takes-statements s ans .whole;
+  block-run = λ more. more-steps t more (p .steps) (t .entry) answers (runStatements s answers .rows) (runStatements s answers .left) r (p .runs);
+  tree-run = ap (λ (e : Completion). stopped (runStatements s answers .rows) (runStatements s answers .left) (reasonOf e)) h;
+  answers-taken = takes-statements s answers .whole;
   good = p .good;
 }
 
-built-agrees : (t : Table) (s : Statements) → Built t [] (t .entry) s → (ans : Answers) → Agree t s ans
-built-agrees t s b ans = agree-on t s ans (runStatements s ans .completion) refl (runs t b ans)
+built-agrees : (t : Table) (s : Statements) → Built t [] (t .entry) s → (answers : Answers) → Agree t s answers
+built-agrees t s b answers = agree-on t s answers (runStatements s answers .completion) refl (runs t b answers)
 
 -- what an accepted build of a plain table makes
 pub tree-built : (t : Table) → Plain t → Ranged t → (r : BlockResult) → buildTree t ≡ ok r → Built t [] (t .entry) (r .statements)
 unfolding buildTree WalkOk
-tree-built t pl rg r e = walk-ok t pl rg 128 [] (t .entry) start r (inv-start t) (pl .entry) e .tree
+tree-built t pl rg r e = walk-ok t pl rg 128 [] (t .entry) start r (start-ok t) (pl .entry) e .tree
 
 -- ---- the tree in the buffer
 

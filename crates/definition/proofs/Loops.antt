@@ -1,4 +1,4 @@
--- What a tree run takes of the answers, and the paper's own equation for WHILE, with no count in it.
+-- What a tree run takes of the answers, for proofs/Law; and for the reader the paper's own equation for WHILE, with no count in it.
 use mathlib.Core.Path.{_≡_, refl, sym, ap, _∙_, subst}
 use Prim.Native.Nat.{ℕ, zero, suc, _≤_}
 use native.Mathlib.Nat.{le-refl, le-trans, le-of-suc-le-suc, not-suc-le-zero, le-step}

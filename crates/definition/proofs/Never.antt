@@ -1,165 +1,24 @@
--- Over any table: the stack is handed back as it was, nothing new is scheduled, and the messages 90 to 92 never occur.
+-- Over any table: the walk hands the stack back as it was and schedules nothing new, so that 90 and 91 never occur; and every refusal is the
+-- paper's, so that 92 and 99 do not either. For the reader, proofs/Accepted and proofs/Simulation.
 use mathlib.Core.Path.{_≡_, refl, sym, ap, _∙_, subst}
-use Prim.Native.Nat.{ℕ, zero, suc, _≤_, _<_}
+use Prim.Native.Nat.{ℕ, zero, suc, _≤_}
 use native.Mathlib.Omega.{arith}
 use mathlib.Core.Logic.{_⊎_, inl, inr}
-use mathlib.Core.List.{List, [], _∷_, _++_}
+use mathlib.Core.List.{List, [], _∷_}
 use mathlib.Core.Option.{Option, none, some}
-use mathlib.Core.Bool.{Bool, true, false, not, _&&_}
-use lib.ListN.{getD, set}
-use lib.Dec.{T, eqb, leb, eqb-refl, leb→le}
-use borrow.Author.Tests.{eqb-true, eq-eqb}
-use Rattle.table.specs.Table.{Table, Block, Case, Terminal, absent, unreachable, throw, return, goto, if, branch, switch, do-while, while, for, for-of, for-in, logical, ternary, optional, sequence, maybe-throw, try, scope, Variant, Break, Continue, Try, blockAt, terminalAt, instructionRowsAt, instructionRows, isAbsent, isUnreachable, label}
-use Rattle.definition.specs.Context.{or, Flags, has, add, remove, ControlFlowTarget, target-if, target-switch, target-case, target-loop, targetBlock, Entry, Context, start, isScheduled, emit, withVisits, markScopeFallthrough, scheduleCatchHandler, pushed, schedule, scheduleLoop, unscheduledBy, popped, unscheduleTop, unschedule, breakTargetFrom, Resolution, continueTargetFrom}
-use Rattle.definition.specs.Build.{accepted, rejected, report, reported}
-use Rattle.definition.specs.Result.{refused, Result, ok, _>>=_, refuseIf, already-scheduled, unschedule-out-of-order, maybe-throw-in-value-terminal}
-use Rattle.definition.specs.Statement.{breakToScope, visitBreak, visitContinue, breakResolved, continueResolved, TerminalResult, BlockResult, TraverseBlock, enterBlock, unlessScheduled, unlessUnreachable, scheduleIf, unscheduleIf, markScopeFallthroughIf, traverseUnscheduled, AlternateResult, traverseAlternate, visitGoto, traverseEnclosed, loopIsTaken, traverseLoop, CasesResult, traverseCases, unscheduleAll, scheduleSwitch, scheduleIds, casesLastFirst, OptionalValue, visitUpdate, traverseConsequent, visitValueStatement, visitTerminal, thenNext, visitBlock, traverseBlock, buildTree}
+use mathlib.Core.Bool.{Bool, true, false, not, _&&_, _||_}
+use lib.Dec.{T, eqb, leb, leb→le}
+use borrow.Author.Tests.{eq-eqb}
+use Rattle.table.specs.Table.{Table, Block, Case, Terminal, absent, unreachable, throw, return, goto, if, branch, switch, do-while, while, for, for-of, for-in, logical, ternary, optional, sequence, maybe-throw, try, scope, Variant, Break, Continue, Try, blockAt, terminalAt, isAbsent, isUnreachable, label}
+use Rattle.definition.specs.Context.{Flags, has, add, remove, ControlFlowTarget, target-if, target-switch, target-case, target-loop, targetBlock, Entry, Context, start, isScheduled, emit, withVisits, markScopeFallthrough, scheduleCatchHandler, pushed, schedule, scheduleLoop, unscheduledBy, popped, unscheduleTop, unschedule, Resolution}
+use Rattle.definition.specs.Build.{rejected, report, reported}
+use Rattle.definition.specs.Result.{refused, Result, ok, _>>=_, refuseIf, alreadyScheduled, unscheduleOutOfOrder, maybeThrowInValueTerminal}
+use Rattle.definition.specs.Statement.{breakToScope, visitBreak, visitContinue, breakResolved, continueResolved, TerminalResult, BlockResult, TraverseBlock, enterBlock, unlessScheduled, unlessUnreachable, scheduleIf, unscheduleIf, markScopeFallthroughIf, traverseUnscheduled, traverseAlternate, visitGoto, traverseEnclosed, traverseLoop, traverseCases, unscheduleAll, scheduleSwitch, scheduleIds, casesLastFirst, visitUpdate, traverseConsequent, visitValueStatement, visitTerminal, thenNext, visitBlock, traverseBlock, buildTree}
 use Rattle.definition.specs.Tree.{Kind, implicit, labeled, unlabeled, Statement, Statements}
-use Rattle.definition.specs.Value.{visitValueBlock, branchWays, Ways, isThis, beginVisit, ValueBlockResult, ValueTerminalResult, TestBlockResult, VisitValueBlock, extractOrRefuse, testBlockEnded, visitTestBlock, visitValueBlockTerminal, thenFallthrough, branchValue, isEmptyGoto, maybeThrowValue, visitValueBlockAt}
-use Rattle.definition.proofs.Tools.{true-false, has-add, has-remove}
-
--- "10 missing block .. 31 visits": the refusals that a table can have
-abbrev pub ofPaper : ℕ → Bool
-ofPaper code = leb 10 code && leb code 31
-
--- an answer has the property, or the refusal is one of the paper's
-abbrev pub Fine : {A : Type 0} → (A → Type 0) → Result A → Type 0
-Fine P (ok a) = P a
-Fine P (refused c p v) = T (ofPaper c)
-
-pub fine-bind : {A B : Type 0} (P : A → Type 0) (Q : B → Type 0) (m : Result A) (f : A → Result B) → Fine P m → ((a : A) → P a → Fine Q (f a)) → Fine Q (m >>= f)
-unfolding _>>=_
-fine-bind P Q (ok a) f h k = k a h
-fine-bind P Q (refused c p v) f h k = h
-
--- a test, and what comes after it
-fine-unless : {B : Type 0} (Q : B → Type 0) (b : Bool) (c p v : ℕ) (f : Unit {0} → Result B) → T (ofPaper c) → (b ≡ false → Fine Q (f tt)) → Fine Q (refuseIf b c p v >>= f)
-unfolding _>>=_ refuseIf
-fine-unless Q true c p v f h k = h
-fine-unless Q false c p v f h k = k refl
-
--- a test with two ways on
-fine-pick : {A : Type 0} (P : A → Type 0) (y : Bool) (a b : Result A) → (y ≡ true → Fine P a) → (y ≡ false → Fine P b) → Fine P (elim y [ true ↦ a | false ↦ b ])
-fine-pick P true a b f g = f refl
-fine-pick P false a b f g = g refl
-
-abbrev Any : {A : Type 0} → A → Type 0
-Any a = Unit {0}
-
--- ---- values
-
-abbrev isMaybe : Terminal → Bool
-isMaybe absent = false
-isMaybe unreachable = false
-isMaybe (throw x) = false
-isMaybe (return x) = false
-isMaybe (goto g x) = false
-isMaybe (if x c a f) = false
-isMaybe (branch x c a) = false
-isMaybe (switch x i n f) = false
-isMaybe (do-while l x f) = false
-isMaybe (while x l f) = false
-isMaybe (for i x u l f) = false
-isMaybe (for-of i x l f) = false
-isMaybe (for-in i l f) = false
-isMaybe (logical o x f) = false
-isMaybe (ternary x f) = false
-isMaybe (optional g x f) = false
-isMaybe (label b f) = false
-isMaybe (sequence b f) = false
-isMaybe (maybe-throw k) = true
-isMaybe (try b h f n) = false
-isMaybe (scope p b f s) = false
-
-begin-fine : (t : Table) (b v : ℕ) → Fine Any (beginVisit t b v)
-unfolding beginVisit
-begin-fine t b v = fine-unless Any _ 31 b v _ tt (λ h. fine-unless Any _ 10 b (suc v) _ tt (λ h. tt))
-
-ValueFine : VisitValueBlock → Type 0
-ValueFine values = (b : ℕ) (ft : Option ℕ) (span v : ℕ) → Fine Any (values b ft span v)
-
-extractOr-fine : (t : Table) (b : ℕ) (rs : List ℕ) (v c at : ℕ) → T (ofPaper c) → Fine Any (extractOrRefuse t b rs v c at)
-unfolding extractOrRefuse
-extractOr-fine t b [] v c at h = h
-extractOr-fine t b (r ∷ rs) v c at h = tt
-
-testEnded-fine : (r : ValueBlockResult) (w : Option Ways) (at : ℕ) → Fine Any (testBlockEnded r w at)
-unfolding testBlockEnded
-testEnded-fine r none at = tt
-testEnded-fine r (some w) at = tt
-
-branchValue-fine : (t : Table) (b x i : ℕ) (rs : List ℕ) (v : ℕ) → Fine Any (branchValue t b x i rs v)
-unfolding branchValue
-branchValue-fine t b x i [] v = tt
-branchValue-fine t b x i (r ∷ rs) v = tt
-
-module _ (t : Table) (values : VisitValueBlock) (vf : ValueFine values) where
-  testBlock-fine : (b span v at : ℕ) → Fine Any (visitTestBlock t values b span v at)
-  unfolding visitTestBlock ValueFine
-  testBlock-fine b span v at = fine-bind Any Any _ _ (vf b none span v) (λ r _. testEnded-fine r _ at)
-
-  andFinal-fine : (b : ℕ) (k : Block) (span : ℕ) (m : Result ValueTerminalResult) → Fine Any m → Fine Any (thenFallthrough t values b k span m)
-  unfolding thenFallthrough ValueFine
-  andFinal-fine b k span m h = fine-bind Any Any m _ h (λ i _. fine-bind Any Any _ _ (vf _ _ _ _) (λ r _. tt))
-
-  terminal-value-fine : (m : Terminal) (id span v at : ℕ) → T (not (isMaybe m)) → Fine Any (visitValueBlockTerminal t values m id span v at)
-  unfolding visitValueBlockTerminal ValueFine
-  terminal-value-fine absent id span v at h = tt
-  terminal-value-fine unreachable id span v at h = tt
-  terminal-value-fine (throw x) id span v at h = tt
-  terminal-value-fine (return x) id span v at h = tt
-  terminal-value-fine (goto g x) id span v at h = tt
-  terminal-value-fine (if x c a f) id span v at h = tt
-  terminal-value-fine (branch x c a) id span v at h = tt
-  terminal-value-fine (switch x i n f) id span v at h = tt
-  terminal-value-fine (do-while l x f) id span v at h = tt
-  terminal-value-fine (while x l f) id span v at h = tt
-  terminal-value-fine (for i x u l f) id span v at h = tt
-  terminal-value-fine (for-of i x l f) id span v at h = tt
-  terminal-value-fine (for-in i l f) id span v at h = tt
-  terminal-value-fine (logical o x f) id span v at h = fine-bind Any Any _ _ (testBlock-fine x span v at) (λ s _. fine-bind Any Any _ _ (vf _ _ _ _) (λ l _. fine-bind Any Any _ _ (vf _ _ _ _) (λ r _. tt)))
-  terminal-value-fine (ternary x f) id span v at h = fine-bind Any Any _ _ (testBlock-fine x span v at) (λ s _. fine-bind Any Any _ _ (vf _ _ _ _) (λ l _. fine-bind Any Any _ _ (vf _ _ _ _) (λ r _. tt)))
-  terminal-value-fine (optional g x f) id span v at h = fine-bind Any Any _ _ (testBlock-fine x span v at) (λ s _. fine-bind Any Any _ _ (vf _ _ _ _) (λ l _. tt))
-  terminal-value-fine (label b f) id span v at h = tt
-  terminal-value-fine (sequence b f) id span v at h = fine-bind Any Any _ _ (vf _ _ _ _) (λ r _. tt)
-  terminal-value-fine (maybe-throw k) id span v at h = absurd h
-  terminal-value-fine (try b h′ f n) id span v at h = tt
-  terminal-value-fine (scope p b f s) id span v at h = tt
-
-  maybeThrow-fine : (b k : ℕ) (rs : List ℕ) (ft : Option ℕ) (span v : ℕ) (y : Bool) → Fine Any (maybeThrowValue t values b k rs ft span v y)
-  unfolding maybeThrowValue ValueFine
-  maybeThrow-fine b k rs ft span v true = extractOr-fine t k rs v 28 b tt
-  maybeThrow-fine b k rs ft span v false = fine-bind Any Any _ _ (vf k ft span v) (λ r _. tt)
-
-  valueAt-fine : (m : Terminal) (b : ℕ) (k : Block) (ft : Option ℕ) (span v : ℕ) → Fine Any (visitValueBlockAt t values m b k ft span v)
-  unfolding visitValueBlockAt
-  valueAt-fine absent b k ft span v = andFinal-fine b k span _ (terminal-value-fine absent (k .id) (k .span) v b tt)
-  valueAt-fine unreachable b k ft span v = andFinal-fine b k span _ (terminal-value-fine unreachable (k .id) (k .span) v b tt)
-  valueAt-fine (throw x) b k ft span v = andFinal-fine b k span _ (terminal-value-fine (throw x) (k .id) (k .span) v b tt)
-  valueAt-fine (return x) b k ft span v = andFinal-fine b k span _ (terminal-value-fine (return x) (k .id) (k .span) v b tt)
-  valueAt-fine (goto g x) b k ft span v = extractOr-fine t b (instructionRows k) v 24 b tt
-  valueAt-fine (if x c a f) b k ft span v = andFinal-fine b k span _ (terminal-value-fine (if x c a f) (k .id) (k .span) v b tt)
-  valueAt-fine (branch x c a) b k ft span v = branchValue-fine t b x (k .id) (instructionRows k) v
-  valueAt-fine (switch x i n f) b k ft span v = andFinal-fine b k span _ (terminal-value-fine (switch x i n f) (k .id) (k .span) v b tt)
-  valueAt-fine (do-while l x f) b k ft span v = andFinal-fine b k span _ (terminal-value-fine (do-while l x f) (k .id) (k .span) v b tt)
-  valueAt-fine (while x l f) b k ft span v = andFinal-fine b k span _ (terminal-value-fine (while x l f) (k .id) (k .span) v b tt)
-  valueAt-fine (for i x u l f) b k ft span v = andFinal-fine b k span _ (terminal-value-fine (for i x u l f) (k .id) (k .span) v b tt)
-  valueAt-fine (for-of i x l f) b k ft span v = andFinal-fine b k span _ (terminal-value-fine (for-of i x l f) (k .id) (k .span) v b tt)
-  valueAt-fine (for-in i l f) b k ft span v = andFinal-fine b k span _ (terminal-value-fine (for-in i l f) (k .id) (k .span) v b tt)
-  valueAt-fine (logical o x f) b k ft span v = andFinal-fine b k span _ (terminal-value-fine (logical o x f) (k .id) (k .span) v b tt)
-  valueAt-fine (ternary x f) b k ft span v = andFinal-fine b k span _ (terminal-value-fine (ternary x f) (k .id) (k .span) v b tt)
-  valueAt-fine (optional g x f) b k ft span v = andFinal-fine b k span _ (terminal-value-fine (optional g x f) (k .id) (k .span) v b tt)
-  valueAt-fine (label z f) b k ft span v = andFinal-fine b k span _ (terminal-value-fine (label z f) (k .id) (k .span) v b tt)
-  valueAt-fine (sequence z f) b k ft span v = andFinal-fine b k span _ (terminal-value-fine (sequence z f) (k .id) (k .span) v b tt)
-  valueAt-fine (maybe-throw n) b k ft span v = fine-unless Any _ 10 n v _ tt (λ h. maybeThrow-fine b n (instructionRows k) ft span v _)
-  valueAt-fine (try z h f n) b k ft span v = andFinal-fine b k span _ (terminal-value-fine (try z h f n) (k .id) (k .span) v b tt)
-  valueAt-fine (scope p z f s) b k ft span v = andFinal-fine b k span _ (terminal-value-fine (scope p z f s) (k .id) (k .span) v b tt)
-
-value-fine : (t : Table) (d : ℕ) → ValueFine (visitValueBlock t d)
-unfolding ValueFine visitValueBlock
-value-fine t zero b ft span v = tt
-value-fine t (suc d) b ft span v =
-    fine-bind Any Any _ _ (begin-fine t b v) (λ v1 _. fine-unless Any _ 23 b v1 _ tt (λ h. valueAt-fine t (visitValueBlock t d) (value-fine t d) (terminalAt t b) b (blockAt t b) ft span v1))
+use Rattle.definition.specs.Value.{visitValueBlock, beginVisit, VisitValueBlock}
+use Rattle.definition.proofs.Steps.{true-false, Any, ofPaper, Fine, fine-bind, fine-unless, fine-pick, fine-map, none-some}
+use Rattle.definition.proofs.Flags.{has-add, has-remove, has-removed}
+use Rattle.definition.proofs.ValueWalk.{BlockTook, TerminalTook, VisitTook, isMaybeThrow, terminal-took, value-took}
 
 -- ---- the state: the stack as before, and nothing new scheduled
 
@@ -199,12 +58,9 @@ to-entered c b v = record { same = refl; sub = λ x h. h }
 unfoldable pub Free : Option ℕ → Context → Type 0
 Free g c = (f : ℕ) → g ≡ some f → has (c .scheduled) f ≡ false
 
-pub or-false : (x y : Bool) → or x y ≡ false → x ≡ false
+pub or-false : (x y : Bool) → x || y ≡ false → x ≡ false
 or-false true y e = e
 or-false false y e = refl
-
-none-some : {y : ℕ} → _≡_ {A = Option ℕ} none (some y) → ⊥
-none-some e = let z : _≡_ {A = ℕ} 0 1 = cc in omega arith
 
 pub untaken-free : (c : Context) (f : ℕ) → Free (unlessScheduled c f) c
 unfolding unlessScheduled Free isScheduled
@@ -226,20 +82,11 @@ pub schedule-free : (g : ControlFlowTarget) (c : Context) → has (c .scheduled)
 unfolding schedule refuseIf _>>=_
 schedule-free g c e = ap (λ (y : Bool). refuseIf y 90 (targetBlock g) (c .visits) >>= λ _. ok (pushed g (add (c .scheduled) (targetBlock g)) c)) e
 
-unschedule-exact : (i : ℕ) (e : Entry) (S : List Entry) (d : Context) → d .stack ≡ e ∷ S → e .id ≡ i → unschedule i d ≡ ok (popped S (unscheduledBy (e .target) (d .scheduled)) d)
+unschedule-top : (i : ℕ) (e : Entry) (S : List Entry) (d : Context) → d .stack ≡ e ∷ S → e .id ≡ i → unschedule i d ≡ ok (popped S (unscheduledBy (e .target) (d .scheduled)) d)
 unfolding unschedule unscheduleTop
-unschedule-exact i e S d h q =
+unschedule-top i e S d h q =
     ap (λ (z : List Entry). unscheduleTop z i d) h
     ∙ ap (λ (y : Bool). elim y [ true ↦ ok (popped S (unscheduledBy (e .target) (d .scheduled)) d) | false ↦ refused 91 0 (d .visits) ]) (eq-eqb (e .id) i q)
-
-has-removed : (s : Flags) (y : ℕ) → has (remove s y) y ≡ false
-unfolding has remove
-has-removed s y = gone s y
-  where
-    gone : (s : Flags) (y : ℕ) → getD (set s y false) y false ≡ false
-    gone [] y = refl
-    gone (a ∷ s) zero = refl
-    gone (a ∷ s) (suc y) = gone s y
 
 not-removed : (s : Flags) (y x : ℕ) → has (remove s y) x ≡ true → x ≡ y → ⊥
 not-removed s y x h e = true-false (sym h ∙ ap (has (remove s y)) e ∙ has-removed s y)
@@ -256,12 +103,12 @@ on-pushed g c = record { stack = refl; sub = λ x h. has-add (c .scheduled) (tar
 on-after : {g : ControlFlowTarget} {i : ℕ} {c d e : Context} → On g i c d → After d e → On g i c e
 on-after p q = record { stack = q .same ∙ p .stack; sub = λ x h. p .sub x (q .sub x h) }
 
-abbrev plainTarget : ControlFlowTarget → Type 0
-plainTarget g = (s : Flags) → unscheduledBy g s ≡ remove s (targetBlock g)
+abbrev OneBlock : ControlFlowTarget → Type 0
+OneBlock g = (s : Flags) → unscheduledBy g s ≡ remove s (targetBlock g)
 
-off : (g : ControlFlowTarget) (i : ℕ) (c d : Context) → plainTarget g → On g i c d → After c (popped (c .stack) (unscheduledBy g (d .scheduled)) d)
+popped-after : (g : ControlFlowTarget) (i : ℕ) (c d : Context) → OneBlock g → On g i c d → After c (popped (c .stack) (unscheduledBy g (d .scheduled)) d)
 unfolding popped
-off g i c d u p = record {
+popped-after g i c d u p = record {
   same = refl;
   sub = λ x h. away x (ap (λ (s : Flags). has s x) (sym (u (d .scheduled))) ∙ h);
 }
@@ -269,40 +116,40 @@ off g i c d u p = record {
     away : (x : ℕ) → has (remove (d .scheduled) (targetBlock g)) x ≡ true → has (c .scheduled) x ≡ true
     away x h = elim (p .sub x (has-remove (d .scheduled) (targetBlock g) x h)) [ inl e ↦ absurd (not-removed (d .scheduled) (targetBlock g) x h e) | inr k ↦ k ]
 
-unschedule-fine : (g : ControlFlowTarget) (i : ℕ) (c d : Context) → plainTarget g → On g i c d → Fine (λ e. After c e) (unschedule i d)
+unschedule-fine : (g : ControlFlowTarget) (i : ℕ) (c d : Context) → OneBlock g → On g i c d → Fine (λ e. After c e) (unschedule i d)
 unschedule-fine g i c d u p =
-    subst (λ (r : Result Context). Fine (λ e. After c e) r) (sym (unschedule-exact i (record { id = i; target = g }) (c .stack) d (p .stack) refl)) (off g i c d u p)
+    subst (λ (r : Result Context). Fine (λ e. After c e) r) (sym (unschedule-top i (record { id = i; target = g }) (c .stack) d (p .stack) refl)) (popped-after g i c d u p)
 
-if-plain : (f : ℕ) → plainTarget (target-if f)
+if-one-block : (f : ℕ) → OneBlock (target-if f)
 unfolding unscheduledBy
-if-plain f s = refl
+if-one-block f s = refl
 
-switch-plain : (f : ℕ) → plainTarget (target-switch f)
+switch-one-block : (f : ℕ) → OneBlock (target-switch f)
 unfolding unscheduledBy
-switch-plain f s = refl
+switch-one-block f s = refl
 
-case-plain : (f : ℕ) → plainTarget (target-case f)
+case-one-block : (f : ℕ) → OneBlock (target-case f)
 unfolding unscheduledBy
-case-plain f s = refl
+case-one-block f s = refl
 
 -- an optional target pushed
-abbrev Maybe : Option ℕ → Context → Context → Type 0
-Maybe none c d = After c d
-Maybe (some f) c d = On (target-if f) (c .nextId) c d
+abbrev OnIf : Option ℕ → Context → Context → Type 0
+OnIf none c d = After c d
+OnIf (some f) c d = On (target-if f) (c .nextId) c d
 
-maybe-after : (g : Option ℕ) (c : Context) {d e : Context} → Maybe g c d → After d e → Maybe g c e
-maybe-after none c p q = after-trans p q
-maybe-after (some f) c p q = on-after p q
+on-if-after : (g : Option ℕ) (c : Context) {d e : Context} → OnIf g c d → After d e → OnIf g c e
+on-if-after none c p q = after-trans p q
+on-if-after (some f) c p q = on-after p q
 
-opened-fine : (g : Option ℕ) (c : Context) → Free g c → Fine (λ d. Maybe g c d) (scheduleIf g c)
+schedule-if-fine : (g : Option ℕ) (c : Context) → Free g c → Fine (λ d. OnIf g c d) (scheduleIf g c)
 unfolding scheduleIf Free
-opened-fine none c h = after-refl c
-opened-fine (some f) c h = subst (λ (r : Result Context). Fine (λ d. On (target-if f) (c .nextId) c d) r) (sym (schedule-free (target-if f) c (h f refl))) (on-pushed (target-if f) c)
+schedule-if-fine none c h = after-refl c
+schedule-if-fine (some f) c h = subst (λ (r : Result Context). Fine (λ d. On (target-if f) (c .nextId) c d) r) (sym (schedule-free (target-if f) c (h f refl))) (on-pushed (target-if f) c)
 
-closed-fine : (g : Option ℕ) (c d : Context) → Maybe g c d → Fine (λ e. After c e) (unscheduleIf g (c .nextId) d)
+unschedule-if-fine : (g : Option ℕ) (c d : Context) → OnIf g c d → Fine (λ e. After c e) (unscheduleIf g (c .nextId) d)
 unfolding unscheduleIf
-closed-fine none c d p = p
-closed-fine (some f) c d p = unschedule-fine (target-if f) (c .nextId) c d (if-plain f) p
+unschedule-if-fine none c d p = p
+unschedule-if-fine (some f) c d p = unschedule-fine (target-if f) (c .nextId) c d (if-one-block f) p
 
 -- ---- loops
 
@@ -315,18 +162,18 @@ record InLoop (f k l : ℕ) (c d : Context) : Type 0 where
 loop-after : {f k l : ℕ} {c d e : Context} → InLoop f k l c d → After d e → InLoop f k l c e
 loop-after p q = record { owns = p .owns; stack = q .same ∙ p .stack; sub = λ x h. p .sub x (q .sub x h); lent = p .lent }
 
-scheduleLoop-fine : (f k l : ℕ) (c : Context) → Fine (λ d. InLoop f k l c d) (scheduleLoop f k (some l) c)
+schedule-loop-fine : (f k l : ℕ) (c : Context) → Fine (λ d. InLoop f k l c d) (scheduleLoop f k (some l) c)
 unfolding scheduleLoop pushed
-scheduleLoop-fine f k l c = fine-unless (λ d. InLoop f k l c d) _ 15 k (c .visits) _ tt (λ h. record { owns = _; stack = refl; sub = λ x q. q; lent = lends (has (add (add (c .scheduled) f) k) l) })
+schedule-loop-fine f k l c = fine-unless (λ d. InLoop f k l c d) _ 15 k (c .visits) _ tt (λ h. record { owns = _; stack = refl; sub = λ x q. q; lent = lends (has (add (add (c .scheduled) f) k) l) })
   where
-    lends : (y : Bool) → elim y [ true ↦ false | false ↦ true ] ≡ false → y ≡ true
+    lends : (y : Bool) → not y ≡ false → y ≡ true
     lends true e = refl
     lends false e = absurd (true-false e)
 
-loop-away : (s d : Flags) (f k l : ℕ) (o : Bool) → ((x : ℕ) → has d x ≡ true → has (add (add (add s f) k) l) x ≡ true) → (o ≡ false → has (add (add s f) k) l ≡ true)
+loop-unscheduled : (s d : Flags) (f k l : ℕ) (o : Bool) → ((x : ℕ) → has d x ≡ true → has (add (add (add s f) k) l) x ≡ true) → (o ≡ false → has (add (add s f) k) l ≡ true)
     → (x : ℕ) → has (unscheduledBy (target-loop f k (some l) o) d) x ≡ true → has s x ≡ true
 unfolding unscheduledBy
-loop-away s d f k l true sub lent x h =
+loop-unscheduled s d f k l true sub lent x h =
     let h₁ : has (remove (remove d f) k) x ≡ true = has-remove (remove (remove d f) k) l x h in
     let h₂ : has (remove d f) x ≡ true = has-remove (remove d f) k x h₁ in
     elim (has-add (add (add s f) k) l x (sub x (has-remove d f x h₂))) [
@@ -336,7 +183,7 @@ loop-away s d f k l true sub lent x h =
         | inr q ↦ elim (has-add s f x q) [ inl e ↦ absurd (not-removed d f x h₂ e) | inr q ↦ q ]
       ]
     ]
-loop-away s d f k l false sub lent x h =
+loop-unscheduled s d f k l false sub lent x h =
     let h₂ : has (remove d f) x ≡ true = has-remove (remove d f) k x h in
     let inner : has (add (add s f) k) x ≡ true → has s x ≡ true = λ q. elim (has-add (add s f) k x q) [
       | inl e ↦ absurd (not-removed (remove d f) k x h e)
@@ -345,38 +192,38 @@ loop-away s d f k l false sub lent x h =
     elim (has-add (add (add s f) k) l x (sub x (has-remove d f x h₂)))
     [ inl e ↦ inner (ap (has (add (add s f) k)) e ∙ lent refl) | inr q ↦ inner q ]
 
-loop-off : (f k l : ℕ) (c d : Context) → InLoop f k l c d → Fine (λ e. After c e) (unschedule (c .nextId) d)
+unschedule-loop-fine : (f k l : ℕ) (c d : Context) → InLoop f k l c d → Fine (λ e. After c e) (unschedule (c .nextId) d)
 unfolding popped
-loop-off f k l c d p =
+unschedule-loop-fine f k l c d p =
     subst (λ (r : Result Context). Fine (λ e. After c e) r)
-    (sym (unschedule-exact (c .nextId) (record { id = c .nextId; target = target-loop f k (some l) (p .owns) }) (c .stack) d (p .stack) refl))
-    (record { same = refl; sub = loop-away (c .scheduled) (d .scheduled) f k l (p .owns) (p .sub) (p .lent) })
+    (sym (unschedule-top (c .nextId) (record { id = c .nextId; target = target-loop f k (some l) (p .owns) }) (c .stack) d (p .stack) refl))
+    (record { same = refl; sub = loop-unscheduled (c .scheduled) (d .scheduled) f k l (p .owns) (p .sub) (p .lent) })
 
 -- ---- cases
 
 abbrev Tower : Context → List ℕ → Context → Type 0
 Tower c [] d = After c d
-Tower c (i ∷ ids) d = (m : Context) × (g : ControlFlowTarget) × plainTarget g × On g i m d × Tower c ids m
+Tower c (i ∷ ids) d = (m : Context) × (g : ControlFlowTarget) × OneBlock g × On g i m d × Tower c ids m
 
 tower-after : (c : Context) (ids : List ℕ) (d e : Context) → Tower c ids d → After d e → Tower c ids e
 tower-after c [] d e p q = after-trans p q
 tower-after c (i ∷ ids) d e (m, g, u, o, r) q = (m, g, u, on-after o q, r)
 
-unscheduleAll-fine : (c : Context) (ids : List ℕ) (d : Context) → Tower c ids d → Fine (λ e. After c e) (unscheduleAll ids d)
+unschedule-all-fine : (c : Context) (ids : List ℕ) (d : Context) → Tower c ids d → Fine (λ e. After c e) (unscheduleAll ids d)
 unfolding unscheduleAll
-unscheduleAll-fine c [] d p = p
-unscheduleAll-fine c (i ∷ ids) d (m, g, u, o, r) =
-    fine-bind (λ e. After m e) (λ e. After c e) _ _ (unschedule-fine g i m d u o) (λ e q. unscheduleAll-fine c ids e (tower-after c ids m e r q))
+unschedule-all-fine c [] d p = p
+unschedule-all-fine c (i ∷ ids) d (m, g, u, o, r) =
+    fine-bind (λ e. After m e) (λ e. After c e) _ _ (unschedule-fine g i m d u o) (λ e q. unschedule-all-fine c ids e (tower-after c ids m e r q))
 
-openedSwitch-fine : (g : Option ℕ) (c : Context) → Free g c → Fine (λ d. Tower c (scheduleIds g (c .nextId)) d) (scheduleSwitch g c)
+schedule-switch-fine : (g : Option ℕ) (c : Context) → Free g c → Fine (λ d. Tower c (scheduleIds g (c .nextId)) d) (scheduleSwitch g c)
 unfolding scheduleSwitch Free
-openedSwitch-fine none c h = after-refl c
-openedSwitch-fine (some f) c h =
+schedule-switch-fine none c h = after-refl c
+schedule-switch-fine (some f) c h =
     subst (λ (r : Result Context). Fine (λ d. Tower c (c .nextId ∷ []) d) r) (sym (schedule-free (target-switch f) c (h f refl)))
-    (c, target-switch f, switch-plain f, on-pushed (target-switch f) c, after-refl c)
+    (c, target-switch f, switch-one-block f, on-pushed (target-switch f) c, after-refl c)
 
-case-fine : (k : ℕ) (c : Context) → has (c .scheduled) k ≡ false → Fine (λ d. On (target-case k) (c .nextId) c d) (schedule (target-case k) c)
-case-fine k c h = subst (λ (r : Result Context). Fine (λ d. On (target-case k) (c .nextId) c d) r) (sym (schedule-free (target-case k) c h)) (on-pushed (target-case k) c)
+schedule-case-fine : (k : ℕ) (c : Context) → has (c .scheduled) k ≡ false → Fine (λ d. On (target-case k) (c .nextId) c d) (schedule (target-case k) c)
+schedule-case-fine k c h = subst (λ (r : Result Context). Fine (λ d. On (target-case k) (c .nextId) c d) r) (sym (schedule-free (target-case k) c h)) (on-pushed (target-case k) c)
 
 pub false-of : (y : Bool) → (y ≡ true → ⊥) → y ≡ false
 false-of true h = absurd (h refl)
@@ -387,55 +234,55 @@ false-of false h = refl
 unfoldable pub WalkFine : TraverseBlock → Type 0
 WalkFine inner = (b : ℕ) (c : Context) → Fine (λ r. After c (r .context)) (inner b c)
 
-scope-break-fine : (k : Kind) (at v : ℕ) → Fine Any (breakToScope k at v)
+break-to-scope-fine : (k : Kind) (at v : ℕ) → Fine Any (breakToScope k at v)
 unfolding breakToScope
-scope-break-fine implicit at v = tt
-scope-break-fine labeled at v = tt
-scope-break-fine unlabeled at v = tt
+break-to-scope-fine implicit at v = tt
+break-to-scope-fine labeled at v = tt
+break-to-scope-fine unlabeled at v = tt
 
-breakStmt-fine : (b g i : ℕ) (c : Context) (r : Option Resolution) → Fine Any (breakResolved b g i c r)
+break-resolved-fine : (b g i : ℕ) (c : Context) (r : Option Resolution) → Fine Any (breakResolved b g i c r)
 unfolding breakResolved
-breakStmt-fine b g i c none = tt
-breakStmt-fine b g i c (some r) = fine-pick Any (has (c .scopeFallthroughs) (r .target)) _ _ (λ _. scope-break-fine (r .kind) b (c .visits)) (λ _. tt)
+break-resolved-fine b g i c none = tt
+break-resolved-fine b g i c (some r) = fine-pick Any (has (c .scopeFallthroughs) (r .target)) _ _ (λ _. break-to-scope-fine (r .kind) b (c .visits)) (λ _. tt)
 
-continueStmt-fine : (g i : ℕ) (c : Context) (k : Option Resolution) → Fine Any (continueResolved g i c k)
+continue-resolved-fine : (g i : ℕ) (c : Context) (k : Option Resolution) → Fine Any (continueResolved g i c k)
 unfolding continueResolved
-continueStmt-fine g i c none = tt
-continueStmt-fine g i c (some k) = tt
+continue-resolved-fine g i c none = tt
+continue-resolved-fine g i c (some k) = tt
 
 abbrev StepAfter : Context → TerminalResult → Type 0
 StepAfter c s = After c (s .context)
 
-jump-fine : (v : Variant) (b g i : ℕ) (c : Context) → Fine (StepAfter c) (visitGoto v b g i c)
+goto-fine : (v : Variant) (b g i : ℕ) (c : Context) → Fine (StepAfter c) (visitGoto v b g i c)
 unfolding visitGoto visitBreak visitContinue
-jump-fine Break b g i c = fine-bind Any (StepAfter c) _ _ (breakStmt-fine b g i c _) (λ s _. after-refl c)
-jump-fine Continue b g i c = fine-bind Any (StepAfter c) _ _ (continueStmt-fine g i c _) (λ s _. after-refl c)
-jump-fine Try b g i c = after-refl c
+goto-fine Break b g i c = fine-bind Any (StepAfter c) _ _ (break-resolved-fine b g i c _) (λ s _. after-refl c)
+goto-fine Continue b g i c = fine-bind Any (StepAfter c) _ _ (continue-resolved-fine g i c _) (λ s _. after-refl c)
+goto-fine Try b g i c = after-refl c
 
-module _ (t : Table) (values : VisitValueBlock) (vf : ValueFine values) (inner : TraverseBlock) (wf : WalkFine inner) where
-  fresh-fine : (b code at : ℕ) (c : Context) → T (ofPaper code) → Fine (λ r. After c (r .context)) (traverseUnscheduled inner b code at c)
+module _ (t : Table) (values : VisitValueBlock) (took : VisitTook t values) (inner : TraverseBlock) (wf : WalkFine inner) where
+  unscheduled-fine : (b code at : ℕ) (c : Context) → T (ofPaper code) → Fine (λ r. After c (r .context)) (traverseUnscheduled inner b code at c)
   unfolding traverseUnscheduled WalkFine
-  fresh-fine b code at c h = fine-unless (λ r. After c (r .context)) _ code at (c .visits) _ h (λ _. wf b c)
+  unscheduled-fine b code at c h = fine-unless (λ r. After c (r .context)) _ code at (c .visits) _ h (λ _. wf b c)
 
   alternate-fine : (a f : ℕ) (c : Context) → Fine (λ r. After c (r .context)) (traverseAlternate inner a f c)
   unfolding traverseAlternate
   alternate-fine a f c =
       fine-pick (λ r. After c (r .context)) (eqb a f) _ _ (λ _. after-refl c)
-      (λ _. fine-bind (λ r. After c (r .context)) (λ r. After c (r .context)) _ _ (fresh-fine a 13 a c tt) (λ r q. q))
+      (λ _. fine-bind (λ r. After c (r .context)) (λ r. After c (r .context)) _ _ (unscheduled-fine a 13 a c tt) (λ r q. q))
 
-  enclosed-fine : (b code at : ℕ) (g : Option ℕ) (c c₁ d : Context) (make : Statements → Statement) → T (ofPaper code) → Maybe g c d → ((e : Context) → After c₁ e → After d e)
+  enclosed-fine : (b code at : ℕ) (g : Option ℕ) (c c₁ d : Context) (make : Statements → Statement) → T (ofPaper code) → OnIf g c d → ((e : Context) → After c₁ e → After d e)
       → Fine (StepAfter c) (traverseEnclosed inner b code at g c c₁ make)
   unfolding traverseEnclosed
   enclosed-fine b code at g c c₁ d make h p br =
-      fine-bind (λ r. After c₁ (r .context)) (StepAfter c) _ _ (fresh-fine b code at c₁ h)
-      (λ r q. fine-bind (λ e. After c e) (StepAfter c) _ _ (closed-fine g c (r .context) (maybe-after g c p (br (r .context) q))) (λ e q₁. q₁))
+      fine-bind (λ r. After c₁ (r .context)) (StepAfter c) _ _ (unscheduled-fine b code at c₁ h)
+      (λ r q. fine-bind (λ e. After c e) (StepAfter c) _ _ (unschedule-if-fine g c (r .context) (on-if-after g c p (br (r .context) q))) (λ e q₁. q₁))
 
-  loopBody-fine : (b l f k : ℕ) (bad : Bool) (v : ℕ) (c d : Context) (g : Option ℕ) (make : Statements → Statement) → InLoop f k l c d
+  loop-fine : (b l f k : ℕ) (bad : Bool) (v : ℕ) (c d : Context) (g : Option ℕ) (make : Statements → Statement) → InLoop f k l c d
       → Fine (StepAfter c) (traverseLoop inner b l bad v (c .nextId) d g make)
   unfolding traverseLoop WalkFine
-  loopBody-fine b l f k bad v c d g make p =
+  loop-fine b l f k bad v c d g make p =
       fine-unless (StepAfter c) bad 16 b v _ tt (λ _. fine-bind (λ r. After (withVisits v d) (r .context)) (StepAfter c) _ _ (wf l (withVisits v d))
-      (λ r q. fine-bind (λ e. After c e) (StepAfter c) _ _ (loop-off f k l c (r .context) (loop-after p (from-visited v q))) (λ e q₁. q₁)))
+      (λ r q. fine-bind (λ e. After c e) (StepAfter c) _ _ (unschedule-loop-fine f k l c (r .context) (loop-after p (from-visited v q))) (λ e q₁. q₁)))
 
   cases-fine : (b f : ℕ) (c₀ : Context) (cs : List Case) (ids : List ℕ) (c : Context) → Tower c₀ ids c → Fine (λ r. Tower c₀ (r .ids) (r .context)) (traverseCases inner b f cs ids c)
   unfolding traverseCases WalkFine isScheduled
@@ -445,33 +292,33 @@ module _ (t : Table) (values : VisitValueBlock) (vf : ValueFine values) (inner :
       (λ _. fine-unless (λ r. Tower c₀ (r .ids) (r .context)) _ 14 b (c .visits) _ tt (λ _. cases-fine b f c₀ ks ids c p))
       (λ h. fine-bind (λ r. After c (r .context)) (λ r. Tower c₀ (r .ids) (r .context)) _ _ (wf (k .block) c) (λ r q.
       fine-bind (λ d. On (target-case (k .block)) (r .context .nextId) (r .context) d) (λ r. Tower c₀ (r .ids) (r .context)) _ _
-      (case-fine (k .block) (r .context) (false-of (has (r .context .scheduled) (k .block))
+      (schedule-case-fine (k .block) (r .context) (false-of (has (r .context .scheduled) (k .block))
       (λ z. true-false (sym (q .sub (k .block) z) ∙ or-false (has (c .scheduled) (k .block)) (has (c .catchHandlers) (k .block)) h))))
       (λ d o. fine-bind (λ r. Tower c₀ (r .ids) (r .context)) (λ r. Tower c₀ (r .ids) (r .context)) _ _
-      (cases-fine b f c₀ ks (r .context .nextId ∷ ids) d (r .context, target-case (k .block), case-plain (k .block), o, tower-after c₀ ids c (r .context) p q))
+      (cases-fine b f c₀ ks (r .context .nextId ∷ ids) d (r .context, target-case (k .block), case-one-block (k .block), o, tower-after c₀ ids c (r .context) p q))
       (λ z u. u))))
 
   consequent-fine : (b y i : ℕ) (c : Context) → Fine (λ r. After c (r .context)) (traverseConsequent inner b y i c)
   unfolding traverseConsequent WalkFine visitBreak
   consequent-fine b y i c =
       fine-pick (λ r. After c (r .context)) (isScheduled c y) _ _
-      (λ _. fine-bind Any (λ r. After c (r .context)) _ _ (breakStmt-fine b y i c _) (λ s _. after-refl c)) (λ _. wf y c)
+      (λ _. fine-bind Any (λ r. After c (r .context)) _ _ (break-resolved-fine b y i c _) (λ s _. after-refl c)) (λ _. wf y c)
+
+  value-fine : (x : ℕ) (ft : Option ℕ) (span v : ℕ) → Fine Any (values x ft span v)
+  unfolding VisitTook
+  value-fine x ft span v = fine-map (BlockTook t v) Any (values x ft span v) (λ _ _. tt) (took x ft span v)
 
   update-fine : (u : Option ℕ) (span v : ℕ) → Fine Any (visitUpdate values u span v)
-  unfolding visitUpdate ValueFine
+  unfolding visitUpdate
   update-fine none span v = tt
-  update-fine (some u) span v = fine-bind Any Any _ _ (vf u none span v) (λ r _. tt)
+  update-fine (some u) span v = fine-bind Any Any _ _ (value-fine u none span v) (λ r _. tt)
 
-  valueStmt-fine : (m : Terminal) (b : ℕ) (k : Block) (f : ℕ) (c : Context) → T (not (isMaybe m)) → Fine (StepAfter c) (visitValueStatement t values m b k f c)
+  value-statement-fine : (m : Terminal) (b : ℕ) (k : Block) (f : ℕ) (c : Context) → T (not (isMaybeThrow m)) → Fine (StepAfter c) (visitValueStatement t values m b k f c)
   unfolding visitValueStatement
-  valueStmt-fine m b k f c h =
-      fine-bind (λ d. Maybe (unlessScheduled c f) c d) (StepAfter c) _ _ (opened-fine (unlessScheduled c f) c (untaken-free c f)) (λ d p.
-      fine-bind Any (StepAfter c) _ _ (terminal-value-fine t values vf m (k .id) (k .span) (d .visits) b h) (λ r _.
-      fine-bind (λ e. After c e) (StepAfter c) _ _ (closed-fine (unlessScheduled c f) c (withVisits (r .visits) d) (maybe-after (unlessScheduled c f) c p (to-visited (r .visits) (after-refl d)))) (λ e q. q)))
-
-  loop-values : (x : ℕ) (ft : Option ℕ) (span v : ℕ) → Fine Any (values x ft span v)
-  unfolding ValueFine
-  loop-values x ft span v = vf x ft span v
+  value-statement-fine m b k f c h =
+      fine-bind (λ d. OnIf (unlessScheduled c f) c d) (StepAfter c) _ _ (schedule-if-fine (unlessScheduled c f) c (untaken-free c f)) (λ d p.
+      fine-bind (TerminalTook t (d .visits)) (StepAfter c) _ _ (terminal-took t values took m (k .id) (k .span) (d .visits) b h) (λ r _.
+      fine-bind (λ e. After c e) (StepAfter c) _ _ (unschedule-if-fine (unlessScheduled c f) c (withVisits (r .visits) d) (on-if-after (unlessScheduled c f) c p (to-visited (r .visits) (after-refl d)))) (λ e q. q)))
 
   terminal-fine : (m : Terminal) (b : ℕ) (k : Block) (c : Context) → isAbsent m ≡ false → Fine (StepAfter c) (visitTerminal t values inner m b k c)
   unfolding visitTerminal WalkFine
@@ -479,64 +326,64 @@ module _ (t : Table) (values : VisitValueBlock) (vf : ValueFine values) (inner :
   terminal-fine unreachable b k c h = after-refl c
   terminal-fine (throw x) b k c h = after-refl c
   terminal-fine (return x) b k c h = after-refl c
-  terminal-fine (goto g v) b k c h = jump-fine v b g (k .id) c
+  terminal-fine (goto g v) b k c h = goto-fine v b g (k .id) c
   terminal-fine (if x y a f) b k c h =
       fine-bind (λ g. Free g c) (StepAfter c) _ _ (reached-fine t c f) (λ g fr.
-      fine-bind (λ d. Maybe g c d) (StepAfter c) _ _ (opened-fine g c fr) (λ d p.
-      fine-bind (λ r. After d (r .context)) (StepAfter c) _ _ (fresh-fine y 12 y d tt) (λ r q.
+      fine-bind (λ d. OnIf g c d) (StepAfter c) _ _ (schedule-if-fine g c fr) (λ d p.
+      fine-bind (λ r. After d (r .context)) (StepAfter c) _ _ (unscheduled-fine y 12 y d tt) (λ r q.
       fine-bind (λ s. After (r .context) (s .context)) (StepAfter c) _ _ (alternate-fine a f (r .context)) (λ s q₁.
-      fine-bind (λ e. After c e) (StepAfter c) _ _ (closed-fine g c (s .context) (maybe-after g c (maybe-after g c p q) q₁)) (λ e q₂. q₂)))))
+      fine-bind (λ e. After c e) (StepAfter c) _ _ (unschedule-if-fine g c (s .context) (on-if-after g c (on-if-after g c p q) q₁)) (λ e q₂. q₂)))))
   terminal-fine (branch x y a) b k c h =
       fine-bind (λ r. After c (r .context)) (StepAfter c) _ _ (consequent-fine b y (k .id) c) (λ r q.
-      fine-bind (λ s. After (r .context) (s .context)) (StepAfter c) _ _ (fresh-fine a 19 b (r .context) tt) (λ s q₁. after-trans q q₁))
+      fine-bind (λ s. After (r .context) (s .context)) (StepAfter c) _ _ (unscheduled-fine a 19 b (r .context) tt) (λ s q₁. after-trans q q₁))
   terminal-fine (switch x i n f) b k c h =
       fine-bind (λ g. Free g c) (StepAfter c) _ _ (reached-fine t c f) (λ g fr.
-      fine-bind (λ d. Tower c (scheduleIds g (c .nextId)) d) (StepAfter c) _ _ (openedSwitch-fine g c fr) (λ d p.
+      fine-bind (λ d. Tower c (scheduleIds g (c .nextId)) d) (StepAfter c) _ _ (schedule-switch-fine g c fr) (λ d p.
       fine-bind (λ r. Tower c (r .ids) (r .context)) (StepAfter c) _ _ (cases-fine b f c (casesLastFirst t i n) (scheduleIds g (c .nextId)) d p) (λ r q.
-      fine-bind (λ e. After c e) (StepAfter c) _ _ (unscheduleAll-fine c (r .ids) (r .context) q) (λ e q₁. q₁))))
+      fine-bind (λ e. After c e) (StepAfter c) _ _ (unschedule-all-fine c (r .ids) (r .context) q) (λ e q₁. q₁))))
   terminal-fine (do-while l x f) b k c h =
-      fine-bind (λ d. InLoop f x l c d) (StepAfter c) _ _ (scheduleLoop-fine f x l c) (λ d p.
+      fine-bind (λ d. InLoop f x l c d) (StepAfter c) _ _ (schedule-loop-fine f x l c) (λ d p.
       fine-unless (StepAfter c) _ 16 b (d .visits) _ tt (λ _. fine-bind (λ r. After d (r .context)) (StepAfter c) _ _ (wf l d) (λ r q.
-      fine-bind Any (StepAfter c) _ _ (loop-values x none (k .span) (r .context .visits)) (λ v _.
-      fine-bind (λ e. After c e) (StepAfter c) _ _ (loop-off f x l c (withVisits (v .visits) (r .context)) (loop-after p (to-visited (v .visits) q))) (λ e q₁. q₁)))))
+      fine-bind Any (StepAfter c) _ _ (value-fine x none (k .span) (r .context .visits)) (λ v _.
+      fine-bind (λ e. After c e) (StepAfter c) _ _ (unschedule-loop-fine f x l c (withVisits (v .visits) (r .context)) (loop-after p (to-visited (v .visits) q))) (λ e q₁. q₁)))))
   terminal-fine (while x l f) b k c h =
       fine-bind (λ g. Free g c) (StepAfter c) _ _ (reached-fine t c f) (λ g fr.
-      fine-bind (λ d. InLoop f x l c d) (StepAfter c) _ _ (scheduleLoop-fine f x l c) (λ d p.
-      fine-bind Any (StepAfter c) _ _ (loop-values x none (k .span) (d .visits)) (λ v _. loopBody-fine b l f x _ (v .visits) c d g _ p)))
+      fine-bind (λ d. InLoop f x l c d) (StepAfter c) _ _ (schedule-loop-fine f x l c) (λ d p.
+      fine-bind Any (StepAfter c) _ _ (value-fine x none (k .span) (d .visits)) (λ v _. loop-fine b l f x _ (v .visits) c d g _ p)))
   terminal-fine (for i x u l f) b k c h =
-      fine-bind (λ d. InLoop f _ l c d) (StepAfter c) _ _ (scheduleLoop-fine f _ l c) (λ d p.
-      fine-bind Any (StepAfter c) _ _ (loop-values i none (k .span) (d .visits)) (λ n _.
-      fine-bind Any (StepAfter c) _ _ (loop-values x none (k .span) (n .visits)) (λ v _.
-      fine-bind Any (StepAfter c) _ _ (update-fine u (k .span) (v .visits)) (λ w _. loopBody-fine b l f _ _ (w .visits) c d _ _ p))))
+      fine-bind (λ d. InLoop f _ l c d) (StepAfter c) _ _ (schedule-loop-fine f _ l c) (λ d p.
+      fine-bind Any (StepAfter c) _ _ (value-fine i none (k .span) (d .visits)) (λ n _.
+      fine-bind Any (StepAfter c) _ _ (value-fine x none (k .span) (n .visits)) (λ v _.
+      fine-bind Any (StepAfter c) _ _ (update-fine u (k .span) (v .visits)) (λ w _. loop-fine b l f _ _ (w .visits) c d _ _ p))))
   terminal-fine (for-of i x l f) b k c h =
-      fine-bind (λ d. InLoop f i l c d) (StepAfter c) _ _ (scheduleLoop-fine f i l c) (λ d p.
-      fine-bind Any (StepAfter c) _ _ (loop-values i none (k .span) (d .visits)) (λ n _.
-      fine-bind Any (StepAfter c) _ _ (loop-values x none (k .span) (n .visits)) (λ v _. loopBody-fine b l f i _ (v .visits) c d _ _ p)))
+      fine-bind (λ d. InLoop f i l c d) (StepAfter c) _ _ (schedule-loop-fine f i l c) (λ d p.
+      fine-bind Any (StepAfter c) _ _ (value-fine i none (k .span) (d .visits)) (λ n _.
+      fine-bind Any (StepAfter c) _ _ (value-fine x none (k .span) (n .visits)) (λ v _. loop-fine b l f i _ (v .visits) c d _ _ p)))
   terminal-fine (for-in i l f) b k c h =
-      fine-bind (λ d. InLoop f i l c d) (StepAfter c) _ _ (scheduleLoop-fine f i l c) (λ d p.
-      fine-bind Any (StepAfter c) _ _ (loop-values i none (k .span) (d .visits)) (λ n _. loopBody-fine b l f i _ (n .visits) c d _ _ p))
-  terminal-fine (logical o x f) b k c h = valueStmt-fine (logical o x f) b k f c tt
-  terminal-fine (ternary x f) b k c h = valueStmt-fine (ternary x f) b k f c tt
-  terminal-fine (optional g x f) b k c h = valueStmt-fine (optional g x f) b k f c tt
+      fine-bind (λ d. InLoop f i l c d) (StepAfter c) _ _ (schedule-loop-fine f i l c) (λ d p.
+      fine-bind Any (StepAfter c) _ _ (value-fine i none (k .span) (d .visits)) (λ n _. loop-fine b l f i _ (n .visits) c d _ _ p))
+  terminal-fine (logical o x f) b k c h = value-statement-fine (logical o x f) b k f c tt
+  terminal-fine (ternary x f) b k c h = value-statement-fine (ternary x f) b k f c tt
+  terminal-fine (optional g x f) b k c h = value-statement-fine (optional g x f) b k f c tt
   terminal-fine (label x f) b k c h =
       fine-bind (λ g. Free g c) (StepAfter c) _ _ (reached-fine t c f) (λ g fr.
-      fine-bind (λ d. Maybe g c d) (StepAfter c) _ _ (opened-fine g c fr) (λ d p. enclosed-fine x 17 b g c d d _ tt p (λ e q. q)))
-  terminal-fine (sequence x f) b k c h = valueStmt-fine (sequence x f) b k f c tt
+      fine-bind (λ d. OnIf g c d) (StepAfter c) _ _ (schedule-if-fine g c fr) (λ d p. enclosed-fine x 17 b g c d d _ tt p (λ e q. q)))
+  terminal-fine (sequence x f) b k c h = value-statement-fine (sequence x f) b k f c tt
   terminal-fine (maybe-throw n) b k c h = after-refl c
   terminal-fine (try x y f n) b k c h =
       fine-bind (λ g. Free g c) (StepAfter c) _ _ (reached-fine t c f) (λ g fr.
-      fine-bind (λ d. Maybe g c d) (StepAfter c) _ _ (opened-fine g c fr) (λ d p.
+      fine-bind (λ d. OnIf g c d) (StepAfter c) _ _ (schedule-if-fine g c fr) (λ d p.
       fine-bind (λ r. After (scheduleCatchHandler y d) (r .context)) (StepAfter c) _ _ (wf x (scheduleCatchHandler y d)) (λ r q.
       fine-bind (λ s. After (r .context) (s .context)) (StepAfter c) _ _ (wf y (r .context)) (λ s q₁.
-      fine-bind (λ e. After c e) (StepAfter c) _ _ (closed-fine g c (s .context) (maybe-after g c (maybe-after g c p (from-caught y q)) q₁)) (λ e q₂. q₂)))))
+      fine-bind (λ e. After c e) (StepAfter c) _ _ (unschedule-if-fine g c (s .context) (on-if-after g c (on-if-after g c p (from-caught y q)) q₁)) (λ e q₂. q₂)))))
   terminal-fine (scope pr x f s) b k c h =
-      fine-bind (λ d. Maybe (unlessScheduled c f) c d) (StepAfter c) _ _ (opened-fine (unlessScheduled c f) c (untaken-free c f))
+      fine-bind (λ d. OnIf (unlessScheduled c f) c d) (StepAfter c) _ _ (schedule-if-fine (unlessScheduled c f) c (untaken-free c f))
       (λ d p. enclosed-fine x 18 b (unlessScheduled c f) c (markScopeFallthroughIf (unlessScheduled c f) d) d _ tt p (λ e q. from-scoped (unlessScheduled c f) q))
 
-  goOn-fine : (b : ℕ) (again : TraverseBlock) (c : Context) (s : Option Statement) (n : Option ℕ) (d : Context) → WalkFine again → After c d → Fine (λ r. After c (r .context)) (thenNext t b again s n d)
+  next-fine : (b : ℕ) (again : TraverseBlock) (c : Context) (s : Option Statement) (n : Option ℕ) (d : Context) → WalkFine again → After c d → Fine (λ r. After c (r .context)) (thenNext t b again s n d)
   unfolding thenNext WalkFine
-  goOn-fine b again c s none d w p = p
-  goOn-fine b again c s (some n) d w p = fine-bind (λ r. After d (r .context)) (λ r. After c (r .context)) _ _ (w n d) (λ r q. after-trans p q)
+  next-fine b again c s none d w p = p
+  next-fine b again c s (some n) d w p = fine-bind (λ r. After d (r .context)) (λ r. After c (r .context)) _ _ (w n d) (λ r q. after-trans p q)
 
   begin-present : (b v : ℕ) → Fine (λ _. isAbsent (terminalAt t b) ≡ false) (beginVisit t b v)
   unfolding beginVisit
@@ -548,18 +395,18 @@ module _ (t : Table) (values : VisitValueBlock) (vf : ValueFine values) (inner :
       fine-bind (λ _. isAbsent (terminalAt t b) ≡ false) (λ d. (isAbsent (terminalAt t b) ≡ false) × After c d) _ _ (begin-present b (c .visits))
       (λ v h. fine-unless (λ d. (isAbsent (terminalAt t b) ≡ false) × After c d) _ 11 b v _ tt (λ _. (h, to-entered c b v)))
 
-  chain-fine : (n : ℕ) → WalkFine (visitBlock t values inner n)
+  visit-block-fine : (n : ℕ) → WalkFine (visitBlock t values inner n)
   unfolding visitBlock WalkFine
-  chain-fine zero b c = tt
-  chain-fine (suc n) b c =
+  visit-block-fine zero b c = tt
+  visit-block-fine (suc n) b c =
       fine-bind (λ d. (isAbsent (terminalAt t b) ≡ false) × After c d) (λ r. After c (r .context)) _ _ (enter-fine b c) (λ d p.
       fine-bind (StepAfter d) (λ r. After c (r .context)) _ _ (terminal-fine (terminalAt t b) b (blockAt t b) d (p .0)) (λ s q.
-      goOn-fine b (visitBlock t values inner n) c (s .statement) (s .next) (s .context) (chain-fine n) (after-trans (p .1) q)))
+      next-fine b (visitBlock t values inner n) c (s .statement) (s .next) (s .context) (visit-block-fine n) (after-trans (p .1) q)))
 
 pub walk-fine : (t : Table) (d : ℕ) → WalkFine (traverseBlock t d)
 unfolding traverseBlock WalkFine
 walk-fine t zero b c = tt
-walk-fine t (suc d) b c = chain-fine t (visitValueBlock t d) (value-fine t d) (traverseBlock t d) (walk-fine t d) 8193 b c
+walk-fine t (suc d) b c = visit-block-fine t (visitValueBlock t d) (value-took t d) (traverseBlock t d) (walk-fine t d) 8193 b c
 
 -- every refusal of a table has one of the paper's codes, so none is a message that never occurs
 pub never : (t : Table) (c p v : ℕ) → buildTree t ≡ refused c p v → T (ofPaper c)
@@ -584,14 +431,14 @@ unfolding report
 never-above t code at visits e = of-paper code (never t code at visits (rejected-is (buildTree t) code at visits e))
 
 -- "Four Rust messages never occur and are proved so". The fourth has no counterpart: a target's type is a constructor
-pub never-already-scheduled : (t : Table) (at visits : ℕ) → report t ≡ rejected already-scheduled at visits → ⊥
-never-already-scheduled t at visits e = omega (arith, never-above t already-scheduled at visits e)
+pub never-already-scheduled : (t : Table) (at visits : ℕ) → report t ≡ rejected alreadyScheduled at visits → ⊥
+never-already-scheduled t at visits e = omega (arith, never-above t alreadyScheduled at visits e)
 
-pub never-unschedule-out-of-order : (t : Table) (at visits : ℕ) → report t ≡ rejected unschedule-out-of-order at visits → ⊥
-never-unschedule-out-of-order t at visits e = omega (arith, never-above t unschedule-out-of-order at visits e)
+pub never-unschedule-out-of-order : (t : Table) (at visits : ℕ) → report t ≡ rejected unscheduleOutOfOrder at visits → ⊥
+never-unschedule-out-of-order t at visits e = omega (arith, never-above t unscheduleOutOfOrder at visits e)
 
-pub never-maybe-throw-in-value-terminal : (t : Table) (at visits : ℕ) → report t ≡ rejected maybe-throw-in-value-terminal at visits → ⊥
-never-maybe-throw-in-value-terminal t at visits e = omega (arith, never-above t maybe-throw-in-value-terminal at visits e)
+pub never-maybe-throw-in-value-terminal : (t : Table) (at visits : ℕ) → report t ≡ rejected maybeThrowInValueTerminal at visits → ⊥
+never-maybe-throw-in-value-terminal t at visits e = omega (arith, never-above t maybeThrowInValueTerminal at visits e)
 
 -- 99, the terminal of a block that is not there, is no refusal either: such a block is refused 10 before
 pub never-absent-terminal : (t : Table) (at visits : ℕ) → report t ≡ rejected 99 at visits → ⊥

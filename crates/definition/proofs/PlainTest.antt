@@ -1,4 +1,4 @@
--- A Boolean test of plainness, and that it holds exactly of the plain tables: a table is shown plain by computation.
+-- A Boolean test of plainness, and that it holds exactly of the plain tables: a table is shown plain by computation. For proofs/Example.
 use mathlib.Core.Path.{_≡_, refl, sym, ap, _∙_, subst}
 use mathlib.Core.Logic.{_↔_}
 use Prim.Native.Nat.{ℕ, zero, suc}
@@ -9,8 +9,10 @@ use lib.ListN.{getD}
 use lib.Dec.{eqb}
 use borrow.Author.Tests.{eqb-true, eq-eqb, ne-eqb}
 use Rattle.table.specs.Table.{Table, Block, noBlock, Terminal, absent, unreachable, throw, return, goto, if, branch, switch, do-while, while, for, for-of, for-in, logical, ternary, optional, label, sequence, maybe-throw, try, scope, Break, Continue, Try, codeOf, terminalAt, instructionRowsAt}
-use Rattle.definition.specs.Plain.{Plain, plainCodes, among, isBranch, fallthroughOf, otherNames, endsInStore, NotBranch, All}
-use Rattle.definition.proofs.Tools.{true-false}
+use Rattle.definition.specs.Completion.{contains}
+use Rattle.definition.specs.Plain.{Plain, plainCodes, isBranch, fallthroughOf, otherNames, endsInStore, NotBranch, All}
+use Rattle.definition.specs.Value.{isFallthrough}
+use Rattle.definition.proofs.Steps.{true-false}
 
 -- ---- the test
 
@@ -73,10 +75,6 @@ notOfLoop f (a-branch p c a) = true
 notOfLoop f a-goto-try = true
 notOfLoop f another = true
 
-abbrev pub isThis : ℕ → Option ℕ → Bool
-isThis f none = false
-isThis f (some g) = eqb g f
-
 module _ (t : Table) where
   abbrev pub noBranches : List ℕ → Bool
   noBranches [] = true
@@ -92,10 +90,10 @@ module _ (t : Table) where
   -- a fallthrough is no other block's, and no loop's
   abbrev pub fallthroughTest : ℕ → Option ℕ → Bool
   fallthroughTest b none = true
-  fallthroughTest b (some f) = everyOf (t .blocks) (λ c m. eqb b c || not (isThis f (fallthroughOf m))) && everyOf (t .blocks) (λ w m. notOfLoop f (shapeOf m))
+  fallthroughTest b (some f) = everyOf (t .blocks) (λ c m. eqb b c || not (isFallthrough (fallthroughOf m) f)) && everyOf (t .blocks) (λ w m. notOfLoop f (shapeOf m))
 
   abbrev pub blockTest : ℕ → Terminal → Bool
-  blockTest b m = among plainCodes (codeOf m) && (noBranches (otherNames m) && (shapeTest b (shapeOf m) && fallthroughTest b (fallthroughOf m)))
+  blockTest b m = contains plainCodes (codeOf m) && (noBranches (otherNames m) && (shapeTest b (shapeOf m) && fallthroughTest b (fallthroughOf m)))
 
   abbrev pub isPlain : Bool
   isPlain = not (isBranch (terminalAt t (t .entry))) && everyOf (t .blocks) (λ b m. blockTest b m)
@@ -133,10 +131,6 @@ not-is false h = refl
 is-not : (a : Bool) → a ≡ false → not a ≡ true
 is-not true h = sym h
 is-not false h = refl
-
-is-not-when : (a : Bool) → (a ≡ true → ⊥) → not a ≡ true
-is-not-when true n = absurd (n refl)
-is-not-when false n = refl
 
 by-cases : {P : Type 0} (a : Bool) → (a ≡ true → P) → (a ≡ false → P) → P
 by-cases true f g = f refl
@@ -255,15 +249,12 @@ not-of-loop g′ (maybe-throw n) no-l no-x = refl
 not-of-loop g′ (try x k f n) no-l no-x = refl
 not-of-loop g′ (scope p x f n) no-l no-x = refl
 
-is-this : (f : ℕ) (o : Option ℕ) → isThis f o ≡ true → o ≡ some f
-is-this f none h = absurd (true-false (sym h))
-is-this f (some g) h = ap some (eqb-true g f h)
+fallthrough-is : (f : ℕ) (o : Option ℕ) → isFallthrough o f ≡ true → o ≡ some f
+fallthrough-is f none h = absurd (true-false (sym h))
+fallthrough-is f (some g) h = ap some (eqb-true g f h)
 
-this-is : (f : ℕ) (o : Option ℕ) → o ≡ some f → isThis f o ≡ true
-this-is f o e = ap (λ (z : Option ℕ). isThis f z) e ∙ eq-eqb f f refl
-
-some-eq : {x y : ℕ} → some x ≡ some y → x ≡ y
-some-eq e = cc
+is-fallthrough : (f : ℕ) (o : Option ℕ) → o ≡ some f → isFallthrough o f ≡ true
+is-fallthrough f o e = ap (λ (z : Option ℕ). isFallthrough z f) e ∙ eq-eqb f f refl
 
 module _ (t : Table) where
   branches-none : (ns : List ℕ) → noBranches t ns ≡ true → All (NotBranch t) ns
@@ -280,14 +271,14 @@ module _ (t : Table) where
   -- ---- what passes the test is plain
 
   record Passed (b : ℕ) (m : Terminal) : Type 0 where
-    code : among plainCodes (codeOf m) ≡ true
+    code : contains plainCodes (codeOf m) ≡ true
     names : noBranches t (otherNames m) ≡ true
     shape : shapeTest t b (shapeOf m) ≡ true
     fallthrough : fallthroughTest t b (fallthroughOf m) ≡ true
 
   passed-of : (b : ℕ) (m : Terminal) → blockTest t b m ≡ true → Passed b m
   passed-of b m h =
-      let a : Bool = among plainCodes (codeOf m) in
+      let a : Bool = contains plainCodes (codeOf m) in
       let n : Bool = noBranches t (otherNames m) in
       let s : Bool = shapeTest t b (shapeOf m) in
       let f : Bool = fallthroughTest t b (fallthroughOf m) in
@@ -327,18 +318,18 @@ module _ (t : Table) where
     one-fallthrough : (b c f : ℕ) → fallthroughOf (terminalAt t b) ≡ some f → fallthroughOf (terminalAt t c) ≡ some f → b ≡ c
     one-fallthrough b c f e e′ =
         by-cases (eqb b c) (eqb-true b c)
-        (λ n. absurd (true-false (sym (this-is f (fallthroughOf (terminalAt t c)) e′) ∙ not-is (isThis f (fallthroughOf (terminalAt t c))) (or-else (eqb b c) (not (isThis f (fallthroughOf (terminalAt t c)))) other n))))
+        (λ n. absurd (true-false (sym (is-fallthrough f (fallthroughOf (terminalAt t c)) e′) ∙ not-is (isFallthrough (fallthroughOf (terminalAt t c)) f) (or-else (eqb b c) (not (isFallthrough (fallthroughOf (terminalAt t c)) f)) other n))))
       where
-        other : eqb b c || not (isThis f (fallthroughOf (terminalAt t c))) ≡ true
+        other : eqb b c || not (isFallthrough (fallthroughOf (terminalAt t c)) f) ≡ true
         other =
-            every-at (t .blocks) (λ c m. eqb b c || not (isThis f (fallthroughOf m))) (λ c. or-right (eqb b c) true refl)
-            (and-left (everyOf (t .blocks) (λ c m. eqb b c || not (isThis f (fallthroughOf m)))) (everyOf (t .blocks) (λ w m. notOfLoop f (shapeOf m))) (fallthrough-at b f e)) c
+            every-at (t .blocks) (λ c m. eqb b c || not (isFallthrough (fallthroughOf m) f)) (λ c. or-right (eqb b c) true refl)
+            (and-left (everyOf (t .blocks) (λ c m. eqb b c || not (isFallthrough (fallthroughOf m) f))) (everyOf (t .blocks) (λ w m. notOfLoop f (shapeOf m))) (fallthrough-at b f e)) c
 
     no-loop-at : (b f w x l g : ℕ) → fallthroughOf (terminalAt t b) ≡ some f → terminalAt t w ≡ while x l g → not (eqb f l) && not (eqb f x) ≡ true
     no-loop-at b f w x l g e e′ =
         subst (λ (m : Terminal). notOfLoop f (shapeOf m) ≡ true) e′
         (every-at (t .blocks) (λ w m. notOfLoop f (shapeOf m)) (λ c. refl)
-        (and-right (everyOf (t .blocks) (λ c m. eqb b c || not (isThis f (fallthroughOf m)))) (everyOf (t .blocks) (λ w m. notOfLoop f (shapeOf m))) (fallthrough-at b f e)) w)
+        (and-right (everyOf (t .blocks) (λ c m. eqb b c || not (isFallthrough (fallthroughOf m) f))) (everyOf (t .blocks) (λ w m. notOfLoop f (shapeOf m))) (fallthrough-at b f e)) w)
 
     -- two Whiles with one test have one fallthrough, as their test has one alternate; so they are one
     same-alternate : (p l f p′ l′ f′ : ℕ) → branch p l f ≡ branch p′ l′ f′ → f ≡ f′
@@ -400,21 +391,21 @@ module _ (t : Table) where
     fallthrough-passes : (b : ℕ) (o : Option ℕ) → fallthroughOf (terminalAt t b) ≡ o → fallthroughTest t b o ≡ true
     fallthrough-passes b none e = refl
     fallthrough-passes b (some f) e =
-        and-both (everyOf (t .blocks) (λ c m. eqb b c || not (isThis f (fallthroughOf m)))) (everyOf (t .blocks) (λ w m. notOfLoop f (shapeOf m)))
-        (every-of (t .blocks) (λ c m. eqb b c || not (isThis f (fallthroughOf m))) only)
+        and-both (everyOf (t .blocks) (λ c m. eqb b c || not (isFallthrough (fallthroughOf m) f))) (everyOf (t .blocks) (λ w m. notOfLoop f (shapeOf m)))
+        (every-of (t .blocks) (λ c m. eqb b c || not (isFallthrough (fallthroughOf m) f)) only)
         (every-of (t .blocks) (λ w m. notOfLoop f (shapeOf m))
         (λ w. not-of-loop f (terminalAt t w) (λ x l g q. pl .no-loop b f w x l g e q) (λ x l g q. pl .no-test b f w x l g e q)))
       where
-        only : (c : ℕ) → eqb b c || not (isThis f (fallthroughOf (terminalAt t c))) ≡ true
+        only : (c : ℕ) → eqb b c || not (isFallthrough (fallthroughOf (terminalAt t c)) f) ≡ true
         only c =
-            by-cases (isThis f (fallthroughOf (terminalAt t c)))
-            (λ h. or-left (eqb b c) (not (isThis f (fallthroughOf (terminalAt t c)))) (eq-eqb b c (pl .one-fallthrough b c f e (is-this f (fallthroughOf (terminalAt t c)) h))))
-            (λ h. or-right (eqb b c) (not (isThis f (fallthroughOf (terminalAt t c)))) (is-not (isThis f (fallthroughOf (terminalAt t c))) h))
+            by-cases (isFallthrough (fallthroughOf (terminalAt t c)) f)
+            (λ h. or-left (eqb b c) (not (isFallthrough (fallthroughOf (terminalAt t c)) f)) (eq-eqb b c (pl .one-fallthrough b c f e (fallthrough-is f (fallthroughOf (terminalAt t c)) h))))
+            (λ h. or-right (eqb b c) (not (isFallthrough (fallthroughOf (terminalAt t c)) f)) (is-not (isFallthrough (fallthroughOf (terminalAt t c)) f) h))
 
     block-passes : (b : ℕ) → blockTest t b (terminalAt t b) ≡ true
     block-passes b =
         let m : Terminal = terminalAt t b in
-        and-both (among plainCodes (codeOf m)) (noBranches t (otherNames m) && (shapeTest t b (shapeOf m) && fallthroughTest t b (fallthroughOf m))) (pl .ends b)
+        and-both (contains plainCodes (codeOf m)) (noBranches t (otherNames m) && (shapeTest t b (shapeOf m) && fallthroughTest t b (fallthroughOf m))) (pl .ends b)
         (and-both (noBranches t (otherNames m)) (shapeTest t b (shapeOf m) && fallthroughTest t b (fallthroughOf m)) (none-branches (otherNames m) (pl .names b))
         (and-both (shapeTest t b (shapeOf m)) (fallthroughTest t b (fallthroughOf m)) (shape-passes b m refl) (fallthrough-passes b (fallthroughOf m) refl)))
 

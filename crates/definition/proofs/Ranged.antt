@@ -1,4 +1,4 @@
--- What the proofs over a table need of the check of its words: proofs/Checked proves it of every table that is accepted there.
+-- What proofs/State, proofs/Structure, proofs/Formed and proofs/Law need of the check of a table's words: proofs/Checked proves it of every table accepted there.
 use mathlib.Core.Path.{_≡_}
 use Prim.Native.Nat.{ℕ, _≤_, _<_}
 use mathlib.Core.Option.{some}

@@ -1,5 +1,5 @@
 -- The rows determine the tree: a reader, a stack machine over the rows, gives every well-formed tree back from its rows. So one list of rows
--- is read as one tree.
+-- is read as one tree. For proofs/Law.
 use mathlib.Core.Path.{_≡_, refl, sym, ap, _∙_}
 use Prim.Native.Nat.{ℕ, zero, suc, _+_}
 use native.Mathlib.Nat.{zero-add, add-zero}
@@ -11,8 +11,9 @@ use lib.ListN.{getD}
 use borrow.Author.Tests.{ne-eqb}
 use Rattle.table.specs.Words.{largest}
 use Rattle.table.specs.Table.{unlessNone}
-use Rattle.definition.specs.Tree.{Kind, implicit, labeled, unlabeled, Value, PLAIN, LOAD, UNDEF, SEQ, LOGICAL, COND, OPTIONAL, Instructions, no-instructions, instruction, Statement, INSTR, IF, SWITCH, DOWHILE, WHILE, FOR, FOROF, FORIN, LABEL, TRY, SCOPE, RETURN, THROW, BREAK, CONTINUE, Statements, done, _▸_, Cases, no-cases, CASE, Row, row, orNone, kindNumber, present, valueRows, instructionsRows, countInstructions, countStatements, countCases, statementRows, statementsRows, blockRows, casesRows, rows}
+use Rattle.definition.specs.Tree.{Kind, implicit, labeled, unlabeled, Value, PLAIN, LOAD, UNDEF, SEQ, LOGICAL, COND, OPTIONAL, Instructions, no-instructions, instruction, Statement, INSTR, IF, SWITCH, DOWHILE, WHILE, FOR, FOROF, FORIN, LABEL, TRY, SCOPE, RETURN, THROW, BREAK, CONTINUE, Statements, done, _▸_, Cases, no-cases, CASE, Row, row, orNone, kindNumber, valueRows, instructionsRows, countInstructions, countStatements, countCases, statementRows, statementsRows, blockRows, casesRows, rows}
 use Rattle.definition.specs.Reading.{BelowNone, EmptyUnless, WellFormedStatement, WellFormed, WellFormedCases, ReadAs}
+use Rattle.definition.specs.Value.{appended}
 
 -- ---- the reader
 
@@ -156,55 +157,51 @@ unfoldable pushCases : Cases → Stack → Stack
 pushCases no-cases S = S
 pushCases (CASE t b r) S = pushCases r (case t b ∷ S)
 
-unfoldable withInstructions : Instructions → Instructions → Instructions
-withInstructions no-instructions more = more
-withInstructions (instruction i l s v r) more = instruction i l s v (withInstructions r more)
+unfoldable appendedStatements : Statements → Statements → Statements
+appendedStatements done more = more
+appendedStatements (s ▸ r) more = s ▸ appendedStatements r more
 
-unfoldable withStatements : Statements → Statements → Statements
-withStatements done more = more
-withStatements (s ▸ r) more = s ▸ withStatements r more
+unfoldable appendedCases : Cases → Cases → Cases
+appendedCases no-cases more = more
+appendedCases (CASE t b r) more = CASE t b (appendedCases r more)
 
-unfoldable withCases : Cases → Cases → Cases
-withCases no-cases more = more
-withCases (CASE t b r) more = CASE t b (withCases r more)
+appended-none : (is : Instructions) → appended is no-instructions ≡ is
+unfolding appended
+appended-none no-instructions = refl
+appended-none (instruction i l s v r) = ap (λ (z : Instructions). instruction i l s v z) (appended-none r)
 
-with-no-instructions : (is : Instructions) → withInstructions is no-instructions ≡ is
-unfolding withInstructions
-with-no-instructions no-instructions = refl
-with-no-instructions (instruction i l s v r) = ap (λ (z : Instructions). instruction i l s v z) (with-no-instructions r)
+appended-done : (ss : Statements) → appendedStatements ss done ≡ ss
+unfolding appendedStatements
+appended-done done = refl
+appended-done (s ▸ r) = ap (λ (z : Statements). s ▸ z) (appended-done r)
 
-with-done : (ss : Statements) → withStatements ss done ≡ ss
-unfolding withStatements
-with-done done = refl
-with-done (s ▸ r) = ap (λ (z : Statements). s ▸ z) (with-done r)
-
-with-no-cases : (cs : Cases) → withCases cs no-cases ≡ cs
-unfolding withCases
-with-no-cases no-cases = refl
-with-no-cases (CASE t b r) = ap (λ (z : Cases). CASE t b z) (with-no-cases r)
+appended-no-cases : (cs : Cases) → appendedCases cs no-cases ≡ cs
+unfolding appendedCases
+appended-no-cases no-cases = refl
+appended-no-cases (CASE t b r) = ap (λ (z : Cases). CASE t b z) (appended-no-cases r)
 
 next : (n m : ℕ) → suc n + m ≡ n + suc m
 next n m = omega arith
 
 instructions-taken : (is : Instructions) (m : ℕ) (more : Instructions) (then : Instructions → Step) (S : Stack)
-    → takeInstructions (countInstructions is + m) more then (pushInstructions is S) ≡ takeInstructions m (withInstructions is more) then S
-unfolding takeInstructions pushInstructions withInstructions takeStatement asInstruction
+    → takeInstructions (countInstructions is + m) more then (pushInstructions is S) ≡ takeInstructions m (appended is more) then S
+unfolding takeInstructions pushInstructions appended takeStatement asInstruction
 instructions-taken no-instructions m more then S = ap (λ (n : ℕ). takeInstructions n more then S) (zero-add m)
 instructions-taken (instruction i l s v r) m more then S =
     ap (λ (n : ℕ). takeInstructions n more then (pushInstructions r (statement (INSTR i l s v) ∷ S))) (next (countInstructions r) m)
     ∙ instructions-taken r (suc m) more then (statement (INSTR i l s v) ∷ S)
 
 statements-taken : (ss : Statements) (m : ℕ) (more : Statements) (then : Statements → Step) (S : Stack)
-    → takeStatements (countStatements ss + m) more then (pushStatements ss S) ≡ takeStatements m (withStatements ss more) then S
-unfolding takeStatements pushStatements withStatements takeStatement
+    → takeStatements (countStatements ss + m) more then (pushStatements ss S) ≡ takeStatements m (appendedStatements ss more) then S
+unfolding takeStatements pushStatements appendedStatements takeStatement
 statements-taken done m more then S = ap (λ (n : ℕ). takeStatements n more then S) (zero-add m)
 statements-taken (s ▸ r) m more then S =
     ap (λ (n : ℕ). takeStatements n more then (pushStatements r (statement s ∷ S))) (next (countStatements r) m)
     ∙ statements-taken r (suc m) more then (statement s ∷ S)
 
 cases-taken : (cs : Cases) (m : ℕ) (more : Cases) (then : Cases → Step) (S : Stack)
-    → takeCases (countCases cs + m) more then (pushCases cs S) ≡ takeCases m (withCases cs more) then S
-unfolding takeCases pushCases withCases takeCase
+    → takeCases (countCases cs + m) more then (pushCases cs S) ≡ takeCases m (appendedCases cs more) then S
+unfolding takeCases pushCases appendedCases takeCase
 cases-taken no-cases m more then S = ap (λ (n : ℕ). takeCases n more then S) (zero-add m)
 cases-taken (CASE t b r) m more then S =
     ap (λ (n : ℕ). takeCases n more then (pushCases r (case t b ∷ S))) (next (countCases r) m)
@@ -215,19 +212,19 @@ all-instructions : (is : Instructions) (then : Instructions → Step) (S : Stack
 unfolding takeInstructions
 all-instructions is then S =
     ap (λ (n : ℕ). takeInstructions n no-instructions then (pushInstructions is S)) (sym (add-zero (countInstructions is)))
-    ∙ instructions-taken is 0 no-instructions then S ∙ ap (λ (z : Instructions). then z S) (with-no-instructions is)
+    ∙ instructions-taken is 0 no-instructions then S ∙ ap (λ (z : Instructions). then z S) (appended-none is)
 
 all-statements : (ss : Statements) (then : Statements → Step) (S : Stack) → takeStatements (countStatements ss) done then (pushStatements ss S) ≡ then ss S
 unfolding takeStatements
 all-statements ss then S =
     ap (λ (n : ℕ). takeStatements n done then (pushStatements ss S)) (sym (add-zero (countStatements ss)))
-    ∙ statements-taken ss 0 done then S ∙ ap (λ (z : Statements). then z S) (with-done ss)
+    ∙ statements-taken ss 0 done then S ∙ ap (λ (z : Statements). then z S) (appended-done ss)
 
 all-cases : (cs : Cases) (then : Cases → Step) (S : Stack) → takeCases (countCases cs) no-cases then (pushCases cs S) ≡ then cs S
 unfolding takeCases
 all-cases cs then S =
     ap (λ (n : ℕ). takeCases n no-cases then (pushCases cs S)) (sym (add-zero (countCases cs)))
-    ∙ cases-taken cs 0 no-cases then S ∙ ap (λ (z : Cases). then z S) (with-no-cases cs)
+    ∙ cases-taken cs 0 no-cases then S ∙ ap (λ (z : Cases). then z S) (appended-no-cases cs)
 
 -- a row that closes
 closed : (r : Row) (after : List Row) (S S′ : Stack) → close r S ≡ some S′ → read (r ∷ after) S ≡ read after S′

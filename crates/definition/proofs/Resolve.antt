@@ -1,36 +1,28 @@
--- A break or a continue that the stack resolves goes where its ending leads.
+-- Over a plain table: a break or a continue that the stack resolves leads where its completion leads in the tree. For proofs/State and proofs/Structure.
 use mathlib.Core.Path.{_≡_, refl, sym, ap, _∙_, subst}
-use Prim.Native.Nat.{ℕ, zero, suc}
-use mathlib.Core.Logic.{_⊎_, inl, inr}
+use Prim.Native.Nat.{ℕ}
 use mathlib.Core.List.{List, [], _∷_}
-use mathlib.Core.Option.{Option, none, some}
-use mathlib.Core.Bool.{Bool, true, false}
-use native.Mathlib.Omega.{arith}
-use lib.Dec.{eqb}
-use borrow.Author.Tests.{eqb-true, eqb-false, eq-eqb}
-use Rattle.table.specs.Table.{Table, Terminal, while, terminalAt}
-use Rattle.definition.specs.Context.{Flags, has, or, ControlFlowTarget, target-if, target-loop, Entry, targetBlock, isLoop, continuesAt, breakKind, breakTargetFrom, Resolution, continueKind, continueTargetFrom}
+use mathlib.Core.Option.{Option, some}
+use mathlib.Core.Bool.{Bool, true, false, _||_, not, cond}
+use lib.Dec.{eqb, T}
+use borrow.Author.Tests.{eqb-true, eqb-false}
+use Rattle.table.specs.Table.{Table, while, terminalAt}
+use Rattle.definition.specs.Context.{Flags, has, target-if, target-loop, Entry, targetBlock, isLoop, continuesAt, breakKind, breakTargetFrom, Resolution, continueKind, continueTargetFrom}
 use Rattle.definition.specs.Plain.{Plain, fallthroughOf}
 use Rattle.definition.specs.Completion.{break, continue}
 use Rattle.definition.specs.TreeRun.{jumpCompletion}
-use Rattle.definition.specs.Tree.{Kind, implicit, labeled, unlabeled}
-use Rattle.definition.proofs.Semantics.{Frame, fLabel, fScope, fLoop, exit, breakOut, breakAt, continueOut, continueAt, target, provided}
-use Rattle.definition.proofs.Tools.{true-false}
+use Rattle.definition.specs.Tree.{Kind, implicit, labeled, unlabeled, kindNumber}
+use Rattle.definition.proofs.Semantics.{Frame, in-label, in-scope, in-loop, exit, breakOut, breakAt, continueOut, continueAt, target}
+use Rattle.definition.proofs.Steps.{true-false, none-some, some-eq}
 
 module _ (t : Table) where
   -- the frames of a stack: a scope's fallthrough is in the set of those, and a loop is of some While
-  pub data Framed (sc : Flags) : List Frame → List Entry → Type 0 where
-    fnone : Framed sc [] []
-    flabel : {F : List Frame} {S : List Entry} (i f : ℕ) → Framed sc F S → Framed sc (fLabel f ∷ F) (record { id = i; target = target-if f } ∷ S)
-    fscope : {F : List Frame} {S : List Entry} (i f : ℕ) → has sc f ≡ true → Framed sc F S → Framed sc (fScope f ∷ F) (record { id = i; target = target-if f } ∷ S)
-    floop : {F : List Frame} {S : List Entry} (i f x w l : ℕ) (ll : Option ℕ) (o : Bool) → terminalAt t w ≡ while x l f → Framed sc F S
-        → Framed sc (fLoop f x ∷ F) (record { id = i; target = target-loop f x ll o } ∷ S)
-
-  some-none : {A : Type 0} {x : A} → _≡_ {A = Option A} none (some x) → ⊥
-  some-none e = let z : _≡_ {A = ℕ} 0 1 = cc in omega arith
-
-  some-eq : {A : Type 0} {x y : A} → some x ≡ some y → x ≡ y
-  some-eq e = cc
+  pub data Framed (scopes : Flags) : List Frame → List Entry → Type 0 where
+    no-frame : Framed scopes [] []
+    label-framed : {F : List Frame} {S : List Entry} (i f : ℕ) → Framed scopes F S → Framed scopes (in-label f ∷ F) (record { id = i; target = target-if f } ∷ S)
+    scope-framed : {F : List Frame} {S : List Entry} (i f : ℕ) → has scopes f ≡ true → Framed scopes F S → Framed scopes (in-scope f ∷ F) (record { id = i; target = target-if f } ∷ S)
+    loop-framed : {F : List Frame} {S : List Entry} (i f x w l : ℕ) (ll : Option ℕ) (o : Bool) → terminalAt t w ≡ while x l f → Framed scopes F S
+        → Framed scopes (in-loop f x ∷ F) (record { id = i; target = target-loop f x ll o } ∷ S)
 
   -- ---- a step of the search: the entry is the one found, or the search goes on below
 
@@ -43,7 +35,7 @@ module _ (t : Table) where
   take f g false a k q h e n = absurd (n e)
 
   found : {A : Type 0} (f g : ℕ) (y : Bool) (a k : A) (q : Option A) (r : Option ℕ) → eqb f g ≡ y → elim y [ true ↦ some a | false ↦ q ] ≡ some k
-      → (q ≡ some k → r ≡ some g) → provided y (some f) r ≡ some g
+      → (q ≡ some k → r ≡ some g) → cond y (some f) r ≡ some g
   found f g true a k q r h e next = ap some (eqb-true f g h)
   found f g false a k q r h e next = next e
 
@@ -58,102 +50,95 @@ module _ (t : Table) where
   -- ---- break
 
   -- a break to a block that is no scope's fallthrough finds the label
-  break-at : {sc : Flags} {F : List Frame} {S : List Entry} → Framed sc F S → (g : ℕ) (top above : Bool) (c : Resolution) → has sc g ≡ false
+  break-at : {scopes : Flags} {F : List Frame} {S : List Entry} → Framed scopes F S → (g : ℕ) (top above : Bool) (c : Resolution) → has scopes g ≡ false
       → breakTargetFrom S g top above ≡ some c → breakAt F g ≡ some g
   unfolding breakTargetFrom
-  break-at fnone g top above c n e = absurd (some-none e)
-  break-at {sc} (flabel {F} {S} i f p) g top above c n e =
-      found f g (eqb f g) (record { target = g; kind = breakKind false top above }) c (breakTargetFrom S g false (or above false)) (breakAt F g) refl e (λ h. break-at p g false (or above false) c n h)
-  break-at {sc} (fscope {F} {S} i f s p) g top above c n e =
-      passed f g (eqb f g) (record { target = g; kind = breakKind false top above }) c (breakTargetFrom S g false (or above false)) (breakAt F g) refl e
-      (λ h. true-false (sym s ∙ ap (has sc) h ∙ n)) (λ h. break-at p g false (or above false) c n h)
-  break-at {sc} (floop {F} {S} i f x w l ll o s p) g top above c n e =
-      found f g (eqb f g) (record { target = g; kind = breakKind true top above }) c (breakTargetFrom S g false (or above true)) (breakAt F g) refl e (λ h. break-at p g false (or above true) c n h)
+  break-at no-frame g top above c n e = absurd (none-some e)
+  break-at {scopes} (label-framed {F} {S} i f p) g top above c n e =
+      found f g (eqb f g) (record { target = g; kind = breakKind false top above }) c (breakTargetFrom S g false (above || false)) (breakAt F g) refl e (λ h. break-at p g false (above || false) c n h)
+  break-at {scopes} (scope-framed {F} {S} i f s p) g top above c n e =
+      passed f g (eqb f g) (record { target = g; kind = breakKind false top above }) c (breakTargetFrom S g false (above || false)) (breakAt F g) refl e
+      (λ h. true-false (sym s ∙ ap (has scopes) h ∙ n)) (λ h. break-at p g false (above || false) c n h)
+  break-at {scopes} (loop-framed {F} {S} i f x w l ll o s p) g top above c n e =
+      found f g (eqb f g) (record { target = g; kind = breakKind true top above }) c (breakTargetFrom S g false (above || true)) (breakAt F g) refl e (λ h. break-at p g false (above || true) c n h)
 
-  labeled-unlabeled : labeled ≡ unlabeled → ⊥
-  labeled-unlabeled e = let z : _≡_ {A = ℕ} 0 1 = cc in omega arith
-
-  implicit-unlabeled : implicit ≡ unlabeled → ⊥
-  implicit-unlabeled e = let z : _≡_ {A = ℕ} 0 1 = cc in omega arith
-
-  labeled-implicit : labeled ≡ implicit → ⊥
-  labeled-implicit e = let z : _≡_ {A = ℕ} 0 1 = cc in omega arith
-
-  unlabeled-implicit : unlabeled ≡ implicit → ⊥
-  unlabeled-implicit e = let z : _≡_ {A = ℕ} 0 1 = cc in omega arith
+  apart : (k k′ : Kind) → T (not (eqb (kindNumber k) (kindNumber k′))) → k ≡ k′ → ⊥
+  apart implicit k′ h e = subst (λ (z : Kind). T (not (eqb 0 (kindNumber z)))) (sym e) h
+  apart labeled k′ h e = subst (λ (z : Kind). T (not (eqb 1 (kindNumber z)))) (sym e) h
+  apart unlabeled k′ h e = subst (λ (z : Kind). T (not (eqb 2 (kindNumber z)))) (sym e) h
 
   kind-above : (x top : Bool) → breakKind x top true ≡ unlabeled → ⊥
   unfolding breakKind
-  kind-above true top e = labeled-unlabeled e
-  kind-above false true e = implicit-unlabeled e
-  kind-above false false e = labeled-unlabeled e
+  kind-above true top e = apart labeled unlabeled tt e
+  kind-above false true e = apart implicit unlabeled tt e
+  kind-above false false e = apart labeled unlabeled tt e
 
   kind-other : (top above : Bool) → breakKind false top above ≡ unlabeled → ⊥
   unfolding breakKind
-  kind-other true above e = implicit-unlabeled e
-  kind-other false above e = labeled-unlabeled e
+  kind-other true above e = apart implicit unlabeled tt e
+  kind-other false above e = apart labeled unlabeled tt e
 
   kind-below : (x above : Bool) → breakKind x false above ≡ implicit → ⊥
   unfolding breakKind
-  kind-below true true e = labeled-implicit e
-  kind-below true false e = unlabeled-implicit e
-  kind-below false above e = labeled-implicit e
+  kind-below true true e = apart labeled implicit tt e
+  kind-below true false e = apart unlabeled implicit tt e
+  kind-below false above e = apart labeled implicit tt e
 
   kind-loop : (top above : Bool) → breakKind true top above ≡ implicit → ⊥
   unfolding breakKind
-  kind-loop top true e = labeled-implicit e
-  kind-loop top false e = unlabeled-implicit e
+  kind-loop top true e = apart labeled implicit tt e
+  kind-loop top false e = apart unlabeled implicit tt e
 
   above-never : (S : List Entry) (g : ℕ) (top : Bool) (c : Resolution) → breakTargetFrom S g top true ≡ some c → c .kind ≡ unlabeled → ⊥
   unfolding breakTargetFrom
-  above-never [] g top c e k = some-none e
+  above-never [] g top c e k = none-some e
   above-never (x ∷ S) g top c e k =
       either (eqb (targetBlock (x .target)) g) (record { target = g; kind = breakKind (isLoop (x .target)) top true }) c (breakTargetFrom S g false true) ⊥ e
       (λ h. kind-above (isLoop (x .target)) top (kind-of h ∙ k)) (λ h. above-never S g false c h k)
 
   below-never : (S : List Entry) (g : ℕ) (above : Bool) (c : Resolution) → breakTargetFrom S g false above ≡ some c → c .kind ≡ implicit → ⊥
   unfolding breakTargetFrom
-  below-never [] g above c e k = some-none e
+  below-never [] g above c e k = none-some e
   below-never (x ∷ S) g above c e k =
-      either (eqb (targetBlock (x .target)) g) (record { target = g; kind = breakKind (isLoop (x .target)) false above }) c (breakTargetFrom S g false (or above (isLoop (x .target)))) ⊥ e
-      (λ h. kind-below (isLoop (x .target)) above (kind-of h ∙ k)) (λ h. below-never S g (or above (isLoop (x .target))) c h k)
+      either (eqb (targetBlock (x .target)) g) (record { target = g; kind = breakKind (isLoop (x .target)) false above }) c (breakTargetFrom S g false (above || isLoop (x .target))) ⊥ e
+      (λ h. kind-below (isLoop (x .target)) above (kind-of h ∙ k)) (λ h. below-never S g (above || isLoop (x .target)) c h k)
 
-  break-out : {sc : Flags} {F : List Frame} {S : List Entry} → Framed sc F S → (g : ℕ) (top : Bool) (c : Resolution) → breakTargetFrom S g top false ≡ some c
+  break-out : {scopes : Flags} {F : List Frame} {S : List Entry} → Framed scopes F S → (g : ℕ) (top : Bool) (c : Resolution) → breakTargetFrom S g top false ≡ some c
       → c .kind ≡ unlabeled → breakOut F ≡ some g
   unfolding breakTargetFrom
-  break-out fnone g top c e k = absurd (some-none e)
-  break-out (flabel {F} {S} i f p) g top c e k =
+  break-out no-frame g top c e k = absurd (none-some e)
+  break-out (label-framed {F} {S} i f p) g top c e k =
       either (eqb f g) (record { target = g; kind = breakKind false top false }) c (breakTargetFrom S g false false) (breakOut F ≡ some g) e
       (λ h. absurd (kind-other top false (kind-of h ∙ k))) (λ h. break-out p g false c h k)
-  break-out (fscope {F} {S} i f s p) g top c e k =
+  break-out (scope-framed {F} {S} i f s p) g top c e k =
       either (eqb f g) (record { target = g; kind = breakKind false top false }) c (breakTargetFrom S g false false) (breakOut F ≡ some g) e
       (λ h. absurd (kind-other top false (kind-of h ∙ k))) (λ h. break-out p g false c h k)
-  break-out (floop {F} {S} i f x w l ll o s p) g top c e k =
+  break-out (loop-framed {F} {S} i f x w l ll o s p) g top c e k =
       take f g (eqb f g) (record { target = g; kind = breakKind true top false }) c (breakTargetFrom S g false true) refl e (λ h. above-never S g false c h k)
 
-  pub break-exit : {sc : Flags} {F : List Frame} {S : List Entry} → Framed sc F S → (g : ℕ) (top above : Bool) (c : Resolution) → breakTargetFrom S g top above ≡ some c
+  pub break-exit : {scopes : Flags} {F : List Frame} {S : List Entry} → Framed scopes F S → (g : ℕ) (top above : Bool) (c : Resolution) → breakTargetFrom S g top above ≡ some c
       → c .kind ≡ implicit → exit F ≡ some g
   unfolding breakTargetFrom
-  break-exit fnone g top above c e k = absurd (some-none e)
-  break-exit (flabel {F} {S} i f p) g top above c e k =
-      take f g (eqb f g) (record { target = g; kind = breakKind false top above }) c (breakTargetFrom S g false (or above false)) refl e (λ h. below-never S g (or above false) c h k)
-  break-exit (fscope {F} {S} i f s p) g top above c e k =
-      take f g (eqb f g) (record { target = g; kind = breakKind false top above }) c (breakTargetFrom S g false (or above false)) refl e (λ h. below-never S g (or above false) c h k)
-  break-exit (floop {F} {S} i f x w l ll o s p) g top above c e k =
-      either (eqb f g) (record { target = g; kind = breakKind true top above }) c (breakTargetFrom S g false (or above true)) (some x ≡ some g) e
-      (λ h. absurd (kind-loop top above (kind-of h ∙ k))) (λ h. absurd (below-never S g (or above true) c h k))
+  break-exit no-frame g top above c e k = absurd (none-some e)
+  break-exit (label-framed {F} {S} i f p) g top above c e k =
+      take f g (eqb f g) (record { target = g; kind = breakKind false top above }) c (breakTargetFrom S g false (above || false)) refl e (λ h. below-never S g (above || false) c h k)
+  break-exit (scope-framed {F} {S} i f s p) g top above c e k =
+      take f g (eqb f g) (record { target = g; kind = breakKind false top above }) c (breakTargetFrom S g false (above || false)) refl e (λ h. below-never S g (above || false) c h k)
+  break-exit (loop-framed {F} {S} i f x w l ll o s p) g top above c e k =
+      either (eqb f g) (record { target = g; kind = breakKind true top above }) c (breakTargetFrom S g false (above || true)) (some x ≡ some g) e
+      (λ h. absurd (kind-loop top above (kind-of h ∙ k))) (λ h. absurd (below-never S g (above || true) c h k))
 
   -- a break resolves to the block it names
   pub break-names : (S : List Entry) (g : ℕ) (top above : Bool) (c : Resolution) → breakTargetFrom S g top above ≡ some c → c .target ≡ g
   unfolding breakTargetFrom
-  break-names [] g top above c e = absurd (some-none e)
+  break-names [] g top above c e = absurd (none-some e)
   break-names (x ∷ S) g top above c e =
-      either (eqb (targetBlock (x .target)) g) (record { target = g; kind = breakKind (isLoop (x .target)) top above }) c (breakTargetFrom S g false (or above (isLoop (x .target)))) (c .target ≡ g) e
-      (λ h. sym (ap (λ (z : Resolution). z .target) h)) (λ h. break-names S g false (or above (isLoop (x .target))) c h)
+      either (eqb (targetBlock (x .target)) g) (record { target = g; kind = breakKind (isLoop (x .target)) top above }) c (breakTargetFrom S g false (above || isLoop (x .target))) (c .target ≡ g) e
+      (λ h. sym (ap (λ (z : Resolution). z .target) h)) (λ h. break-names S g false (above || isLoop (x .target)) c h)
 
   -- the break's row goes to its block
-  pub break-target : {sc : Flags} {F : List Frame} {S : List Entry} → Framed sc F S → (g : ℕ) (c : Resolution) → breakTargetFrom S g true false ≡ some c
-      → has sc g ≡ false → (k : Kind) → c .kind ≡ k → target F (jumpCompletion k g break) ≡ some g
+  pub break-target : {scopes : Flags} {F : List Frame} {S : List Entry} → Framed scopes F S → (g : ℕ) (c : Resolution) → breakTargetFrom S g true false ≡ some c
+      → has scopes g ≡ false → (k : Kind) → c .kind ≡ k → target F (jumpCompletion k g break) ≡ some g
   unfolding jumpCompletion
   break-target p g c e n implicit k = break-exit p g true false c e k
   break-target p g c e n labeled k = break-at p g true false c n e
@@ -168,43 +153,43 @@ module _ (t : Table) where
 
   continue-below : (above : Bool) → continueKind false above ≡ implicit → ⊥
   unfolding continueKind
-  continue-below true e = labeled-implicit e
-  continue-below false e = unlabeled-implicit e
+  continue-below true e = apart labeled implicit tt e
+  continue-below false e = apart unlabeled implicit tt e
 
   continue-above-never : (S : List Entry) (g : ℕ) (top : Bool) (c : Resolution) → continueTargetFrom S g top true ≡ some c → c .kind ≡ labeled
   unfolding continueTargetFrom
-  continue-above-never [] g top c e = absurd (some-none e)
+  continue-above-never [] g top c e = absurd (none-some e)
   continue-above-never (x ∷ S) g top c e =
       either (continuesAt (x .target) g) (record { target = targetBlock (x .target); kind = continueKind top true }) c (continueTargetFrom S g false true) (c .kind ≡ labeled) e
       (λ h. sym (kind-of h) ∙ continue-above top) (λ h. continue-above-never S g false c h)
 
   continue-below-never : (S : List Entry) (g : ℕ) (above : Bool) (c : Resolution) → continueTargetFrom S g false above ≡ some c → c .kind ≡ implicit → ⊥
   unfolding continueTargetFrom
-  continue-below-never [] g above c e k = some-none e
+  continue-below-never [] g above c e k = none-some e
   continue-below-never (x ∷ S) g above c e k =
       either (continuesAt (x .target) g) (record { target = targetBlock (x .target); kind = continueKind false above }) c
-      (continueTargetFrom S g false (or above (isLoop (x .target)))) ⊥ e
-      (λ h. continue-below above (kind-of h ∙ k)) (λ h. continue-below-never S g (or above (isLoop (x .target))) c h k)
+      (continueTargetFrom S g false (above || isLoop (x .target))) ⊥ e
+      (λ h. continue-below above (kind-of h ∙ k)) (λ h. continue-below-never S g (above || isLoop (x .target)) c h k)
 
-  continue-out : {sc : Flags} {F : List Frame} {S : List Entry} → Framed sc F S → (g : ℕ) (top : Bool) (c : Resolution) → continueTargetFrom S g top false ≡ some c
+  continue-out : {scopes : Flags} {F : List Frame} {S : List Entry} → Framed scopes F S → (g : ℕ) (top : Bool) (c : Resolution) → continueTargetFrom S g top false ≡ some c
       → c .kind ≡ unlabeled → continueOut F ≡ some g
   unfolding continueTargetFrom
-  continue-out fnone g top c e k = absurd (some-none e)
-  continue-out (flabel {F} {S} i f p) g top c e k = continue-out p g false c e k
-  continue-out (fscope {F} {S} i f s p) g top c e k = continue-out p g false c e k
-  continue-out (floop {F} {S} i f x w l ll o s p) g top c e k =
+  continue-out no-frame g top c e k = absurd (none-some e)
+  continue-out (label-framed {F} {S} i f p) g top c e k = continue-out p g false c e k
+  continue-out (scope-framed {F} {S} i f s p) g top c e k = continue-out p g false c e k
+  continue-out (loop-framed {F} {S} i f x w l ll o s p) g top c e k =
       take x g (eqb x g) (record { target = f; kind = continueKind top false }) c (continueTargetFrom S g false true) refl e
-      (λ h. labeled-unlabeled (sym (continue-above-never S g false c h) ∙ k))
+      (λ h. apart labeled unlabeled tt (sym (continue-above-never S g false c h) ∙ k))
 
-  continue-exit : {sc : Flags} {F : List Frame} {S : List Entry} → Framed sc F S → (g : ℕ) (top above : Bool) (c : Resolution) → continueTargetFrom S g top above ≡ some c
+  continue-exit : {scopes : Flags} {F : List Frame} {S : List Entry} → Framed scopes F S → (g : ℕ) (top above : Bool) (c : Resolution) → continueTargetFrom S g top above ≡ some c
       → c .kind ≡ implicit → exit F ≡ some g
   unfolding continueTargetFrom
-  continue-exit fnone g top above c e k = absurd (some-none e)
-  continue-exit (flabel {F} {S} i f p) g top above c e k = absurd (continue-below-never S g (or above false) c e k)
-  continue-exit (fscope {F} {S} i f s p) g top above c e k = absurd (continue-below-never S g (or above false) c e k)
-  continue-exit (floop {F} {S} i f x w l ll o s p) g top above c e k =
-      take x g (eqb x g) (record { target = f; kind = continueKind top above }) c (continueTargetFrom S g false (or above true)) refl e
-      (λ h. continue-below-never S g (or above true) c h k)
+  continue-exit no-frame g top above c e k = absurd (none-some e)
+  continue-exit (label-framed {F} {S} i f p) g top above c e k = absurd (continue-below-never S g (above || false) c e k)
+  continue-exit (scope-framed {F} {S} i f s p) g top above c e k = absurd (continue-below-never S g (above || false) c e k)
+  continue-exit (loop-framed {F} {S} i f x w l ll o s p) g top above c e k =
+      take x g (eqb x g) (record { target = f; kind = continueKind top above }) c (continueTargetFrom S g false (above || true)) refl e
+      (λ h. continue-below-never S g (above || true) c h k)
 
   -- the loop that was found is of a While with this test
   abbrev Of : ℕ → ℕ → Type 0
@@ -216,13 +201,13 @@ module _ (t : Table) where
       (w, l, s ∙ ap (λ (z : ℕ). while z l f) (eqb-true x g h) ∙ ap (λ (z : Resolution). while g l (z .target)) (some-eq e))
   found-of x g f w l k false c q h s e r = r e
 
-  continue-of : {sc : Flags} {F : List Frame} {S : List Entry} → Framed sc F S → (g : ℕ) (top above : Bool) (c : Resolution) → continueTargetFrom S g top above ≡ some c → Of g (c .target)
+  continue-of : {scopes : Flags} {F : List Frame} {S : List Entry} → Framed scopes F S → (g : ℕ) (top above : Bool) (c : Resolution) → continueTargetFrom S g top above ≡ some c → Of g (c .target)
   unfolding continueTargetFrom
-  continue-of fnone g top above c e = absurd (some-none e)
-  continue-of (flabel {F} {S} i f p) g top above c e = continue-of p g false (or above false) c e
-  continue-of (fscope {F} {S} i f s p) g top above c e = continue-of p g false (or above false) c e
-  continue-of (floop {F} {S} i f x w l ll o s p) g top above c e =
-      found-of x g f w l (continueKind top above) (eqb x g) c (continueTargetFrom S g false (or above true)) refl s e (λ h. continue-of p g false (or above true) c h)
+  continue-of no-frame g top above c e = absurd (none-some e)
+  continue-of (label-framed {F} {S} i f p) g top above c e = continue-of p g false (above || false) c e
+  continue-of (scope-framed {F} {S} i f s p) g top above c e = continue-of p g false (above || false) c e
+  continue-of (loop-framed {F} {S} i f x w l ll o s p) g top above c e =
+      found-of x g f w l (continueKind top above) (eqb x g) c (continueTargetFrom S g false (above || true)) refl s e (λ h. continue-of p g false (above || true) c h)
 
   while-test : {x l f x′ l′ f′ : ℕ} → while x l f ≡ while x′ l′ f′ → x ≡ x′
   while-test e = cc
@@ -236,23 +221,23 @@ module _ (t : Table) where
     same-test w x l f w′ x′ l′ e e′ =
         while-test (sym e ∙ ap (terminalAt t) (pl .one-fallthrough w w′ f (while-ft w x l f e) (while-ft w′ x′ l′ f e′)) ∙ e′)
 
-    at-loop : (x g f f′ w l : ℕ) (y : Bool) (r : Option ℕ) → eqb f f′ ≡ y → terminalAt t w ≡ while x l f → Of g f′ → (((f ≡ f′) → ⊥) → r ≡ some g) → provided y (some x) r ≡ some g
+    at-loop : (x g f f′ w l : ℕ) (y : Bool) (r : Option ℕ) → eqb f f′ ≡ y → terminalAt t w ≡ while x l f → Of g f′ → (((f ≡ f′) → ⊥) → r ≡ some g) → cond y (some x) r ≡ some g
     at-loop x g f f′ w l true r h s (w′, l′, s′) k =
         ap some (same-test w x l f′ w′ g l′ (s ∙ ap (λ (z : ℕ). while x l z) (eqb-true f f′ h)) s′)
     at-loop x g f f′ w l false r h s o k = k (eqb-false f f′ h)
 
-    continue-at : {sc : Flags} {F : List Frame} {S : List Entry} → Framed sc F S → (g : ℕ) (top above : Bool) (c : Resolution) → continueTargetFrom S g top above ≡ some c
+    continue-at : {scopes : Flags} {F : List Frame} {S : List Entry} → Framed scopes F S → (g : ℕ) (top above : Bool) (c : Resolution) → continueTargetFrom S g top above ≡ some c
         → Of g (c .target) → continueAt F (c .target) ≡ some g
     unfolding continueTargetFrom
-    continue-at fnone g top above c e n = absurd (some-none e)
-    continue-at (flabel {F} {S} i f p) g top above c e n = continue-at p g false (or above false) c e n
-    continue-at (fscope {F} {S} i f s p) g top above c e n = continue-at p g false (or above false) c e n
-    continue-at (floop {F} {S} i f x w l ll o s p) g top above c e n =
+    continue-at no-frame g top above c e n = absurd (none-some e)
+    continue-at (label-framed {F} {S} i f p) g top above c e n = continue-at p g false (above || false) c e n
+    continue-at (scope-framed {F} {S} i f s p) g top above c e n = continue-at p g false (above || false) c e n
+    continue-at (loop-framed {F} {S} i f x w l ll o s p) g top above c e n =
         at-loop x g f (c .target) w l (eqb f (c .target)) (continueAt F (c .target)) refl s n
-        (λ z. either (eqb x g) (record { target = f; kind = continueKind top above }) c (continueTargetFrom S g false (or above true)) (continueAt F (c .target) ≡ some g) e
-        (λ h. absurd (z (ap (λ (y : Resolution). y .target) h))) (λ h. continue-at p g false (or above true) c h n))
+        (λ z. either (eqb x g) (record { target = f; kind = continueKind top above }) c (continueTargetFrom S g false (above || true)) (continueAt F (c .target) ≡ some g) e
+        (λ h. absurd (z (ap (λ (y : Resolution). y .target) h))) (λ h. continue-at p g false (above || true) c h n))
 
-    pub continue-target : {sc : Flags} {F : List Frame} {S : List Entry} → Framed sc F S → (g : ℕ) (f : ℕ) (k : Kind)
+    pub continue-target : {scopes : Flags} {F : List Frame} {S : List Entry} → Framed scopes F S → (g : ℕ) (f : ℕ) (k : Kind)
         → continueTargetFrom S g true false ≡ some (record { target = f; kind = k }) → target F (jumpCompletion k f continue) ≡ some g
     unfolding jumpCompletion
     continue-target p g f implicit e = continue-exit p g true false (record { target = f; kind = implicit }) e refl

@@ -1,27 +1,27 @@
--- The machine does what the walk says.
+-- The machine of specs/Machine gives what the definition gives. For proofs/Invariant, and through it for the code (crates/build).
 use mathlib.Core.Path.{_≡_, refl, sym, ap, _∙_, subst, subst₂}
-use Prim.Native.Nat.{ℕ, zero, suc, _+_, _*_, _-_, _≤_, _<_}
-use native.Mathlib.Nat.{zero-add, suc-add, add-zero, add-suc, add-assoc, le-refl, le-trans}
+use Prim.Native.Nat.{ℕ, zero, suc, _+_, _-_, _≤_, _<_}
+use native.Mathlib.Nat.{zero-add, add-zero, le-refl}
 use native.Mathlib.Omega.{arith}
-use mathlib.Core.List.{List, [], _∷_, _++_, append-assoc, append-nil, reverse, reverse-append}
+use mathlib.Core.List.{List, [], _∷_, _++_, append-nil, reverse, reverse-append}
 use mathlib.Core.Option.{Option, none, some}
 use mathlib.Core.Bool.{Bool, true, false, not}
 use lib.ListN.{length, getD, take, drop, length-drop, length-reverse}
 use lib.Seq.{take-suc, getD-drop}
-use lib.Dec.{eqb, leb}
+use lib.Dec.{eqb, T}
 use borrow.Author.Tests.{lt-leb, le-leb, eq-eqb}
-use Rattle.table.specs.Table.{Table, Block, Case, Terminal, absent, unreachable, throw, return, goto, if, branch, switch, do-while, while, for, for-of, for-in, logical, ternary, optional, sequence, maybe-throw, try, scope, Variant, Break, Continue, Try, blockAt, terminalAt, instructionRowsAt, instructionRows, isAbsent, label}
+use Rattle.table.specs.Table.{Table, Block, Case, Terminal, absent, unreachable, throw, return, goto, if, branch, switch, do-while, while, for, for-of, for-in, logical, ternary, optional, sequence, maybe-throw, try, scope, Variant, Break, Continue, Try, blockAt, terminalAt, instructionRowsAt, isAbsent, label}
 use Rattle.definition.specs.Build.{accepted, Report, rejected, reported, report}
-use Rattle.definition.specs.Context.{Flags, has, add, ControlFlowTarget, targetBlock, target-case, Entry, Context, start, isScheduled, emit, withVisits, scheduleCatchHandler, markScopeFallthrough, pushed, schedule, scheduleLoop, unscheduledBy, popped, unscheduleTop, unschedule}
-use Rattle.definition.specs.Machine.{Frame, State, visiting, ended, choosing, popping, Turn, going, halt, turn, leave, blockRow, valueOut, updateOut, stmtOut, jumpOut, added, instrOut, scopeRow, hasUpdate, closingRowOf, closingRow, scheduled, scheduledIf, scheduledSwitch, unscheduledTop, unscheduled, unscheduledIf, opens, frameOf, secondPart, withEntries, withLeft, caseBuilt, into, intoLoop, complete, closeBy, close, no-case, caseAt, numberOfCases, chooseCase, firstCase, afterCases, resumeAt, resume, branchTurn, valueTurn, terminalTurn, depthLeft, visitTurn, step, begin, Gives, halts, goes, run}
+use Rattle.definition.specs.Context.{has, add, target-case, Entry, Context, start, isScheduled, emit, withVisits, scheduleCatchHandler, markScopeFallthrough, pushed, schedule, scheduleLoop, unscheduledBy, popped, unscheduleTop, unschedule}
+use Rattle.definition.specs.Machine.{Frame, State, visiting, ended, choosing, going, halt, turn, leave, blockRow, valueOut, updateOut, statementOut, jumpOut, added, instructionsOut, closingRowOf, closingRow, scheduled, scheduledIf, scheduledSwitch, unscheduledTop, unscheduled, unscheduledIf, opens, frameOf, secondPart, withEntries, into, intoLoop, complete, closeBy, close, noCase, caseAt, numberOfCases, chooseCase, switchColumns, resumeAt, resume, branchTurn, valueTurn, terminalTurn, depthLeft, visitTurn, step, begin, Gives, halts, goes}
 use Rattle.definition.specs.Result.{refused, Result, ok, _>>=_, refuseIf}
-use Rattle.definition.specs.Statement.{visitBreak, visitContinue, breakResolved, continueResolved, OptionalValue, visitUpdate, continueBlockOf, TerminalResult, BlockResult, TraverseBlock, enterBlock, unlessScheduled, unlessUnreachable, scheduleIf, unscheduleIf, markScopeFallthroughIf, traverseUnscheduled, AlternateResult, traverseAlternate, visitGoto, traverseEnclosed, loopIsTaken, traverseLoop, CasesResult, traverseCases, unscheduleAll, scheduleSwitch, scheduleIds, casesLastFirst, singleStatement, traverseConsequent, visitValueStatement, visitTerminal, instructionStatements, followedBy, thenNext, visitBlock, traverseBlock, buildTree}
-use Rattle.definition.specs.Tree.{Value, Statement, Statements, done, Cases, no-cases, CASE, Row, row, orNone, flag, present, countStatements, countCases, IF, INSTR, SWITCH, WHILE, FOR, FOROF, FORIN, DOWHILE, LABEL, TRY, SCOPE, rows, blockRows}
-use Rattle.definition.specs.Value.{visitValueBlock, mostDepth, mostVisits, beginVisit, ValueBlockResult, ValueTerminalResult, VisitValueBlock, visitValueBlockTerminal, valueBlockResultToSequence}
-use Rattle.definition.proofs.Rows.{stmtsOut, casesOut, bodyOut, body-out, performing-out, count-performing, followed-out, count-followed, rows-if, rows-else, rows-do, rows-while, rows-for, rows-forof, rows-forin, rows-label, rows-try, rows-scope, rows-value, rows-single, rows-case, rows-switch, rows-chain, count-chain}
-use Rattle.definition.proofs.Grow.{Good, good-bind, Any, any, Grows, value-grows, terminal-grows, update-grows, Kept, enter-grows, loop-kept, scopedIf-kept}
-use Rattle.definition.proofs.Never.{Fine, After, WalkFine, walk-fine, Free, untaken-free, reached-fine, schedule-free, or-false, false-of}
-use Rattle.definition.proofs.Tools.{true-false}
+use Rattle.definition.specs.Statement.{visitBreak, visitContinue, OptionalValue, visitUpdate, continueBlockOf, TerminalResult, BlockResult, TraverseBlock, enterBlock, unlessScheduled, unlessUnreachable, scheduleIf, unscheduleIf, markScopeFallthroughIf, traverseUnscheduled, AlternateResult, traverseAlternate, visitGoto, traverseEnclosed, loopIsTaken, traverseLoop, CasesResult, traverseCases, unscheduleAll, scheduleSwitch, scheduleIds, casesLastFirst, traverseConsequent, visitValueStatement, visitTerminal, instructionStatements, followedBy, thenNext, visitBlock, traverseBlock, buildTree}
+use Rattle.definition.specs.Tree.{Statement, Statements, done, Cases, no-cases, CASE, Row, row, orNone, countStatements, countCases, IF, INSTR, SWITCH, rows, updatePresent}
+use Rattle.definition.specs.Value.{visitValueBlock, beginVisit, ValueTerminalResult, VisitValueBlock, visitValueBlockTerminal, valueBlockResultToSequence}
+use Rattle.definition.proofs.Rows.{statementsOut, casesOut, blockOut, block-rows, rows-if, rows-else, rows-do-while, rows-while, rows-for, rows-for-of, rows-for-in, rows-label, rows-try, rows-scope, rows-value, rows-single, rows-case, rows-switch, rows-chain, count-chain}
+use Rattle.definition.proofs.Steps.{true-false, Any, Good, good-bind, good-unless, good-any, Fine, fine-good}
+use Rattle.definition.proofs.ValueWalk.{BlockTook, TerminalTook, VisitTook, isMaybeThrow, terminal-took, value-took, begin-visit-took}
+use Rattle.definition.proofs.Never.{After, WalkFine, walk-fine, Free, untaken-free, reached-fine, schedule-free, or-false, false-of}
 
 -- what the rest of a turn comes to leads to a
 abbrev pub Under : Table → Result State → Report → Type 0
@@ -49,7 +49,7 @@ record Sim (t : Table) (v : ℕ) (F : List Frame) (R : List Row) (n : ℕ) (x : 
 
 -- a list of statements is walked from the state s
 abbrev Along : Table → State → ℕ → List Frame → List Row → ℕ → Result BlockResult → Type 0
-Along t s v F R m (ok r) = (v < r .context .visits) × ((a : Report) → Gives t (ended F (R ++ stmtsOut (r .statements)) (m + countStatements (r .statements)) (r .context)) a → Gives t s a)
+Along t s v F R m (ok r) = (v < r .context .visits) × ((a : Report) → Gives t (ended F (R ++ statementsOut (r .statements)) (m + countStatements (r .statements)) (r .context)) a → Gives t s a)
 Along t s v F R m (refused c q w) = Gives t s (rejected c q w)
 
 unfoldable pub Walks : Table → ℕ → TraverseBlock → Type 0
@@ -63,7 +63,7 @@ module _ {t : Table} {v : ℕ} {F : List Frame} {R : List Row} {n : ℕ} where
   sim-bind P (refused c q w) f g h k = record { raw = refl }
 
   sim-go : {A : Type 0} (m : Result A) (f : A → Result State) (g : A → Result TerminalResult) → ((a : A) → Sim t v F R n (f a) (g a)) → Sim t v F R n (m >>= f) (m >>= g)
-  sim-go m f g k = sim-bind Any m f g (any m) (λ a _. k a)
+  sim-go m f g k = sim-bind Any m f g (good-any m) (λ a _. k a)
 
   sim-assoc : {A B : Type 0} {x : Result State} (m : Result A) (f : A → Result B) (g : B → Result TerminalResult) → Sim t v F R n x (m >>= (λ a. f a >>= g)) → Sim t v F R n x ((m >>= f) >>= g)
   sim-assoc {x = x} m f g h = subst (λ (y : Result TerminalResult). Sim t v F R n x y) (sym (bind-assoc m f g)) h
@@ -86,7 +86,7 @@ module _ {t : Table} {v : ℕ} {F : List Frame} {R : List Row} {n : ℕ} where
   sim-map (refused e q w) f g h = h
 
   -- a statement is complete
-  sim-leave : {R₁ : List Row} {g : Option ℕ} (s : Statement) {c : Context} → R₁ ≡ R ++ stmtOut s → v ≤ c .visits
+  sim-leave : {R₁ : List Row} {g : Option ℕ} (s : Statement) {c : Context} → R₁ ≡ R ++ statementOut s → v ≤ c .visits
       → Sim t v F R n (ok (leave g F R₁ (suc n) c)) (ok (record { statement = some s; next = g; context = c }))
   sim-leave {R₁} {g} s {c} e h = record { raw = (h, λ a q. subst (λ (z : List Row). Gives t (leave g F z (suc n) c) a) (sym e) q) }
 
@@ -183,16 +183,30 @@ unfolding scheduleSwitch scheduled Free
 opened-switch none c h = refl
 opened-switch (some f) c h = schedule-free _ c (h f refl)
 
+abbrev Kept : Context → Context → Type 0
+Kept c d = d .visits ≡ c .visits
+
+scope-marked-kept : (g : Option ℕ) (c : Context) → Kept c (markScopeFallthroughIf g c)
+unfolding markScopeFallthroughIf markScopeFallthrough
+scope-marked-kept none c = refl
+scope-marked-kept (some f) c = refl
+
+abbrev OneMore : Context → Context → Type 0
+OneMore c d = (c .visits < 8192) × (d .visits ≡ suc (c .visits))
+
+enter-counts : (t : Table) (b : ℕ) (c : Context) → Good (OneMore c) (enterBlock t b c)
+unfolding enterBlock emit withVisits
+enter-counts t b c =
+    good-bind (λ w. (c .visits < 8192) × (w ≡ suc (c .visits))) (OneMore c) _ _
+    (fine-good (λ w. (c .visits < 8192) × (w ≡ suc (c .visits))) (λ w. (c .visits < 8192) × (w ≡ suc (c .visits))) (beginVisit t b (c .visits)) (λ _ h. h) (begin-visit-took t b (c .visits)))
+    (λ w q. good-unless (OneMore c) _ 11 b w _ (λ h. q))
+
 abbrev InLoop : Context → Context → Type 0
 InLoop c d = Kept c d × Tops (c .nextId ∷ []) (d .stack)
 
 loop-pushed : (f k l : ℕ) (c : Context) → Good (InLoop c) (scheduleLoop f k (some l) c)
 unfolding scheduleLoop pushed
-loop-pushed f k l c = good-bind Any (InLoop c) _ _ (any (refuseIf (has (add (c .scheduled) f) k) 15 k (c .visits))) (λ _ _. (refl, (refl, tt)))
-
-fine-good : {A : Type 0} (P : A → Type 0) (m : Result A) → Fine P m → Good P m
-fine-good P (ok a) h = h
-fine-good P (refused c p v) h = tt
+loop-pushed f k l c = good-bind Any (InLoop c) _ _ (good-any (refuseIf (has (add (c .scheduled) f) k) 15 k (c .visits))) (λ _ _. (refl, (refl, tt)))
 
 -- ---- closing a statement
 
@@ -204,17 +218,17 @@ closes t (suc (suc n)) fr F R c a h = goes refl (closes t (suc n) (withEntries (
 
 sim-close : {t : Table} {v : ℕ} {F : List Frame} {R : List Row} (fr : Frame) (ids : List ℕ) (e : Terminal) (R₁ : List Row) (m : Result Context) (s : Statement) (c : Context)
     → terminalAt t (fr .block) ≡ e → m ≡ unscheduleAll ids c → fr .entries ≡ length ids → Tops ids (c .stack)
-    → R₁ ++ (closingRowOf e (blockAt t (fr .block)) (fr .second) (fr .label) (fr .built) ∷ []) ≡ R ++ stmtOut s → v ≤ c .visits
+    → R₁ ++ (closingRowOf e (blockAt t (fr .block)) (fr .second) (fr .label) (fr .built) ∷ []) ≡ R ++ statementOut s → v ≤ c .visits
     → Sim t v F R (fr .count) (ok (close t fr F R₁ c)) (m >>= λ c1. ok (record { statement = some s; next = fr .label; context = c1 }))
 unfolding close
 sim-close {t} {v} {F} {R} fr ids e R₁ m s c q o k u r h =
     sim-by (λ c1. ok (record { statement = some s; next = fr .label; context = c1 })) (o ∙ pop-all ids c u)
     (record { raw = (rw (popAll-kept (length ids) c) h, λ a g. closing (fr .entries) k a g) })
   where
-    row-is : R₁ ++ (closingRow t (fr .block) (fr .second) (fr .label) (fr .built) ∷ []) ≡ R ++ stmtOut s
+    row-is : R₁ ++ (closingRow t (fr .block) (fr .second) (fr .label) (fr .built) ∷ []) ≡ R ++ statementOut s
     row-is = ap (λ (z : Terminal). R₁ ++ (closingRowOf z (blockAt t (fr .block)) (fr .second) (fr .label) (fr .built) ∷ [])) q ∙ r
 
-    closing : (z : ℕ) → z ≡ length ids → (a : Report) → Gives t (leave (fr .label) F (R ++ stmtOut s) (suc (fr .count)) (popAll (length ids) c)) a → Gives t (closeBy z t fr F R₁ c) a
+    closing : (z : ℕ) → z ≡ length ids → (a : Report) → Gives t (leave (fr .label) F (R ++ statementOut s) (suc (fr .count)) (popAll (length ids) c)) a → Gives t (closeBy z t fr F R₁ c) a
     closing z k a g = closes t z fr F R₁ c a
         (subst₂ (λ (y : List Row) (i : ℕ). Gives t (leave (fr .label) F y (suc (fr .count)) (popAll i c)) a) (sym row-is) (sym k) g)
 
@@ -228,9 +242,9 @@ Past c d = (c .visits < d .visits) × After c d
 cases-next : (t : Table) (i j : ℕ) → i + j < length (t .cases) → casesLastFirst t i (suc j) ≡ caseAt t (i + j) ∷ casesLastFirst t i j
 unfolding casesLastFirst
 cases-next t i j h =
-    ap (λ (l : List Case). reverse l) (take-suc (drop i (t .cases)) j no-case (omega (arith, length-drop i (t .cases))))
-    ∙ reverse-append (take j (drop i (t .cases))) (getD (drop i (t .cases)) j no-case ∷ [])
-    ∙ ap (λ (k : Case). k ∷ reverse (take j (drop i (t .cases)))) (getD-drop i (t .cases) j no-case)
+    ap (λ (l : List Case). reverse l) (take-suc (drop i (t .cases)) j noCase (omega (arith, length-drop i (t .cases))))
+    ∙ reverse-append (take j (drop i (t .cases))) (getD (drop i (t .cases)) j noCase ∷ [])
+    ∙ ap (λ (k : Case). k ∷ reverse (take j (drop i (t .cases)))) (getD-drop i (t .cases) j noCase)
 
 cases-none : (t : Table) (i : ℕ) → casesLastFirst t i 0 ≡ []
 unfolding casesLastFirst
@@ -274,18 +288,18 @@ module _ (t : Table) (d : ℕ) (inner : TraverseBlock) (ws : Walks t d inner) (w
   -- the frame awaits a list of a statement with the terminal e: open, visit inside, close
   sim-inner : {v : ℕ} {F : List Frame} {R : List Row} {n : ℕ} (fr : Frame) (e : Terminal) (b : ℕ) (R₁ : List Row) (c : Context) (rest : BlockResult → Result TerminalResult)
       → terminalAt t (fr .block) ≡ e → length F + suc d ≡ 128
-      → ((r : BlockResult) → Past c (r .context) → Sim t v F R n (resumeAt t visit e (blockAt t (fr .block)) fr F (bodyOut R₁ (r .statements)) (r .context)) (rest r))
+      → ((r : BlockResult) → Past c (r .context) → Sim t v F R n (resumeAt t visit e (blockAt t (fr .block)) fr F (blockOut R₁ (r .statements)) (r .context)) (rest r))
       → Sim t v F R n (ok (visiting b (fr ∷ F) R₁ 0 c)) (inner b c >>= rest)
   unfolding _>>=_ Walks WalkFine
   sim-inner {v} {F} {R} {n} fr e b R₁ c rest q size k = at (inner b c) (ws b (fr ∷ F) R₁ 0 c (omega arith)) (wf b c)
     where
-      under : (r : BlockResult) (a : Report) → Under t (resumeAt t visit e (blockAt t (fr .block)) fr F (bodyOut R₁ (r .statements)) (r .context)) a
-          → Under t (resume t visit fr F (bodyOut R₁ (r .statements)) (r .context)) a
-      under r a h = subst (λ (z : Terminal). Under t (resumeAt t visit z (blockAt t (fr .block)) fr F (bodyOut R₁ (r .statements)) (r .context)) a) (sym q) h
+      under : (r : BlockResult) (a : Report) → Under t (resumeAt t visit e (blockAt t (fr .block)) fr F (blockOut R₁ (r .statements)) (r .context)) a
+          → Under t (resume t visit fr F (blockOut R₁ (r .statements)) (r .context)) a
+      under r a h = subst (λ (z : Terminal). Under t (resumeAt t visit z (blockAt t (fr .block)) fr F (blockOut R₁ (r .statements)) (r .context)) a) (sym q) h
 
       after : (r : BlockResult) (z : Result TerminalResult)
-          → ((a : Report) → Gives t (ended (fr ∷ F) (R₁ ++ stmtsOut (r .statements)) (0 + countStatements (r .statements)) (r .context)) a → Gives t (visiting b (fr ∷ F) R₁ 0 c) a)
-          → Beside t v F R n (resumeAt t visit e (blockAt t (fr .block)) fr F (bodyOut R₁ (r .statements)) (r .context)) z
+          → ((a : Report) → Gives t (ended (fr ∷ F) (R₁ ++ statementsOut (r .statements)) (0 + countStatements (r .statements)) (r .context)) a → Gives t (visiting b (fr ∷ F) R₁ 0 c) a)
+          → Beside t v F R n (resumeAt t visit e (blockAt t (fr .block)) fr F (blockOut R₁ (r .statements)) (r .context)) z
           → Beside t v F R n (ok (visiting b (fr ∷ F) R₁ 0 c)) z
       after r (refused x y w) go u = go (rejected x y w) (resumes fr F _ _ (r .context) (rejected x y w) size (under r _ u))
       after r (ok s) go (g, u) = (g, λ a h. go a (resumes fr F _ _ (r .context) a size (under r a (u a h))))
@@ -296,7 +310,7 @@ module _ (t : Table) (d : ℕ) (inner : TraverseBlock) (ws : Walks t d inner) (w
 
   sim-into : {v : ℕ} {F : List Frame} {R : List Row} {n : ℕ} (fr : Frame) (e : Terminal) (b code at : ℕ) (R₁ : List Row) (c : Context) (rest : BlockResult → Result TerminalResult)
       → terminalAt t (fr .block) ≡ e → length F + suc d ≡ 128
-      → ((r : BlockResult) → Past c (r .context) → Sim t v F R n (resumeAt t visit e (blockAt t (fr .block)) fr F (bodyOut R₁ (r .statements)) (r .context)) (rest r))
+      → ((r : BlockResult) → Past c (r .context) → Sim t v F R n (resumeAt t visit e (blockAt t (fr .block)) fr F (blockOut R₁ (r .statements)) (r .context)) (rest r))
       → Sim t v F R n (into b code at fr F R₁ c) (traverseUnscheduled inner b code at c >>= rest)
   unfolding into traverseUnscheduled
   sim-into fr e b code at R₁ c rest q size k =
@@ -309,7 +323,7 @@ module _ (t : Table) (d : ℕ) (inner : TraverseBlock) (ws : Walks t d inner) (w
 
   if-else : {v : ℕ} {F : List Frame} {R : List Row} {n : ℕ} (x y a f : ℕ) (g : Option ℕ) (i b : ℕ) (c : Context) (th : Statements)
       → terminalAt t b ≡ if x y a f → length F + suc d ≡ 128 → v ≤ c .visits → Tops (scheduleIds g i) (c .stack)
-      → Sim t v F R n (resumeAt t visit (if x y a f) (blockAt t b) (labelled b g n) F (bodyOut R th) c)
+      → Sim t v F R n (resumeAt t visit (if x y a f) (blockAt t b) (labelled b g n) F (blockOut R th) c)
       (traverseAlternate inner a f c >>= λ s. unscheduleIf g i (s .context) >>= λ c2. ok (record { statement = some (IF x (blockAt t b .id) g th (s .present) (s .statements)); next = g; context = c2 }))
   unfolding traverseAlternate resumeAt closingRowOf
   if-else {v} {F} {R} {n} x y a f g i b c th q size h u = at (eqb a f)
@@ -318,7 +332,7 @@ module _ (t : Table) (d : ℕ) (inner : TraverseBlock) (ws : Walks t d inner) (w
       K s = unscheduleIf g i (s .context) >>= λ c2. ok (record { statement = some (IF x (blockAt t b .id) g th (s .present) (s .statements)); next = g; context = c2 })
 
       at : (y : Bool) → Sim t v F R n
-          (elim y [ true ↦ ok (close t (labelled b g n) F (bodyOut R th) c) | false ↦ into a 13 a (secondPart (labelled b g n)) F (bodyOut R th) c ])
+          (elim y [ true ↦ ok (close t (labelled b g n) F (blockOut R th) c) | false ↦ into a 13 a (secondPart (labelled b g n)) F (blockOut R th) c ])
           (_>>=_ {A = AlternateResult} (elim y [ true ↦ ok (record { present = false; statements = done; context = c }) | false ↦ traverseUnscheduled inner a 13 a c >>= λ r. ok (record { present = true; statements = r .statements; context = r .context }) ]) K)
       at true = sim-ok _ K (sim-close (labelled b g n) (scheduleIds g i) _ _ _ _ c q (off-if g i c) (ids-if g i) u (rows-if R x (blockAt t b .id) g th done) h)
       at false =
@@ -327,14 +341,14 @@ module _ (t : Table) (d : ℕ) (inner : TraverseBlock) (ws : Walks t d inner) (w
           (rows-else R x (blockAt t b .id) g th (r .statements)) (omega arith))))
 
   other-way : {v : ℕ} {F : List Frame} {R : List Row} {n : ℕ} (x y a b : ℕ) (R₂ : List Row) (c : Context) (th : Statements)
-      → terminalAt t b ≡ branch x y a → length F + suc d ≡ 128 → v ≤ c .visits → R₂ ≡ bodyOut R th
+      → terminalAt t b ≡ branch x y a → length F + suc d ≡ 128 → v ≤ c .visits → R₂ ≡ blockOut R th
       → Sim t v F R n (into a 19 b (secondPart (frameOf b none 0 n)) F R₂ c)
       (traverseUnscheduled inner a 19 b c >>= λ s. ok (record { statement = some (IF x (blockAt t b .id) none th true (s .statements)); next = none; context = s .context }))
   unfolding resumeAt closingRowOf
   other-way {R = R} {n} x y a b R₂ c th q size h e =
       sim-into (secondPart (frameOf b none 0 n)) _ a 19 b _ c _ q size (λ r p.
       sim-bound (r .context) _ (sim-close (secondPart (frameOf b none 0 n)) [] _ _ _ _ (r .context) q (unfold unscheduleAll in refl) refl tt
-      (ap (λ (z : List Row). bodyOut z (r .statements) ++ (row 10 x 1 (blockAt t b .id) (orNone none) 0 ∷ [])) e ∙ rows-else R x (blockAt t b .id) none th (r .statements)) (omega arith)))
+      (ap (λ (z : List Row). blockOut z (r .statements) ++ (row 10 x 1 (blockAt t b .id) (orNone none) 0 ∷ [])) e ∙ rows-else R x (blockAt t b .id) none th (r .statements)) (omega arith)))
 
   branch-sim : {v : ℕ} {F : List Frame} {R : List Row} {n : ℕ} (x y a b : ℕ) (c : Context) → terminalAt t b ≡ branch x y a → length F + suc d ≡ 128 → v ≤ c .visits
       → Sim t v F R n (branchTurn b y a (blockAt t b .id) F R n c)
@@ -351,9 +365,9 @@ module _ (t : Table) (d : ℕ) (inner : TraverseBlock) (ws : Walks t d inner) (w
             | true ↦ visitBreak b y (blockAt t b .id) c >>= λ s. into a 19 b (secondPart (frameOf b none 0 n)) F ((R ++ jumpOut s) ++ (blockRow (added s 0) ∷ [])) c
             | false ↦ ok (visiting y (frameOf b none 0 n ∷ F) R 0 c)
           ])
-          (_>>=_ {A = BlockResult} (elim z [ true ↦ visitBreak b y (blockAt t b .id) c >>= λ s. ok (record { statements = singleStatement s; context = c }) | false ↦ inner y c ]) K)
+          (_>>=_ {A = BlockResult} (elim z [ true ↦ visitBreak b y (blockAt t b .id) c >>= λ s. ok (record { statements = followedBy s done; context = c }) | false ↦ inner y c ]) K)
       at true =
-          sim-assoc (visitBreak b y (blockAt t b .id) c) _ K (sim-go _ _ _ (λ s. sim-ok _ K (other-way x y a b _ c (singleStatement s) q size h (rows-single R s))))
+          sim-assoc (visitBreak b y (blockAt t b .id) c) _ K (sim-go _ _ _ (λ s. sim-ok _ K (other-way x y a b _ c (followedBy s done) q size h (rows-single R s))))
       at false = sim-inner (frameOf b none 0 n) _ y R c K q size (λ r p. other-way x y a b _ (r .context) (r .statements) q size (omega arith) refl)
 
   -- ---- Label and scopes, loops: the last part closes the statement
@@ -363,7 +377,7 @@ module _ (t : Table) (d : ℕ) (inner : TraverseBlock) (ws : Walks t d inner) (w
 
   enclosed-sim : {v : ℕ} {F : List Frame} {R : List Row} {n : ℕ} (e : Terminal) (b x code at : ℕ) (g : Option ℕ) (c₀ c : Context) (make : Statements → Statement)
       → terminalAt t b ≡ e → Lasts e → length F + suc d ≡ 128 → v ≤ c .visits → Tops (scheduleIds g (c₀ .nextId)) (c .stack)
-      → ((s : Statements) → bodyOut R s ++ (closingRowOf e (blockAt t b) false g 0 ∷ []) ≡ R ++ stmtOut (make s))
+      → ((s : Statements) → blockOut R s ++ (closingRowOf e (blockAt t b) false g 0 ∷ []) ≡ R ++ statementOut (make s))
       → Sim t v F R n (into x code at (labelled b g n) F R c) (traverseEnclosed inner x code at g c₀ c make)
   unfolding traverseEnclosed
   enclosed-sim {v} {F} {R} {n} e b x code at g c₀ c make q l size h u o =
@@ -374,7 +388,7 @@ module _ (t : Table) (d : ℕ) (inner : TraverseBlock) (ws : Walks t d inner) (w
 
   loop-sim : {v : ℕ} {F : List Frame} {R : List Row} {n : ℕ} (e : Terminal) (b l : ℕ) (bad : Bool) (w i : ℕ) (c : Context) (g : Option ℕ) (R₁ : List Row) (make : Statements → Statement)
       → terminalAt t b ≡ e → Lasts e → length F + suc d ≡ 128 → v ≤ w → Tops (i ∷ []) (c .stack)
-      → ((s : Statements) → bodyOut R₁ s ++ (closingRowOf e (blockAt t b) false g 0 ∷ []) ≡ R ++ stmtOut (make s))
+      → ((s : Statements) → blockOut R₁ s ++ (closingRowOf e (blockAt t b) false g 0 ∷ []) ≡ R ++ statementOut (make s))
       → Sim t v F R n (intoLoop b l bad w (frameOf b g 1 n) F R₁ c) (traverseLoop inner b l bad w i c g make)
   unfolding traverseLoop intoLoop withVisits
   loop-sim {v} {F} {R} {n} e b l bad w i c g R₁ make q la size h u o =
@@ -389,7 +403,7 @@ module _ (t : Table) (d : ℕ) (inner : TraverseBlock) (ws : Walks t d inner) (w
 
   cases-sim : {v : ℕ} {F : List Frame} {R : List Row} {n : ℕ} (x i m f b : ℕ) (g : Option ℕ) (j : ℕ) (ids : List ℕ) (entries made : ℕ) (R₁ : List Row) (c : Context) (make : Cases → Statement)
       → terminalAt t b ≡ switch x i m f → length F + suc d ≡ 128 → j ≤ length (t .cases) - i → v ≤ c .visits → entries ≡ length ids → Tops ids (c .stack)
-      → ((z : Cases) → (R₁ ++ casesOut z) ++ (row 12 x (made + countCases z) (blockAt t b .id) (orNone g) 0 ∷ []) ≡ R ++ stmtOut (make z))
+      → ((z : Cases) → (R₁ ++ casesOut z) ++ (row 12 x (made + countCases z) (blockAt t b .id) (orNone g) 0 ∷ []) ≡ R ++ statementOut (make z))
       → Sim t v F R n (ok (choosing (switched b g entries j made n) F R₁ c))
       (traverseCases inner b f (casesLastFirst t i j) ids c >>= λ r. unscheduleAll (r .ids) (r .context) >>= λ c2. ok (record { statement = some (make (r .cases)); next = g; context = c2 }))
   unfolding step chooseCase traverseCases resumeAt closingRowOf
@@ -401,11 +415,11 @@ module _ (t : Table) (d : ℕ) (inner : TraverseBlock) (ws : Walks t d inner) (w
       K : CasesResult → Result TerminalResult
       K r = unscheduleAll (r .ids) (r .context) >>= λ c2. ok (record { statement = some (make (r .cases)); next = g; context = c2 })
 
-      e₀ : R₁ ++ (row 12 x made (blockAt t b .id) (orNone g) 0 ∷ []) ≡ R ++ stmtOut (make no-cases)
+      e₀ : R₁ ++ (row 12 x made (blockAt t b .id) (orNone g) 0 ∷ []) ≡ R ++ statementOut (make no-cases)
       e₀ = unfold casesOut in (rw (append-nil R₁, add-zero made) at (e no-cases))
   cases-sim {v} {F} {R} {n} x i m f b g (suc j) ids entries made R₁ c make q size few h k u e =
       sim-turn (choosing (switched b g entries (suc j) made n) F R₁ c) (chooseCase t i f (suc j) (switched b g entries (suc j) made n) F R₁ c) _
-      (ap (λ (z : Terminal). turn (chooseCase t (firstCase z) (afterCases z) (suc j) (switched b g entries (suc j) made n) F R₁ c)) q)
+      (ap (λ (z : Terminal). turn (chooseCase t (switchColumns z .first) (switchColumns z .fallthrough) (suc j) (switched b g entries (suc j) made n) F R₁ c)) q)
       (subst (λ (l : List Case). Sim t v F R n (chooseCase t i f (suc j) (switched b g entries (suc j) made n) F R₁ c) (traverseCases inner b f l ids c >>= K make)) (sym (cases-next t i j (omega arith)))
       (at (isScheduled c blk) refl (λ ids′ entries′ made′ R′ c′ make′ h′ k′ u′ e′. cases-sim x i m f b g j ids′ entries′ made′ R′ c′ make′ q size (omega arith) h′ k′ u′ e′)))
     where
@@ -422,16 +436,16 @@ module _ (t : Table) (d : ℕ) (inner : TraverseBlock) (ws : Walks t d inner) (w
       free r o p = unfold isScheduled in false-of (has (r .context .scheduled) blk) (λ z. true-false (sym (p .1 .sub blk z) ∙ or-false (has (c .scheduled) blk) (has (c .catchHandlers) blk) o))
 
       rows-on : (r : BlockResult) (z : Cases)
-          → ((bodyOut R₁ (r .statements) ++ (row 11 tst 0 0 0 0 ∷ [])) ++ casesOut z) ++ (row 12 x (suc made + countCases z) (blockAt t b .id) (orNone g) 0 ∷ []) ≡ R ++ stmtOut (make (CASE tst (r .statements) z))
+          → ((blockOut R₁ (r .statements) ++ (row 11 tst 0 0 0 0 ∷ [])) ++ casesOut z) ++ (row 12 x (suc made + countCases z) (blockAt t b .id) (orNone g) 0 ∷ []) ≡ R ++ statementOut (make (CASE tst (r .statements) z))
       rows-on r z =
           let m : suc made + countCases z ≡ made + suc (countCases z) = omega arith in
-          ap (λ (y : ℕ). ((bodyOut R₁ (r .statements) ++ (row 11 tst 0 0 0 0 ∷ [])) ++ casesOut z) ++ (row 12 x y (blockAt t b .id) (orNone g) 0 ∷ [])) m
+          ap (λ (y : ℕ). ((blockOut R₁ (r .statements) ++ (row 11 tst 0 0 0 0 ∷ [])) ++ casesOut z) ++ (row 12 x y (blockAt t b .id) (orNone g) 0 ∷ [])) m
           ∙ ap (λ (y : List Row). y ++ (row 12 x (made + suc (countCases z)) (blockAt t b .id) (orNone g) 0 ∷ [])) (sym (rows-case R₁ tst (r .statements) z))
           ∙ e (CASE tst (r .statements) z)
 
       Again : Type 0
       Again = (ids′ : List ℕ) (entries′ made′ : ℕ) (R′ : List Row) (c′ : Context) (make′ : Cases → Statement) → v ≤ c′ .visits → entries′ ≡ length ids′ → Tops ids′ (c′ .stack)
-          → ((z : Cases) → (R′ ++ casesOut z) ++ (row 12 x (made′ + countCases z) (blockAt t b .id) (orNone g) 0 ∷ []) ≡ R ++ stmtOut (make′ z))
+          → ((z : Cases) → (R′ ++ casesOut z) ++ (row 12 x (made′ + countCases z) (blockAt t b .id) (orNone g) 0 ∷ []) ≡ R ++ statementOut (make′ z))
           → Sim t v F R n (ok (choosing (switched b g entries′ j made′ n) F R′ c′)) (traverseCases inner b f (casesLastFirst t i j) ids′ c′ >>= K make′)
 
       at : (y : Bool) → isScheduled c blk ≡ y → Again
@@ -467,17 +481,17 @@ module _ (t : Table) (d : ℕ) (inner : TraverseBlock) (ws : Walks t d inner) (w
 
   jump-kept : (w : Variant) (b g i : ℕ) (c : Context) → Good (λ s. Kept c (s .context)) (visitGoto w b g i c)
   unfolding visitGoto
-  jump-kept Break b g i c = good-bind Any (λ s. Kept c (s .context)) _ _ (any (visitBreak b g i c)) (λ s _. refl)
-  jump-kept Continue b g i c = good-bind Any (λ s. Kept c (s .context)) _ _ (any (visitContinue g i c)) (λ s _. refl)
+  jump-kept Break b g i c = good-bind Any (λ s. Kept c (s .context)) _ _ (good-any (visitBreak b g i c)) (λ s _. refl)
+  jump-kept Continue b g i c = good-bind Any (λ s. Kept c (s .context)) _ _ (good-any (visitContinue g i c)) (λ s _. refl)
   jump-kept Try b g i c = refl
 
-  value-sim : {v : ℕ} {F : List Frame} {R : List Row} {n : ℕ} (e : Terminal) (b : ℕ) (k : Block) (f : ℕ) (c : Context) → v ≤ c .visits
+  value-sim : {v : ℕ} {F : List Frame} {R : List Row} {n : ℕ} (e : Terminal) (b : ℕ) (k : Block) (f : ℕ) (c : Context) → T (not (isMaybeThrow e)) → v ≤ c .visits
       → Sim t v F R n (valueTurn t visit e b k f F R n c) (visitValueStatement t visit e b k f c)
   unfolding valueTurn visitValueStatement
-  value-sim {v} {F} {R} {n} e b k f c h =
+  value-sim {v} {F} {R} {n} e b k f c m h =
       sim-by _ (opened-if g c (untaken-free c f))
       (subst (λ (w : ℕ). Sim t v F R n (visitValueBlockTerminal t visit e (k .id) (k .span) (c .visits) b >>= X) (visitValueBlockTerminal t visit e (k .id) (k .span) w b >>= Y)) (sym (kept-if g c))
-      (sim-bind (λ r. c .visits ≤ r .visits) _ X Y (terminal-grows t visit (value-grows t d) e (k .id) (k .span) (c .visits) b) (λ r q.
+      (sim-bind (λ r. c .visits ≤ r .visits) _ X Y (fine-good (TerminalTook t (c .visits)) (λ r. c .visits ≤ r .visits) (visitValueBlockTerminal t visit e (k .id) (k .span) (c .visits) b) (λ _ z. z .rises) (terminal-took t visit (value-took t d) e (k .id) (k .span) (c .visits) b m)) (λ r q.
       sim-by _ (off-if g (c .nextId) (withVisits (r .visits) (scheduledIf g c)) ∙ pop-all (scheduleIds g (c .nextId)) (withVisits (r .visits) (scheduledIf g c)) (unfold withVisits in tops-if g c) ∙ one g (withVisits (r .visits) (scheduledIf g c)))
       (sim-leave (INSTR (r .id) (r .place) (k .span) (r .value)) (rows-value R (r .id) (r .place) (k .span) (r .value)) (seen g r (omega arith))))))
     where
@@ -499,11 +513,11 @@ module _ (t : Table) (d : ℕ) (inner : TraverseBlock) (ws : Walks t d inner) (w
       Y r = unscheduleIf g (c .nextId) (withVisits (r .visits) (scheduledIf g c)) >>= λ c2. ok (record { statement = some (INSTR (r .id) (r .place) (k .span) (r .value)); next = g; context = c2 })
 
   values : (x : ℕ) (ft : Option ℕ) (span v : ℕ) → Good (λ r. v ≤ r .visits) (visit x ft span v)
-  unfolding Grows
-  values x ft span v = value-grows t d x ft span v
+  unfolding VisitTook
+  values x ft span v = fine-good (BlockTook t v) (λ r. v ≤ r .visits) (visit x ft span v) (λ _ h. h .rises) (value-took t d x ft span v)
 
   abbrev Updated : Option ℕ → ℕ → OptionalValue → Type 0
-  Updated u v w = (v ≤ w .visits) × (present (w .value) ≡ hasUpdate u)
+  Updated u v w = (v ≤ w .visits) × (updatePresent (w .value) ≡ updatePresent u)
 
   updates : (u : Option ℕ) (span v : ℕ) → Good (Updated u v) (visitUpdate visit u span v)
   unfolding visitUpdate
@@ -511,7 +525,7 @@ module _ (t : Table) (d : ℕ) (inner : TraverseBlock) (ws : Walks t d inner) (w
   updates (some u) span v = good-bind (λ r. v ≤ r .visits) (Updated (some u) v) _ _ (values u none span v) (λ r q. (q, refl))
 
   reaches : (c : Context) (f : ℕ) → Good (λ g. Free g c) (unlessUnreachable t c f)
-  reaches c f = fine-good (λ g. Free g c) (unlessUnreachable t c f) (reached-fine t c f)
+  reaches c f = fine-good (λ g. Free g c) (λ g. Free g c) (unlessUnreachable t c f) (λ _ h. h) (reached-fine t c f)
 
   -- ---- every terminal
 
@@ -520,8 +534,8 @@ module _ (t : Table) (d : ℕ) (inner : TraverseBlock) (ws : Walks t d inner) (w
   unfolding terminalTurn visitTerminal
   terminal-sim absent b c q size h = record { raw = refl }
   terminal-sim unreachable b c q size h = silent none c h
-  terminal-sim (throw x) b c q size h = unfold stmtOut in sim-leave _ refl h
-  terminal-sim (return x) b c q size h = unfold stmtOut in sim-leave _ refl h
+  terminal-sim (throw x) b c q size h = unfold statementOut in sim-leave _ refl h
+  terminal-sim (return x) b c q size h = unfold statementOut in sim-leave _ refl h
   terminal-sim (goto g w) b c q size h = jumped c (visitGoto w b g (blockAt t b .id) c) h (jump-kept w b g (blockAt t b .id) c)
   terminal-sim {n = n} (if x y a f) b c q size h =
       sim-bind (λ g. Free g c) _ _ _ (reaches c f) (λ g free. sim-by _ (opened-if g c free)
@@ -541,7 +555,7 @@ module _ (t : Table) (d : ℕ) (inner : TraverseBlock) (ws : Walks t d inner) (w
       sim-inner (frameOf b (unlessScheduled c f) 1 n) _ l _ c1 _ q size (λ r p₁.
       sim-bind (λ w. r .context .visits ≤ w .visits) _ _ _ (values x none (blockAt t b .span) (r .context .visits)) (λ w p₂.
       sim-close (frameOf b (unlessScheduled c f) 1 n) (c .nextId ∷ []) _ _ _ _ (withVisits (w .visits) (r .context)) q (off-loop (c .nextId) (withVisits (w .visits) (r .context))) refl
-      (tops-same (c .nextId ∷ []) c1 (r .context) (p₁ .1 .same) (p .1)) (rows-do R (blockAt t b .id) (unlessScheduled c f) (r .statements) (w .value)) (omega arith)))))
+      (tops-same (c .nextId ∷ []) c1 (r .context) (p₁ .1 .same) (p .1)) (rows-do-while R (blockAt t b .id) (unlessScheduled c f) (r .statements) (w .value)) (omega arith)))))
   terminal-sim {R = R} (while x l f) b c q size h =
       sim-go _ _ _ (λ g. sim-bind (InLoop c) _ _ _ (loop-pushed f x l c) (λ c1 p.
       sim-bind (λ w. c1 .visits ≤ w .visits) _ _ _ (values x none (blockAt t b .span) (c1 .visits)) (λ w p₁.
@@ -552,26 +566,26 @@ module _ (t : Table) (d : ℕ) (inner : TraverseBlock) (ws : Walks t d inner) (w
       sim-bind (λ w. n .visits ≤ w .visits) _ _ _ (values x none (blockAt t b .span) (n .visits)) (λ w p₂.
       sim-bind (Updated u (w .visits)) _ _ _ (updates u (blockAt t b .span) (w .visits)) (λ z p₃.
       loop-sim _ b l (loopIsTaken c l f) (z .visits) (c .nextId) c1 (unlessScheduled c f) _ _ q (unfold resumeAt in λ _ _ _ _ _. refl) size (omega arith) (p .1)
-      (unfold closingRowOf in λ s. ap (λ (y : ℕ). bodyOut (((R ++ valueOut (valueBlockResultToSequence t n (blockAt t b .span))) ++ valueOut (w .value)) ++ updateOut (z .value)) s ++ (row 15 (blockAt t b .id) (orNone (unlessScheduled c f)) y 0 0 ∷ [])) (sym (p₃ .1))
+      (unfold closingRowOf in λ s. ap (λ (y : ℕ). blockOut (((R ++ valueOut (valueBlockResultToSequence t n (blockAt t b .span))) ++ valueOut (w .value)) ++ updateOut (z .value)) s ++ (row 15 (blockAt t b .id) (orNone (unlessScheduled c f)) y 0 0 ∷ [])) (sym (p₃ .1))
       ∙ rows-for R (blockAt t b .id) (unlessScheduled c f) (valueBlockResultToSequence t n (blockAt t b .span)) (w .value) (z .value) s)))))
   terminal-sim {R = R} (for-of i x l f) b c q size h =
       sim-bind (InLoop c) _ _ _ (loop-pushed f i l c) (λ c1 p.
       sim-bind (λ w. c1 .visits ≤ w .visits) _ _ _ (values i none (blockAt t b .span) (c1 .visits)) (λ n p₁.
       sim-bind (λ w. n .visits ≤ w .visits) _ _ _ (values x none (blockAt t b .span) (n .visits)) (λ w p₂.
       loop-sim _ b l (loopIsTaken c l f) (w .visits) (c .nextId) c1 (unlessScheduled c f) _ _ q (unfold resumeAt in λ _ _ _ _ _. refl) size (omega arith) (p .1)
-      (unfold closingRowOf in rows-forof R (blockAt t b .id) (unlessScheduled c f) (blockAt t b .span) (valueBlockResultToSequence t n (blockAt t b .span)) (valueBlockResultToSequence t w (blockAt t b .span))))))
+      (unfold closingRowOf in rows-for-of R (blockAt t b .id) (unlessScheduled c f) (blockAt t b .span) (valueBlockResultToSequence t n (blockAt t b .span)) (valueBlockResultToSequence t w (blockAt t b .span))))))
   terminal-sim {R = R} (for-in i l f) b c q size h =
       sim-bind (InLoop c) _ _ _ (loop-pushed f i l c) (λ c1 p.
       sim-bind (λ w. c1 .visits ≤ w .visits) _ _ _ (values i none (blockAt t b .span) (c1 .visits)) (λ n p₁.
       loop-sim _ b l (loopIsTaken c l f) (n .visits) (c .nextId) c1 (unlessScheduled c f) _ _ q (unfold resumeAt in λ _ _ _ _ _. refl) size (omega arith) (p .1)
-      (unfold closingRowOf in rows-forin R (blockAt t b .id) (unlessScheduled c f) (blockAt t b .span) (valueBlockResultToSequence t n (blockAt t b .span)))))
-  terminal-sim (logical o x f) b c q size h = value-sim (logical o x f) b (blockAt t b) f c h
-  terminal-sim (ternary x f) b c q size h = value-sim (ternary x f) b (blockAt t b) f c h
-  terminal-sim (optional g x f) b c q size h = value-sim (optional g x f) b (blockAt t b) f c h
+      (unfold closingRowOf in rows-for-in R (blockAt t b .id) (unlessScheduled c f) (blockAt t b .span) (valueBlockResultToSequence t n (blockAt t b .span)))))
+  terminal-sim (logical o x f) b c q size h = value-sim (logical o x f) b (blockAt t b) f c tt h
+  terminal-sim (ternary x f) b c q size h = value-sim (ternary x f) b (blockAt t b) f c tt h
+  terminal-sim (optional g x f) b c q size h = value-sim (optional g x f) b (blockAt t b) f c tt h
   terminal-sim {R = R} (label x f) b c q size h =
       sim-bind (λ g. Free g c) _ _ _ (reaches c f) (λ g free. sim-by _ (opened-if g c free)
       (enclosed-sim _ b x 17 b g c (scheduledIf g c) _ q (unfold resumeAt in λ _ _ _ _ _. refl) size (omega (arith, kept-if g c)) (tops-if g c) (unfold closingRowOf in rows-label R (blockAt t b .id) g)))
-  terminal-sim (sequence x f) b c q size h = value-sim (sequence x f) b (blockAt t b) f c h
+  terminal-sim (sequence x f) b c q size h = value-sim (sequence x f) b (blockAt t b) f c tt h
   terminal-sim (maybe-throw n) b c q size h = silent (unlessScheduled c n) c h
   terminal-sim {R = R} {n} (try x y f m) b c q size h =
       sim-bind (λ g. Free g c) _ _ _ (reaches c f) (λ g free. sim-by _ (opened-if g c free)
@@ -583,7 +597,7 @@ module _ (t : Table) (d : ℕ) (inner : TraverseBlock) (ws : Walks t d inner) (w
   terminal-sim {R = R} (scope p x f s) b c q size h =
       sim-by _ (opened-if (unlessScheduled c f) c (untaken-free c f))
       (enclosed-sim _ b x 18 b (unlessScheduled c f) c (markScopeFallthroughIf (unlessScheduled c f) (scheduledIf (unlessScheduled c f) c)) _ q (unfold resumeAt in λ _ _ _ _ _. refl) size
-      (omega (arith, kept-if (unlessScheduled c f) c, scopedIf-kept (unlessScheduled c f) (scheduledIf (unlessScheduled c f) c)))
+      (omega (arith, kept-if (unlessScheduled c f) c, scope-marked-kept (unlessScheduled c f) (scheduledIf (unlessScheduled c f) c)))
       (tops-same (scheduleIds (unlessScheduled c f) (c .nextId)) (scheduledIf (unlessScheduled c f) c) (markScopeFallthroughIf (unlessScheduled c f) (scheduledIf (unlessScheduled c f) c)) (marked (unlessScheduled c f) (scheduledIf (unlessScheduled c f) c)) (tops-if (unlessScheduled c f) c))
       (unfold closingRowOf in rows-scope R p s))
     where
@@ -594,7 +608,7 @@ module _ (t : Table) (d : ℕ) (inner : TraverseBlock) (ws : Walks t d inner) (w
   -- ---- the chain
 
   abbrev OnRows : List Row → ℕ → Option Statement → List Row
-  OnRows R b o = (R ++ instrOut t (instructionRowsAt t b)) ++ jumpOut o
+  OnRows R b o = (R ++ instructionsOut t (instructionRowsAt t b)) ++ jumpOut o
 
   abbrev OnCount : ℕ → ℕ → Option Statement → ℕ
   OnCount m b o = added o (m + length (instructionRowsAt t b))
@@ -606,8 +620,8 @@ module _ (t : Table) (d : ℕ) (inner : TraverseBlock) (ws : Walks t d inner) (w
   unfolding thenNext
   chain-on S v F R m b o none c again lt u ih = (lt, λ a q. u a (subst₂ (λ (z : List Row) (y : ℕ). Gives t (ended F z y c) a) e₁ e₂ q))
     where
-      e₁ : R ++ stmtsOut (instructionStatements t (instructionRowsAt t b) (followedBy o done)) ≡ OnRows R b o
-      e₁ = rows-chain R t (instructionRowsAt t b) o done ∙ unfold stmtsOut in append-nil (OnRows R b o)
+      e₁ : R ++ statementsOut (instructionStatements t (instructionRowsAt t b) (followedBy o done)) ≡ OnRows R b o
+      e₁ = rows-chain R t (instructionRowsAt t b) o done ∙ unfold statementsOut in append-nil (OnRows R b o)
 
       e₂ : m + countStatements (instructionStatements t (instructionRowsAt t b) (followedBy o done)) ≡ OnCount m b o
       e₂ = count-chain m t (instructionRowsAt t b) o done ∙ add-zero (OnCount m b o)
@@ -623,13 +637,13 @@ module _ (t : Table) (d : ℕ) (inner : TraverseBlock) (ws : Walks t d inner) (w
       )
 
   visit-deep : (b : ℕ) (F : List Frame) (R : List Row) (m : ℕ) (c : Context) → length F + suc d ≡ 128
-      → visitTurn t b F R m c ≡ enterBlock t b c >>= λ c1. terminalTurn t (visitValueBlock t d) (terminalAt t b) b (blockAt t b) F (R ++ instrOut t (instructionRowsAt t b)) (m + length (instructionRowsAt t b)) c1
+      → visitTurn t b F R m c ≡ enterBlock t b c >>= λ c1. terminalTurn t (visitValueBlock t d) (terminalAt t b) b (blockAt t b) F (R ++ instructionsOut t (instructionRowsAt t b)) (m + length (instructionRowsAt t b)) c1
   unfolding visitTurn refuseIf _>>=_
   visit-deep b F R m c size =
       let e : depthLeft F ≡ d = omega arith in
       ap (λ (y : Bool). refuseIf y 30 b (c .visits) >>= λ _. enterBlock t b c >>= λ c1.
-      terminalTurn t (visitValueBlock t (depthLeft F)) (terminalAt t b) b (blockAt t b) F (R ++ instrOut t (instructionRowsAt t b)) (m + length (instructionRowsAt t b)) c1) (lt-leb 128 (length F) (omega arith))
-      ∙ ap (λ (z : ℕ). enterBlock t b c >>= λ c1. terminalTurn t (visitValueBlock t z) (terminalAt t b) b (blockAt t b) F (R ++ instrOut t (instructionRowsAt t b)) (m + length (instructionRowsAt t b)) c1) e
+      terminalTurn t (visitValueBlock t (depthLeft F)) (terminalAt t b) b (blockAt t b) F (R ++ instructionsOut t (instructionRowsAt t b)) (m + length (instructionRowsAt t b)) c1) (lt-leb 128 (length F) (omega arith))
+      ∙ ap (λ (z : ℕ). enterBlock t b c >>= λ c1. terminalTurn t (visitValueBlock t z) (terminalAt t b) b (blockAt t b) F (R ++ instructionsOut t (instructionRowsAt t b)) (m + length (instructionRowsAt t b)) c1) e
 
   enter-late : (b : ℕ) (c : Context) → 8192 ≤ c .visits → enterBlock t b c ≡ refused 31 b (c .visits)
   unfolding enterBlock beginVisit refuseIf _>>=_
@@ -642,19 +656,19 @@ module _ (t : Table) (d : ℕ) (inner : TraverseBlock) (ws : Walks t d inner) (w
   unfolding visitBlock step
   chain-sim zero b F R m c size lt =
       gives-turn t (visiting b F R m c) (refused 31 b (c .visits)) (rejected 31 b (c .visits))
-      (ap turn (visit-deep b F R m c size ∙ ap (λ (z : Result Context). z >>= λ c1. terminalTurn t (visitValueBlock t d) (terminalAt t b) b (blockAt t b) F (R ++ instrOut t (instructionRowsAt t b)) (m + length (instructionRowsAt t b)) c1) (enter-late b c (omega arith)) ∙ gone))
+      (ap turn (visit-deep b F R m c size ∙ ap (λ (z : Result Context). z >>= λ c1. terminalTurn t (visitValueBlock t d) (terminalAt t b) b (blockAt t b) F (R ++ instructionsOut t (instructionRowsAt t b)) (m + length (instructionRowsAt t b)) c1) (enter-late b c (omega arith)) ∙ gone))
       refl
     where
-      gone : (refused 31 b (c .visits) >>= λ c1. terminalTurn t (visitValueBlock t d) (terminalAt t b) b (blockAt t b) F (R ++ instrOut t (instructionRowsAt t b)) (m + length (instructionRowsAt t b)) c1) ≡ refused 31 b (c .visits)
+      gone : (refused 31 b (c .visits) >>= λ c1. terminalTurn t (visitValueBlock t d) (terminalAt t b) b (blockAt t b) F (R ++ instructionsOut t (instructionRowsAt t b)) (m + length (instructionRowsAt t b)) c1) ≡ refused 31 b (c .visits)
       gone = unfold _>>=_ in refl
   chain-sim (suc n) b F R m c size lt =
-      at (enterBlock t b c) (enter-grows t b c) (ap turn (visit-deep b F R m c size)) (λ k R′ m′ c′ le. chain-sim n k F R′ m′ c′ size le)
+      at (enterBlock t b c) (enter-counts t b c) (ap turn (visit-deep b F R m c size)) (λ k R′ m′ c′ le. chain-sim n k F R′ m′ c′ size le)
     where
       S : State
       S = visiting b F R m c
 
       f : Context → Result State
-      f c1 = terminalTurn t (visitValueBlock t d) (terminalAt t b) b (blockAt t b) F (R ++ instrOut t (instructionRowsAt t b)) (m + length (instructionRowsAt t b)) c1
+      f c1 = terminalTurn t (visitValueBlock t d) (terminalAt t b) b (blockAt t b) F (R ++ instructionsOut t (instructionRowsAt t b)) (m + length (instructionRowsAt t b)) c1
 
       g : Context → Result BlockResult
       g c1 = visitTerminal t (visitValueBlock t d) inner (terminalAt t b) b (blockAt t b) c1 >>= λ s. thenNext t b (visitBlock t (visitValueBlock t d) inner n) (s .statement) (s .next) (s .context)
@@ -663,7 +677,7 @@ module _ (t : Table) (d : ℕ) (inner : TraverseBlock) (ws : Walks t d inner) (w
       Again = (k : ℕ) (R′ : List Row) (m′ : ℕ) (c′ : Context) → 8193 ≤ n + c′ .visits → Along t (visiting k F R′ m′ c′) (c′ .visits) F R′ m′ (visitBlock t (visitValueBlock t d) inner n k c′)
 
       after : (c1 : Context) (y : Result TerminalResult) → c1 .visits ≡ suc (c .visits) → step t S ≡ turn (f c1) → Again
-          → Beside t (c1 .visits) F (R ++ instrOut t (instructionRowsAt t b)) (m + length (instructionRowsAt t b)) (f c1) y
+          → Beside t (c1 .visits) F (R ++ instructionsOut t (instructionRowsAt t b)) (m + length (instructionRowsAt t b)) (f c1) y
           → Along t S (c .visits) F R m (y >>= λ s. thenNext t b (visitBlock t (visitValueBlock t d) inner n) (s .statement) (s .next) (s .context))
       after c1 (refused e p w) q st again u = unfold _>>=_ in gives-turn t S (f c1) (rejected e p w) st u
       after c1 (ok s) q st again (le, u) = unfold _>>=_ in
@@ -683,15 +697,15 @@ walk-sim t zero b F R m c size = gives-turn t (visiting b F R m c) (refused 30 b
     full : visitTurn t b F R m c ≡ refused 30 b (c .visits)
     full = unfold visitTurn refuseIf _>>=_ in
         ap (λ (y : Bool). refuseIf y 30 b (c .visits) >>= λ _. enterBlock t b c >>= λ c1.
-        terminalTurn t (visitValueBlock t (depthLeft F)) (terminalAt t b) b (blockAt t b) F (R ++ instrOut t (instructionRowsAt t b)) (m + length (instructionRowsAt t b)) c1) (le-leb 128 (length F) (omega arith))
+        terminalTurn t (visitValueBlock t (depthLeft F)) (terminalAt t b) b (blockAt t b) F (R ++ instructionsOut t (instructionRowsAt t b)) (m + length (instructionRowsAt t b)) c1) (le-leb 128 (length F) (omega arith))
 walk-sim t (suc d) b F R m c size = chain-sim t d (traverseBlock t d) (walk-sim t d) (walk-fine t d) 8193 b F R m c size (omega arith)
 
 -- the root list has ended
-root-ends : (t : Table) (r : BlockResult) → Gives t (ended [] ([] ++ stmtsOut (r .statements)) (0 + countStatements (r .statements)) (r .context)) (accepted (rows (r .statements)) (r .context .visits))
+root-ends : (t : Table) (r : BlockResult) → Gives t (ended [] ([] ++ statementsOut (r .statements)) (0 + countStatements (r .statements)) (r .context)) (accepted (rows (r .statements)) (r .context .visits))
 unfolding step
 root-ends t r =
-    halts (ap (λ (z : ℕ). halt (accepted (stmtsOut (r .statements) ++ (blockRow z ∷ [])) (r .context .visits))) (zero-add (countStatements (r .statements)))
-    ∙ ap (λ (z : List Row). halt (accepted z (r .context .visits))) (sym (body-out (r .statements) [])))
+    halts (ap (λ (z : ℕ). halt (accepted (statementsOut (r .statements) ++ (blockRow z ∷ [])) (r .context .visits))) (zero-add (countStatements (r .statements)))
+    ∙ ap (λ (z : List Row). halt (accepted z (r .context .visits))) (sym (block-rows (r .statements) [])))
 
 -- the machine gives what the definition gives, for every table
 pub machine-builds : (t : Table) → Gives t (begin t) (report t)

@@ -1,49 +1,47 @@
--- An accepted walk over a plain table makes a tree that `Built` describes.
+-- An accepted walk over a plain table makes a tree that `Built` describes. For proofs/Law.
 use mathlib.Core.Path.{_≡_, refl, sym, ap, _∙_, subst}
-use Prim.Native.Nat.{ℕ, zero, suc, _≤_, _<_}
+use Prim.Native.Nat.{ℕ, zero, suc, _<_}
 use native.Mathlib.Omega.{arith}
-use mathlib.Core.Logic.{_⊎_, inl, inr}
 use mathlib.Core.List.{List, [], _∷_, _++_}
 use mathlib.Core.Option.{Option, none, some}
 use mathlib.Core.Bool.{Bool, true, false}
-use lib.ListN.{length}
-use lib.Dec.{T, eqb}
+use lib.Dec.{eqb}
 use borrow.Author.Tests.{eqb-true}
-use Rattle.table.specs.Table.{codeOf, Table, Block, Instruction, Operation, other, load-local, store-local, Terminal, absent, unreachable, throw, return, goto, if, branch, switch, do-while, while, for, for-of, for-in, logical, ternary, optional, sequence, maybe-throw, try, scope, Variant, Break, Continue, Try, blockAt, terminalAt, instructionAt, instructionRowsAt, instructionRows, isAbsent, isUnreachable, label}
-use Rattle.definition.specs.Context.{getBreakTarget, getContinueTarget, Resolution, has, add, Entry, target-if, target-loop, Context, start, isScheduled, withVisits, markScopeFallthrough, pushed, schedule, scheduleLoop, unschedule, breakTargetFrom, continueTargetFrom}
-use Rattle.definition.specs.Plain.{Plain, fallthroughOf, plainCodes, among, isBranch, isStore, endsInStore, NotBranch, otherNames, All}
-use Rattle.definition.specs.Result.{refused, Result, ok, _>>=_, refuseIf}
+use Rattle.table.specs.Table.{codeOf, Table, Block, Operation, other, load-local, store-local, Terminal, absent, unreachable, throw, return, goto, if, branch, switch, do-while, while, for, for-of, for-in, logical, ternary, optional, sequence, maybe-throw, try, scope, Variant, Break, Continue, Try, blockAt, terminalAt, instructionAt, instructionRowsAt, isAbsent, isUnreachable, label}
+use Rattle.definition.specs.Context.{getBreakTarget, getContinueTarget, Resolution, has, Entry, target-if, target-loop, Context, isScheduled, withVisits, markScopeFallthrough, pushed, scheduleLoop, unschedule, breakTargetFrom, continueTargetFrom}
+use Rattle.definition.specs.Plain.{Plain, fallthroughOf, plainCodes, isBranch, isStore, endsInStore, NotBranch, otherNames, All}
+use Rattle.definition.specs.Result.{Result, ok, _>>=_, refuseIf}
 use Rattle.definition.specs.Run.{Answers}
-use Rattle.definition.specs.Completion.{Completion, break, continue}
+use Rattle.definition.specs.Completion.{contains, Completion, break, continue}
 use Rattle.definition.specs.TreeRun.{performs, performsAll, runStatements, completed, prefix, then, thenOn, jumpCompletion}
-use Rattle.definition.specs.Statement.{breakToScope, visitBreak, visitContinue, TerminalResult, BlockResult, TraverseBlock, enterBlock, unlessScheduled, unlessUnreachable, scheduleIf, unscheduleIf, markScopeFallthroughIf, traverseUnscheduled, AlternateResult, traverseAlternate, breakResolved, continueResolved, visitGoto, traverseEnclosed, loopIsTaken, traverseLoop, visitTerminal, instructionStatements, followedBy, thenNext, visitBlock, traverseBlock, buildTree}
-use Rattle.definition.specs.Tree.{Kind, implicit, labeled, unlabeled, Value, PLAIN, LOAD, SEQ, Instructions, no-instructions, instruction, Statement, IF, WHILE, LABEL, SCOPE, RETURN, THROW, BREAK, CONTINUE, Statements, done, _▸_}
-use Rattle.definition.specs.Value.{visitValueBlock, branchWays, beginVisit, ValueBlockResult, VisitValueBlock, isThis, instructionsOf, wrapWithSequence, finalValue, finalPlace, storedToNamed, allButLast, last, extractValueBlockResult, branchValue, visitValueBlockAt, Ways}
-use Rattle.definition.proofs.Semantics.{Frame, fLabel, fScope, fLoop, target, Built, bReturn, bThrow, bJump, bIf, bIfOnly, bLabel, bScope, bWhile}
+use Rattle.definition.specs.Statement.{breakToScope, visitBreak, visitContinue, TerminalResult, BlockResult, TraverseBlock, enterBlock, unlessScheduled, unlessUnreachable, scheduleIf, unscheduleIf, markScopeFallthroughIf, traverseUnscheduled, AlternateResult, traverseAlternate, breakResolved, continueResolved, visitGoto, traverseEnclosed, loopIsTaken, traverseLoop, visitTerminal, instructionStatements, followedBy, thenNext, visitBlock, traverseBlock}
+use Rattle.definition.specs.Tree.{Kind, implicit, labeled, unlabeled, Value, PLAIN, no-instructions, Statement, IF, WHILE, LABEL, SCOPE, BREAK, CONTINUE, Statements, done, _▸_}
+use Rattle.definition.specs.Value.{visitValueBlock, beginVisit, ValueBlockResult, VisitValueBlock, instructionsOf, wrapWithSequence, finalValue, storedToNamed, allButLast, last, extractValueBlockResult, branchValue, visitValueBlockAt}
+use Rattle.definition.proofs.Semantics.{Frame, in-label, in-scope, in-loop, target, Built, built-return, built-throw, built-jump, built-if, built-if-only, built-label, built-scope, built-while}
 use Rattle.definition.proofs.Ranged.{Ranged}
-use Rattle.definition.proofs.Tools.{true-false, refused-ok, ok-eq, bind-ok, unless-ok, below-blocks}
-use Rattle.definition.proofs.Resolve.{break-exit, break-names, Framed, break-target, continue-target}
-use Rattle.definition.proofs.State.{Known, ft-of, Inv, inv-start, inv-visited, Entered, enter-ok, ft-free, untaken-free, inv-label, inv-scope, inv-loop, schedule-ok, scheduleLoop-ok, Closed, unschedule-ok}
+use Rattle.definition.proofs.Steps.{true-false, refused-ok, ok-eq, bind-ok}
+use Rattle.definition.proofs.Resolve.{break-exit, break-names, break-target, continue-target}
+use Rattle.definition.proofs.State.{Known, fallthrough-of, StateOk, with-visits-ok, Entered, enter-ok, fallthrough-free, untaken-free, push-label-ok, push-scope-ok, push-loop-ok, schedule-ok, schedule-loop-ok, Closed, unschedule-ok}
 
 -- ---- the value of a test
 
 module _ (t : Table) where
-  performs-instrs : (rs : List ℕ) → performsAll (instructionsOf t rs no-instructions) ≡ rs
+  performs-instructions : (rs : List ℕ) → performsAll (instructionsOf t rs no-instructions) ≡ rs
   unfolding instructionsOf
-  performs-instrs [] = refl
-  performs-instrs (r ∷ rs) = ap (λ (z : List ℕ). r ∷ z) (performs-instrs rs)
+  performs-instructions [] = refl
+  performs-instructions (r ∷ rs) = ap (λ (z : List ℕ). r ∷ z) (performs-instructions rs)
 
   performs-wrapped : (rs : List ℕ) (i n : ℕ) → performs (wrapWithSequence t rs i (PLAIN n)) ≡ rs ++ (n ∷ [])
   unfolding wrapWithSequence
   performs-wrapped [] i n = refl
-  performs-wrapped (r ∷ rs) i n = ap (λ (z : List ℕ). z ++ (n ∷ [])) (performs-instrs (r ∷ rs))
+  performs-wrapped (r ∷ rs) i n = ap (λ (z : List ℕ). z ++ (n ∷ [])) (performs-instructions (r ∷ rs))
 
-  front-final : (r : ℕ) (rs : List ℕ) → allButLast r rs ++ (last r rs ∷ []) ≡ r ∷ rs
+  all-but-last-and-last : (r : ℕ) (rs : List ℕ) → allButLast r rs ++ (last r rs ∷ []) ≡ r ∷ rs
   unfolding allButLast last
-  front-final r [] = refl
-  front-final r (q ∷ rs) = ap (λ (z : List ℕ). r ∷ z) (front-final q rs)
+  all-but-last-and-last r [] = refl
+  all-but-last-and-last r (q ∷ rs) = ap (λ (z : List ℕ). r ∷ z) (all-but-last-and-last q rs)
 
-  last-plain : (n k : ℕ) (o : Operation) → isStore o ≡ false → finalValue t n o k ≡ PLAIN n
+  last-plain : (n k : ℕ) (o : Operation) → isStore o ≡ false → finalValue n o k ≡ PLAIN n
   unfolding finalValue
   last-plain n k other e = refl
   last-plain n k (load-local p) e = refl
@@ -58,7 +56,7 @@ module _ (t : Table) where
   unfolding extractValueBlockResult
   extract-performs b r rs v h =
       ap (λ (z : Value). performs (wrapWithSequence t (allButLast r rs) (instructionAt t (last r rs) .id) z)) (last-plain (last r rs) (storedToNamed t (instructionAt t (last r rs) .operation)) (instructionAt t (last r rs) .operation) (last-no-store r rs h))
-      ∙ performs-wrapped (allButLast r rs) (instructionAt t (last r rs) .id) (last r rs) ∙ front-final r rs
+      ∙ performs-wrapped (allButLast r rs) (instructionAt t (last r rs) .id) (last r rs) ∙ all-but-last-and-last r rs
 
   branch-performs : (b x i v : ℕ) (rs : List ℕ) (r : ValueBlockResult) → endsInStore t rs ≡ false → branchValue t b x i rs v ≡ ok r → performs (r .value) ≡ rs
   unfolding branchValue
@@ -84,7 +82,7 @@ module _ (t : Table) where
     pub left : Closed t F S (r .context)
 
   unfoldable pub WalkOk : TraverseBlock → Type 0
-  WalkOk inner = (F : List Frame) (b : ℕ) (c : Context) (r : BlockResult) → Inv t F c → NotBranch t b → inner b c ≡ ok r → Made F b (c .stack) r
+  WalkOk inner = (F : List Frame) (b : ℕ) (c : Context) (r : BlockResult) → StateOk t F c → NotBranch t b → inner b c ≡ ok r → Made F b (c .stack) r
 
   -- what a block's end gives: it ends the list, or the fallthrough goes on
   pub data StepOk (F : List Frame) (b : ℕ) (S : List Entry) (s : TerminalResult) : Type 0 where
@@ -92,49 +90,49 @@ module _ (t : Table) where
     goes-on : (f : ℕ) → s .next ≡ some f → NotBranch t f → ((r : Statements) → Built t F f r → Built t F b (instructionStatements t (instructionRowsAt t b) (followedBy (s .statement) r)))
         → Closed t F S (s .context) → StepOk F b S s
 
-  go-on-ok : (F : List Frame) (b : ℕ) (S : List Entry) (again : TraverseBlock) (s : TerminalResult) (r : BlockResult) → WalkOk again → StepOk F b S s
+  next-ok : (F : List Frame) (b : ℕ) (S : List Entry) (again : TraverseBlock) (s : TerminalResult) (r : BlockResult) → WalkOk again → StepOk F b S s
       → thenNext t b again (s .statement) (s .next) (s .context) ≡ ok r → Made F b S r
   unfolding WalkOk thenNext
-  go-on-ok F b S again s r w (ends-here h p q) e =
+  next-ok F b S again s r w (ends-here h p q) e =
       subst (λ (z : BlockResult). Made F b S z) (ok-eq (subst (λ (z : Option ℕ). thenNext t b again (s .statement) z (s .context) ≡ ok r) h e)) (record { tree = p; left = q })
-  go-on-ok F b S again s r w (goes-on f h n p q) e =
+  next-ok F b S again s r w (goes-on f h n p q) e =
       let (r₁, h₁, e₁) = bind-ok (again f (s .context)) _ r (subst (λ (z : Option ℕ). thenNext t b again (s .statement) z (s .context) ≡ ok r) h e) in
-      let m : Made F f (s .context .stack) r₁ = w F f (s .context) r₁ (q .inv) n h₁ in
-      subst (λ (z : BlockResult). Made F b S z) (ok-eq e₁) (record { tree = p (r₁ .statements) (m .tree); left = record { inv = m .left .inv; same = m .left .same ∙ q .same } })
+      let m : Made F f (s .context .stack) r₁ = w F f (s .context) r₁ (q .state) n h₁ in
+      subst (λ (z : BlockResult). Made F b S z) (ok-eq e₁) (record { tree = p (r₁ .statements) (m .tree); left = record { state = m .left .state; same = m .left .same ∙ q .same } })
 
   -- a target on top of the stack
   record Opened (G : Frame) (F : List Frame) (c c₁ : Context) : Type 0 where
-    inv : Inv t (G ∷ F) c₁
+    state : StateOk t (G ∷ F) c₁
     top : Entry
     stack : c₁ .stack ≡ top ∷ c .stack
 
-  opened-label : {F : List Frame} {c c₁ : Context} (f : ℕ) → Inv t F c → Known t (c .emitted) f → scheduleIf (some f) c ≡ ok c₁ → Opened (fLabel f) F c c₁
+  opened-label : {F : List Frame} {c c₁ : Context} (f : ℕ) → StateOk t F c → Known t (c .emitted) f → scheduleIf (some f) c ≡ ok c₁ → Opened (in-label f) F c c₁
   unfolding scheduleIf pushed
   opened-label {F} {c} {c₁} f p k e =
-      subst (λ (d : Context). Opened (fLabel f) F c d) (schedule-ok t f c c₁ e)
-      (record { inv = inv-label t f p k; top = record { id = c .nextId; target = target-if f }; stack = refl })
+      subst (λ (d : Context). Opened (in-label f) F c d) (schedule-ok t f c c₁ e)
+      (record { state = push-label-ok t f p k; top = record { id = c .nextId; target = target-if f }; stack = refl })
 
-  opened-scope : {F : List Frame} {c c₁ : Context} (f : ℕ) → f < 1024 → Inv t F c → Known t (c .emitted) f → scheduleIf (some f) c ≡ ok c₁ → Opened (fScope f) F c (markScopeFallthroughIf (some f) c₁)
+  opened-scope : {F : List Frame} {c c₁ : Context} (f : ℕ) → f < 1024 → StateOk t F c → Known t (c .emitted) f → scheduleIf (some f) c ≡ ok c₁ → Opened (in-scope f) F c (markScopeFallthroughIf (some f) c₁)
   unfolding scheduleIf pushed markScopeFallthroughIf markScopeFallthrough
   opened-scope {F} {c} {c₁} f h p k e =
-      subst (λ (d : Context). Opened (fScope f) F c (markScopeFallthrough f d)) (schedule-ok t f c c₁ e)
-      (record { inv = inv-scope t f h p k; top = record { id = c .nextId; target = target-if f }; stack = refl })
+      subst (λ (d : Context). Opened (in-scope f) F c (markScopeFallthrough f d)) (schedule-ok t f c c₁ e)
+      (record { state = push-scope-ok t f h p k; top = record { id = c .nextId; target = target-if f }; stack = refl })
 
-  opened-loop : {F : List Frame} {c c₁ : Context} (w x l f : ℕ) → Inv t F c → terminalAt t w ≡ while x l f → Known t (c .emitted) f → scheduleLoop f x (some l) c ≡ ok c₁ → Opened (fLoop f x) F c c₁
+  opened-loop : {F : List Frame} {c c₁ : Context} (w x l f : ℕ) → StateOk t F c → terminalAt t w ≡ while x l f → Known t (c .emitted) f → scheduleLoop f x (some l) c ≡ ok c₁ → Opened (in-loop f x) F c c₁
   unfolding pushed
   opened-loop {F} {c} {c₁} w x l f p h k e =
-      let (o, q) = scheduleLoop-ok t f x l c c₁ e in
-      subst (λ (d : Context). Opened (fLoop f x) F c d) q
-      (record { inv = inv-loop t w x l f o p h k; top = record { id = c .nextId; target = target-loop f x (some l) o }; stack = refl })
+      let (o, q) = schedule-loop-ok t f x l c c₁ e in
+      subst (λ (d : Context). Opened (in-loop f x) F c d) q
+      (record { state = push-loop-ok t w x l f o p h k; top = record { id = c .nextId; target = target-loop f x (some l) o }; stack = refl })
 
-  fresh-ok : (inner : TraverseBlock) → WalkOk inner → (F : List Frame) (b code at : ℕ) (c : Context) (r : BlockResult) → Inv t F c → NotBranch t b
+  unscheduled-ok : (inner : TraverseBlock) → WalkOk inner → (F : List Frame) (b code at : ℕ) (c : Context) (r : BlockResult) → StateOk t F c → NotBranch t b
       → traverseUnscheduled inner b code at c ≡ ok r → Made F b (c .stack) r
   unfolding traverseUnscheduled WalkOk
-  fresh-ok inner w F b code at c r p n e =
+  unscheduled-ok inner w F b code at c r p n e =
       let (u, h, e₁) = bind-ok (refuseIf (isScheduled c b) code at (c .visits)) _ r e in w F b c r p n e₁
 
   -- the fallthrough of an entered block of a plain table is taken
-  plain-reachable : (m : Terminal) → among plainCodes (codeOf m) ≡ true → isUnreachable m ≡ false
+  plain-reachable : (m : Terminal) → contains plainCodes (codeOf m) ≡ true → isUnreachable m ≡ false
   plain-reachable absent h = refl
   plain-reachable unreachable h = absurd (true-false (sym h))
   plain-reachable (throw v) h = refl
@@ -166,7 +164,7 @@ module _ (t : Table) where
 
   closed-ok : {G : Frame} {F : List Frame} {c c₁ d c₂ : Context} (f : ℕ) → Opened G F c c₁ → Closed t (G ∷ F) (c₁ .stack) d → unscheduleIf (some f) (c .nextId) d ≡ ok c₂ → Closed t F (c .stack) c₂
   unfolding unscheduleIf
-  closed-ok {G} {F} {c} {c₁} {d} {c₂} f o p e = unschedule-ok t (c .nextId) (o .top) (c .stack) d c₂ (p .inv) (p .same ∙ o .stack) e
+  closed-ok {G} {F} {c} {c₁} {d} {c₂} f o p e = unschedule-ok t (c .nextId) (o .top) (c .stack) d c₂ (p .state) (p .same ∙ o .stack) e
 
   -- ---- If
 
@@ -174,33 +172,33 @@ module _ (t : Table) where
     no-alt : a ≡ f → s .present ≡ false → s .statements ≡ done → Closed t F S (s .context) → AltOk F a f S s
     an-alt : s .present ≡ true → Built t F a (s .statements) → Closed t F S (s .context) → AltOk F a f S s
 
-  alternate-at : (inner : TraverseBlock) → WalkOk inner → (F : List Frame) (a f : ℕ) (c : Context) (s : AlternateResult) (y : Bool) → eqb a f ≡ y → Inv t F c → NotBranch t a
+  alternate-at : (inner : TraverseBlock) → WalkOk inner → (F : List Frame) (a f : ℕ) (c : Context) (s : AlternateResult) (y : Bool) → eqb a f ≡ y → StateOk t F c → NotBranch t a
       → elim y [ true ↦ ok (record { present = false; statements = done; context = c }) | false ↦ traverseUnscheduled inner a 13 a c >>= λ r. ok (record { present = true; statements = r .statements; context = r .context }) ] ≡ ok s
       → AltOk F a f (c .stack) s
   alternate-at inner w F a f c s true h p n e =
-      subst (λ (z : AlternateResult). AltOk F a f (c .stack) z) (ok-eq e) (no-alt (eqb-true a f h) refl refl (record { inv = p; same = refl }))
+      subst (λ (z : AlternateResult). AltOk F a f (c .stack) z) (ok-eq e) (no-alt (eqb-true a f h) refl refl (record { state = p; same = refl }))
   alternate-at inner w F a f c s false h p n e =
       let (r, h₁, e₁) = bind-ok (traverseUnscheduled inner a 13 a c) _ s e in
-      let m : Made F a (c .stack) r = fresh-ok inner w F a 13 a c r p n h₁ in
+      let m : Made F a (c .stack) r = unscheduled-ok inner w F a 13 a c r p n h₁ in
       subst (λ (z : AlternateResult). AltOk F a f (c .stack) z) (ok-eq e₁) (an-alt refl (m .tree) (m .left))
 
-  alternate-ok : (inner : TraverseBlock) → WalkOk inner → (F : List Frame) (a f : ℕ) (c : Context) (s : AlternateResult) → Inv t F c → NotBranch t a
+  alternate-ok : (inner : TraverseBlock) → WalkOk inner → (F : List Frame) (a f : ℕ) (c : Context) (s : AlternateResult) → StateOk t F c → NotBranch t a
       → traverseAlternate inner a f c ≡ ok s → AltOk F a f (c .stack) s
   unfolding traverseAlternate
   alternate-ok inner w F a f c s p n e = alternate-at inner w F a f c s (eqb a f) refl p n e
 
   if-built : (F : List Frame) (b x y a f i : ℕ) (S : List Entry) (s₁ : Statements) (s : AlternateResult) → terminalAt t b ≡ if x y a f
-      → Built t (fLabel f ∷ F) y s₁ → AltOk (fLabel f ∷ F) a f S s
+      → Built t (in-label f ∷ F) y s₁ → AltOk (in-label f ∷ F) a f S s
       → (r : Statements) → Built t F f r → Built t F b (instructionStatements t (instructionRowsAt t b) (IF x i (some f) s₁ (s .present) (s .statements) ▸ r))
-  if-built F b x y a f i S s₁ s e p (no-alt h n q k) r m = rw (n, q) (bIfOnly x y f i (e ∙ ap (λ (z : ℕ). if x y z f) h) p m)
-  if-built F b x y a f i S s₁ s e p (an-alt n q k) r m = rw n (bIf x y a f i e p q m)
+  if-built F b x y a f i S s₁ s e p (no-alt h n q k) r m = rw (n, q) (built-if-only x y f i (e ∙ ap (λ (z : ℕ). if x y z f) h) p m)
+  if-built F b x y a f i S s₁ s e p (an-alt n q k) r m = rw n (built-if x y a f i e p q m)
 
   alt-left : {F : List Frame} {a f : ℕ} {S : List Entry} {s : AlternateResult} → AltOk F a f S s → Closed t F S (s .context)
   alt-left (no-alt h n q k) = k
   alt-left (an-alt n q k) = k
 
   and-then : {F : List Frame} {S S′ : List Entry} {c : Context} → Closed t F S c → S ≡ S′ → Closed t F S′ c
-  and-then p h = record { inv = p .inv; same = p .same ∙ h }
+  and-then p h = record { state = p .state; same = p .same ∙ h }
 
   module _ (pl : Plain t) (rg : Ranged t) (values : VisitValueBlock) (vo : TestOk t values) (inner : TraverseBlock) (wo : WalkOk inner) where
     if-ok : {F : List Frame} {c₀ c : Context} (b x y a f : ℕ) (k : Block) (s : TerminalResult) → Entered t b F c₀ c → terminalAt t b ≡ if x y a f
@@ -212,7 +210,7 @@ module _ (t : Table) where
         let (r, h₃, k₃) = bind-ok (traverseUnscheduled inner y 12 y c₁) _ s k₂ in
         let (w, h₄, k₄) = bind-ok (traverseAlternate inner a f (r .context)) _ s k₃ in
         let (c₂, h₅, k₅) = bind-ok (unscheduleIf g (c .nextId) (w .context)) _ s k₄ in
-        finish g c₁ r w c₂ (reached-ok pl c f g (ft-free t pl b f p (ap fallthroughOf e)) h₁) h₂ h₃ h₄ h₅ k₅
+        finish g c₁ r w c₂ (reached-ok pl c f g (fallthrough-free t pl b f p (ap fallthroughOf e)) h₁) h₂ h₃ h₄ h₅ k₅
       where
         parts : All (NotBranch t) (otherNames (if x y a f))
         parts = subst (λ (m : Terminal). All (NotBranch t) (otherNames m)) e (pl .names b)
@@ -221,9 +219,9 @@ module _ (t : Table) where
             → traverseAlternate inner a f (r .context) ≡ ok w → unscheduleIf g (c .nextId) (w .context) ≡ ok c₂
             → ok (record { statement = some (IF x (k .id) g (r .statements) (w .present) (w .statements)); next = g; context = c₂ }) ≡ ok s → StepOk F b (c .stack) s
         finish g c₁ r w c₂ q h₂ h₃ h₄ h₅ k₅ =
-            let o : Opened (fLabel f) F c c₁ = opened-label f (p .inv) (ft-of b (p .new) (ap fallthroughOf e)) (rw q at h₂) in
-            let m : Made (fLabel f ∷ F) y (c₁ .stack) r = fresh-ok inner wo (fLabel f ∷ F) y 12 y c₁ r (o .inv) (parts .0) h₃ in
-            let z : AltOk (fLabel f ∷ F) a f (r .context .stack) w = alternate-ok inner wo (fLabel f ∷ F) a f (r .context) w (m .left .inv) (parts .1 .0) h₄ in
+            let o : Opened (in-label f) F c c₁ = opened-label f (p .state) (fallthrough-of b (p .new) (ap fallthroughOf e)) (rw q at h₂) in
+            let m : Made (in-label f ∷ F) y (c₁ .stack) r = unscheduled-ok inner wo (in-label f ∷ F) y 12 y c₁ r (o .state) (parts .0) h₃ in
+            let z : AltOk (in-label f ∷ F) a f (r .context .stack) w = alternate-ok inner wo (in-label f ∷ F) a f (r .context) w (m .left .state) (parts .1 .0) h₄ in
             let u : Closed t F (c .stack) c₂ = closed-ok f o (and-then (alt-left z) (m .left .same)) (rw q at h₅) in
             subst (λ (v : TerminalResult). StepOk F b (c .stack) v) (ok-eq k₅)
             (rw q (goes-on f refl (parts .1 .1 .0) (if-built F b x y a f (k .id) (r .context .stack) (r .statements) w e (m .tree) z) u))
@@ -237,7 +235,7 @@ module _ (t : Table) where
     enclosed-ok {G} {F} {c} {c₁} b x code at f make s o n nf mk h =
         let (r, h₁, k₁) = bind-ok (traverseUnscheduled inner x code at c₁) _ s h in
         let (c₂, h₂, k₂) = bind-ok (unscheduleIf (some f) (c .nextId) (r .context)) _ s k₁ in
-        let m : Made (G ∷ F) x (c₁ .stack) r = fresh-ok inner wo (G ∷ F) x code at c₁ r (o .inv) n h₁ in
+        let m : Made (G ∷ F) x (c₁ .stack) r = unscheduled-ok inner wo (G ∷ F) x code at c₁ r (o .state) n h₁ in
         subst (λ (v : TerminalResult). StepOk F b (c .stack) v) (ok-eq k₂)
         (goes-on f refl nf (λ r′ q. mk (r .statements) r′ (m .tree) q) (closed-ok f o (m .left) h₂))
 
@@ -246,7 +244,7 @@ module _ (t : Table) where
     unfolding visitTerminal
     label-ok {F} {c₀} {c} b x f k s p e h =
         let (g, h₁, k₁) = bind-ok (unlessUnreachable t c f) _ s h in
-        finish g (reached-ok pl c f g (ft-free t pl b f p (ap fallthroughOf e)) h₁) k₁
+        finish g (reached-ok pl c f g (fallthrough-free t pl b f p (ap fallthroughOf e)) h₁) k₁
       where
         parts : All (NotBranch t) (otherNames (label x f))
         parts = subst (λ (m : Terminal). All (NotBranch t) (otherNames m)) e (pl .names b)
@@ -254,8 +252,8 @@ module _ (t : Table) where
         taken : (scheduleIf (some f) c >>= λ c₁. traverseEnclosed inner x 17 b (some f) c c₁ (LABEL (k .id) (some f))) ≡ ok s → StepOk F b (c .stack) s
         taken h₁ =
             let (c₁, h₂, k₂) = bind-ok (scheduleIf (some f) c) _ s h₁ in
-            enclosed-ok b x 17 b f (LABEL (k .id) (some f)) s (opened-label f (p .inv) (ft-of b (p .new) (ap fallthroughOf e)) h₂) (parts .0) (parts .1 .0)
-            (λ s₁ r p₁ p₂. bLabel x f (k .id) e p₁ p₂) k₂
+            enclosed-ok b x 17 b f (LABEL (k .id) (some f)) s (opened-label f (p .state) (fallthrough-of b (p .new) (ap fallthroughOf e)) h₂) (parts .0) (parts .1 .0)
+            (λ s₁ r p₁ p₂. built-label x f (k .id) e p₁ p₂) k₂
 
         finish : (g : Option ℕ) → g ≡ some f → (scheduleIf g c >>= λ c₁. traverseEnclosed inner x 17 b g c c₁ (LABEL (k .id) g)) ≡ ok s → StepOk F b (c .stack) s
         finish g q k₁ = taken (rw q at k₁)
@@ -263,7 +261,7 @@ module _ (t : Table) where
     scope-ok : {F : List Frame} {c₀ c : Context} (b : ℕ) (pr : Bool) (x f n : ℕ) (k : Block) (s : TerminalResult) → Entered t b F c₀ c → terminalAt t b ≡ scope pr x f n
         → visitTerminal t values inner (scope pr x f n) b k c ≡ ok s → StepOk F b (c .stack) s
     unfolding visitTerminal
-    scope-ok {F} {c₀} {c} b pr x f n k s p e h = finish (unlessScheduled c f) (untaken-free t c f (ft-free t pl b f p (ap fallthroughOf e))) h
+    scope-ok {F} {c₀} {c} b pr x f n k s p e h = finish (unlessScheduled c f) (untaken-free t c f (fallthrough-free t pl b f p (ap fallthroughOf e))) h
       where
         parts : All (NotBranch t) (otherNames (scope pr x f n))
         parts = subst (λ (m : Terminal). All (NotBranch t) (otherNames m)) e (pl .names b)
@@ -272,8 +270,8 @@ module _ (t : Table) where
         taken h₁ =
             let (c₁, h₂, k₂) = bind-ok (scheduleIf (some f) c) _ s h₁ in
             enclosed-ok b x 18 b f (SCOPE pr n) s
-            (opened-scope f (omega (arith, rg .fallthroughs b f (ap fallthroughOf e), rg .few)) (p .inv) (ft-of b (p .new) (ap fallthroughOf e)) h₂) (parts .0) (parts .1 .0)
-            (λ s₁ r p₁ p₂. bScope pr x f n e p₁ p₂) k₂
+            (opened-scope f (omega (arith, rg .fallthroughs b f (ap fallthroughOf e), rg .few)) (p .state) (fallthrough-of b (p .new) (ap fallthroughOf e)) h₂) (parts .0) (parts .1 .0)
+            (λ s₁ r p₁ p₂. built-scope pr x f n e p₁ p₂) k₂
 
         finish : (g : Option ℕ) → g ≡ some f → (scheduleIf g c >>= λ c₁. traverseEnclosed inner x 18 b g c (markScopeFallthroughIf g c₁) (SCOPE pr n)) ≡ ok s → StepOk F b (c .stack) s
         finish g q k₁ = taken (rw q at k₁)
@@ -290,7 +288,7 @@ module _ (t : Table) where
         let (u, h₄, k₄) = bind-ok (refuseIf (loopIsTaken c l f) 16 b (v .visits)) _ s k₃ in
         let (r, h₅, k₅) = bind-ok (inner l (withVisits (v .visits) c₁)) _ s k₄ in
         let (c₂, h₆, k₆) = bind-ok (unschedule (c .nextId) (r .context)) _ s k₅ in
-        finish g c₁ v r c₂ (reached-ok pl c f g (ft-free t pl b f p (ap fallthroughOf e)) h₁) h₂ h₃ h₅ h₆ k₆
+        finish g c₁ v r c₂ (reached-ok pl c f g (fallthrough-free t pl b f p (ap fallthroughOf e)) h₁) h₂ h₃ h₅ h₆ k₆
       where
         parts : All (NotBranch t) (otherNames (while x l f))
         parts = subst (λ (m : Terminal). All (NotBranch t) (otherNames m)) e (pl .names b)
@@ -299,31 +297,31 @@ module _ (t : Table) where
             → values x none (k .span) (c₁ .visits) ≡ ok v → inner l (withVisits (v .visits) c₁) ≡ ok r → unschedule (c .nextId) (r .context) ≡ ok c₂
             → ok (record { statement = some (WHILE (k .id) g (v .value) (r .statements)); next = g; context = c₂ }) ≡ ok s → StepOk F b (c .stack) s
         finish g c₁ v r c₂ q h₂ h₃ h₅ h₆ k₆ =
-            let o : Opened (fLoop f x) F c c₁ = opened-loop b x l f (p .inv) e (ft-of b (p .new) (ap fallthroughOf e)) h₂ in
-            let m : Made (fLoop f x ∷ F) l (c₁ .stack) r = wo (fLoop f x ∷ F) l (withVisits (v .visits) c₁) r (inv-visited t (v .visits) (o .inv)) (parts .0) h₅ in
+            let o : Opened (in-loop f x) F c c₁ = opened-loop b x l f (p .state) e (fallthrough-of b (p .new) (ap fallthroughOf e)) h₂ in
+            let m : Made (in-loop f x ∷ F) l (c₁ .stack) r = wo (in-loop f x ∷ F) l (withVisits (v .visits) c₁) r (with-visits-ok t (v .visits) (o .state)) (parts .0) h₅ in
             let (y, e₁) = pl .tests b x l f e in
             subst (λ (z : TerminalResult). StepOk F b (c .stack) z) (ok-eq k₆)
             (rw q (goes-on f refl (parts .1 .0)
-            (λ r′ p′. bWhile x l f y (k .id) (v .value) e e₁ (vo x y l f (k .span) (c₁ .visits) v e₁ (pl .no-store x y l f e₁) h₃) (m .tree) p′)
-            (unschedule-ok t (c .nextId) (o .top) (c .stack) (r .context) c₂ (m .left .inv) (m .left .same ∙ o .stack) h₆)))
+            (λ r′ p′. built-while x l f y (k .id) (v .value) e e₁ (vo x y l f (k .span) (c₁ .visits) v e₁ (pl .no-store x y l f e₁) h₃) (m .tree) p′)
+            (unschedule-ok t (c .nextId) (o .top) (c .stack) (r .context) c₂ (m .left .state) (m .left .same ∙ o .stack) h₆)))
 
     -- ---- Goto
 
     -- a jump's rows end as it goes
     pub data JumpOk (F : List Frame) (g : ℕ) (s : Option Statement) : Type 0 where
-      goes-as : (e : Completion) → target F e ≡ some g → ((ans : Answers) → runStatements (followedBy s done) ans ≡ completed [] e ans) → JumpOk F g s
+      goes-as : (e : Completion) → target F e ≡ some g → ((answers : Answers) → runStatements (followedBy s done) answers ≡ completed [] e answers) → JumpOk F g s
 
-    run-break : (g i : ℕ) (k : Kind) (ans : Answers) → runStatements (BREAK g i k ▸ done) ans ≡ completed [] (jumpCompletion k g break) ans
+    run-break : (g i : ℕ) (k : Kind) (answers : Answers) → runStatements (BREAK g i k ▸ done) answers ≡ completed [] (jumpCompletion k g break) answers
     unfolding runStatements then thenOn prefix completed jumpCompletion
-    run-break g i implicit ans = refl
-    run-break g i labeled ans = refl
-    run-break g i unlabeled ans = refl
+    run-break g i implicit answers = refl
+    run-break g i labeled answers = refl
+    run-break g i unlabeled answers = refl
 
-    run-done : (g : ℕ) (ans : Answers) → runStatements done ans ≡ completed [] (jumpCompletion implicit g break) ans
+    run-done : (g : ℕ) (answers : Answers) → runStatements done answers ≡ completed [] (jumpCompletion implicit g break) answers
     unfolding runStatements jumpCompletion
-    run-done g ans = refl
+    run-done g answers = refl
 
-    broke : {F : List Frame} {c : Context} (g i : ℕ) (r : Resolution) (s : Option Statement) (y : Bool) (x : Result (Option Statement)) → Inv t F c
+    broke : {F : List Frame} {c : Context} (g i : ℕ) (r : Resolution) (s : Option Statement) (y : Bool) (x : Result (Option Statement)) → StateOk t F c
         → breakTargetFrom (c .stack) g true false ≡ some r → r .target ≡ g → has (c .scopeFallthroughs) g ≡ y → elim y [ true ↦ x | false ↦ ok (some (BREAK g i (r .kind))) ] ≡ ok s
         → (x ≡ ok s → JumpOk F g s) → JumpOk F g s
     broke g i r s true x p e q n h z = z h
@@ -331,7 +329,7 @@ module _ (t : Table) where
         subst (λ (w : Option Statement). JumpOk F g w) (ok-eq h) (goes-as (jumpCompletion (r .kind) g break) (break-target t (p .framed) g r e n (r .kind) refl) (run-break g i (r .kind)))
 
     -- to a scope: no row, as good as an Implicit one
-    to-scope : {F : List Frame} (c : Context) (b g : ℕ) (r : Resolution) (s : Option Statement) (k : Kind) → Inv t F c → breakTargetFrom (c .stack) g true false ≡ some r → r .kind ≡ k
+    to-scope : {F : List Frame} (c : Context) (b g : ℕ) (r : Resolution) (s : Option Statement) (k : Kind) → StateOk t F c → breakTargetFrom (c .stack) g true false ≡ some r → r .kind ≡ k
         → breakToScope k b (c .visits) ≡ ok s → JumpOk F g s
     unfolding breakToScope jumpCompletion
     to-scope {F} c b g r s implicit p e k h =
@@ -339,7 +337,7 @@ module _ (t : Table) where
     to-scope c b g r s labeled p e k h = absurd (refused-ok h)
     to-scope c b g r s unlabeled p e k h = absurd (refused-ok h)
 
-    break-ok : {F : List Frame} (c : Context) (b g i : ℕ) (r : Option Resolution) (s : Option Statement) → Inv t F c → breakTargetFrom (c .stack) g true false ≡ r
+    break-ok : {F : List Frame} (c : Context) (b g i : ℕ) (r : Option Resolution) (s : Option Statement) → StateOk t F c → breakTargetFrom (c .stack) g true false ≡ r
         → breakResolved b g i c r ≡ ok s → JumpOk F g s
     unfolding breakResolved
     break-ok c b g i none s p e h = absurd (refused-ok h)
@@ -351,13 +349,13 @@ module _ (t : Table) where
             → elim (has (c .scopeFallthroughs) g) [ true ↦ breakToScope (r .kind) b (c .visits) | false ↦ ok (some (BREAK g i (r .kind))) ] ≡ ok s
         named z k = subst (λ (n : ℕ). elim (has (c .scopeFallthroughs) n) [ true ↦ breakToScope (r .kind) b (c .visits) | false ↦ ok (some (BREAK n i (r .kind))) ] ≡ ok s) z k
 
-    run-continue : (f i : ℕ) (k : Kind) (ans : Answers) → runStatements (CONTINUE f i k ▸ done) ans ≡ completed [] (jumpCompletion k f continue) ans
+    run-continue : (f i : ℕ) (k : Kind) (answers : Answers) → runStatements (CONTINUE f i k ▸ done) answers ≡ completed [] (jumpCompletion k f continue) answers
     unfolding runStatements then thenOn prefix completed jumpCompletion
-    run-continue f i implicit ans = refl
-    run-continue f i labeled ans = refl
-    run-continue f i unlabeled ans = refl
+    run-continue f i implicit answers = refl
+    run-continue f i labeled answers = refl
+    run-continue f i unlabeled answers = refl
 
-    continue-ok : {F : List Frame} (c : Context) (g i : ℕ) (k : Option Resolution) (s : Statement) → Inv t F c → continueTargetFrom (c .stack) g true false ≡ k
+    continue-ok : {F : List Frame} (c : Context) (g i : ℕ) (k : Option Resolution) (s : Statement) → StateOk t F c → continueTargetFrom (c .stack) g true false ≡ k
         → continueResolved g i c k ≡ ok s → JumpOk F g (some s)
     unfolding continueResolved
     continue-ok c g i none s p e h = absurd (refused-ok h)
@@ -366,7 +364,7 @@ module _ (t : Table) where
         (goes-as (jumpCompletion (k .kind) (k .target) continue) (continue-target t pl (p .framed) g (k .target) (k .kind) e) (run-continue (k .target) i (k .kind)))
 
     jump-built : {F : List Frame} (b g : ℕ) (v : Variant) (s : Option Statement) → terminalAt t b ≡ goto g v → JumpOk F g s → Built t F b (instructionStatements t (instructionRowsAt t b) (followedBy s done))
-    jump-built b g v s e (goes-as z q r) = bJump g v z (followedBy s done) e q r
+    jump-built b g v s e (goes-as z q r) = built-jump g v z (followedBy s done) e q r
 
     jump-ok : {F : List Frame} {c₀ c : Context} (b g i : ℕ) (v : Variant) (s : TerminalResult) → Entered t b F c₀ c → terminalAt t b ≡ goto g v
         → visitGoto v b g i c ≡ ok s → StepOk F b (c .stack) s
@@ -374,18 +372,18 @@ module _ (t : Table) where
     jump-ok {F} {c₀} {c} b g i Break s p e h =
         let (o, h₁, k₁) = bind-ok (breakResolved b g i c (breakTargetFrom (c .stack) g true false)) _ s h in
         subst (λ (z : TerminalResult). StepOk F b (c .stack) z) (ok-eq k₁)
-        (ends-here refl (jump-built b g Break o e (break-ok c b g i (breakTargetFrom (c .stack) g true false) o (p .inv) refl h₁)) (record { inv = p .inv; same = refl }))
+        (ends-here refl (jump-built b g Break o e (break-ok c b g i (breakTargetFrom (c .stack) g true false) o (p .state) refl h₁)) (record { state = p .state; same = refl }))
     jump-ok {F} {c₀} {c} b g i Continue s p e h =
         let (o, h₁, k₁) = bind-ok (continueResolved g i c (continueTargetFrom (c .stack) g true false)) _ s h in
         subst (λ (z : TerminalResult). StepOk F b (c .stack) z) (ok-eq k₁)
-        (ends-here refl (jump-built b g Continue (some o) e (continue-ok c g i (continueTargetFrom (c .stack) g true false) o (p .inv) refl h₁)) (record { inv = p .inv; same = refl }))
+        (ends-here refl (jump-built b g Continue (some o) e (continue-ok c g i (continueTargetFrom (c .stack) g true false) o (p .state) refl h₁)) (record { state = p .state; same = refl }))
     jump-ok b g i Try s p e h = absurd (pl .no-goto-try b g e)
 
     -- ---- every end
 
     -- a terminal that no plain table has
-    not-plain : {m : Terminal} (b : ℕ) → terminalAt t b ≡ m → among plainCodes (codeOf m) ≡ false → ⊥
-    not-plain b e h = true-false (sym (pl .ends b) ∙ ap (λ (m : Terminal). among plainCodes (codeOf m)) e ∙ h)
+    not-plain : {m : Terminal} (b : ℕ) → terminalAt t b ≡ m → contains plainCodes (codeOf m) ≡ false → ⊥
+    not-plain b e h = true-false (sym (pl .ends b) ∙ ap (λ (m : Terminal). contains plainCodes (codeOf m)) e ∙ h)
 
     terminal-ok : {F : List Frame} {c₀ c : Context} (b : ℕ) (m : Terminal) (s : TerminalResult) → Entered t b F c₀ c → NotBranch t b → terminalAt t b ≡ m
         → visitTerminal t values inner m b (blockAt t b) c ≡ ok s → StepOk F b (c .stack) s
@@ -393,9 +391,9 @@ module _ (t : Table) where
     terminal-ok b absent s p nb e h = absurd (refused-ok h)
     terminal-ok b unreachable s p nb e h = absurd (not-plain b e refl)
     terminal-ok {F} {c₀} {c} b (throw v) s p nb e h =
-        subst (λ (z : TerminalResult). StepOk F b (c .stack) z) (ok-eq h) (ends-here refl (bThrow v e) (record { inv = p .inv; same = refl }))
+        subst (λ (z : TerminalResult). StepOk F b (c .stack) z) (ok-eq h) (ends-here refl (built-throw v e) (record { state = p .state; same = refl }))
     terminal-ok {F} {c₀} {c} b (return v) s p nb e h =
-        subst (λ (z : TerminalResult). StepOk F b (c .stack) z) (ok-eq h) (ends-here refl (bReturn v e) (record { inv = p .inv; same = refl }))
+        subst (λ (z : TerminalResult). StepOk F b (c .stack) z) (ok-eq h) (ends-here refl (built-return v e) (record { state = p .state; same = refl }))
     terminal-ok b (goto g v) s p nb e h = jump-ok b g (blockAt t b .id) v s p e h
     terminal-ok b (if x y a f) s p nb e h = if-ok b x y a f (blockAt t b) s p e h
     terminal-ok b (branch x y a) s p nb e h = absurd (true-false (sym (ap isBranch e) ∙ nb))
@@ -414,18 +412,18 @@ module _ (t : Table) where
     terminal-ok b (try x h′ f n) s p nb e h = absurd (not-plain b e refl)
     terminal-ok b (scope pr x f n) s p nb e h = scope-ok b pr x f n (blockAt t b) s p e h
 
-    chain-ok : (n : ℕ) → WalkOk (visitBlock t values inner n)
+    visit-block-ok : (n : ℕ) → WalkOk (visitBlock t values inner n)
     unfolding WalkOk visitBlock
-    chain-ok zero F b c r p nb e = absurd (refused-ok e)
-    chain-ok (suc n) F b c r p nb e =
+    visit-block-ok zero F b c r p nb e = absurd (refused-ok e)
+    visit-block-ok (suc n) F b c r p nb e =
         let (c₁, h₁, k₁) = bind-ok (enterBlock t b c) _ r e in
         let (s, h₂, k₂) = bind-ok (visitTerminal t values inner (terminalAt t b) b (blockAt t b) c₁) _ r k₁ in
         let q : Entered t b F c c₁ = enter-ok t rg b c₁ p h₁ in
-        let m : Made F b (c₁ .stack) r = go-on-ok F b (c₁ .stack) (visitBlock t values inner n) s r (chain-ok n) (terminal-ok b (terminalAt t b) s q nb refl h₂) k₂ in
+        let m : Made F b (c₁ .stack) r = next-ok F b (c₁ .stack) (visitBlock t values inner n) s r (visit-block-ok n) (terminal-ok b (terminalAt t b) s q nb refl h₂) k₂ in
         record { tree = m .tree; left = and-then (m .left) (q .same) }
 
   module _ (pl : Plain t) (rg : Ranged t) where
     pub walk-ok : (d : ℕ) → WalkOk (traverseBlock t d)
     unfolding WalkOk traverseBlock
     walk-ok zero F b c r p nb e = absurd (refused-ok e)
-    walk-ok (suc d) F b c r p nb e = chain-ok pl rg (visitValueBlock t d) (value-ok t d) (traverseBlock t d) (walk-ok d) 8193 F b c r p nb e
+    walk-ok (suc d) F b c r p nb e = visit-block-ok pl rg (visitValueBlock t d) (value-ok t d) (traverseBlock t d) (walk-ok d) 8193 F b c r p nb e

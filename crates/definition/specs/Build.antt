@@ -1,7 +1,7 @@
 -- The whole, from words and the length of the lent buffer: paper 01, "Result and refusals".
-use Prim.Native.Nat.{ℕ, zero, suc, _+_, _*_, _-_, _/_}
+use Prim.Native.Nat.{ℕ, _*_, _-_, _/_}
 use mathlib.Core.List.{List, [], _∷_, _++_}
-use mathlib.Core.Bool.{Bool, true, false}
+use mathlib.Core.Bool.{true, false}
 use lib.ListN.{length, replicate}
 use lib.Dec.{leb}
 use Rattle.table.specs.Check.{Verdict, checked}

@@ -19,7 +19,7 @@ abbrev pub labelSet : Option ℕ → List ℕ
 labelSet none = []
 labelSet (some label) = label ∷ []
 
-unfoldable pub contains : List ℕ → ℕ → Bool
+abbrev pub contains : List ℕ → ℕ → Bool
 contains [] target = false
 contains (label ∷ labels) target = eqb label target || contains labels target
 

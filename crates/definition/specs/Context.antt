@@ -1,24 +1,20 @@
 -- The Rust's `ControlFlowTarget` and `Context`, with the count of visits.
-use Prim.Native.Nat.{ℕ, zero, suc, _+_}
+use Prim.Native.Nat.{ℕ, suc}
 use mathlib.Core.List.{List, [], _∷_}
 use mathlib.Core.Option.{Option, none, some}
-use mathlib.Core.Bool.{Bool, true, false}
+use mathlib.Core.Bool.{Bool, true, false, not, _||_}
 use lib.ListN.{getD, set, replicate}
 use lib.Dec.{eqb}
-use Rattle.definition.specs.Result.{Result, ok, refused, _>>=_, refuseIf, already-scheduled, unschedule-out-of-order}
+use Rattle.definition.specs.Result.{Result, ok, refused, _>>=_, refuseIf, alreadyScheduled, unscheduleOutOfOrder}
 use Rattle.definition.specs.Tree.{Kind, implicit, labeled, unlabeled}
-
-abbrev pub or : Bool → Bool → Bool
-or true b = true
-or false b = b
 
 -- ---- sets of blocks: "one flag for each of the 1,024 blocks"
 
 abbrev pub Flags : Type 0
 Flags = List Bool
 
-unfoldable pub no-flags : Flags
-no-flags = replicate 1024 false
+unfoldable pub noFlags : Flags
+noFlags = replicate 1024 false
 
 unfoldable pub has : Flags → ℕ → Bool
 has flags block = getD flags block false
@@ -71,12 +67,12 @@ pub record Context : Type 0 where
   pub visits : ℕ
 
 unfoldable pub start : Context
-unfolding no-flags
-start = record { nextId = 0; emitted = no-flags; scopeFallthroughs = no-flags; scheduled = no-flags; catchHandlers = no-flags; stack = []; visits = 0 }
+unfolding noFlags
+start = record { nextId = 0; emitted = noFlags; scopeFallthroughs = noFlags; scheduled = noFlags; catchHandlers = noFlags; stack = []; visits = 0 }
 
 -- a catch handler counts as scheduled here, and nowhere else
 unfoldable pub isScheduled : Context → ℕ → Bool
-isScheduled cx block = or (has (cx .scheduled) block) (has (cx .catchHandlers) block)
+isScheduled cx block = has (cx .scheduled) block || has (cx .catchHandlers) block
 
 -- ---- steps that change one field
 
@@ -101,7 +97,7 @@ pushed target scheduled cx = record { nextId = suc (cx .nextId); emitted = cx .e
 -- a target that is no loop
 unfoldable pub schedule : ControlFlowTarget → Context → Result Context
 schedule target cx =
-    refuseIf (has (cx .scheduled) (targetBlock target)) already-scheduled (targetBlock target) (cx .visits) >>= λ _.
+    refuseIf (has (cx .scheduled) (targetBlock target)) alreadyScheduled (targetBlock target) (cx .visits) >>= λ _.
     ok (pushed target (add (cx .scheduled) (targetBlock target)) cx)
 
 -- "`schedule_loop` inserts the fallthrough without a test and only then tests the continue block."
@@ -113,7 +109,7 @@ scheduleLoop fallthrough continueBlock none cx =
 scheduleLoop fallthrough continueBlock (some loopBlock) cx =
     let inserted : Flags = add (cx .scheduled) fallthrough in
     refuseIf (has inserted continueBlock) 15 continueBlock (cx .visits) >>= λ _.
-    ok (pushed (target-loop fallthrough continueBlock (some loopBlock) (elim (has (add inserted continueBlock) loopBlock) [ true ↦ false | false ↦ true ])) (add (add inserted continueBlock) loopBlock) cx)
+    ok (pushed (target-loop fallthrough continueBlock (some loopBlock) (not (has (add inserted continueBlock) loopBlock))) (add (add inserted continueBlock) loopBlock) cx)
 
 -- "`unschedule` of a loop removes its fallthrough and continue block from the scheduled set even where an outer statement put them there.
 -- The loop block is removed only if this loop owns it."
@@ -129,11 +125,11 @@ unfoldable pub popped : List Entry → Flags → Context → Context
 popped stack scheduled cx = record { nextId = cx .nextId; emitted = cx .emitted; scopeFallthroughs = cx .scopeFallthroughs; scheduled = scheduled; catchHandlers = cx .catchHandlers; stack = stack; visits = cx .visits }
 
 unfoldable pub unscheduleTop : List Entry → ℕ → Context → Result Context
-unscheduleTop [] id cx = refused unschedule-out-of-order 0 (cx .visits)
+unscheduleTop [] id cx = refused unscheduleOutOfOrder 0 (cx .visits)
 unscheduleTop (top ∷ below) id cx =
     elim (eqb (top .id) id) [
       | true ↦ ok (popped below (unscheduledBy (top .target) (cx .scheduled)) cx)
-      | false ↦ refused unschedule-out-of-order 0 (cx .visits)
+      | false ↦ refused unscheduleOutOfOrder 0 (cx .visits)
     ]
 
 unfoldable pub unschedule : ℕ → Context → Result Context
@@ -159,7 +155,7 @@ breakTargetFrom [] block top loopAbove = none
 breakTargetFrom (entry ∷ below) block top loopAbove =
     elim (eqb (targetBlock (entry .target)) block) [
       | true ↦ some (record { target = block; kind = breakKind (isLoop (entry .target)) top loopAbove })
-      | false ↦ breakTargetFrom below block false (or loopAbove (isLoop (entry .target)))
+      | false ↦ breakTargetFrom below block false (loopAbove || isLoop (entry .target))
     ]
 
 unfoldable pub getBreakTarget : Context → (block : ℕ) → Option Resolution
@@ -177,7 +173,7 @@ continueTargetFrom [] block top loopAbove = none
 continueTargetFrom (entry ∷ below) block top loopAbove =
     elim (continuesAt (entry .target) block) [
       | true ↦ some (record { target = targetBlock (entry .target); kind = continueKind top loopAbove })
-      | false ↦ continueTargetFrom below block false (or loopAbove (isLoop (entry .target)))
+      | false ↦ continueTargetFrom below block false (loopAbove || isLoop (entry .target))
     ]
 
 unfoldable pub getContinueTarget : Context → (block : ℕ) → Option Resolution

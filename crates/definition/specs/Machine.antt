@@ -11,15 +11,15 @@ use Rattle.table.specs.Table.{Table, Block, Case, Terminal, absent, unreachable
 use Rattle.definition.specs.Build.{accepted, Report, rejected}
 use Rattle.definition.specs.Context.{add, ControlFlowTarget, targetBlock, target-if, target-switch, target-case, Entry, Context, start, isScheduled, withVisits, scheduleCatchHandler, pushed, scheduleLoop, unscheduledBy, popped}
 use Rattle.definition.specs.Result.{refused, Result, ok, _>>=_, refuseIf}
-use Rattle.definition.specs.Statement.{OptionalValue, visitUpdate, continueBlockOf, TerminalResult, enterBlock, unlessScheduled, unlessUnreachable, markScopeFallthroughIf, visitBreak, visitGoto, loopIsTaken, casesLastFirst}
-use Rattle.definition.specs.Tree.{Value, Statement, Row, row, orNone, flag, present, valueRows, statementRows}
-use Rattle.definition.specs.Value.{visitValueBlock, mostDepth, ValueBlockResult, ValueTerminalResult, VisitValueBlock, visitValueBlockTerminal, valueBlockResultToSequence}
+use Rattle.definition.specs.Statement.{visitUpdate, continueBlockOf, enterBlock, unlessScheduled, unlessUnreachable, markScopeFallthroughIf, visitBreak, visitGoto, loopIsTaken, casesLastFirst}
+use Rattle.definition.specs.Tree.{Value, Statement, Row, row, orNone, flagOf, updatePresent, valueRows, statementRows}
+use Rattle.definition.specs.Value.{visitValueBlock, mostDepth, VisitValueBlock, visitValueBlockTerminal, valueBlockResultToSequence}
 
 -- ---- frames and states
 
--- a statement of which a nested list is awaited; all else is in the table. `block` is the one that has the terminal. `second`: the later of two parts is
--- awaited, an alternate or a handler. `label` is the fallthrough, where it is taken. `entries` of the control stack are this statement's.
--- Of a Switch, `left` cases are still to come and `built` are made. `count` statements stand before it in the list around it
+-- A statement of which a nested list is awaited; all else of it is in the table. `block` has its terminal; `second` says that the later of two
+-- parts is awaited, an alternate or a handler; `label` is the fallthrough, if it is taken; so many `entries` of the control stack are this statement's.
+-- Of a Switch, `left` cases are still to come and `built` are made. `count` statements stand before this one in the list around it
 pub record Frame : Type 0 where
   pub block : ℕ
   pub second : Bool
@@ -29,8 +29,8 @@ pub record Frame : Type 0 where
   pub built : ℕ
   pub count : ℕ
 
--- a block is to be visited next; the list in hand has ended; a Switch takes its next case; a statement's entries are taken off the stack.
--- The frames have the innermost first; `rows` are out, in order; `count` statements of the list in hand are out
+-- In order: a block is to be visited next; the list in hand has ended; a Switch takes its next case; a statement's entries are taken off the stack.
+-- The innermost frame comes first; `rows` are out, in order; `count` statements of the list in hand are out
 pub data State : Type 0 where
   visiting : (block : ℕ) → (frames : List Frame) → (rows : List Row) → (count : ℕ) → (cx : Context) → State
   ended : (frames : List Frame) → (rows : List Row) → (count : ℕ) → (cx : Context) → State
@@ -62,29 +62,25 @@ unfoldable pub updateOut : Option Value → List Row
 updateOut none = []
 updateOut (some value) = valueOut value
 
-unfoldable pub stmtOut : Statement → List Row
-stmtOut statement = statementRows statement []
+unfoldable pub statementOut : Statement → List Row
+statementOut statement = statementRows statement []
 
 -- a jump's statement, if it has one
 abbrev pub jumpOut : Option Statement → List Row
 jumpOut none = []
-jumpOut (some statement) = stmtOut statement
+jumpOut (some statement) = statementOut statement
 
 abbrev pub added : Option Statement → ℕ → ℕ
 added none count = count
 added (some statement) count = suc count
 
-unfoldable pub instrOut : Table → List ℕ → List Row
-instrOut t [] = []
-instrOut t (r ∷ rs) = row 1 r 0 0 0 0 ∷ row 4 (instructionAt t r .id) (instructionAt t r .lvalue) (instructionAt t r .span) 0 0 ∷ instrOut t rs
+unfoldable pub instructionsOut : Table → List ℕ → List Row
+instructionsOut t [] = []
+instructionsOut t (r ∷ rs) = row 1 r 0 0 0 0 ∷ row 4 (instructionAt t r .id) (instructionAt t r .lvalue) (instructionAt t r .span) 0 0 ∷ instructionsOut t rs
 
 abbrev pub scopeRow : Bool → ℕ → Row
 scopeRow true number = row 21 number 0 0 0 0
 scopeRow false number = row 20 number 0 0 0 0
-
-abbrev pub hasUpdate : Option ℕ → ℕ
-hasUpdate none = 0
-hasUpdate (some update) = 1
 
 -- the closing row of a statement with nested lists. (Another terminal has none, and its clause is there to be total.)
 unfoldable pub closingRowOf : Terminal → Block → (second : Bool) → (label : Option ℕ) → (built : ℕ) → Row
@@ -93,17 +89,17 @@ closingRowOf unreachable block second taken built = row 0 0 0 0 0 0
 closingRowOf (throw value) block second taken built = row 0 0 0 0 0 0
 closingRowOf (return value) block second taken built = row 0 0 0 0 0 0
 closingRowOf (goto target variant) block second taken built = row 0 0 0 0 0 0
-closingRowOf (if test consequent alternate fallthrough) block second taken built = row 10 test (flag second) (block .id) (orNone taken) 0
-closingRowOf (branch test consequent alternate) block second taken built = row 10 test (flag second) (block .id) (orNone taken) 0
+closingRowOf (if test consequent alternate fallthrough) block second taken built = row 10 test (flagOf second) (block .id) (orNone taken) 0
+closingRowOf (branch test consequent alternate) block second taken built = row 10 test (flagOf second) (block .id) (orNone taken) 0
 closingRowOf (switch test first number fallthrough) block second taken built = row 12 test built (block .id) (orNone taken) 0
 closingRowOf (do-while loop test fallthrough) block second taken built = row 13 (block .id) (orNone taken) 0 0 0
 closingRowOf (while test loop fallthrough) block second taken built = row 14 (block .id) (orNone taken) 0 0 0
-closingRowOf (for init test update loop fallthrough) block second taken built = row 15 (block .id) (orNone taken) (hasUpdate update) 0 0
+closingRowOf (for init test update loop fallthrough) block second taken built = row 15 (block .id) (orNone taken) (updatePresent update) 0 0
 closingRowOf (for-of init test loop fallthrough) block second taken built = row 16 (block .id) (orNone taken) (block .span) 0 0
 closingRowOf (for-in init loop fallthrough) block second taken built = row 17 (block .id) (orNone taken) (block .span) 0 0
 closingRowOf (logical operator test fallthrough) block second taken built = row 0 0 0 0 0 0
 closingRowOf (ternary test fallthrough) block second taken built = row 0 0 0 0 0 0
-closingRowOf (optional chain test fallthrough) block second taken built = row 0 0 0 0 0 0
+closingRowOf (optional flag test fallthrough) block second taken built = row 0 0 0 0 0 0
 closingRowOf (label body fallthrough) block second taken built = row 18 (block .id) (orNone taken) 0 0 0
 closingRowOf (sequence body fallthrough) block second taken built = row 0 0 0 0 0 0
 closingRowOf (maybe-throw continuation) block second taken built = row 0 0 0 0 0 0
@@ -185,11 +181,11 @@ close t frame frames rows cx = closeBy (frame .entries) t frame frames rows cx
 
 -- ---- switches
 
-abbrev pub no-case : Case
-no-case = record { test = 0; block = 0 }
+abbrev pub noCase : Case
+noCase = record { test = 0; block = 0 }
 
 abbrev pub caseAt : Table → ℕ → Case
-caseAt t number = getD (t .cases) number no-case
+caseAt t number = getD (t .cases) number noCase
 
 -- as many cases as the table has
 unfoldable pub numberOfCases : Table → (first number : ℕ) → ℕ
@@ -205,51 +201,36 @@ chooseCase t first fallthrough (suc left) frame frames rows cx =
       | false ↦ ok (visiting block (withLeft left frame ∷ frames) rows 0 cx)
     ]
 
-abbrev pub firstCase : Terminal → ℕ
-firstCase absent = 0
-firstCase unreachable = 0
-firstCase (throw value) = 0
-firstCase (return value) = 0
-firstCase (goto target variant) = 0
-firstCase (if test consequent alternate fallthrough) = 0
-firstCase (branch test consequent alternate) = 0
-firstCase (switch test first number fallthrough) = first
-firstCase (do-while loop test fallthrough) = 0
-firstCase (while test loop fallthrough) = 0
-firstCase (for init test update loop fallthrough) = 0
-firstCase (for-of init test loop fallthrough) = 0
-firstCase (for-in init loop fallthrough) = 0
-firstCase (logical operator test fallthrough) = 0
-firstCase (ternary test fallthrough) = 0
-firstCase (optional flag test fallthrough) = 0
-firstCase (label body fallthrough) = 0
-firstCase (sequence body fallthrough) = 0
-firstCase (maybe-throw continuation) = 0
-firstCase (try body handler fallthrough binding) = 0
-firstCase (scope pruned body fallthrough number) = 0
+-- a Switch's first case and fallthrough. (Another terminal has none, and its clause is there to be total.)
+pub record SwitchColumns : Type 0 where
+  pub first : ℕ
+  pub fallthrough : ℕ
 
-abbrev pub afterCases : Terminal → ℕ
-afterCases absent = 0
-afterCases unreachable = 0
-afterCases (throw value) = 0
-afterCases (return value) = 0
-afterCases (goto target variant) = 0
-afterCases (if test consequent alternate fallthrough) = 0
-afterCases (branch test consequent alternate) = 0
-afterCases (switch test first number fallthrough) = fallthrough
-afterCases (do-while loop test fallthrough) = 0
-afterCases (while test loop fallthrough) = 0
-afterCases (for init test update loop fallthrough) = 0
-afterCases (for-of init test loop fallthrough) = 0
-afterCases (for-in init loop fallthrough) = 0
-afterCases (logical operator test fallthrough) = 0
-afterCases (ternary test fallthrough) = 0
-afterCases (optional flag test fallthrough) = 0
-afterCases (label body fallthrough) = 0
-afterCases (sequence body fallthrough) = 0
-afterCases (maybe-throw continuation) = 0
-afterCases (try body handler fallthrough binding) = 0
-afterCases (scope pruned body fallthrough number) = 0
+abbrev pub noSwitch : SwitchColumns
+noSwitch = record { first = 0; fallthrough = 0 }
+
+abbrev pub switchColumns : Terminal → SwitchColumns
+switchColumns absent = noSwitch
+switchColumns unreachable = noSwitch
+switchColumns (throw value) = noSwitch
+switchColumns (return value) = noSwitch
+switchColumns (goto target variant) = noSwitch
+switchColumns (if test consequent alternate fallthrough) = noSwitch
+switchColumns (branch test consequent alternate) = noSwitch
+switchColumns (switch test first number fallthrough) = record { first = first; fallthrough = fallthrough }
+switchColumns (do-while loop test fallthrough) = noSwitch
+switchColumns (while test loop fallthrough) = noSwitch
+switchColumns (for init test update loop fallthrough) = noSwitch
+switchColumns (for-of init test loop fallthrough) = noSwitch
+switchColumns (for-in init loop fallthrough) = noSwitch
+switchColumns (logical operator test fallthrough) = noSwitch
+switchColumns (ternary test fallthrough) = noSwitch
+switchColumns (optional flag test fallthrough) = noSwitch
+switchColumns (label body fallthrough) = noSwitch
+switchColumns (sequence body fallthrough) = noSwitch
+switchColumns (maybe-throw continuation) = noSwitch
+switchColumns (try body handler fallthrough binding) = noSwitch
+switchColumns (scope pruned body fallthrough number) = noSwitch
 
 -- ---- a nested list has ended, and its BLOCK row is out
 
@@ -384,13 +365,13 @@ visitTurn t block frames rows count cx =
     refuseIf (leb mostDepth (length frames)) 30 block (cx .visits) >>= λ _.
     enterBlock t block cx >>= λ entered.
     terminalTurn t (visitValueBlock t (depthLeft frames)) (terminalAt t block) block (blockAt t block) frames
-    (rows ++ instrOut t (instructionRowsAt t block)) (count + length (instructionRowsAt t block)) entered
+    (rows ++ instructionsOut t (instructionRowsAt t block)) (count + length (instructionRowsAt t block)) entered
 
 unfoldable pub step : Table → State → Turn
 step t (visiting block frames rows count cx) = turn (visitTurn t block frames rows count cx)
 step t (ended [] rows count cx) = halt (accepted (rows ++ (blockRow count ∷ [])) (cx .visits))
 step t (ended (frame ∷ frames) rows count cx) = turn (resume t (visitValueBlock t (depthLeft frames)) frame frames (rows ++ (blockRow count ∷ [])) cx)
-step t (choosing frame frames rows cx) = turn (chooseCase t (firstCase (terminalAt t (frame .block))) (afterCases (terminalAt t (frame .block))) (frame .left) frame frames rows cx)
+step t (choosing frame frames rows cx) = turn (chooseCase t (switchColumns (terminalAt t (frame .block)) .first) (switchColumns (terminalAt t (frame .block)) .fallthrough) (frame .left) frame frames rows cx)
 step t (popping frame frames rows cx) = going (close t frame frames rows cx)
 
 abbrev pub begin : Table → State

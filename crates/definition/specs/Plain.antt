@@ -4,17 +4,14 @@ use mathlib.Core.Path.{_≡_}
 use Prim.Native.Nat.{ℕ}
 use mathlib.Core.List.{List, [], _∷_}
 use mathlib.Core.Option.{Option, none, some}
-use mathlib.Core.Bool.{Bool, true, false, _||_}
+use mathlib.Core.Bool.{Bool, true, false}
 use lib.Dec.{eqb}
 use Rattle.table.specs.Table.{Table, Operation, other, load-local, store-local, Terminal, absent, unreachable, throw, return, goto, if, branch, switch, do-while, while, for, for-of, for-in, logical, ternary, optional, label, sequence, maybe-throw, try, scope, Try, codeOf, terminalAt, instructionAt, instructionRowsAt}
+use Rattle.definition.specs.Completion.{contains}
 
 -- "If, While, Label, Scope, PrunedScope, Goto .., Return, Throw or Branch"; 0 is no block
 abbrev pub plainCodes : List ℕ
 plainCodes = 5 ∷ 9 ∷ 16 ∷ 20 ∷ 21 ∷ 4 ∷ 3 ∷ 2 ∷ 6 ∷ 0 ∷ []
-
-abbrev pub among : List ℕ → ℕ → Bool
-among [] n = false
-among (m ∷ ms) n = eqb m n || among ms n
 
 abbrev pub isBranch : Terminal → Bool
 isBranch terminal = eqb (codeOf terminal) 6
@@ -43,8 +40,7 @@ fallthroughOf (maybe-throw continuation) = none
 fallthroughOf (try block handler fallthrough binding) = some fallthrough
 fallthroughOf (scope pruned block fallthrough number) = some fallthrough
 
--- The blocks that a terminal names otherwise than as a Goto's block or a While's test. (For terminals that no plain table has, those are
--- left out that the first field shuts out anyway.)
+-- the blocks that a terminal names otherwise than as a Goto's block or a While's test. (Those of a terminal that no plain table has are left out.)
 abbrev pub otherNames : Terminal → List ℕ
 otherNames absent = []
 otherNames unreachable = []
@@ -88,9 +84,9 @@ All P (n ∷ ns) = P n × All P ns
 
 pub record Plain (t : Table) : Type 0 where
   -- "Every present block ends in If, While, Label, Scope, PrunedScope, Goto Break or Continue, Return, Throw or Branch."
-  pub ends : (block : ℕ) → among plainCodes (codeOf (terminalAt t block)) ≡ true
+  pub ends : (block : ℕ) → contains plainCodes (codeOf (terminalAt t block)) ≡ true
   pub no-goto-try : (block target : ℕ) → terminalAt t block ≡ goto target Try → ⊥
-  -- "Each While's test is a Branch block." With the ways that the next sentence but one gives it
+  -- "Each While's test is a Branch block.", and by the next sentence its consequent is this While's loop, its alternate this While's ft
   pub tests : (block test loop fallthrough : ℕ) → terminalAt t block ≡ while test loop fallthrough → (place : ℕ) × (terminalAt t test ≡ branch place loop fallthrough)
   -- "A Branch block is not the entry"
   pub entry : NotBranch t (t .entry)

@@ -16,13 +16,13 @@ unfoldable pub refuseIf : Bool → (code at visits : ℕ) → Result (Unit {0})
 refuseIf true code at visits = refused code at visits
 refuseIf false code at visits = ok tt
 
--- Four messages of the Rust never occur. They are refusals of the definition, with numbers of their own, and it is proved that no table
--- gives them. (The fourth, "Unknown target type", has no counterpart: a target's type is a constructor.)
-abbrev pub already-scheduled : ℕ
-already-scheduled = 90
+-- "Four Rust messages never occur and are proved so": three are refusals of the definition with numbers of their own, which no table gives
+-- (proofs/Never). The fourth, an unknown target type, cannot be written: a target's type is a constructor.
+abbrev pub alreadyScheduled : ℕ
+alreadyScheduled = 90
 
-abbrev pub unschedule-out-of-order : ℕ
-unschedule-out-of-order = 91
+abbrev pub unscheduleOutOfOrder : ℕ
+unscheduleOutOfOrder = 91
 
-abbrev pub maybe-throw-in-value-terminal : ℕ
-maybe-throw-in-value-terminal = 92
+abbrev pub maybeThrowInValueTerminal : ℕ
+maybeThrowInValueTerminal = 92

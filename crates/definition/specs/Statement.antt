@@ -1,15 +1,15 @@
 -- The statement walk: the Rust's visit_block, traverse_block, visit_break and visit_continue, and the build.
-use Prim.Native.Nat.{ℕ, zero, suc, _+_}
+use Prim.Native.Nat.{ℕ, zero, suc}
 use mathlib.Core.List.{List, [], _∷_, reverse}
 use mathlib.Core.Option.{Option, none, some}
-use mathlib.Core.Bool.{Bool, true, false, not}
+use mathlib.Core.Bool.{Bool, true, false, not, _||_}
 use lib.ListN.{take, drop}
 use lib.Dec.{eqb}
 use Rattle.table.specs.Table.{Table, Block, Case, Terminal, Variant, absent, unreachable, throw, return, goto, if, branch, switch, do-while, while, for, for-of, for-in, logical, ternary, optional, sequence, maybe-throw, try, scope, Break, Continue, Try, isAbsent, isUnreachable, blockAt, terminalAt, instructionAt, instructionRowsAt, label}
-use Rattle.definition.specs.Context.{or, has, target-if, target-switch, target-case, Context, start, isScheduled, emit, withVisits, markScopeFallthrough, scheduleCatchHandler, schedule, scheduleLoop, unschedule, Resolution, getBreakTarget, getContinueTarget}
+use Rattle.definition.specs.Context.{has, target-if, target-switch, target-case, Context, start, isScheduled, emit, withVisits, markScopeFallthrough, scheduleCatchHandler, schedule, scheduleLoop, unschedule, Resolution, getBreakTarget, getContinueTarget}
 use Rattle.definition.specs.Result.{Result, ok, refused, _>>=_, refuseIf}
 use Rattle.definition.specs.Tree.{Kind, implicit, labeled, unlabeled, Value, PLAIN, Statement, INSTR, IF, SWITCH, DOWHILE, WHILE, FOR, FOROF, FORIN, LABEL, TRY, SCOPE, RETURN, THROW, BREAK, CONTINUE, Statements, done, _▸_, Cases, no-cases, CASE}
-use Rattle.definition.specs.Value.{mostDepth, mostVisits, beginVisit, ValueBlockResult, ValueTerminalResult, VisitValueBlock, visitValueBlockTerminal, visitValueBlock, valueBlockResultToSequence}
+use Rattle.definition.specs.Value.{mostDepth, mostVisits, beginVisit, VisitValueBlock, visitValueBlockTerminal, visitValueBlock, valueBlockResultToSequence}
 
 -- a block's statements, and the state that they leave
 pub record BlockResult : Type 0 where
@@ -35,7 +35,7 @@ enterBlock t block cx =
 
 -- ---- fallthroughs
 
--- the fallthrough, where it is taken: it is not scheduled
+-- a fallthrough is taken, and is the statement's label, unless it is scheduled
 unfoldable pub unlessScheduled : Context → (fallthrough : ℕ) → Option ℕ
 unlessScheduled cx fallthrough = elim (isScheduled cx fallthrough) [ true ↦ none | false ↦ some fallthrough ]
 
@@ -115,37 +115,38 @@ traverseAlternate traverse alternate fallthrough cx =
       | false ↦ traverseUnscheduled traverse alternate 13 alternate cx >>= λ body. ok (record { present = true; statements = body .statements; context = body .context })
     ]
 
-abbrev pub singleStatement : Option Statement → Statements
-singleStatement none = done
-singleStatement (some statement) = statement ▸ done
+abbrev pub followedBy : Option Statement → Statements → Statements
+followedBy none more = more
+followedBy (some statement) more = statement ▸ more
 
 -- a Branch's consequent as a statement: a break where it is scheduled
 unfoldable pub traverseConsequent : TraverseBlock → (at consequent id : ℕ) → Context → Result BlockResult
 traverseConsequent traverse at consequent id cx =
     elim (isScheduled cx consequent) [
-      | true ↦ visitBreak at consequent id cx >>= λ statement. ok (record { statements = singleStatement statement; context = cx })
+      | true ↦ visitBreak at consequent id cx >>= λ statement. ok (record { statements = followedBy statement done; context = cx })
       | false ↦ traverse consequent cx
     ]
 
--- the body of a Label or a scope, whose statement `make` gives; `id` is that of its schedule
-unfoldable pub traverseEnclosed : TraverseBlock → (block code at : ℕ) → Option ℕ → (before now : Context) → (make : Statements → Statement) → Result TerminalResult
-traverseEnclosed traverse block code at fallthrough before now make =
-    traverseUnscheduled traverse block code at now >>= λ body.
-    unscheduleIf fallthrough (before .nextId) (body .context) >>= λ after.
-    ok (record { statement = some (make (body .statements)); next = fallthrough; context = after })
+-- the body of a Label or a scope, whose statement `make` gives. Its entry, if its fallthrough is taken, has the next id of `before`; `inside` has that entry
+unfoldable pub traverseEnclosed : TraverseBlock → (block code at : ℕ) → (taken : Option ℕ) → (before inside : Context) → (make : Statements → Statement) → Result TerminalResult
+traverseEnclosed traverse block code at taken before inside make =
+    traverseUnscheduled traverse block code at inside >>= λ body.
+    unscheduleIf taken (before .nextId) (body .context) >>= λ after.
+    ok (record { statement = some (make (body .statements)); next = taken; context = after })
 
--- "16 loop scheduled or equal to its fallthrough", asked before schedule_loop
+-- "16 loop scheduled or equal to its fallthrough", asked of the state before schedule_loop
 unfoldable pub loopIsTaken : Context → (loop fallthrough : ℕ) → Bool
-loopIsTaken cx loop fallthrough = or (isScheduled cx loop) (eqb loop fallthrough)
+loopIsTaken cx loop fallthrough = isScheduled cx loop || eqb loop fallthrough
 
--- a loop whose values are made, at so many visits: its body, and the statement that `make` gives
-unfoldable pub traverseLoop : TraverseBlock → (at loop : ℕ) → (taken : Bool) → (visits id : ℕ) → Context → Option ℕ → (make : Statements → Statement) → Result TerminalResult
+-- a loop whose values are made, at so many visits: its body, and the statement that `make` gives. `id` is that of its entry
+unfoldable pub traverseLoop : TraverseBlock → (at loop : ℕ) → (taken : Bool) → (visits id : ℕ) → Context → (fallthrough : Option ℕ) → (make : Statements → Statement) → Result TerminalResult
 traverseLoop traverse at loop taken visits id cx fallthrough make =
     refuseIf taken 16 at visits >>= λ _.
     traverse loop (withVisits visits cx) >>= λ body.
     unschedule id (body .context) >>= λ after.
     ok (record { statement = some (make (body .statements)); next = fallthrough; context = after })
 
+-- where a For continues: its update, or its test where it has none
 abbrev pub continueBlockOf : (update : Option ℕ) → (test : ℕ) → ℕ
 continueBlockOf none test = test
 continueBlockOf (some update) test = update
@@ -186,6 +187,7 @@ unfoldable pub unscheduleAll : List ℕ → Context → Result Context
 unscheduleAll [] cx = ok cx
 unscheduleAll (id ∷ ids) cx = unschedule id cx >>= λ after. unscheduleAll ids after
 
+-- the id of a Switch's own entry, if it has one
 abbrev pub scheduleIds : Option ℕ → (id : ℕ) → List ℕ
 scheduleIds none id = []
 scheduleIds (some fallthrough) id = id ∷ []
@@ -288,10 +290,7 @@ unfoldable pub instructionStatements : Table → List ℕ → Statements → Sta
 instructionStatements t [] more = more
 instructionStatements t (row ∷ rows) more = INSTR (instructionAt t row .id) (instructionAt t row .lvalue) (instructionAt t row .span) (PLAIN row) ▸ instructionStatements t rows more
 
-abbrev pub followedBy : Option Statement → Statements → Statements
-followedBy none more = more
-followedBy (some statement) more = statement ▸ more
-
+-- the block's instructions, its terminal's statement, and then the statements of the block to go on with
 unfoldable pub thenNext : Table → (at : ℕ) → TraverseBlock → Option Statement → Option ℕ → Context → Result BlockResult
 thenNext t at again statement none cx = ok (record { statements = instructionStatements t (instructionRowsAt t at) (followedBy statement done); context = cx })
 thenNext t at again statement (some next) cx =

@@ -1,7 +1,7 @@
 -- Paper 01, "Tree rows": the tree of statements and values, and its rows, six words each, "parts come first, then the closing row".
 -- A constructor has the name of its closing row's op; its arguments are the row's columns and its parts, the parts in the order of the rows.
-use Prim.Native.Nat.{ℕ, zero, suc, _+_}
-use mathlib.Core.List.{List, [], _∷_, _++_}
+use Prim.Native.Nat.{ℕ, suc}
+use mathlib.Core.List.{List, [], _∷_}
 use mathlib.Core.Option.{Option, none, some}
 use mathlib.Core.Bool.{Bool, true, false}
 use Rattle.table.specs.Words.{largest}
@@ -64,18 +64,31 @@ abbrev pub orNone : Option ℕ → ℕ
 orNone none = largest
 orNone (some n) = n
 
-abbrev pub flag : Bool → ℕ
-flag true = 1
-flag false = 0
+abbrev pub flagOf : Bool → ℕ
+flagOf true = 1
+flagOf false = 0
 
 abbrev pub kindNumber : Kind → ℕ
 kindNumber implicit = 0
 kindNumber labeled = 1
 kindNumber unlabeled = 2
 
-abbrev pub present : Option Value → ℕ
-present none = 0
-present (some value) = 1
+-- FOR's column "update present", of the update's block or its value
+abbrev pub updatePresent : {A : Type 0} → Option A → ℕ
+updatePresent none = 0
+updatePresent (some update) = 1
+
+abbrev pub countInstructions : Instructions → ℕ
+countInstructions no-instructions = 0
+countInstructions (instruction id lvalue span value rest) = suc (countInstructions rest)
+
+abbrev pub countStatements : Statements → ℕ
+countStatements done = 0
+countStatements (statement ▸ rest) = suc (countStatements rest)
+
+abbrev pub countCases : Cases → ℕ
+countCases no-cases = 0
+countCases (CASE test body rest) = suc (countCases rest)
 
 -- each function gives the rows of a part, and behind them the rows `after`
 abbrev mutual
@@ -92,22 +105,9 @@ abbrev mutual
   instructionsRows no-instructions after = after
   instructionsRows (instruction id lvalue span value rest) after = valueRows value (row 4 id lvalue span 0 0 ∷ instructionsRows rest after)
 
-  pub countInstructions : Instructions → ℕ
-  countInstructions no-instructions = 0
-  countInstructions (instruction id lvalue span value rest) = suc (countInstructions rest)
-
 abbrev pub updateRows : Option Value → List Row → List Row
 updateRows none after = after
 updateRows (some value) after = valueRows value after
-
-abbrev mutual
-  pub countStatements : Statements → ℕ
-  countStatements done = 0
-  countStatements (statement ▸ rest) = suc (countStatements rest)
-
-abbrev pub countCases : Cases → ℕ
-countCases no-cases = 0
-countCases (CASE test body rest) = suc (countCases rest)
 
 abbrev mutual
   pub statementRows : Statement → List Row → List Row
@@ -118,7 +118,7 @@ abbrev mutual
   statementRows (DOWHILE id label body test) after = blockRows body (valueRows test (row 13 id (orNone label) 0 0 0 ∷ after))
   statementRows (WHILE id label test body) after = valueRows test (blockRows body (row 14 id (orNone label) 0 0 0 ∷ after))
   statementRows (FOR id label init test update body) after =
-      valueRows init (valueRows test (updateRows update (blockRows body (row 15 id (orNone label) (present update) 0 0 ∷ after))))
+      valueRows init (valueRows test (updateRows update (blockRows body (row 15 id (orNone label) (updatePresent update) 0 0 ∷ after))))
   statementRows (FOROF id label span init test body) after = valueRows init (valueRows test (blockRows body (row 16 id (orNone label) span 0 0 ∷ after)))
   statementRows (FORIN id label span init body) after = valueRows init (blockRows body (row 17 id (orNone label) span 0 0 ∷ after))
   statementRows (LABEL id label body) after = blockRows body (row 18 id (orNone label) 0 0 0 ∷ after)

@@ -1,13 +1,13 @@
 -- The value walk: the Rust's visit_value_block, visit_value_block_terminal, visit_test_block and their helpers.
 -- It holds no Context: "Value visits never test or set the emitted set." Only the visits are counted on.
-use Prim.Native.Nat.{ℕ, zero, suc, _+_}
+use Prim.Native.Nat.{ℕ, zero, suc}
 use mathlib.Core.List.{List, [], _∷_}
 use mathlib.Core.Option.{Option, none, some}
 use mathlib.Core.Bool.{Bool, true, false, _&&_}
 use lib.ListN.{getD}
 use lib.Dec.{eqb, leb}
 use Rattle.table.specs.Table.{Table, Block, Terminal, Instruction, Operation, absent, unreachable, throw, return, goto, if, branch, switch, do-while, while, for, for-of, for-in, logical, ternary, optional, sequence, maybe-throw, try, scope, other, load-local, store-local, isAbsent, isGoto, blockAt, terminalAt, instructionAt, instructionRows, label}
-use Rattle.definition.specs.Result.{Result, ok, refused, _>>=_, refuseIf, maybe-throw-in-value-terminal}
+use Rattle.definition.specs.Result.{Result, ok, refused, _>>=_, refuseIf, maybeThrowInValueTerminal}
 use Rattle.definition.specs.Tree.{Value, PLAIN, LOAD, UNDEF, SEQ, LOGICAL, COND, OPTIONAL, Instructions, no-instructions, instruction}
 
 -- ---- visits
@@ -28,7 +28,7 @@ beginVisit t block visits =
 
 -- ---- the value of instruction rows
 
--- `block` is the one that the value ends in, `id` the final value's
+-- a value block's value: `place` holds it, `block` is the block that it ends in, `id` the final value's
 pub record ValueBlockResult : Type 0 where
   pub block : ℕ
   pub place : ℕ
@@ -36,6 +36,7 @@ pub record ValueBlockResult : Type 0 where
   pub id : ℕ
   pub visits : ℕ
 
+-- a value terminal's value, and the fallthrough that comes after it
 pub record ValueTerminalResult : Type 0 where
   pub value : Value
   pub place : ℕ
@@ -59,11 +60,11 @@ wrapWithSequence t (row ∷ rows) id value = SEQ (instructionsOf t (row ∷ rows
 
 -- "Last instruction StoreLocal to an unnamed identifier: the value is a LOAD of the place whose value is stored (q), and the result's place
 -- is the one stored to (p)." `named` is what `storedToNamed` gives
-unfoldable pub finalValue : Table → (row : ℕ) → Operation → (named : ℕ) → Value
-finalValue t row other named = PLAIN row
-finalValue t row (load-local place) named = PLAIN row
-finalValue t row (store-local storedTo storedValue) zero = LOAD storedValue
-finalValue t row (store-local storedTo storedValue) (suc named) = PLAIN row
+unfoldable pub finalValue : (row : ℕ) → Operation → (named : ℕ) → Value
+finalValue row other named = PLAIN row
+finalValue row (load-local place) named = PLAIN row
+finalValue row (store-local storedTo storedValue) zero = LOAD storedValue
+finalValue row (store-local storedTo storedValue) (suc named) = PLAIN row
 
 unfoldable pub finalPlace : Operation → (named lvalue : ℕ) → ℕ
 finalPlace other named lvalue = lvalue
@@ -71,7 +72,7 @@ finalPlace (load-local place) named lvalue = lvalue
 finalPlace (store-local storedTo storedValue) zero lvalue = storedTo
 finalPlace (store-local storedTo storedValue) (suc named) lvalue = lvalue
 
--- 0 where a store's identifier has no name
+-- 0 for a store to an unnamed identifier, and for nothing else
 unfoldable pub storedToNamed : Table → Operation → ℕ
 storedToNamed t other = 1
 storedToNamed t (load-local place) = 1
@@ -95,7 +96,7 @@ extractValueBlockResult t block row rows visits =
     record {
       block = block;
       place = finalPlace (instr .operation) named (instr .lvalue);
-      value = wrapWithSequence t (allButLast row rows) (instr .id) (finalValue t final (instr .operation) named);
+      value = wrapWithSequence t (allButLast row rows) (instr .id) (finalValue final (instr .operation) named);
       id = instr .id;
       visits = visits;
     }
@@ -205,15 +206,15 @@ visitValueBlockTerminal t visit (label block fallthrough) id span visits at = re
 visitValueBlockTerminal t visit (sequence block fallthrough) id span visits at =
     visit block (some fallthrough) span visits >>= λ inner.
     ok (record { value = inner .value; place = inner .place; fallthrough = fallthrough; id = id; visits = inner .visits })
-visitValueBlockTerminal t visit (maybe-throw continuation) id span visits at = refused maybe-throw-in-value-terminal at visits
+visitValueBlockTerminal t visit (maybe-throw continuation) id span visits at = refused maybeThrowInValueTerminal at visits
 visitValueBlockTerminal t visit (try block handler fallthrough binding) id span visits at = refused 27 at visits
 visitValueBlockTerminal t visit (scope pruned block fallthrough number) id span visits at = refused 27 at visits
 
 -- ---- a block in a value walk
 
 -- a value terminal's value becomes an instruction, and the value is that of its fallthrough. The instruction has the span passed down
-unfoldable pub thenFallthrough : Table → VisitValueBlock → ℕ → Block → (span : ℕ) → Result ValueTerminalResult → Result ValueBlockResult
-thenFallthrough t visit number block span terminal =
+unfoldable pub thenFallthrough : Table → VisitValueBlock → Block → (span : ℕ) → Result ValueTerminalResult → Result ValueBlockResult
+thenFallthrough t visit block span terminal =
     terminal >>= λ init. visit (init .fallthrough) none span (init .visits) >>= λ final.
     ok (record {
       block = final .block;
@@ -229,7 +230,7 @@ branchValue t number test id [] visits = ok (record { block = number; place = te
 branchValue t number test id (row ∷ rows) visits = ok (extractValueBlockResult t number row rows visits)
 
 unfoldable pub isEmptyGoto : Block → Bool
-isEmptyGoto block = elim (isEmpty (instructionRows block)) [ true ↦ isGoto (block .terminal) | false ↦ false ]
+isEmptyGoto block = isEmpty (instructionRows block) && isGoto (block .terminal)
 
 -- "A value block ending in MaybeThrow whose continuation is an empty Goto block takes its own last instruction as value.
 -- With no instruction the Rust panics; here 28." The result's block is the continuation
@@ -239,41 +240,42 @@ maybeThrowValue t visit number continuation rows fallthrough span visits false =
     visit continuation fallthrough span visits >>= λ final.
     ok (record { block = final .block; place = final .place; value = wrapWithSequence t rows (final .id) (final .value); id = final .id; visits = final .visits })
 
--- a block that ends in a value terminal, or in one that a value block must not have
-abbrev pub visitValueTerminal : Table → VisitValueBlock → Terminal → ℕ → Block → (span visits : ℕ) → Result ValueBlockResult
-visitValueTerminal t visit terminal number block span visits =
-    thenFallthrough t visit number block span (visitValueBlockTerminal t visit terminal (block .id) (block .span) visits number)
+-- of a block that ends in a value terminal, or in one that a value block must not have: the terminal, and then its fallthrough
+abbrev pub terminalThenFallthrough : Table → VisitValueBlock → Terminal → ℕ → Block → (span visits : ℕ) → Result ValueBlockResult
+terminalThenFallthrough t visit terminal number block span visits =
+    thenFallthrough t visit block span (visitValueBlockTerminal t visit terminal (block .id) (block .span) visits number)
 
 -- by the terminal of the block `number`, which is present and not `outer`, the fallthrough that must not be reached.
 -- "24 empty Goto value block (named)". "That continuation is looked up first, before any visit: 10 if missing."
 unfoldable pub visitValueBlockAt : Table → VisitValueBlock → Terminal → ℕ → Block → (outer : Option ℕ) → (span visits : ℕ) → Result ValueBlockResult
-visitValueBlockAt t visit absent number block outer span visits = visitValueTerminal t visit absent number block span visits
-visitValueBlockAt t visit unreachable number block outer span visits = visitValueTerminal t visit unreachable number block span visits
-visitValueBlockAt t visit (throw value) number block outer span visits = visitValueTerminal t visit (throw value) number block span visits
-visitValueBlockAt t visit (return value) number block outer span visits = visitValueTerminal t visit (return value) number block span visits
+visitValueBlockAt t visit absent number block outer span visits = terminalThenFallthrough t visit absent number block span visits
+visitValueBlockAt t visit unreachable number block outer span visits = terminalThenFallthrough t visit unreachable number block span visits
+visitValueBlockAt t visit (throw value) number block outer span visits = terminalThenFallthrough t visit (throw value) number block span visits
+visitValueBlockAt t visit (return value) number block outer span visits = terminalThenFallthrough t visit (return value) number block span visits
 visitValueBlockAt t visit (goto target variant) number block outer span visits = extractOrRefuse t number (instructionRows block) visits 24 number
-visitValueBlockAt t visit (if test consequent alternate fallthrough) number block outer span visits = visitValueTerminal t visit (if test consequent alternate fallthrough) number block span visits
+visitValueBlockAt t visit (if test consequent alternate fallthrough) number block outer span visits = terminalThenFallthrough t visit (if test consequent alternate fallthrough) number block span visits
 visitValueBlockAt t visit (branch test consequent alternate) number block outer span visits = branchValue t number test (block .id) (instructionRows block) visits
-visitValueBlockAt t visit (switch test first cases fallthrough) number block outer span visits = visitValueTerminal t visit (switch test first cases fallthrough) number block span visits
-visitValueBlockAt t visit (do-while loop test fallthrough) number block outer span visits = visitValueTerminal t visit (do-while loop test fallthrough) number block span visits
-visitValueBlockAt t visit (while test loop fallthrough) number block outer span visits = visitValueTerminal t visit (while test loop fallthrough) number block span visits
-visitValueBlockAt t visit (for init test update loop fallthrough) number block outer span visits = visitValueTerminal t visit (for init test update loop fallthrough) number block span visits
-visitValueBlockAt t visit (for-of init test loop fallthrough) number block outer span visits = visitValueTerminal t visit (for-of init test loop fallthrough) number block span visits
-visitValueBlockAt t visit (for-in init loop fallthrough) number block outer span visits = visitValueTerminal t visit (for-in init loop fallthrough) number block span visits
-visitValueBlockAt t visit (logical operator test fallthrough) number block outer span visits = visitValueTerminal t visit (logical operator test fallthrough) number block span visits
-visitValueBlockAt t visit (ternary test fallthrough) number block outer span visits = visitValueTerminal t visit (ternary test fallthrough) number block span visits
-visitValueBlockAt t visit (optional flag test fallthrough) number block outer span visits = visitValueTerminal t visit (optional flag test fallthrough) number block span visits
-visitValueBlockAt t visit (label body fallthrough) number block outer span visits = visitValueTerminal t visit (label body fallthrough) number block span visits
-visitValueBlockAt t visit (sequence body fallthrough) number block outer span visits = visitValueTerminal t visit (sequence body fallthrough) number block span visits
+visitValueBlockAt t visit (switch test first cases fallthrough) number block outer span visits = terminalThenFallthrough t visit (switch test first cases fallthrough) number block span visits
+visitValueBlockAt t visit (do-while loop test fallthrough) number block outer span visits = terminalThenFallthrough t visit (do-while loop test fallthrough) number block span visits
+visitValueBlockAt t visit (while test loop fallthrough) number block outer span visits = terminalThenFallthrough t visit (while test loop fallthrough) number block span visits
+visitValueBlockAt t visit (for init test update loop fallthrough) number block outer span visits = terminalThenFallthrough t visit (for init test update loop fallthrough) number block span visits
+visitValueBlockAt t visit (for-of init test loop fallthrough) number block outer span visits = terminalThenFallthrough t visit (for-of init test loop fallthrough) number block span visits
+visitValueBlockAt t visit (for-in init loop fallthrough) number block outer span visits = terminalThenFallthrough t visit (for-in init loop fallthrough) number block span visits
+visitValueBlockAt t visit (logical operator test fallthrough) number block outer span visits = terminalThenFallthrough t visit (logical operator test fallthrough) number block span visits
+visitValueBlockAt t visit (ternary test fallthrough) number block outer span visits = terminalThenFallthrough t visit (ternary test fallthrough) number block span visits
+visitValueBlockAt t visit (optional flag test fallthrough) number block outer span visits = terminalThenFallthrough t visit (optional flag test fallthrough) number block span visits
+visitValueBlockAt t visit (label body fallthrough) number block outer span visits = terminalThenFallthrough t visit (label body fallthrough) number block span visits
+visitValueBlockAt t visit (sequence body fallthrough) number block outer span visits = terminalThenFallthrough t visit (sequence body fallthrough) number block span visits
 visitValueBlockAt t visit (maybe-throw continuation) number block outer span visits =
     refuseIf (isAbsent (terminalAt t continuation)) 10 continuation visits >>= λ _.
     maybeThrowValue t visit number continuation (instructionRows block) outer span visits (isEmptyGoto (blockAt t continuation))
-visitValueBlockAt t visit (try body handler fallthrough binding) number block outer span visits = visitValueTerminal t visit (try body handler fallthrough binding) number block span visits
-visitValueBlockAt t visit (scope pruned body fallthrough scoped) number block outer span visits = visitValueTerminal t visit (scope pruned body fallthrough scoped) number block span visits
+visitValueBlockAt t visit (try body handler fallthrough binding) number block outer span visits = terminalThenFallthrough t visit (try body handler fallthrough binding) number block span visits
+visitValueBlockAt t visit (scope pruned body fallthrough scoped) number block outer span visits = terminalThenFallthrough t visit (scope pruned body fallthrough scoped) number block span visits
 
-abbrev pub isThis : Option ℕ → ℕ → Bool
-isThis none block = false
-isThis (some fallthrough) block = eqb fallthrough block
+-- whether a visit reaches the fallthrough that it must not reach, if there is one
+abbrev pub isFallthrough : Option ℕ → ℕ → Bool
+isFallthrough none block = false
+isFallthrough (some fallthrough) block = eqb fallthrough block
 
 -- the value walk with so many levels of depth left. "Order at a visit: 30, 31, 10, then 11 or 23"
 unfoldable pub visitValueBlock : Table → (depthLeft : ℕ) → VisitValueBlock
@@ -281,7 +283,7 @@ unfolding visitValueBlockAt
 visitValueBlock t zero block fallthrough span visits = refused 30 block visits
 visitValueBlock t (suc depthLeft) block fallthrough span visits =
     beginVisit t block visits >>= λ begun.
-    refuseIf (isThis fallthrough block) 23 block begun >>= λ _.
+    refuseIf (isFallthrough fallthrough block) 23 block begun >>= λ _.
     visitValueBlockAt t (visitValueBlock t depthLeft) (terminalAt t block) block (blockAt t block) fallthrough span begun
 
 -- ---- value_block_result_to_sequence: "flattened through every trailing sequence"
@@ -290,25 +292,25 @@ unfoldable pub appended : Instructions → Instructions → Instructions
 appended no-instructions more = more
 appended (instruction id lvalue span value rest) more = instruction id lvalue span value (appended rest more)
 
-abbrev mutual
-  -- the instructions of all trailing sequences of a value, and then more
-  pub sequencedInstructions : Value → Instructions → Instructions
-  sequencedInstructions (PLAIN row) more = more
-  sequencedInstructions (LOAD place) more = more
-  sequencedInstructions (UNDEF span) more = more
-  sequencedInstructions (SEQ instructions id value) more = appended instructions (sequencedInstructions value more)
-  sequencedInstructions (LOGICAL operator left right) more = more
-  sequencedInstructions (COND test consequent alternate) more = more
-  sequencedInstructions (OPTIONAL flag value) more = more
+-- the instructions of all trailing sequences of a value, and then more
+abbrev pub sequencedInstructions : Value → Instructions → Instructions
+sequencedInstructions (PLAIN row) more = more
+sequencedInstructions (LOAD place) more = more
+sequencedInstructions (UNDEF span) more = more
+sequencedInstructions (SEQ instructions id value) more = appended instructions (sequencedInstructions value more)
+sequencedInstructions (LOGICAL operator left right) more = more
+sequencedInstructions (COND test consequent alternate) more = more
+sequencedInstructions (OPTIONAL flag value) more = more
 
-  pub innermostValue : Value → Value
-  innermostValue (PLAIN row) = PLAIN row
-  innermostValue (LOAD place) = LOAD place
-  innermostValue (UNDEF span) = UNDEF span
-  innermostValue (SEQ instructions id value) = innermostValue value
-  innermostValue (LOGICAL operator left right) = LOGICAL operator left right
-  innermostValue (COND test consequent alternate) = COND test consequent alternate
-  innermostValue (OPTIONAL flag value) = OPTIONAL flag value
+-- what the trailing sequences end in
+abbrev pub innermostValue : Value → Value
+innermostValue (PLAIN row) = PLAIN row
+innermostValue (LOAD place) = LOAD place
+innermostValue (UNDEF span) = UNDEF span
+innermostValue (SEQ instructions id value) = innermostValue value
+innermostValue (LOGICAL operator left right) = LOGICAL operator left right
+innermostValue (COND test consequent alternate) = COND test consequent alternate
+innermostValue (OPTIONAL flag value) = OPTIONAL flag value
 
 abbrev pub loadedBy : Operation → Option ℕ
 loadedBy other = none

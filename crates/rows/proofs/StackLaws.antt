@@ -6,7 +6,7 @@ use native.Mathlib.Omega.{arith}
 use lib.ListN.{length}
 use Rattle.table.specs.Table.{Table, instructionAt, rowsFrom}
 use Rattle.definition.specs.Tree.{Row, row, Value, PLAIN, LOAD, UNDEF, SEQ, LOGICAL, COND, OPTIONAL, Instructions, no-instructions, instruction, valueRows, instructionsRows, countInstructions}
-use Rattle.definition.specs.Machine.{valueOut, instrOut}
+use Rattle.definition.specs.Machine.{valueOut, instructionsOut}
 use Rattle.definition.specs.Value.{instructionsOf}
 use Rattle.rows.specs.Stack.{pushed, pushValue, pushInstructions, pushInstructionRows}
 
@@ -52,13 +52,13 @@ push-row-after r rows = sym (pushed-append rows (r ∷ []) [])
 
 -- ---- a block's instruction rows
 
-pub push-instruction-rows : (t : Table) (rows : List ℕ) (below : List Row) → pushInstructionRows t rows below ≡ pushed (instrOut t rows) below
-unfolding pushInstructionRows pushed instrOut
+pub push-instruction-rows : (t : Table) (rows : List ℕ) (below : List Row) → pushInstructionRows t rows below ≡ pushed (instructionsOut t rows) below
+unfolding pushInstructionRows pushed instructionsOut
 push-instruction-rows t [] below = refl
 push-instruction-rows t (i ∷ rows) below = push-instruction-rows t rows _
 
-pub push-instruction-rows-after : (t : Table) (is : List ℕ) (rows : List Row) → pushInstructionRows t is (pushed rows []) ≡ pushed (rows ++ instrOut t is) []
-push-instruction-rows-after t is rows = push-instruction-rows t is (pushed rows []) ∙ sym (pushed-append rows (instrOut t is) [])
+pub push-instruction-rows-after : (t : Table) (is : List ℕ) (rows : List Row) → pushInstructionRows t is (pushed rows []) ≡ pushed (rows ++ instructionsOut t is) []
+push-instruction-rows-after t is rows = push-instruction-rows t is (pushed rows []) ∙ sym (pushed-append rows (instructionsOut t is) [])
 
 pub push-instructions-of : (t : Table) (rows : List ℕ) (more : Instructions) (below : List Row) → pushInstructions (instructionsOf t rows more) below ≡ pushInstructions more (pushInstructionRows t rows below)
 unfolding pushInstructionRows pushValue instructionsOf

@@ -26,7 +26,7 @@ module _ (t : Table) (i p q lvalue : ℕ) where
   abbrev name : ℕ
   name = getD (t .named) (getD (t .places) p 0) 0
 
-  load-value : (code : ℕ) → code ≡ 2 → name ≡ 0 → finalValue t i (operationOf code p q) (storedToNamed t (operationOf code p q)) ≡ LOAD q
+  load-value : (code : ℕ) → code ≡ 2 → name ≡ 0 → finalValue i (operationOf code p q) (storedToNamed t (operationOf code p q)) ≡ LOAD q
   unfolding finalValue operationOf storedToNamed
   load-value code e n = rw e (rw n)
 
@@ -34,13 +34,13 @@ module _ (t : Table) (i p q lvalue : ℕ) where
   unfolding finalPlace operationOf storedToNamed
   load-place code e n = rw e (rw n)
 
-  plain-value : (code : ℕ) → (code ≡ 2 → name ≡ 0 → ⊥) → code ≤ 2 → finalValue t i (operationOf code p q) (storedToNamed t (operationOf code p q)) ≡ PLAIN i
+  plain-value : (code : ℕ) → (code ≡ 2 → name ≡ 0 → ⊥) → code ≤ 2 → finalValue i (operationOf code p q) (storedToNamed t (operationOf code p q)) ≡ PLAIN i
   unfolding finalValue operationOf storedToNamed
   plain-value zero f h = refl
   plain-value (suc zero) f h = refl
   plain-value (suc (suc zero)) f h = by name (f refl)
     where
-      by : (n : ℕ) → (n ≡ 0 → ⊥) → finalValue t i (store-local p q) n ≡ PLAIN i
+      by : (n : ℕ) → (n ≡ 0 → ⊥) → finalValue i (store-local p q) n ≡ PLAIN i
       by zero g = absurd (g refl)
       by (suc n) g = refl
   plain-value (suc (suc (suc n))) f h = absurd (omega arith)

@@ -1,16 +1,14 @@
 -- Flattening, in rows taken back and put: the closing SEQ rows at a value's end are popped, perhaps the load before them too, and UNDEF and one
 -- SEQ row over all are pushed.
-use mathlib.Core.Path.{_≡_, refl, sym, ap, subst, _∙_}
+use mathlib.Core.Path.{_≡_, refl, sym, ap, _∙_}
 use mathlib.Core.Bool.{Bool, true, false}
-use mathlib.Core.List.{List, [], _∷_, _++_}
-use mathlib.Core.Option.{Option, none, some}
-use Prim.Native.Nat.{ℕ, zero, suc, _+_, _-_, _≤_, _<_}
+use mathlib.Core.List.{List, _∷_}
+use Prim.Native.Nat.{ℕ, suc, _+_, _-_}
 use native.Mathlib.Omega.{arith}
-use lib.ListN.{length, length-append}
 use Rattle.table.specs.Table.{Table}
 use Rattle.definition.specs.Tree.{Row, row, Value, PLAIN, LOAD, UNDEF, SEQ, LOGICAL, COND, OPTIONAL, Instructions, no-instructions, instruction, countInstructions}
 use Rattle.definition.specs.Value.{ValueBlockResult, appended, sequencedInstructions, innermostValue, loadedPlace, sameIdentifier, unlessSame, singleInstruction, valueBlockResultToSequence}
-use Rattle.definition.proofs.Flatten.{seqs, within}
+use Rattle.value.specs.Met.{trailingSequences, trailingInstructions}
 use Rattle.rows.specs.Rows.{Holds}
 use Rattle.rows.specs.Stack.{pushValue, pushInstructions}
 use Rattle.rows.proofs.RowLaws.{holds-pop}
@@ -40,7 +38,7 @@ unfolding appended
 count-appended no-instructions more = omega arith
 count-appended (instruction i l s v rest) more = omega (arith, count-appended rest more)
 
-count-sequenced : (v : Value) (more : Instructions) → countInstructions (sequencedInstructions v more) ≡ within v + countInstructions more
+count-sequenced : (v : Value) (more : Instructions) → countInstructions (sequencedInstructions v more) ≡ trailingInstructions v + countInstructions more
 count-sequenced (PLAIN r) more = omega arith
 count-sequenced (LOAD p) more = omega arith
 count-sequenced (UNDEF s) more = omega arith
@@ -50,13 +48,13 @@ count-sequenced (COND x y z) more = omega arith
 count-sequenced (OPTIONAL f v) more = omega arith
 
 -- the closing SEQ rows taken back
-pub holds-open : (b : List ℕ) (v : Value) (n : ℕ) (below : List Row) → Holds b n (pushValue v below) → Holds b (n - length (seqs v)) (pushValue (innermostValue v) (leading v below))
+pub holds-open : (b : List ℕ) (v : Value) (n : ℕ) (below : List Row) → Holds b n (pushValue v below) → Holds b (n - trailingSequences v) (pushValue (innermostValue v) (leading v below))
 unfolding pushValue
 holds-open b (PLAIN r) n below h = record { count = omega (arith, h .count); rows = h .rows }
 holds-open b (LOAD p) n below h = record { count = omega (arith, h .count); rows = h .rows }
 holds-open b (UNDEF s) n below h = record { count = omega (arith, h .count); rows = h .rows }
 holds-open b (SEQ is i v) n below h =
-    let e : n - length (seqs v ++ (row 5 (countInstructions is) i 0 0 0 ∷ [])) ≡ n - 1 - length (seqs v) = omega (arith, length-append (seqs v) (row 5 (countInstructions is) i 0 0 0 ∷ [])) in
+    let e : n - suc (trailingSequences v) ≡ n - 1 - trailingSequences v = omega arith in
     rw (e, push-appended is (sequencedInstructions v no-instructions) below) (holds-open b v (n - 1) (pushInstructions is below) (holds-pop b n _ _ h))
 holds-open b (LOGICAL o l r) n below h = record { count = omega (arith, h .count); rows = h .rows }
 holds-open b (COND x y z) n below h = record { count = omega (arith, h .count); rows = h .rows }
@@ -82,15 +80,15 @@ module _ (t : Table) (r : ValueBlockResult) (span : ℕ) (below : List Row) wher
   drops = sameIdentifier t (r .place) (loadedPlace t (innermostValue (r .value)))
 
   flatten-by : (y : Bool) → drops ≡ y → pushValue (valueBlockResultToSequence t r span) below
-      ≡ row 5 (within (r .value) + countInstructions (unlessSame y final)) (r .id) 0 0 0 ∷ row 3 span 0 0 0 0 ∷ pushInstructions (unlessSame y final) (leading (r .value) below)
+      ≡ row 5 (trailingInstructions (r .value) + countInstructions (unlessSame y final)) (r .id) 0 0 0 ∷ row 3 span 0 0 0 0 ∷ pushInstructions (unlessSame y final) (leading (r .value) below)
   unfolding pushValue valueBlockResultToSequence
   flatten-by y e = rw e (rw (count-sequenced (r .value) (unlessSame y final), push-sequenced (r .value) (unlessSame y final) below))
 
-  pub flatten-same : drops ≡ true → pushValue (valueBlockResultToSequence t r span) below ≡ row 5 (within (r .value)) (r .id) 0 0 0 ∷ row 3 span 0 0 0 0 ∷ leading (r .value) below
+  pub flatten-same : drops ≡ true → pushValue (valueBlockResultToSequence t r span) below ≡ row 5 (trailingInstructions (r .value)) (r .id) 0 0 0 ∷ row 3 span 0 0 0 0 ∷ leading (r .value) below
   unfolding unlessSame pushValue
   flatten-same e = flatten-by true e ∙ ap (λ (n : ℕ). row 5 n (r .id) 0 0 0 ∷ row 3 span 0 0 0 0 ∷ leading (r .value) below) (omega arith)
 
   pub flatten-other : drops ≡ false → pushValue (valueBlockResultToSequence t r span) below
-      ≡ row 5 (within (r .value) + 1) (r .id) 0 0 0 ∷ row 3 span 0 0 0 0 ∷ row 4 (r .id) (r .place) span 0 0 ∷ pushValue (innermostValue (r .value)) (leading (r .value) below)
+      ≡ row 5 (trailingInstructions (r .value) + 1) (r .id) 0 0 0 ∷ row 3 span 0 0 0 0 ∷ row 4 (r .id) (r .place) span 0 0 ∷ pushValue (innermostValue (r .value)) (leading (r .value) below)
   unfolding unlessSame pushValue
   flatten-other e = flatten-by false e

@@ -1,24 +1,23 @@
 -- Laws by which a `Met` follows the definition, step by step: a step that refused, a step that went on, and the ends; and the values that the
 -- steps make of those found.
-use mathlib.Core.Path.{_≡_, refl, sym, ap, subst, _∙_}
+use mathlib.Core.Path.{_≡_, refl, sym, ap}
 use mathlib.Core.Bool.{Bool, true, false}
-use mathlib.Core.List.{List, [], _∷_, _++_}
-use Prim.Native.Nat.{ℕ, zero, suc, _+_, _*_, _≤_, _<_}
+use mathlib.Core.List.{List, [], _∷_}
+use Prim.Native.Nat.{ℕ, zero, suc, _+_, _≤_}
 use native.Mathlib.Omega.{arith}
 use lib.Dec.{eqb}
-use lib.ListN.{length, length-append}
+use lib.ListN.{length}
 use borrow.Author.Tests.{eq-eqb, ne-eqb, eqb-true, eqb-false}
 use Rattle.table.specs.Table.{Table, tableOf, rowsFrom}
 use Rattle.definition.specs.Result.{Result, ok, refused, _>>=_, refuseIf}
-use Rattle.definition.specs.Tree.{Row, row, Value, SEQ, Instructions, no-instructions, instruction, countInstructions}
-use Rattle.definition.specs.Value.{ValueBlockResult, instructionsOf, wrapWithSequence, innermostValue}
-use Rattle.definition.proofs.Flatten.{seqs, within}
+use Rattle.definition.specs.Tree.{Row, Value, SEQ, Instructions, no-instructions, countInstructions}
+use Rattle.definition.specs.Value.{ValueBlockResult, instructionsOf, wrapWithSequence}
 use Rattle.rows.specs.Rows.{Holds}
 use Rattle.rows.specs.Stack.{pushValue, pushInstructions, pushInstructionRows}
 use Rattle.rows.proofs.StackLaws.{push-instructions-of}
 use Rattle.value.specs.declared.result.Tally.{Tally}
 use Rattle.value.specs.declared.result.ValueResult.{ValueResult}
-use Rattle.value.specs.Met.{refusal, finished, blockResult, okIf, answered, wrapTrailing, Ends, Found, Numbers, Met, InstructionsPut, Wrapped}
+use Rattle.value.specs.Met.{refusal, blockResult, okIf, Found, Numbers, Met, InstructionsPut, Wrapped}
 
 -- ---- steps
 
@@ -112,7 +111,7 @@ found-seq {value = value} {v = v} {r = r} is n e nz kept le f w =
       block = rw eb (f .block);
       place = rw ep (f .place);
       ends = rw (s .0) (record {
-        sequences = omega (arith, f .ends .sequences, length-append (seqs value) (row 5 (countInstructions is) (v .id) 0 0 0 ∷ []));
+        sequences = omega (arith, f .ends .sequences);
         instructions = omega (arith, f .ends .instructions, e);
         loaded = f .ends .loaded;
         there = f .ends .there;

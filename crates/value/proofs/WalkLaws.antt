@@ -1,6 +1,6 @@
 -- The definition's walk over the words: what a visit gives by the block's code, and what a value terminal gives by its code.
 use mathlib.Core.Path.{_≡_, refl, sym, ap, _∙_}
-use mathlib.Core.Bool.{Bool, true, false}
+use mathlib.Core.Bool.{Bool, true, false, _&&_}
 use mathlib.Core.List.{List, [], _∷_}
 use mathlib.Core.Option.{Option, none, some}
 use Prim.Native.Nat.{ℕ, zero, suc, _+_, _-_, _≤_, _<_}
@@ -12,7 +12,7 @@ use Rattle.table.specs.Words.{blockCount, blockWord, largest}
 use Rattle.table.specs.Table.{Table, Block, Terminal, absent, unreachable, throw, return, goto, if, branch, switch, do-while, while, for, for-of, for-in, logical, ternary, optional, label, sequence, maybe-throw, try, scope, tableOf, terminalOf, terminalAt, blockAt, instructionRows, instructionRowsAt, rowsFrom, codeOf, isAbsent, isGoto, unlessNone}
 use Rattle.table.specs.Promise.{Promise}
 use Rattle.definition.specs.Result.{Result, ok, refused, _>>=_, refuseIf}
-use Rattle.definition.specs.Value.{ValueBlockResult, ValueTerminalResult, VisitValueBlock, visitValueBlock, visitValueBlockAt, visitValueBlockTerminal, thenFallthrough, beginVisit, extractOrRefuse, branchValue, maybeThrowValue, isEmpty, isEmptyGoto, isThis, Ways, TestBlockResult, branchWays, testBlockEnded}
+use Rattle.definition.specs.Value.{ValueBlockResult, ValueTerminalResult, VisitValueBlock, visitValueBlock, visitValueBlockAt, visitValueBlockTerminal, thenFallthrough, beginVisit, extractOrRefuse, branchValue, maybeThrowValue, isEmpty, isEmptyGoto, isFallthrough, Ways, TestBlockResult, branchWays, testBlockEnded}
 use Rattle.value.specs.Outcome.{visit, blockOutcome, terminalOutcome}
 use Rattle.value.proofs.TableLaws.{end-at, id-at, span-at, rows-at, code-at}
 use Rattle.value.proofs.MetLaws.{wrap, unless-on, unless-off}
@@ -21,7 +21,7 @@ use Rattle.value.proofs.MetLaws.{wrap, unless-on, unless-off}
 
 abbrev begun : Table → VisitValueBlock → (block : ℕ) → Option ℕ → (span : ℕ) → Result ℕ → Result ValueBlockResult
 begun t deeper block fallthrough span begin =
-    begin >>= λ visits. refuseIf (isThis fallthrough block) 23 block visits >>= λ _. visitValueBlockAt t deeper (terminalAt t block) block (blockAt t block) fallthrough span visits
+    begin >>= λ visits. refuseIf (isFallthrough fallthrough block) 23 block visits >>= λ _. visitValueBlockAt t deeper (terminalAt t block) block (blockAt t block) fallthrough span visits
 
 visit-more : (t : Table) {levels : ℕ} → (levels ≡ 0 → ⊥) → (block : ℕ) (fallthrough : Option ℕ) (span visits : ℕ)
     → visitValueBlock t levels block fallthrough span visits ≡ begun t (visitValueBlock t (levels - 1)) block fallthrough span (beginVisit t block visits)
@@ -35,11 +35,11 @@ unfolding beginVisit
 begin-by t block visits full missing e f = ap (λ (y : Bool). refuseIf y 31 block visits >>= λ _. refuseIf (isAbsent (terminalAt t block)) 10 block (suc visits) >>= λ _. ok (suc visits)) e
     ∙ ap (λ (y : Bool). refuseIf full 31 block visits >>= λ _. refuseIf y 10 block (suc visits) >>= λ _. ok (suc visits)) f
 
-this-is : (fallthrough block : ℕ) → block < 65535 → isThis (unlessNone fallthrough) block ≡ eqb fallthrough block
+this-is : (fallthrough block : ℕ) → block < 65535 → isFallthrough (unlessNone fallthrough) block ≡ eqb fallthrough block
 unfolding unlessNone
 this-is fallthrough block h = by (eqb fallthrough largest) refl
   where
-    by : (y : Bool) → eqb fallthrough largest ≡ y → isThis (elim y [ true ↦ none | false ↦ some fallthrough ]) block ≡ eqb fallthrough block
+    by : (y : Bool) → eqb fallthrough largest ≡ y → isFallthrough (elim y [ true ↦ none | false ↦ some fallthrough ]) block ≡ eqb fallthrough block
     by true e = sym (ne-eqb fallthrough block (λ q. omega (arith, eqb-true fallthrough largest e)))
     by false e = refl
 
@@ -91,7 +91,7 @@ module _ {ws : List ℕ} (p : Promise ws) (levels block fallthrough span visits 
 
 other-end : (t : Table) (deeper : VisitValueBlock) (m : Terminal) (number : ℕ) (block : Block) (fallthrough : Option ℕ) (span visits : ℕ)
     → (codeOf m ≡ 4 → ⊥) → (codeOf m ≡ 6 → ⊥) → (codeOf m ≡ 18 → ⊥)
-    → visitValueBlockAt t deeper m number block fallthrough span visits ≡ thenFallthrough t deeper number block span (visitValueBlockTerminal t deeper m (block .id) (block .span) visits number)
+    → visitValueBlockAt t deeper m number block fallthrough span visits ≡ thenFallthrough t deeper block span (visitValueBlockTerminal t deeper m (block .id) (block .span) visits number)
 unfolding visitValueBlockAt
 other-end t v absent n k ft s w f g e = refl
 other-end t v unreachable n k ft s w f g e = refl
@@ -189,7 +189,7 @@ module _ {ws : List ℕ} (p : Promise ws) (levels block : ℕ) (h : block < bloc
     at-maybe-throw e = ap by-end (end-is e)
 
     pub at-other : (column 2 ≡ 4 → ⊥) → (column 2 ≡ 6 → ⊥) → (column 2 ≡ 18 → ⊥)
-        → blockOutcome ws levels block fallthrough span visits ≡ thenFallthrough (tableOf ws) (visit ws levels) block (blockAt (tableOf ws) block) span (terminalOutcome ws levels block visits)
+        → blockOutcome ws levels block fallthrough span visits ≡ thenFallthrough (tableOf ws) (visit ws levels) (blockAt (tableOf ws) block) span (terminalOutcome ws levels block visits)
     at-other f g e =
         let c = sym (code-at p block h) in
         other-end (tableOf ws) (visit ws levels) (terminalAt (tableOf ws) block) block (blockAt (tableOf ws) block) (unlessNone fallthrough) span visits (λ q. f (c ∙ q)) (λ q. g (c ∙ q)) (λ q. e (c ∙ q))
@@ -237,14 +237,14 @@ module _ {ws : List ℕ} (p : Promise ws) (levels block : ℕ) (h : block < bloc
 -- ---- an empty Goto block
 
 module _ {ws : List ℕ} (p : Promise ws) (block : ℕ) (h : block < blockCount ws) where
-  goto-by : (rows : List ℕ) → instructionRowsAt (tableOf ws) block ≡ rows → isEmptyGoto (blockAt (tableOf ws) block) ≡ elim (isEmpty rows) [ true ↦ isGoto (terminalAt (tableOf ws) block) | false ↦ false ]
+  goto-by : (rows : List ℕ) → instructionRowsAt (tableOf ws) block ≡ rows → isEmptyGoto (blockAt (tableOf ws) block) ≡ isEmpty rows && isGoto (terminalAt (tableOf ws) block)
   unfolding isEmptyGoto
-  goto-by rows e = ap (λ (l : List ℕ). elim (isEmpty l) [ true ↦ isGoto (terminalAt (tableOf ws) block) | false ↦ false ]) e
+  goto-by rows e = ap (λ (l : List ℕ). isEmpty l && isGoto (terminalAt (tableOf ws) block)) e
 
   pub goto-full : (blockWord ws block 1 ≡ 0 → ⊥) → isEmptyGoto (blockAt (tableOf ws) block) ≡ false
   goto-full f = goto-by _ (rows-at ws block h) ∙ by (blockWord ws block 0) (blockWord ws block 1) f
     where
-      by : (first count : ℕ) → (count ≡ 0 → ⊥) → elim (isEmpty (rowsFrom first count)) [ true ↦ isGoto (terminalAt (tableOf ws) block) | false ↦ false ] ≡ false
+      by : (first count : ℕ) → (count ≡ 0 → ⊥) → isEmpty (rowsFrom first count) && isGoto (terminalAt (tableOf ws) block) ≡ false
       by first zero g = absurd (g refl)
       by first (suc n) g = refl
 

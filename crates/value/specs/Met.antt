@@ -1,17 +1,15 @@
 -- What the functions of the value walk promise: the definition's result or refusal, and the rows of its value in the buffer.
 use mathlib.Core.Path.{_≡_}
 use mathlib.Core.Bool.{Bool, true, false}
-use mathlib.Core.List.{List, [], _∷_}
-use Prim.Native.Nat.{ℕ, zero, suc, _+_, _*_, _≤_, _<_}
+use mathlib.Core.List.{List, _∷_}
+use Prim.Native.Nat.{ℕ, suc, _+_, _*_, _≤_, _<_}
 use lib.Dec.{eqb}
-use lib.ListN.{length}
 use Rattle.table.specs.Words.{blockCount, placeCount, blockWord, instructionWord, placeWord, identifierWord, largest}
-use Rattle.table.specs.Table.{Table, tableOf, instructionAt, unlessNone, rowsFrom}
+use Rattle.table.specs.Table.{tableOf, instructionAt, unlessNone, rowsFrom}
 use Rattle.table.specs.Promise.{Promise}
 use Rattle.definition.specs.Result.{Result, ok, refused}
-use Rattle.definition.specs.Tree.{Row, row, Value, SEQ, countInstructions}
-use Rattle.definition.specs.Value.{ValueBlockResult, ValueTerminalResult, TestBlockResult, VisitValueBlock, innermostValue, loadedPlace, loadedBy, wrapWithSequence, valueBlockResultToSequence}
-use Rattle.definition.proofs.Flatten.{seqs, within}
+use Rattle.definition.specs.Tree.{Row, row, Value, PLAIN, LOAD, UNDEF, SEQ, LOGICAL, COND, OPTIONAL, countInstructions}
+use Rattle.definition.specs.Value.{ValueBlockResult, ValueTerminalResult, TestBlockResult, innermostValue, loadedPlace, loadedBy, valueBlockResultToSequence}
 use Rattle.rows.specs.Rows.{Holds}
 use Rattle.rows.specs.Stack.{pushValue, pushInstructionRows}
 use Rattle.value.specs.declared.result.Tally.{Tally}
@@ -77,10 +75,30 @@ pub record Ended (words : List ℕ) (tally : Tally) (terminal : ValueTerminal) :
   pub fit : Fit words tally 4 (terminal .test)
   pub fallthrough : terminal .fallthrough < blockCount words
 
+-- the SEQ rows that stand at a value's end
+abbrev pub trailingSequences : Value → ℕ
+trailingSequences (PLAIN instructionRow) = 0
+trailingSequences (LOAD place) = 0
+trailingSequences (UNDEF span) = 0
+trailingSequences (SEQ instructions id value) = suc (trailingSequences value)
+trailingSequences (LOGICAL operator left right) = 0
+trailingSequences (COND test consequent alternate) = 0
+trailingSequences (OPTIONAL flag value) = 0
+
+-- the instructions that they count together
+abbrev pub trailingInstructions : Value → ℕ
+trailingInstructions (PLAIN instructionRow) = 0
+trailingInstructions (LOAD place) = 0
+trailingInstructions (UNDEF span) = 0
+trailingInstructions (SEQ instructions id value) = countInstructions instructions + trailingInstructions value
+trailingInstructions (LOGICAL operator left right) = 0
+trailingInstructions (COND test consequent alternate) = 0
+trailingInstructions (OPTIONAL flag value) = 0
+
 -- the end of a value in numbers
 pub record Ends (words : List ℕ) (value : Value) (trailing : Trailing) : Type 0 where
-  pub sequences : trailing .sequences ≡ length (seqs value)
-  pub instructions : trailing .instructions ≡ within value
+  pub sequences : trailing .sequences ≡ trailingSequences value
+  pub instructions : trailing .instructions ≡ trailingInstructions value
   pub loaded : unlessNone (trailing .loaded) ≡ loadedPlace (tableOf words) (innermostValue value)
   pub there : (trailing .loaded ≡ largest → ⊥) → trailing .loaded < placeCount words
 

@@ -112,7 +112,7 @@ fn then_fallthrough(
     span: u32,
 ) -> ValueResult
     requires { ⌜ Fit (now words) tally 8200 block ⌝ }
-    ensures { λ r. ⌜ Met (now (words .entry)) blockResult (thenFallthrough (tableOf (now (words .entry))) (visit (now (words .entry)) levels) block (blockAt (tableOf (now (words .entry))) block) span (terminalOutcome (now (words .entry)) levels block (tally .visits))) tally 8200 (now (buffer .entry)) r (now (buffer .exit)) ⌝ }
+    ensures { λ r. ⌜ Met (now (words .entry)) blockResult (thenFallthrough (tableOf (now (words .entry))) (visit (now (words .entry)) levels) (blockAt (tableOf (now (words .entry))) block) span (terminalOutcome (now (words .entry)) levels block (tally .visits))) tally 8200 (now (buffer .entry)) r (now (buffer .exit)) ⌝ }
 {
     let first = block_word(words, block, 0);
     let count = block_word(words, block, 1);

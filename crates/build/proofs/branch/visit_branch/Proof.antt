@@ -1,7 +1,7 @@
 use Rattle.build.proofs.BranchLaws.{branch-below, branch-nested}
 use Prim.Native.Nat.{ℕ}
-use mathlib.Core.Bool.{Bool, true}
-use Rattle.definition.specs.Context.{or, has}
+use mathlib.Core.Bool.{Bool, true, _||_}
+use Rattle.definition.specs.Context.{has}
 use Rattle.build.proofs.VisitLaws.{few-blocks}
 use native.Mathlib.Omega.{arith}
 use mathlib.Core.Path.{_≡_, refl, sym, _∙_, ap}
@@ -26,7 +26,7 @@ scheduled-at-requires c κs = few-blocks (c .before .before .before .args .words
 
 -- src/branch.rt:111:9
 branch-break-requires : tie.Need-branch-break-requires
-branch-break-requires c κs = (c .before .before .before .before .before .before .pre .0, (c .before .before .before .before .before .before .pre .1 .0, (c .before .before .before .before .before .before .pre .1 .1, ap (λ (k : ℕ). or (has (c .before .before .before .before .before .before .args .scheduled .now) k) (has (c .before .before .before .before .before .before .args .catch-handlers .now) k)) (sym (c .before .before .before .block-word .ensures)) ∙ sym (c .before .before .scheduled-at .ensures) ∙ c .before .if1 .taken)))
+branch-break-requires c κs = (c .before .before .before .before .before .before .pre .0, (c .before .before .before .before .before .before .pre .1 .0, (c .before .before .before .before .before .before .pre .1 .1, ap (λ (k : ℕ). has (c .before .before .before .before .before .before .args .scheduled .now) k || has (c .before .before .before .before .before .before .args .catch-handlers .now) k) (sym (c .before .before .before .block-word .ensures)) ∙ sym (c .before .before .scheduled-at .ensures) ∙ c .before .if1 .taken)))
 
 -- src/branch.rt:111:9
 same-length : tie.Need-same-length

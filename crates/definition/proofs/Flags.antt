@@ -1,39 +1,17 @@
--- What an accepted step tells of its parts, and the flags' laws.
-use mathlib.Core.Path.{_≡_, refl, sym, ap, _∙_, subst}
-use Prim.Native.Nat.{ℕ, zero, suc, _+_, _≤_, _<_}
-use native.Mathlib.Nat.{not-suc-le-zero, le-of-suc-le-suc, zero-lt-suc, le-trans, lt-of-lt-of-le}
+-- The laws of sets of blocks, and that a block that is present is below the count: for proofs/State, proofs/Never and proofs/Invariant.
+use mathlib.Core.Path.{_≡_, refl, sym, _∙_, subst}
+use Prim.Native.Nat.{ℕ, zero, suc, _<_}
+use native.Mathlib.Nat.{zero-lt-suc}
 use native.Mathlib.Omega.{arith}
 use mathlib.Core.Logic.{_⊎_, inl, inr}
 use mathlib.Core.List.{List, [], _∷_}
-use mathlib.Core.Option.{Option, none, some}
-use mathlib.Core.Bool.{Bool, true, false}
-use lib.ListN.{length, getD, set, length-set, replicate, getD-replicate, length-replicate}
+use mathlib.Core.Bool.{true, false}
+use lib.ListN.{length, getD, set, length-set, replicate, length-replicate}
 use lib.Seq.{getD-set-same, getD-set-other}
 use native.Mathlib.Decide.{ℕ-discrete}
-use Rattle.table.specs.Table.{Table, Block, noBlock, Terminal, absent, blockAt, terminalAt, isAbsent}
-use Rattle.definition.specs.Context.{or, Flags, no-flags, has, add, remove}
-use Rattle.definition.specs.Result.{refused, Result, ok, _>>=_, refuseIf}
-
-pub true-false : true ≡ false → ⊥
-true-false e = let z : _≡_ {A = ℕ} 0 1 = cc in omega arith
-
-pub refused-ok : {A : Type 0} {c p v : ℕ} {a : A} → refused c p v ≡ ok a → ⊥
-refused-ok e = let z : _≡_ {A = ℕ} 0 1 = cc in omega arith
-
-pub ok-eq : {A : Type 0} {a b : A} → ok a ≡ ok b → a ≡ b
-ok-eq e = cc
-
-pub bind-ok : {A B : Type 0} (m : Result A) (f : A → Result B) (r : B) → (m >>= f) ≡ ok r → (a : A) × (m ≡ ok a) × (f a ≡ ok r)
-unfolding _>>=_
-bind-ok (ok a) f r e = (a, refl, e)
-bind-ok (refused c p v) f r e = absurd (refused-ok e)
-
-pub unless-ok : (b : Bool) (c p v : ℕ) (u : Unit {0}) → refuseIf b c p v ≡ ok u → b ≡ false
-unfolding refuseIf
-unless-ok true c p v u e = absurd (refused-ok e)
-unless-ok false c p v u e = refl
-
--- ---- flags
+use Rattle.table.specs.Table.{Table, Block, noBlock, terminalAt, isAbsent}
+use Rattle.definition.specs.Context.{Flags, noFlags, has, add, remove}
+use Rattle.definition.proofs.Steps.{true-false}
 
 cases : {P : Type 0} (a b : ℕ) → (a ≡ b → P) → ((a ≡ b → ⊥) → P) → P
 cases a b f g = elim (ℕ-discrete a b) [ yes h ↦ f h | no h ↦ g h ]
@@ -46,6 +24,10 @@ set-false : (s : Flags) (y : ℕ) → getD (set s y false) y false ≡ false
 set-false [] y = refl
 set-false (a ∷ s) zero = refl
 set-false (a ∷ s) (suc y) = set-false s y
+
+pub has-removed : (s : Flags) (y : ℕ) → has (remove s y) y ≡ false
+unfolding has remove
+has-removed s y = set-false s y
 
 pub has-remove : (s : Flags) (y x : ℕ) → has (remove s y) x ≡ true → has s x ≡ true
 unfolding has remove
@@ -72,8 +54,8 @@ pub length-add : (s : Flags) (y n : ℕ) → length s ≡ n → length (add s y)
 unfolding add
 length-add s y n e = length-set s y true ∙ e
 
-pub has-none : (x : ℕ) → has no-flags x ≡ false
-unfolding has no-flags
+pub has-none : (x : ℕ) → has noFlags x ≡ false
+unfolding has noFlags
 has-none x = none-of 1024 x
   where
     none-of : (n i : ℕ) → getD (replicate n false) i false ≡ false
@@ -81,8 +63,8 @@ has-none x = none-of 1024 x
     none-of (suc n) zero = refl
     none-of (suc n) (suc i) = none-of n i
 
-pub length-none : length no-flags ≡ 1024
-unfolding no-flags
+pub length-none : length noFlags ≡ 1024
+unfolding noFlags
 length-none = length-replicate 1024 false
 
 -- ---- a block that is present is below the count
