@@ -1,29 +1,27 @@
 -- What applying a plan does to the definition's Context.
-use Prim.Native.Nat.{ℕ, zero, suc, _+_, _-_, _≤_, _<_}
+use Prim.Native.Nat.{ℕ, _+_, _-_, _<_}
 use native.Mathlib.Omega.{arith}
 use native.Mathlib.Numerals.{add-one}
 use mathlib.Core.Path.{_≡_, refl, sym, ap, _∙_, subst}
-use mathlib.Core.Bool.{Bool, true, false}
-use mathlib.Core.List.{List, [], _∷_}
+use mathlib.Core.Bool.{true, false}
 use mathlib.Core.Option.{Option, none, some}
 use lib.ListN.{length, getD, set, length-set}
 use Rattle.table.specs.Table.{unlessNone}
-use Rattle.definition.specs.Context.{Flags, has, add, emit, remove, targetBlock, pushed, scheduleCatchHandler, markScopeFallthrough, unscheduledBy, ControlFlowTarget, target-if, target-switch, target-case, target-loop}
-use Rattle.definition.specs.Context as definition
-use Rattle.definition.specs.Machine.{unscheduled, scheduled}
+use Rattle.table.proofs.BlockLaws.{no-number, some-number}
+use Rattle.definition.specs.Context.{Flags, add, emit, remove, targetBlock, pushed, scheduleCatchHandler, markScopeFallthrough, unscheduledBy, ControlFlowTarget, target-if, target-switch, target-case, target-loop}
+use Rattle.definition.specs.Machine.{scheduled}
 use Rattle.control.specs.declared.ControlFlowTarget as code
 use Rattle.control.specs.declared.Context.{Context}
 use Rattle.control.specs.declared.Entry.{Entry}
 use Rattle.control.specs.Abstraction.{targetOf, noEntry, contextOf, stored}
-use Rattle.control.specs.Contract.{Bounded, Room, Last, Named, withEntry, withoutLast, loopTarget, loopScheduled, Scheduled, ScheduledLoop, Unscheduled}
+use Rattle.control.specs.Contract.{Bounded, Last, withEntry, loopTarget, loopScheduled, Scheduled, ScheduledLoop, Unscheduled}
 use Rattle.control.proofs.ContextLaws.{stored-pushed, pops}
 use Rattle.definition.proofs.Invariant.{Below}
-use Rattle.build.proofs.PlanLaws.{none-is, some-is}
-use Rattle.build.specs.declared.plan.Change.{Change}
-use Rattle.build.specs.declared.plan.Change.the-variants.{Nothing, Schedule, ScheduleLoop, TakeId, Unschedule}
-use Rattle.build.specs.declared.plan.Plan.{Plan}
-use Rattle.build.specs.Plans.{changed, handled, scoped, idTaken, scheduledLoop}
-use Rattle.build.specs.Driver.{marked, emitted, withMarks, Whole, Changeable, Changed, Applicable, Applied}
+use Rattle.planner.specs.declared.plan.Change.{Change}
+use Rattle.planner.specs.declared.plan.Change.the-variants.{Nothing, Schedule, ScheduleLoop, TakeId, Unschedule}
+use Rattle.planner.specs.declared.plan.Plan.{Plan}
+use Rattle.planner.specs.Plans.{changed, handled, scoped, idTaken, scheduledLoop}
+use Rattle.build.specs.Driver.{marked, emitted, withMarks, Whole, Changeable, Changed, Applied}
 
 -- ---- the stack
 
@@ -123,13 +121,13 @@ plan-applied visited plan cx m r e h = record {
 -- ---- one mark
 
 pub marked-none : (n : ℕ) (flags : Flags) → n ≡ 65535 → flags ≡ marked (unlessNone n) flags
-marked-none n flags e = ap (λ (o : Option ℕ). marked o flags) (sym (ap unlessNone e ∙ none-is))
+marked-none n flags e = ap (λ (o : Option ℕ). marked o flags) (sym (ap unlessNone e ∙ no-number))
 
 pub marked-some : (n : ℕ) (flags : Flags) → (n ≡ 65535 → ⊥) → add flags n ≡ marked (unlessNone n) flags
-marked-some n flags h = ap (λ (o : Option ℕ). marked o flags) (sym (some-is n h))
+marked-some n flags h = ap (λ (o : Option ℕ). marked o flags) (sym (some-number n h))
 
 pub below-block : (n : ℕ) → Below 1024 (unlessNone n) → (n ≡ 65535 → ⊥) → n < 1024
-below-block n b h = subst (λ (o : Option ℕ). Below 1024 o) (some-is n h) b
+below-block n b h = subst (λ (o : Option ℕ). Below 1024 o) (some-number n h) b
 
 pub whole-marked : (visited handler fallthrough : ℕ) (cx : Context) → Whole cx → Whole (withMarks visited handler fallthrough cx)
 whole-marked visited handler fallthrough cx w = record { bounded = w .bounded; wide = w .wide; tall = w .tall }

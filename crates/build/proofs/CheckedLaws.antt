@@ -1,16 +1,17 @@
 -- What the check of the words promises is what the machine's invariant asks of a table.
-use Prim.Native.Nat.{ℕ, zero, suc, _+_, _≤_, _<_}
+use Prim.Native.Nat.{ℕ, zero, suc, _≤_, _<_}
 use native.Mathlib.Omega.{arith}
 use lib.Dec.{ltb}
 use borrow.Author.Tests.{ltb-true, ltb-false}
 use mathlib.Core.Bool.{Bool, true, false}
-use mathlib.Core.Path.{_≡_, refl, sym, ap, _∙_, subst}
+use mathlib.Core.Path.{_≡_, refl, sym, subst}
 use mathlib.Core.List.{List, [], _∷_}
 use mathlib.Core.Option.{Option, none, some}
 use lib.ListN.{length, getD}
-use Rattle.table.specs.Words.{blockCount, placeCount, caseCount, instructionCount, caseWord}
+use Rattle.table.specs.Words.{blockCount, placeCount, caseCount}
 use Rattle.table.specs.Promise.{Promise, InRange, BelowUnlessNone}
-use Rattle.table.specs.Table.{Table, Block, Case, Terminal, absent, unreachable, throw, return, goto, if, branch, switch, do-while, while, for, for-of, for-in, logical, ternary, optional, label, sequence, maybe-throw, try, scope, tableOf, caseOf, blockAt, terminalAt, noBlock, rowsFrom, instructionRowsAt}
+use Rattle.table.specs.Table.{Block, Terminal, absent, unreachable, throw, return, goto, if, branch, switch, do-while, while, for, for-of, for-in, logical, ternary, optional, label, sequence, maybe-throw, try, scope, tableOf, caseOf, blockAt, terminalAt, noBlock, rowsFrom, instructionRowsAt}
+use Rattle.table.proofs.BlockLaws.{length-rows}
 use Rattle.table.proofs.TableLaws.{length-blocks, length-cases, case-at}
 use Rattle.table.proofs.RangeLaws.{in-range, run-in-range, case-block}
 use Rattle.definition.specs.Machine.{caseAt, noCase}
@@ -47,10 +48,6 @@ getD-beyond : {A : Type 0} (xs : List A) (i : ℕ) (d : A) → length xs ≤ i �
 getD-beyond [] i d h = refl
 getD-beyond (x ∷ xs) zero d h = absurd (omega arith)
 getD-beyond (x ∷ xs) (suc i) d h = getD-beyond xs i d (omega arith)
-
-pub length-rows : (first count : ℕ) → length (rowsFrom first count) ≡ count
-length-rows first zero = refl
-length-rows first (suc n) = ap suc (length-rows (suc first) n)
 
 module _ (w : List ℕ) (pr : Promise w) where
   names-at : (block : ℕ) → (y : Bool) → ltb block (blockCount w) ≡ y → NamesBelow (length (tableOf w .blocks)) (terminalAt (tableOf w) block)

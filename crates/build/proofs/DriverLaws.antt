@@ -14,40 +14,40 @@ use Rattle.table.specs.Words.{blockCount, entryWord}
 use Rattle.table.specs.Promise.{Promise}
 use Rattle.table.specs.Table.{Table, tableOf, terminalAt, unlessNone}
 use Rattle.table.proofs.TableLaws.{length-blocks}
+use Rattle.table.proofs.BlockLaws.{no-number, some-number}
 use Rattle.definition.specs.Build.{Report, accepted, rejected, report}
-use Rattle.definition.specs.Context.{Flags, emit, withVisits}
+use Rattle.definition.specs.Context.{emit, withVisits}
 use Rattle.definition.specs.Context as definition
-use Rattle.definition.specs.Machine.{State, visiting, ended, choosing, popping, Turn, going, halt, step}
+use Rattle.definition.specs.Machine.{State, visiting, ended, choosing, popping, going, halt, step}
 use Rattle.definition.specs.Machine as machine
 use Rattle.definition.specs.Tree.{Row}
-use Rattle.definition.proofs.Invariant.{Checked, Below, Frames, Framed, Sound, Going, going-start, going-step, going-lower, going-halt, entriesOf, builtOf, countOf, marks-below, potential, isSwitch}
+use Rattle.definition.proofs.Invariant.{Checked, Below, Framed, Sound, Going, going-start, going-step, going-lower, going-halt, entriesOf, marks-below, potential}
 use Rattle.definition.proofs.Invariant as invariant
 use Rattle.control.specs.declared.Context.{Context}
 use Rattle.control.specs.declared.Resolved.{Resolved}
 use Rattle.control.specs.declared.Entry.{Entry}
 use Rattle.control.specs.declared.Resolved.the-variants as resolved
 use Rattle.control.specs.Abstraction.{contextOf, resolvedOf, resolutionOf, targetOf, stackOf, noEntry}
-use Rattle.control.specs.Contract.{Bounded, Named, Room, Created}
+use Rattle.control.specs.Contract.{Named, Created}
 use Rattle.definition.proofs.Flags.{length-none}
 use Rattle.control.proofs.ContextLaws.{stack-length, named-block}
 use Rattle.rows.specs.Rows.{Holds}
 use Rattle.rows.specs.Stack.{pushed}
 use Rattle.rows.proofs.StackLaws.{length-pushed}
-use Rattle.build.specs.declared.plan.Stage.{Stage}
-use Rattle.build.specs.declared.plan.Stage.the-variants.{Visit, Ended, Choose, Pop, Halt}
-use Rattle.build.specs.declared.plan.Position.{Position}
-use Rattle.build.specs.declared.plan.Frame.{Frame}
-use Rattle.build.specs.declared.plan.Change.{Change}
-use Rattle.build.specs.declared.plan.Change.the-variants.{Nothing, Schedule, ScheduleLoop, TakeId, Unschedule}
-use Rattle.build.specs.declared.plan.Plan.{Plan}
+use Rattle.planner.specs.declared.plan.Stage.{Stage}
+use Rattle.planner.specs.declared.plan.Stage.the-variants.{Visit, Ended, Choose, Pop, Halt}
+use Rattle.planner.specs.declared.plan.Position.{Position}
+use Rattle.planner.specs.declared.plan.Frame.{Frame}
+use Rattle.planner.specs.declared.plan.Change.{Change}
+use Rattle.planner.specs.declared.plan.Change.the-variants.{Nothing, Schedule, ScheduleLoop, TakeId, Unschedule}
+use Rattle.planner.specs.declared.plan.Plan.{Plan}
 use Rattle.build.specs.declared.search.Jump.{Jump}
 use Rattle.build.specs.declared.search.Jump.the-variants as search
-use Rattle.build.specs.declared.driver.Walked.{Walked}
-use Rattle.build.specs.Plans.{frameOf, noFrame, framesOf, stateAt, scheduledLoop, idTaken, changed, handled, scoped, within, kept, contextAfter, onward, applied}
-use Rattle.build.specs.Planned.{NamedChange, entriesOnTop, deepest, Nested, Fitting}
-use Rattle.build.specs.Jumps.{FoundBelow}
-use Rattle.build.specs.Driver.{Resolves, foundBy, Searches, Shown, inHand, FrameFits, StageFits, Ready, emitting, PlannedTurn, visitedBlock, emitted, withMarks, Whole, Changeable, Applicable, Applied, slot, isHalt, planEnds, startingAt, walkedBy, Reported}
-use Rattle.build.proofs.PlanLaws.{none-is, some-is}
+use Rattle.planner.specs.Plans.{frameOf, noFrame, framesOf, stateAt, scheduledLoop, idTaken, changed, handled, scoped, within, kept, contextAfter, onward, applied}
+use Rattle.planner.specs.Planned.{NamedChange, entriesOnTop, deepest, Nested, Fitting}
+use Rattle.planner.specs.Jumps.{FoundBelow}
+use Rattle.planner.specs.Turn.{Resolves, Shown, inHand, FrameFits, StageFits, Ready, emitting, PlannedTurn}
+use Rattle.build.specs.Driver.{foundBy, Searches, visitedBlock, emitted, withMarks, Whole, Changeable, Applicable, Applied, slot, isHalt, planEnds, startingAt, walkedBy, Reported}
 use Rattle.build.proofs.ApplyLaws.{marks}
 use Rattle.build.proofs.CheckedLaws.{checked-table}
 
@@ -443,11 +443,11 @@ module _ (w : List ℕ) (pr : Promise w) (ck : Checked (tableOf w)) where
               none-at o e = none-same ∙ ap (λ (z : Option ℕ). emitted z (contextOf (plan .position .visits) cx)) (sym e)
 
               at : (s : Stage) → (s ≡ Visit → p .block < blockCount w) → withVisits (plan .position .visits) (emitting s (p .block) C) ≡ emitted (unlessNone (visitedBlock s (p .block))) (contextOf (plan .position .visits) cx)
-              at Visit h = visit-at (unlessNone (p .block)) (some-is (p .block) (λ e. let z : p .block < blockCount w = h refl in omega (arith, z, pr .sized .limited .blocks)))
-              at Ended h = none-at (unlessNone 65535) none-is
-              at Choose h = none-at (unlessNone 65535) none-is
-              at Pop h = none-at (unlessNone 65535) none-is
-              at Halt h = none-at (unlessNone 65535) none-is
+              at Visit h = visit-at (unlessNone (p .block)) (some-number (p .block) (λ e. let z : p .block < blockCount w = h refl in omega (arith, z, pr .sized .limited .blocks)))
+              at Ended h = none-at (unlessNone 65535) no-number
+              at Choose h = none-at (unlessNone 65535) no-number
+              at Pop h = none-at (unlessNone 65535) no-number
+              at Halt h = none-at (unlessNone 65535) no-number
 
           -- ---- what applying the plan asks
 
@@ -476,11 +476,11 @@ module _ (w : List ℕ) (pr : Promise w) (ck : Checked (tableOf w)) where
           applicable = record { block = at (p .stage) visit-below; handler = fit .handler; scope = fit .scope; change = changeable; whole = I .whole }
             where
               at : (s : Stage) → (s ≡ Visit → p .block < blockCount w) → Below 1024 (unlessNone (visitedBlock s (p .block)))
-              at Visit h = let z : p .block < blockCount w = h refl in subst (λ (o : Option ℕ). Below 1024 o) (sym (some-is (p .block) (λ e. omega (arith, z, pr .sized .limited .blocks)))) (omega (arith, z, pr .sized .limited .blocks))
-              at Ended h = subst (λ (o : Option ℕ). Below 1024 o) (sym none-is) tt
-              at Choose h = subst (λ (o : Option ℕ). Below 1024 o) (sym none-is) tt
-              at Pop h = subst (λ (o : Option ℕ). Below 1024 o) (sym none-is) tt
-              at Halt h = subst (λ (o : Option ℕ). Below 1024 o) (sym none-is) tt
+              at Visit h = let z : p .block < blockCount w = h refl in subst (λ (o : Option ℕ). Below 1024 o) (sym (some-number (p .block) (λ e. omega (arith, z, pr .sized .limited .blocks)))) (omega (arith, z, pr .sized .limited .blocks))
+              at Ended h = subst (λ (o : Option ℕ). Below 1024 o) (sym no-number) tt
+              at Choose h = subst (λ (o : Option ℕ). Below 1024 o) (sym no-number) tt
+              at Pop h = subst (λ (o : Option ℕ). Below 1024 o) (sym no-number) tt
+              at Halt h = subst (λ (o : Option ℕ). Below 1024 o) (sym no-number) tt
 
           pub slot-below : slot (plan .keep) (plan .position .depth) < 129
           slot-below = at (plan .keep)

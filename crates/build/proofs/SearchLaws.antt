@@ -4,24 +4,24 @@ use native.Mathlib.Omega.{arith}
 use mathlib.Core.Path.{_≡_, refl, sym, ap, _∙_, subst}
 use mathlib.Core.Bool.{Bool, true, false, _||_}
 use mathlib.Core.List.{List}
-use mathlib.Core.Option.{Option, none, some}
+use mathlib.Core.Option.{Option, none}
 use borrow.Author.Tests.{eqb-true, eqb-false}
 use Rattle.table.specs.Words.{blockCount, placeCount, caseCount, blockWord}
 use Rattle.table.specs.Promise.{Promise, InRange}
-use Rattle.table.specs.Table.{Terminal, Variant, absent, unreachable, throw, return, goto, if, branch, switch, do-while, while, for, for-of, for-in, logical, ternary, optional, label, sequence, maybe-throw, try, scope, Break, Continue, Try, codeOf, tableOf, terminalOf, terminalAt, variantOf}
+use Rattle.table.specs.Table.{Terminal, absent, unreachable, throw, return, goto, if, branch, switch, do-while, while, for, for-of, for-in, logical, ternary, optional, label, sequence, maybe-throw, try, scope, Break, Continue, Try, codeOf, tableOf, terminalOf, terminalAt, variantOf}
 use Rattle.table.proofs.RangeLaws.{in-range}
+use Rattle.table.proofs.BlockLaws.{end-by, code-at, goto-at, branch-at}
 use Rattle.definition.specs.Context.{Flags, has, isScheduled, isLoop, breakTargetFrom, continueTargetFrom, getBreakTarget, getContinueTarget}
 use Rattle.definition.specs.Context as definition
 use Rattle.control.specs.declared.Context.{Context}
 use Rattle.control.specs.declared.Entry.{Entry}
-use Rattle.control.specs.declared.Resolved.{Resolved}
-use Rattle.control.specs.Abstraction.{stackOf, contextOf, resolvedOf}
+use Rattle.control.specs.Abstraction.{stackOf, contextOf}
 use Rattle.control.proofs.SearchLaws.{lastTarget, break-none, break-found, break-missed, continue-none, continue-found, continue-missed}
 use Rattle.build.specs.declared.search.Jump.{Jump}
 use Rattle.build.specs.declared.search.Jump.the-variants.{Nothing}
 use Rattle.build.specs.declared.search.Jump.the-variants as jump
-use Rattle.build.specs.Driver.{Resolves, foundBy, searchedFrom, isMet, resolvedAt, Searches}
-use Rattle.build.proofs.StepLaws.{end-by, code-at}
+use Rattle.planner.specs.Turn.{Resolves}
+use Rattle.build.specs.Driver.{foundBy, searchedFrom, isMet, resolvedAt, Searches}
 
 -- a terminal that is no jump
 quiet : (e : Terminal) (cx : definition.Context) (found : Option definition.Resolution) → (codeOf e ≡ 4 → ⊥) → (codeOf e ≡ 6 → ⊥) → Resolves e cx found
@@ -65,17 +65,13 @@ module _ (w : List ℕ) (S H : Flags) (b : ℕ) (pr : Promise w) (below : b < bl
   -- ---- Goto
 
   module _ (code : blockWord w b 2 ≡ 4) where
-    pub goto-at : (v : Variant) → variantOf (blockWord w b 4) ≡ v → terminalAt (tableOf w) b ≡ goto (blockWord w b 3) v
-    unfolding terminalOf
-    goto-at v e = end-by w b below 4 code ∙ ap (goto (blockWord w b 3)) e
-
     pub goto-breaks : (n : ℕ) → n ≡ blockWord w b 3 → blockWord w b 4 ≡ 0 → Searches w S H b (jump.Break n)
     unfolding variantOf
-    goto-breaks n s e = record { resolves = λ cx _ _. subst (λ (z : Terminal). Resolves z cx (getBreakTarget cx n)) (sym (goto-at Break (ap variantOf e))) (ap (getBreakTarget cx) s) }
+    goto-breaks n s e = record { resolves = λ cx _ _. subst (λ (z : Terminal). Resolves z cx (getBreakTarget cx n)) (sym (goto-at w b below code Break (ap variantOf e))) (ap (getBreakTarget cx) s) }
 
     pub goto-continues : (n : ℕ) → n ≡ blockWord w b 3 → blockWord w b 4 ≡ 1 → Searches w S H b (jump.Continue n)
     unfolding variantOf
-    goto-continues n s e = record { resolves = λ cx _ _. subst (λ (z : Terminal). Resolves z cx (getContinueTarget cx n)) (sym (goto-at Continue (ap variantOf e))) (ap (getContinueTarget cx) s) }
+    goto-continues n s e = record { resolves = λ cx _ _. subst (λ (z : Terminal). Resolves z cx (getContinueTarget cx n)) (sym (goto-at w b below code Continue (ap variantOf e))) (ap (getContinueTarget cx) s) }
 
     is-try : (n : ℕ) → (n ≡ 0 → ⊥) → (n ≡ 1 → ⊥) → variantOf n ≡ Try
     unfolding variantOf
@@ -84,21 +80,17 @@ module _ (w : List ℕ) (S H : Flags) (b : ℕ) (pr : Promise w) (below : b < bl
     is-try (suc (suc n)) f g = refl
 
     pub goto-tries : (blockWord w b 4 ≡ 0 → ⊥) → (blockWord w b 4 ≡ 1 → ⊥) → Searches w S H b Nothing
-    goto-tries f g = record { resolves = λ cx _ _. subst (λ (z : Terminal). Resolves z cx none) (sym (goto-at Try (is-try (blockWord w b 4) f g))) tt }
+    goto-tries f g = record { resolves = λ cx _ _. subst (λ (z : Terminal). Resolves z cx none) (sym (goto-at w b below code Try (is-try (blockWord w b 4) f g))) tt }
 
   -- ---- Branch
 
   module _ (code : blockWord w b 2 ≡ 6) where
-    pub branch-at : terminalAt (tableOf w) b ≡ branch (blockWord w b 3) (blockWord w b 4) (blockWord w b 5)
-    unfolding terminalOf
-    branch-at = end-by w b below 6 code
-
     pub branch-breaks : (n : ℕ) → n ≡ blockWord w b 4 → Searches w S H b (jump.Break n)
-    branch-breaks n s = record { resolves = λ cx _ _. subst (λ (z : Terminal). Resolves z cx (getBreakTarget cx n)) (sym branch-at) (λ _. ap (getBreakTarget cx) s) }
+    branch-breaks n s = record { resolves = λ cx _ _. subst (λ (z : Terminal). Resolves z cx (getBreakTarget cx n)) (sym (branch-at w b below code)) (λ _. ap (getBreakTarget cx) s) }
 
     pub branch-goes : has S (blockWord w b 4) || has H (blockWord w b 4) ≡ false → Searches w S H b Nothing
     unfolding isScheduled
-    branch-goes e = record { resolves = λ cx s h. subst (λ (z : Terminal). Resolves z cx none) (sym branch-at) (λ q. absurd (differ (sym q ∙ rw (s, h) e))) }
+    branch-goes e = record { resolves = λ cx s h. subst (λ (z : Terminal). Resolves z cx none) (sym (branch-at w b below code)) (λ q. absurd (differ (sym q ∙ rw (s, h) e))) }
       where
         differ : _≡_ {A = Bool} true false → ⊥
         differ e = let o : _≡_ {A = ℕ} 0 1 = ap (λ (y : Bool). elim y [ true ↦ 0 | false ↦ 1 ]) e in omega arith

@@ -1,7 +1,2 @@
-pub mod Plans
-pub mod Planned
-pub mod Jumps
-pub mod Loops
-pub mod Resume
 pub mod Driver
 pub mod Entry

@@ -9,18 +9,8 @@ ghost use Rattle.definition.specs.Build.{Report, refusal, outcomeOf, built};
 ghost use Rattle.build.specs.Driver.{Reported};
 ghost use Rattle.build.specs.Entry.{outcome};
 
-mod branch;
 mod driver;
-mod fallthrough;
-mod jump;
-mod leaf;
-mod loops;
-mod nested;
-mod plan;
-mod resume;
 mod search;
-mod turn;
-mod visit;
 
 // Paper 01, "Result and refusals": code (0 accepted), at, rows, visits.
 pub struct Outcome {

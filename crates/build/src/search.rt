@@ -1,20 +1,19 @@
 // What a block's jump looks for on the stack, and what it finds at an entry. The driver searches before a turn is planned: a planner does not see the stack.
-use crate::fallthrough::narrow;
-use crate::fallthrough::scheduled_at;
-use crate::plan::Position;
-use crate::plan::Stage;
 use control::ControlFlowTarget;
 use control::Resolved;
 use control::break_to;
 use control::continue_to;
+use planner::fallthrough::narrow;
+use planner::fallthrough::scheduled_at;
+use planner::plan::Position;
+use planner::plan::Stage;
 use table::words::block_word;
 ghost use mathlib.Core.Path.{_≡_};
 ghost use Prim.Native.Nat.{_<_};
 ghost use Rattle.table.specs.Words.{blockCount, blockWord};
 ghost use Rattle.table.specs.Promise.{Promise};
-ghost use Rattle.table.specs.Table.{tableOf, terminalAt};
 ghost use Rattle.control.specs.Abstraction.{targetOf, resolvedOf};
-ghost use Rattle.build.specs.declared.plan.Stage.the-variants.{Visit};
+ghost use Rattle.planner.specs.declared.plan.Stage.the-variants.{Visit};
 ghost use Rattle.build.specs.Driver.{searchedFrom, isMet, resolvedAt, Searches};
 
 pub enum Jump {

@@ -4,3 +4,4 @@ pub mod CheckLaws
 pub mod TableLaws
 pub mod PromiseLaws
 pub mod RangeLaws
+pub mod BlockLaws

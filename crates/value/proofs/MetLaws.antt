@@ -15,6 +15,7 @@ use Rattle.definition.specs.Value.{ValueBlockResult, instructionsOf, wrapWithSe
 use Rattle.rows.specs.Rows.{Holds}
 use Rattle.rows.specs.Stack.{pushValue, pushInstructions, pushInstructionRows}
 use Rattle.rows.proofs.StackLaws.{push-instructions-of}
+use Rattle.table.proofs.BlockLaws.{length-rows}
 use Rattle.value.specs.declared.result.Tally.{Tally}
 use Rattle.value.specs.declared.result.ValueResult.{ValueResult}
 use Rattle.value.specs.Met.{refusal, blockResult, okIf, Found, Numbers, Met, InstructionsPut, Wrapped}
@@ -88,10 +89,6 @@ count-of : (t : Table) (rows : List ℕ) (more : Instructions) → countInstruct
 unfolding instructionsOf
 count-of t [] more = omega arith
 count-of t (i ∷ rows) more = omega (arith, count-of t rows more)
-
-length-rows : (first count : ℕ) → length (rowsFrom first count) ≡ count
-length-rows first zero = refl
-length-rows first (suc count) = ap suc (length-rows (suc first) count)
 
 pub count-rows : (t : Table) (first count : ℕ) (more : Instructions) → countInstructions (instructionsOf t (rowsFrom first count) more) ≡ count + countInstructions more
 count-rows t first count more = omega (arith, count-of t (rowsFrom first count) more, length-rows first count)

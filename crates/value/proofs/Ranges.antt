@@ -7,7 +7,7 @@ use Rattle.table.specs.Table.{Terminal, Instruction, Operation, tableOf, termin
 use Rattle.table.specs.Promise.{Promise, InRange, OperandsInRange}
 use Rattle.table.proofs.TableLaws.{instruction-at}
 use Rattle.table.proofs.RangeLaws.{run-within, in-range, lvalue-below, operation-known, operands-in-range}
-use Rattle.value.proofs.TableLaws.{end-at}
+use Rattle.table.proofs.BlockLaws.{end-at}
 
 module _ {ws : List ℕ} (p : Promise ws) where
   module _ (b : ℕ) (h : b < blockCount ws) where

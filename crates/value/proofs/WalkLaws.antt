@@ -11,10 +11,10 @@ use borrow.Author.Tests.{eq-eqb, ne-eqb, eqb-true, lt-leb}
 use Rattle.table.specs.Words.{blockCount, blockWord, largest}
 use Rattle.table.specs.Table.{Table, Block, Terminal, absent, unreachable, throw, return, goto, if, branch, switch, do-while, while, for, for-of, for-in, logical, ternary, optional, label, sequence, maybe-throw, try, scope, tableOf, terminalOf, terminalAt, blockAt, instructionRows, instructionRowsAt, rowsFrom, codeOf, isAbsent, isGoto, unlessNone}
 use Rattle.table.specs.Promise.{Promise}
+use Rattle.table.proofs.BlockLaws.{end-at, id-at, span-at, rows-at, code-at}
 use Rattle.definition.specs.Result.{Result, ok, refused, _>>=_, refuseIf}
 use Rattle.definition.specs.Value.{ValueBlockResult, ValueTerminalResult, VisitValueBlock, visitValueBlock, visitValueBlockAt, visitValueBlockTerminal, thenFallthrough, beginVisit, extractOrRefuse, branchValue, maybeThrowValue, isEmpty, isEmptyGoto, isFallthrough, Ways, TestBlockResult, branchWays, testBlockEnded}
 use Rattle.value.specs.Outcome.{visit, blockOutcome, terminalOutcome}
-use Rattle.value.proofs.TableLaws.{end-at, id-at, span-at, rows-at, code-at}
 use Rattle.value.proofs.MetLaws.{wrap, unless-on, unless-off}
 
 -- ---- a visit
@@ -48,7 +48,7 @@ module _ {ws : List ℕ} (p : Promise ws) (levels block fallthrough span visits 
   t = tableOf ws
 
   missing-at : isAbsent (terminalAt t block) ≡ eqb (blockWord ws block 2) 0
-  missing-at = ap (λ (k : ℕ). eqb k 0) (code-at p block h)
+  missing-at = ap (λ (k : ℕ). eqb k 0) (code-at ws block p h)
 
   -- "Order at a visit: 30, 31, 10, then 11 or 23"
   pub visit-30 : levels ≡ 0 → visit ws levels block (unlessNone fallthrough) span visits ≡ refused 30 block visits
@@ -191,7 +191,7 @@ module _ {ws : List ℕ} (p : Promise ws) (levels block : ℕ) (h : block < bloc
     pub at-other : (column 2 ≡ 4 → ⊥) → (column 2 ≡ 6 → ⊥) → (column 2 ≡ 18 → ⊥)
         → blockOutcome ws levels block fallthrough span visits ≡ thenFallthrough (tableOf ws) (visit ws levels) (blockAt (tableOf ws) block) span (terminalOutcome ws levels block visits)
     at-other f g e =
-        let c = sym (code-at p block h) in
+        let c = sym (code-at ws block p h) in
         other-end (tableOf ws) (visit ws levels) (terminalAt (tableOf ws) block) block (blockAt (tableOf ws) block) (unlessNone fallthrough) span visits (λ q. f (c ∙ q)) (λ q. g (c ∙ q)) (λ q. e (c ∙ q))
 
   module _ (visits : ℕ) where
@@ -231,7 +231,7 @@ module _ {ws : List ℕ} (p : Promise ws) (levels block : ℕ) (h : block < bloc
 
     pub terminal-other : (12 < column 2 → column 2 < 19 → ⊥) → terminalOutcome ws levels block visits ≡ refused 27 block visits
     terminal-other f =
-        let c = code-at p block h in
+        let c = code-at ws block p h in
         no-value (tableOf ws) (visit ws levels) (terminalAt (tableOf ws) block) (blockAt (tableOf ws) block .id) (blockAt (tableOf ws) block .span) visits block (λ a b. f (rw c at a) (rw c at b))
 
 -- ---- an empty Goto block
@@ -249,7 +249,7 @@ module _ {ws : List ℕ} (p : Promise ws) (block : ℕ) (h : block < blockCount 
       by first (suc n) g = refl
 
   pub goto-empty : blockWord ws block 1 ≡ 0 → isEmptyGoto (blockAt (tableOf ws) block) ≡ eqb (blockWord ws block 2) 4
-  goto-empty e = goto-by [] (rows-at ws block h ∙ ap (rowsFrom (blockWord ws block 0)) e) ∙ ap (λ (k : ℕ). eqb k 4) (code-at p block h)
+  goto-empty e = goto-by [] (rows-at ws block h ∙ ap (rowsFrom (blockWord ws block 0)) e) ∙ ap (λ (k : ℕ). eqb k 4) (code-at ws block p h)
 
 -- ---- MaybeThrow, by its continuation
 
@@ -260,14 +260,14 @@ module _ {ws : List ℕ} (p : Promise ws) (levels block fallthrough span visits 
   -- "That continuation is looked up first, before any visit: 10 if missing."
   pub maybe-throw-missing : blockWord ws next 2 ≡ 0 → blockOutcome ws levels block fallthrough span visits ≡ refused 10 next visits
   maybe-throw-missing z = at-maybe-throw p levels block h fallthrough span visits e
-      ∙ unless-on _ 10 next visits _ (ap (λ (k : ℕ). eqb k 0) (code-at p next there) ∙ eq-eqb (blockWord ws next 2) 0 z)
+      ∙ unless-on _ 10 next visits _ (ap (λ (k : ℕ). eqb k 0) (code-at ws next p there) ∙ eq-eqb (blockWord ws next 2) 0 z)
 
   module _ (found : blockWord ws next 2 ≡ 0 → ⊥) where
     goes-on : (y : Bool) → isEmptyGoto (blockAt (tableOf ws) next) ≡ y
         → blockOutcome ws levels block fallthrough span visits
         ≡ maybeThrowValue (tableOf ws) (visit ws levels) block next (instructionRowsAt (tableOf ws) block) (unlessNone fallthrough) span visits y
     goes-on y q = at-maybe-throw p levels block h fallthrough span visits e
-        ∙ unless-off _ 10 next visits _ (ap (λ (k : ℕ). eqb k 0) (code-at p next there) ∙ ne-eqb (blockWord ws next 2) 0 found)
+        ∙ unless-off _ 10 next visits _ (ap (λ (k : ℕ). eqb k 0) (code-at ws next p there) ∙ ne-eqb (blockWord ws next 2) 0 found)
         ∙ ap (maybeThrowValue (tableOf ws) (visit ws levels) block next (instructionRowsAt (tableOf ws) block) (unlessNone fallthrough) span visits) q
 
     pub maybe-throw-own : isEmptyGoto (blockAt (tableOf ws) next) ≡ true
@@ -291,4 +291,4 @@ module _ {ws : List ℕ} (p : Promise ws) (test : ValueBlockResult) (at : ℕ) (
 
   pub ended-other : (blockWord ws (test .block) 2 ≡ 6 → ⊥) → testBlockEnded test (branchWays (terminalAt (tableOf ws) (test .block))) at ≡ refused 25 at (test .visits)
   unfolding testBlockEnded
-  ended-other f = ap (λ (w : Option Ways). testBlockEnded test w at) (no-ways (terminalAt (tableOf ws) (test .block)) (λ q. f (sym (code-at p (test .block) h) ∙ q)))
+  ended-other f = ap (λ (w : Option Ways). testBlockEnded test w at) (no-ways (terminalAt (tableOf ws) (test .block)) (λ q. f (sym (code-at ws (test .block) p h) ∙ q)))

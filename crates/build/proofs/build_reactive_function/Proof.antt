@@ -1,18 +1,9 @@
-use mathlib.Core.Path.{_≡_, refl, sym, ap, _∙_}
+use mathlib.Core.Path.{sym, _∙_}
 use Rattle.table.proofs.PromiseLaws.{promised}
 use Rattle.build.proofs.EntryLaws.{unchecked-built, checked-built, accepted-checked}
 use borrow.Author.Needs.{needs}
 use Rattle.build.proofs.build_reactive_function.Statement.{statement}
 use Rattle.build.proofs.build_reactive_function.Tie as tie
-use Rattle.build.proofs.build_reactive_function.Reads as reads
-use Rattle.build.proofs.build_reactive_function.Lts as lts
-use Rattle.build.proofs.driver.walk.Reads as walk-reads
-use Rattle.build.proofs.finish.Reads as finish-reads
-use Rattle.build.proofs.refuse.Reads as refuse-reads
-use Rattle.table.proofs.Checked.code.Reads as code-reads
-use Rattle.table.proofs.Checked.is_accepted.Reads as is-accepted-reads
-use Rattle.table.proofs.Checked.place.Reads as place-reads
-use Rattle.table.proofs.check.Reads as check-reads
 
 -- src/lib.rt:54:9
 check-requires : tie.Need-check-requires

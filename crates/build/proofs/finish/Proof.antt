@@ -1,12 +1,7 @@
-use native.Mathlib.Omega.{arith}
 use Rattle.build.proofs.EntryLaws.{rejected-outcome, overfull-outcome, accepted-outcome}
 use borrow.Author.Needs.{needs}
 use Rattle.build.proofs.finish.Statement.{statement}
 use Rattle.build.proofs.finish.Tie as tie
-use Rattle.build.proofs.finish.Reads as reads
-use Rattle.build.proofs.finish.Lts as lts
-use Rattle.build.proofs.refuse.Reads as refuse-reads
-use Rattle.rows.proofs.clear.Reads as clear-reads
 
 -- src/lib.rt:41:9
 refuse-requires : tie.Need-refuse-requires

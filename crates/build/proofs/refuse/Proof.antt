@@ -2,9 +2,6 @@ use Rattle.build.proofs.EntryLaws.{refused-outcome}
 use borrow.Author.Needs.{needs}
 use Rattle.build.proofs.refuse.Statement.{statement}
 use Rattle.build.proofs.refuse.Tie as tie
-use Rattle.build.proofs.refuse.Reads as reads
-use Rattle.build.proofs.refuse.Lts as lts
-use Rattle.rows.proofs.clear.Reads as clear-reads
 
 -- src/lib.rt:32:5
 clear-requires : tie.Need-clear-requires

@@ -1,14 +1,11 @@
 use mathlib.Core.Path.{_≡_, refl}
 use mathlib.Core.Bool.{Bool, true}
 use borrow.Author.Tests.{eq-eqb, ne-eqb}
-use Rattle.build.specs.declared.plan.Plan.{Plan}
+use Rattle.planner.specs.declared.plan.Plan.{Plan}
 use Rattle.build.specs.Driver.{isHalt, planEnds}
 use borrow.Author.Needs.{needs}
 use Rattle.build.proofs.driver.ends.Statement.{statement}
 use Rattle.build.proofs.driver.ends.Tie as tie
-use Rattle.build.proofs.driver.ends.Reads as reads
-use Rattle.build.proofs.driver.ends.Lts as lts
-use Rattle.build.proofs.driver.halted.Reads as halted-reads
 
 refused : (plan : Plan) → (plan .code ≡ 0 → ⊥) → true ≡ planEnds plan
 refused plan z = rw (ne-eqb (plan .code) 0 z, planEnds) refl

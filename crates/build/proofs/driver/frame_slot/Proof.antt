@@ -1,10 +1,6 @@
-use mathlib.Core.Path.{refl, sym, ap, _∙_}
 use borrow.Author.Needs.{needs}
 use Rattle.build.proofs.driver.frame_slot.Statement.{statement}
 use Rattle.build.proofs.driver.frame_slot.Tie as tie
-use Rattle.build.proofs.driver.frame_slot.Reads as reads
-use Rattle.build.proofs.driver.frame_slot.Lts as lts
-use Rattle.build.proofs.driver.innermost.Reads as innermost-reads
 
 -- src/driver.rt:69:9
 innermost-requires : tie.Need-innermost-requires

@@ -1,12 +1,7 @@
-use mathlib.Core.Path.{_≡_, refl, sym, ap, _∙_}
 use native.Mathlib.Omega.{arith}
 use Rattle.build.proofs.ApplyLaws.{marked-none, marked-some, below-block}
 use Rattle.build.proofs.driver.mark.Statement.{statement}
 use Rattle.build.proofs.driver.mark.Tie as tie
-use Rattle.build.proofs.driver.mark.Reads as reads
-use Rattle.build.proofs.driver.mark.Lts as lts
-use Rattle.build.proofs.fallthrough.narrow.Reads as narrow-reads
-use Rattle.control.proofs.insert.Reads as insert-reads
 
 -- src/driver.rt:23:9
 returns : tie.Need-returns

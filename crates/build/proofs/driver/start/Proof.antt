@@ -2,9 +2,6 @@ use mathlib.Core.Path.{refl}
 use borrow.Author.Needs.{needs}
 use Rattle.build.proofs.driver.start.Statement.{statement}
 use Rattle.build.proofs.driver.start.Tie as tie
-use Rattle.build.proofs.driver.start.Reads as reads
-use Rattle.build.proofs.driver.start.Lts as lts
-use Rattle.table.proofs.words.entry.Reads as entry-reads
 
 -- src/driver.rt:41:16
 entry-requires : tie.Need-entry-requires

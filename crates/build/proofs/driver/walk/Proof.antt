@@ -8,40 +8,20 @@ use mathlib.Core.Logic.{⊎-elim}
 use borrow.Author.Needs.{needs}
 use Rattle.control.specs.Abstraction.{contextOf, resolvedOf, stored}
 use Rattle.control.specs.Contract.{Room}
-use Rattle.build.specs.declared.plan.Plan.{Plan}
-use Rattle.build.specs.declared.plan.Change.{Change}
-use Rattle.build.specs.declared.plan.Change.the-variants.{Schedule, ScheduleLoop, Unschedule}
+use Rattle.planner.specs.declared.plan.Plan.{Plan}
+use Rattle.planner.specs.declared.plan.Change.{Change}
+use Rattle.planner.specs.declared.plan.Change.the-variants.{Schedule, ScheduleLoop, Unschedule}
 use Rattle.build.specs.Driver.{foundBy, visitedBlock, planEnds, withMarks, Whole, Changeable, Changed, Applicable, Applied}
 use Rattle.build.proofs.ApplyLaws.{nothing-changed, schedule-changed, loop-changed, unschedule-changed, id-changed, changeable-marked, whole-marked, plan-applied, last-entry}
 use Rattle.control.specs.declared.Context.{Context}
-use Rattle.build.specs.declared.plan.Position.{Position}
-use Rattle.build.specs.declared.plan.Frame.{Frame}
+use Rattle.planner.specs.declared.plan.Position.{Position}
+use Rattle.planner.specs.declared.plan.Frame.{Frame}
 use Rattle.build.proofs.DriverLaws.{Walking, turnsLeft, walking-start, frame-read, found-jump, found-below, ready, shallow, visit-below, AtTurn, turn-ends, turn-applicable, turn-slot, turn-again, turn-lower}
 use denote.Ref.{now}
 use Rattle.build.proofs.CheckedLaws.{checked-table}
 use Rattle.build.proofs.SearchLaws.{Searching, search-start, search-on, search-none, search-found}
 use Rattle.build.proofs.driver.walk.Statement.{statement}
 use Rattle.build.proofs.driver.walk.Tie as tie
-use Rattle.build.proofs.driver.walk.Reads as reads
-use Rattle.build.proofs.driver.walk.Lts as lts
-use Rattle.build.proofs.driver.answer.Reads as answer-reads
-use Rattle.build.proofs.driver.ends.Reads as ends-reads
-use Rattle.build.proofs.driver.frame_slot.Reads as frame-slot-reads
-use Rattle.build.proofs.driver.innermost.Reads as innermost-reads
-use Rattle.build.proofs.driver.mark.Reads as mark-reads
-use Rattle.build.proofs.driver.start.Reads as start-reads
-use Rattle.build.proofs.driver.visited_block.Reads as visited-block-reads
-use Rattle.build.proofs.plan.no_frame.Reads as no-frame-reads
-use Rattle.build.proofs.search.jump_at.Reads as jump-at-reads
-use Rattle.build.proofs.search.meets.Reads as meets-reads
-use Rattle.build.proofs.search.resolve.Reads as resolve-reads
-use Rattle.build.proofs.search.search_from.Reads as search-from-reads
-use Rattle.build.proofs.turn.plan_turn.Reads as plan-turn-reads
-use Rattle.control.proofs.Context.new.Reads as new-reads
-use Rattle.control.proofs.Context.schedule.Reads as schedule-reads
-use Rattle.control.proofs.Context.schedule_loop.Reads as schedule-loop-reads
-use Rattle.control.proofs.Context.unschedule.Reads as unschedule-reads
-use Rattle.control.proofs.or_loop.Reads as or-loop-reads
 
 record Inv (words buffer₀ buffer : List ℕ) (cx : Context) (frames : List Frame) (p : Position) : Type 0 where
   walking : Walking words buffer cx frames p

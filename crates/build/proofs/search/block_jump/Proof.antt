@@ -1,13 +1,8 @@
-use mathlib.Core.Path.{sym, _∙_}
+use mathlib.Core.Path.{_∙_}
 use Rattle.build.proofs.SearchLaws.{no-jump}
 use borrow.Author.Needs.{needs}
 use Rattle.build.proofs.search.block_jump.Statement.{statement}
 use Rattle.build.proofs.search.block_jump.Tie as tie
-use Rattle.build.proofs.search.block_jump.Reads as reads
-use Rattle.build.proofs.search.block_jump.Lts as lts
-use Rattle.build.proofs.search.branch_jump.Reads as branch-jump-reads
-use Rattle.build.proofs.search.goto_jump.Reads as goto-jump-reads
-use Rattle.table.proofs.words.block_word.Reads as block-word-reads
 
 -- src/search.rt:69:11
 block-word-requires : tie.Need-block-word-requires

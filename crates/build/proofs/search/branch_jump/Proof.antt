@@ -4,11 +4,6 @@ use Rattle.build.proofs.SearchLaws.{branch-consequent, branch-breaks, b
 use borrow.Author.Needs.{needs}
 use Rattle.build.proofs.search.branch_jump.Statement.{statement}
 use Rattle.build.proofs.search.branch_jump.Tie as tie
-use Rattle.build.proofs.search.branch_jump.Reads as reads
-use Rattle.build.proofs.search.branch_jump.Lts as lts
-use Rattle.build.proofs.fallthrough.narrow.Reads as narrow-reads
-use Rattle.build.proofs.fallthrough.scheduled_at.Reads as scheduled-at-reads
-use Rattle.table.proofs.words.block_word.Reads as block-word-reads
 
 -- src/search.rt:57:9
 block-word-requires : tie.Need-block-word-requires

@@ -4,10 +4,6 @@ use Rattle.build.proofs.SearchLaws.{goto-target, goto-breaks, goto-cont
 use borrow.Author.Needs.{needs}
 use Rattle.build.proofs.search.goto_jump.Statement.{statement}
 use Rattle.build.proofs.search.goto_jump.Tie as tie
-use Rattle.build.proofs.search.goto_jump.Reads as reads
-use Rattle.build.proofs.search.goto_jump.Lts as lts
-use Rattle.build.proofs.fallthrough.narrow.Reads as narrow-reads
-use Rattle.table.proofs.words.block_word.Reads as block-word-reads
 
 -- src/search.rt:42:25
 block-word-requires : tie.Need-block-word-requires

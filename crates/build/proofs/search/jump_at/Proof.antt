@@ -1,15 +1,12 @@
 use Prim.Native.Nat.{ℕ}
 use native.Mathlib.Omega.{arith}
 use mathlib.Core.Path.{ap}
-use mathlib.Core.Path.{_≡_, sym, _∙_, subst}
-use Rattle.build.specs.declared.plan.Stage.{Stage}
-use Rattle.build.specs.declared.plan.Stage.the-variants.{Visit, Ended, Choose, Pop, Halt}
+use mathlib.Core.Path.{_≡_}
+use Rattle.planner.specs.declared.plan.Stage.{Stage}
+use Rattle.planner.specs.declared.plan.Stage.the-variants.{Visit, Ended, Choose, Pop, Halt}
 use borrow.Author.Needs.{needs}
 use Rattle.build.proofs.search.jump_at.Statement.{statement}
 use Rattle.build.proofs.search.jump_at.Tie as tie
-use Rattle.build.proofs.search.jump_at.Reads as reads
-use Rattle.build.proofs.search.jump_at.Lts as lts
-use Rattle.build.proofs.search.block_jump.Reads as block-jump-reads
 
 abbrev other : Stage → ℕ
 other Visit = 0

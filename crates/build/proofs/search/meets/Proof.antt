@@ -2,10 +2,6 @@ use mathlib.Core.Path.{refl}
 use borrow.Author.Needs.{needs}
 use Rattle.build.proofs.search.meets.Statement.{statement}
 use Rattle.build.proofs.search.meets.Tie as tie
-use Rattle.build.proofs.search.meets.Reads as reads
-use Rattle.build.proofs.search.meets.Lts as lts
-use Rattle.control.proofs.ControlFlowTarget.block.Reads as block-reads
-use Rattle.control.proofs.ControlFlowTarget.continues_at.Reads as continues-at-reads
 
 -- src/search.rt:42:26
 enum-told : tie.Need-enum-told

@@ -3,10 +3,6 @@ use mathlib.Core.Option.{some}
 use borrow.Author.Needs.{needs}
 use Rattle.build.proofs.search.resolve.Statement.{statement}
 use Rattle.build.proofs.search.resolve.Tie as tie
-use Rattle.build.proofs.search.resolve.Reads as reads
-use Rattle.build.proofs.search.resolve.Lts as lts
-use Rattle.control.proofs.break_to.Reads as break-to-reads
-use Rattle.control.proofs.continue_to.Reads as continue-to-reads
 
 -- src/search.rt:57:26
 enum-told : tie.Need-enum-told

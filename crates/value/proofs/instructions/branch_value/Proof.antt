@@ -1,6 +1,5 @@
 use Rattle.value.proofs.MetLaws.{named}
 use Rattle.value.proofs.ExtractLaws.{branch-some, branch-none}
-use Rattle.value.proofs.TableLaws.{rows-at, some-number}
 use Rattle.value.proofs.Ranges.{run, branch-test}
 use Rattle.rows.specs.Stack.{pushValue}
 use Rattle.definition.specs.Tree.{LOAD}
@@ -14,6 +13,7 @@ use Rattle.value.proofs.instructions.branch_value.Tie as tie
 use Rattle.value.proofs.instructions.branch_value.Reads as reads
 use Rattle.value.proofs.instructions.branch_value.Lts as lts
 use Rattle.table.proofs.words.block_word.Reads as block-word-reads
+use Rattle.table.proofs.BlockLaws.{rows-at, low-number}
 use Rattle.value.proofs.instructions.extract_value_block_result.Reads as extract-value-block-result-reads
 use Rattle.value.proofs.result.found.Reads as found-reads
 use Rattle.value.proofs.result.loading.Reads as loading-reads
@@ -64,7 +64,7 @@ returns c =
         held = λ stack h. load .kept stack h;
         block = f .at;
         place = rw (at-block-word2 .block-word2 .ensures) q;
-        ends = record { sequences = refl; instructions = refl; loaded = some-number _ (omega (arith, q, at-block-word2 .block-word2 .ensures, p .sized .limited .places)); there = λ _. rw (at-block-word2 .block-word2 .ensures) q };
+        ends = record { sequences = refl; instructions = refl; loaded = low-number _ (omega (arith, q, at-block-word2 .block-word2 .ensures, p .sized .limited .places)); there = λ _. rw (at-block-word2 .block-word2 .ensures) q };
         more = omega (arith, load .rows);
       };
       numbers = omega (arith, load .rows, load .visits, f .visits);

@@ -1,6 +1,5 @@
 use Rattle.value.proofs.MetLaws.{stops}
 use Rattle.value.proofs.ExtractLaws.{extract-some, extract-none}
-use Rattle.value.proofs.TableLaws.{rows-at}
 use Rattle.value.proofs.Ranges.{run}
 use Rattle.definition.specs.Tree.{PLAIN}
 use Rattle.table.specs.Table.{tableOf}
@@ -14,6 +13,7 @@ use Rattle.value.proofs.instructions.extract_or_refuse.Tie as tie
 use Rattle.value.proofs.instructions.extract_or_refuse.Reads as reads
 use Rattle.value.proofs.instructions.extract_or_refuse.Lts as lts
 use Rattle.table.proofs.words.block_word.Reads as block-word-reads
+use Rattle.table.proofs.BlockLaws.{rows-at}
 use Rattle.value.proofs.instructions.extract_value_block_result.Reads as extract-value-block-result-reads
 use Rattle.value.proofs.result.refused.Reads as refused-reads
 

@@ -1,6 +1,5 @@
 use Rattle.value.proofs.MetLaws.{named}
 use Rattle.value.proofs.ExtractLaws.{store-code, extract-load, extract-plain}
-use Rattle.value.proofs.TableLaws.{some-number}
 use Rattle.value.proofs.Ranges.{lvalue, stored-to, stored-value}
 use Rattle.rows.specs.Stack.{pushValue}
 use Rattle.definition.specs.Tree.{PLAIN, LOAD}
@@ -13,6 +12,7 @@ use Rattle.value.proofs.instructions.final_value.Tie as tie
 use Rattle.value.proofs.instructions.final_value.Reads as reads
 use Rattle.value.proofs.instructions.final_value.Lts as lts
 use Rattle.table.proofs.words.instruction_word.Reads as instruction-word-reads
+use Rattle.table.proofs.BlockLaws.{low-number}
 use Rattle.value.proofs.instructions.loaded_by.Reads as loaded-by-reads
 use Rattle.value.proofs.instructions.stores_to_unnamed.Reads as stores-to-unnamed-reads
 use Rattle.value.proofs.result.found.Reads as found-reads
@@ -67,7 +67,7 @@ returns c =
         held = λ stack h. load .kept stack h;
         block = at-entry .pre .0 .at;
         place = rw (at-instruction-word2 .instruction-word2 .ensures) (stored-to p (at-entry .args .i) (at-entry .pre .1) code);
-        ends = record { sequences = refl; instructions = refl; loaded = some-number _ (omega (arith, q, at-instruction-word3 .instruction-word3 .ensures, p .sized .limited .places)); there = λ _. rw (at-instruction-word3 .instruction-word3 .ensures) q };
+        ends = record { sequences = refl; instructions = refl; loaded = low-number _ (omega (arith, q, at-instruction-word3 .instruction-word3 .ensures, p .sized .limited .places)); there = λ _. rw (at-instruction-word3 .instruction-word3 .ensures) q };
         more = omega (arith, load .rows);
       };
       numbers = omega (arith, load .rows, load .visits, at-entry .pre .0 .visits);

@@ -1,6 +1,5 @@
 use Rattle.value.proofs.ExtractLaws.{loaded-load, loaded-none}
 use Rattle.table.proofs.TableLaws.{instruction-at}
-use Rattle.value.proofs.TableLaws.{no-number, some-number}
 use Rattle.value.proofs.Ranges.{loaded}
 use Rattle.definition.specs.Value.{loadedBy}
 use Rattle.table.specs.Table.{Instruction, instructionOf}
@@ -13,6 +12,7 @@ use Rattle.value.proofs.instructions.loaded_by.Tie as tie
 use Rattle.value.proofs.instructions.loaded_by.Reads as reads
 use Rattle.value.proofs.instructions.loaded_by.Lts as lts
 use Rattle.table.proofs.words.instruction_word.Reads as instruction-word-reads
+use Rattle.table.proofs.BlockLaws.{no-number, low-number}
 
 instruction-word-requires : tie.Need-instruction-word-requires
 instruction-word-requires c κs = search needs
@@ -39,7 +39,7 @@ returns-2 c =
     let e = sym (at-instruction-word .instruction-word .ensures) ∙ at-if1 .if1 .left in
     let q = loaded (at-entry .pre .0) (at-entry .args .i) (at-entry .pre .1) e in
     rw (c .instruction-word2 .ensures) (record {
-      same = some-number _ (omega (arith, q, at-entry .pre .0 .sized .limited .places)) ∙ sym (ap (λ (k : Instruction). loadedBy (k .operation)) (instruction-at _ (at-entry .args .i) (at-entry .pre .1)) ∙ loaded-load _ _ _ e);
+      same = low-number _ (omega (arith, q, at-entry .pre .0 .sized .limited .places)) ∙ sym (ap (λ (k : Instruction). loadedBy (k .operation)) (instruction-at _ (at-entry .args .i) (at-entry .pre .1)) ∙ loaded-load _ _ _ e);
       there = λ _. q;
     })
 

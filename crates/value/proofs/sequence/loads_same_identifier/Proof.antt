@@ -1,5 +1,4 @@
 use Rattle.table.proofs.TableLaws.{place-at}
-use Rattle.value.proofs.TableLaws.{no-number, some-number}
 use Rattle.definition.specs.Value.{sameIdentifier}
 use native.Mathlib.Omega.{arith}
 use mathlib.Core.Path.{_≡_, refl, sym, ap, _∙_}
@@ -9,6 +8,7 @@ use Rattle.value.proofs.sequence.loads_same_identifier.Tie as tie
 use Rattle.value.proofs.sequence.loads_same_identifier.Reads as reads
 use Rattle.value.proofs.sequence.loads_same_identifier.Lts as lts
 use Rattle.table.proofs.words.place_word.Reads as place-word-reads
+use Rattle.table.proofs.BlockLaws.{no-number, low-number}
 
 returns : tie.Need-returns
 unfolding sameIdentifier
@@ -29,7 +29,7 @@ returns-2 c =
     let at-if1 = at-place-word .before in
     let at-entry = at-if1 .before .before in
     let q = at-entry .pre .1 .1 (at-if1 .if1 .left) in
-    rw (some-number (at-entry .args .loaded) (omega (arith, q, at-entry .pre .0 .sized .limited .places)), place-at _ (at-entry .args .loaded) 0 q, place-at _ (at-entry .args .place) 0 (at-entry .pre .1 .0), at-place-word .place-word .ensures, c .place-word2 .ensures)
+    rw (low-number (at-entry .args .loaded) (omega (arith, q, at-entry .pre .0 .sized .limited .places)), place-at _ (at-entry .args .loaded) 0 q, place-at _ (at-entry .args .place) 0 (at-entry .pre .1 .0), at-place-word .place-word .ensures, c .place-word2 .ensures)
 
 pub loads-same-identifier-spec : {M : Type 1} → statement M
 loads-same-identifier-spec =

@@ -1,5 +1,4 @@
 -- The answers of `ternary_value`.
-use Rattle.value.proofs.TableLaws.{no-number}
 use Rattle.value.proofs.Ranges.{branch-consequent, branch-alternate}
 use Rattle.value.proofs.MetLaws.{pass, goes, named}
 use Rattle.rows.specs.Stack.{pushValue}
@@ -10,6 +9,7 @@ use borrow.Author.Needs.{needs}
 use native.Mathlib.Omega.{arith}
 use Prim.Native.Nat.{ℕ}
 use Rattle.table.proofs.words.block_word.Reads as block-word-reads
+use Rattle.table.proofs.BlockLaws.{no-number}
 use Rattle.value.proofs.result.found.Reads as found-reads
 use Rattle.value.proofs.result.loading.Reads as loading-reads
 use Rattle.value.proofs.result.put_row.Reads as put-row-reads

@@ -1,5 +1,4 @@
 -- The answers of `then_fallthrough`.
-use Rattle.value.proofs.TableLaws.{rows-at}
 use Rattle.value.proofs.Ranges.{run}
 use Rattle.value.proofs.MetLaws.{pass, goes, count-rows, found-seq}
 use Rattle.rows.proofs.StackLaws.{push-instructions-of}
@@ -15,6 +14,7 @@ use borrow.Author.Needs.{needs}
 use native.Mathlib.Omega.{arith}
 use Prim.Native.Nat.{ℕ}
 use Rattle.table.proofs.words.block_word.Reads as block-word-reads
+use Rattle.table.proofs.BlockLaws.{rows-at}
 use Rattle.value.proofs.result.put_instr.Reads as put-instr-reads
 use Rattle.value.proofs.instructions.put_instructions.Reads as put-instructions-reads
 use Rattle.value.proofs.walk.then_fallthrough.Reads as then-fallthrough

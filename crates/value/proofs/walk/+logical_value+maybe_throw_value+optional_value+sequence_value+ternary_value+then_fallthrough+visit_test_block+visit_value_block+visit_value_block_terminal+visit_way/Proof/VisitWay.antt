@@ -1,5 +1,5 @@
 -- The answers of `visit_way`.
-use Rattle.value.proofs.TableLaws.{some-number}
+use Rattle.table.proofs.BlockLaws.{low-number}
 use mathlib.Core.Path.{_≡_, refl, sym, ap, _∙_}
 use borrow.Author.Needs.{needs}
 use native.Mathlib.Omega.{arith}
@@ -24,7 +24,7 @@ module _ (t : ℕ) where
   returns c =
       let at-visit-value-block = c .before .before in
       let at-entry = at-visit-value-block .before .before .before .before in
-      rw (some-number (at-entry .args .terminal .fallthrough) (omega (arith, at-entry .pre .1 .1, at-entry .pre .1 .0 .promise .sized .limited .blocks))) at (at-visit-value-block .visit-value-block .ensures)
+      rw (low-number (at-entry .args .terminal .fallthrough) (omega (arith, at-entry .pre .1 .1, at-entry .pre .1 .0 .promise .sized .limited .blocks))) at (at-visit-value-block .visit-value-block .ensures)
 
 pub closed : {M : Type 1} (t : ℕ) → lts.Closed (calls t) (visit-way-at t) visit-way.Post M
 closed t = lts.spec (calls t) (visit-way-at t) visit-way.Post

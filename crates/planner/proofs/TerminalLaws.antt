@@ -1,0 +1,266 @@
+-- The visit of a block: what comes before its terminal, and what the terminal's planners see.
+use Prim.Native.Nat.{ℕ, zero, suc, _+_, _-_, _≤_, _<_}
+use native.Mathlib.Omega.{arith}
+use mathlib.Core.Path.{_≡_, refl, sym, ap, _∙_, subst}
+use mathlib.Core.Bool.{true, false}
+use mathlib.Core.List.{List, [], _++_, append-assoc}
+use mathlib.Core.Option.{Option, some}
+use lib.Dec.{eqb}
+use lib.ListN.{length}
+use borrow.Author.Tests.{eq-eqb, ne-eqb, le-leb, lt-leb}
+use Rattle.table.specs.Words.{blockCount, blockWord}
+use Rattle.table.specs.Promise.{Promise}
+use Rattle.table.specs.Table.{Table, Block, Terminal, absent, unreachable, throw, return, goto, if, branch, switch, do-while, while, for, for-of, for-in, logical, ternary, optional, label, sequence, maybe-throw, try, scope, Break, Continue, Try, codeOf, tableOf, blockOf, terminalOf, terminalAt, blockAt, rowsFrom, instructionRowsAt, variantOf}
+use Rattle.table.proofs.TableLaws.{block-at}
+use Rattle.table.proofs.BlockLaws.{end-by, code-at, goto-at, branch-at, length-rows}
+use Rattle.definition.specs.Context.{Flags, has, emit, withVisits, isScheduled, getBreakTarget, getContinueTarget}
+use Rattle.definition.specs.Context as definition
+use Rattle.definition.specs.Machine.{State, turn, step, visitTurn, terminalTurn, instructionsOut, depthLeft}
+use Rattle.definition.specs.Machine as machine
+use Rattle.definition.specs.Result.{Result, ok, refused, _>>=_, refuseIf}
+use Rattle.definition.specs.Statement.{enterBlock}
+use Rattle.definition.specs.Tree.{Row}
+use Rattle.definition.specs.Value.{beginVisit, visitValueBlock}
+use Rattle.control.specs.declared.Resolved.{Resolved}
+use Rattle.control.specs.Abstraction.{resolvedOf}
+use Rattle.rows.specs.Rows.{Holds}
+use Rattle.rows.specs.Stack.{pushed, pushInstructionRows}
+use Rattle.rows.proofs.StackLaws.{push-instruction-rows-after}
+use Rattle.value.specs.Met.{InstructionsPut}
+use Rattle.planner.specs.declared.plan.Stage.{Stage}
+use Rattle.planner.specs.declared.plan.Stage.the-variants.{Visit, Halt}
+use Rattle.planner.specs.declared.plan.Position.{Position}
+use Rattle.planner.specs.declared.plan.Frame.{Frame}
+use Rattle.planner.specs.declared.plan.Plan.{Plan}
+use Rattle.planner.specs.Plans.{stateAt, applied, refusing}
+use Rattle.planner.specs.Planned.{Seen, Fitting, Planned, terminalStep}
+use Rattle.planner.specs.Jumps.{JumpSeen, GotoSeen, BranchSeen}
+use Rattle.planner.specs.Loops.{valueFallthrough}
+use Rattle.planner.specs.Turn.{Resolves, Shown, AtTerminal, Visits, inHand, StageFits, Ready, emitting, PlannedTurn}
+use Rattle.planner.proofs.PlanLaws.{refuse-applied}
+use Rattle.planner.proofs.StepLaws.{turn-refused}
+use Rattle.planner.proofs.ResumeLaws.{applied-visits}
+
+-- ---- what the planners of jumps see
+
+module _ (w : List ℕ) (S H Z : Flags) (p : Position) (found : Resolved) (pr : Promise w) (below : p .block < blockCount w) (C : definition.Context) (A : AtTerminal w S H Z p found C) where
+  jump-seen : JumpSeen Z (p .visits) C
+  jump-seen = record { scopeFallthroughs = A .scopes; visits = A .seen .visits }
+
+  pub goto-seen : blockWord w (p .block) 2 ≡ 4 → GotoSeen w p Z found C
+  unfolding variantOf
+  goto-seen code = record {
+    seen = jump-seen;
+    breaks = λ e. subst (λ (z : Terminal). Resolves z C (resolvedOf found)) (goto-at w (p .block) below code Break (ap variantOf e)) (A .jump);
+    continues = λ e. subst (λ (z : Terminal). Resolves z C (resolvedOf found)) (goto-at w (p .block) below code Continue (ap variantOf e)) (A .jump);
+  }
+
+  pub branch-seen : blockWord w (p .block) 2 ≡ 6 → BranchSeen w p S H Z found C
+  branch-seen code = record { seen = jump-seen; sets = A .seen; breaks = subst (λ (z : Terminal). Resolves z C (resolvedOf found)) (branch-at w (p .block) below code) (A .jump) }
+
+-- ---- the fallthrough of a value terminal
+
+-- the column that has it, by the block's code
+pub fallthrough-by : (w : List ℕ) (b : ℕ) → b < blockCount w → (code column : ℕ) → blockWord w b 2 ≡ code
+    → valueFallthrough (terminalOf code (blockWord w b 3) (blockWord w b 4) (blockWord w b 5) (blockWord w b 6) (blockWord w b 7)) ≡ some (blockWord w b column)
+    → valueFallthrough (terminalAt (tableOf w) b) ≡ some (blockWord w b column)
+fallthrough-by w b below code column e by = ap valueFallthrough (end-by w b below code e) ∙ by
+
+-- ---- before the terminal
+
+-- what the search found is not changed by entering
+resolves-entered : (e : Terminal) (b v : ℕ) (C : definition.Context) (f : Option definition.Resolution) → Resolves e C f → Resolves e (emit b (withVisits v C)) f
+unfolding emit withVisits getBreakTarget getContinueTarget isScheduled
+resolves-entered absent b v C f h = tt
+resolves-entered unreachable b v C f h = tt
+resolves-entered (throw value) b v C f h = tt
+resolves-entered (return value) b v C f h = tt
+resolves-entered (goto target Break) b v C f h = h
+resolves-entered (goto target Continue) b v C f h = h
+resolves-entered (goto target Try) b v C f h = tt
+resolves-entered (if test consequent alternate fallthrough) b v C f h = tt
+resolves-entered (branch test consequent alternate) b v C f h = h
+resolves-entered (switch test first number fallthrough) b v C f h = tt
+resolves-entered (do-while loop test fallthrough) b v C f h = tt
+resolves-entered (while test loop fallthrough) b v C f h = tt
+resolves-entered (for init test update loop fallthrough) b v C f h = tt
+resolves-entered (for-of init test loop fallthrough) b v C f h = tt
+resolves-entered (for-in init loop fallthrough) b v C f h = tt
+resolves-entered (logical operator test fallthrough) b v C f h = tt
+resolves-entered (ternary test fallthrough) b v C f h = tt
+resolves-entered (optional chain test fallthrough) b v C f h = tt
+resolves-entered (label body fallthrough) b v C f h = tt
+resolves-entered (sequence body fallthrough) b v C f h = tt
+resolves-entered (maybe-throw continuation) b v C f h = tt
+resolves-entered (try body handler fallthrough binding) b v C f h = tt
+resolves-entered (scope pruned body fallthrough number) b v C f h = tt
+
+module _ (t : Table) (b : ℕ) (F : List machine.Frame) (R : List Row) (m : ℕ) (C : definition.Context) where
+  too-deep : 128 ≤ length F → visitTurn t b F R m C ≡ refused 30 b (C .visits)
+  unfolding visitTurn refuseIf _>>=_
+  too-deep h = rw (le-leb 128 (length F) h)
+
+  inside : Result definition.Context → Result State
+  inside entered = entered >>= λ D. terminalTurn t (visitValueBlock t (depthLeft F)) (terminalAt t b) b (blockAt t b) F (R ++ instructionsOut t (instructionRowsAt t b)) (m + length (instructionRowsAt t b)) D
+
+  not-deep : length F < 128 → visitTurn t b F R m C ≡ inside (enterBlock t b C)
+  unfolding visitTurn refuseIf _>>=_ inside
+  not-deep h = rw (lt-leb 128 (length F) h)
+
+  many-visits : 8192 ≤ C .visits → enterBlock t b C ≡ refused 31 b (C .visits)
+  unfolding enterBlock beginVisit refuseIf _>>=_
+  many-visits h = rw (le-leb 8192 (C .visits) h)
+
+  no-block : C .visits < 8192 → eqb (codeOf (terminalAt t b)) 0 ≡ true → enterBlock t b C ≡ refused 10 b (suc (C .visits))
+  unfolding enterBlock beginVisit refuseIf _>>=_
+  no-block h e = rw (lt-leb 8192 (C .visits) h, e)
+
+  emitted-twice : C .visits < 8192 → eqb (codeOf (terminalAt t b)) 0 ≡ false → has (C .emitted) b ≡ true → enterBlock t b C ≡ refused 11 b (suc (C .visits))
+  unfolding enterBlock beginVisit refuseIf _>>=_
+  emitted-twice h e k = rw (lt-leb 8192 (C .visits) h, e, k)
+
+  enters : C .visits < 8192 → eqb (codeOf (terminalAt t b)) 0 ≡ false → has (C .emitted) b ≡ false → enterBlock t b C ≡ ok (emit b (withVisits (suc (C .visits)) C))
+  unfolding enterBlock beginVisit refuseIf _>>=_
+  enters h e k = rw (lt-leb 8192 (C .visits) h, e, k)
+
+  inside-refused : (c a v : ℕ) → inside (refused c a v) ≡ refused c a v
+  unfolding inside _>>=_
+  inside-refused c a v = refl
+
+  inside-ok : (D : definition.Context) → inside (ok D) ≡ terminalTurn t (visitValueBlock t (depthLeft F)) (terminalAt t b) b (blockAt t b) F (R ++ instructionsOut t (instructionRowsAt t b)) (m + length (instructionRowsAt t b)) D
+  unfolding inside _>>=_
+  inside-ok D = refl
+
+-- a block's instructions, by its words
+rows-at : (w : List ℕ) (b : ℕ) → b < blockCount w → instructionRowsAt (tableOf w) b ≡ rowsFrom (blockWord w b 0) (blockWord w b 1)
+unfolding blockOf
+rows-at w b h = ap (λ (k : Block). rowsFrom (k .first) (k .count)) (block-at w b h)
+
+emit-visits : (b v : ℕ) (C : definition.Context) → emit b (withVisits v C) ≡ withVisits v (emit b C)
+unfolding emit withVisits
+emit-visits b v C = refl
+
+-- the visits are set once more where a plan is applied
+entered-applied : (plan : Plan) (b v : ℕ) (F : List machine.Frame) (R : List Row) (C : definition.Context) → applied plan F R (emit b (withVisits v C)) ≡ applied plan F R (emit b C)
+entered-applied plan b v F R C = ap (applied plan F R) (emit-visits b v C) ∙ applied-visits plan v F R (emit b C)
+
+module _ (w : List ℕ) (E S H Z : Flags) (p : Position) (found : Resolved) (here : Visits w p) (frame : Frame) where
+  abbrev On : definition.Context → Type 0
+  On = Shown w E S H Z p found
+
+  abbrev b : ℕ
+  b = p .block
+
+  entered-sees : (q : Position) (C : definition.Context) → On C → suc (C .visits) ≡ q .visits → q .block ≡ b → AtTerminal w S H Z q found (emit b (withVisits (suc (C .visits)) C))
+  unfolding emit withVisits
+  entered-sees q C o s e = record {
+    seen = record { scheduled = o .scheduled; handlers = o .handlers; visits = s; wide = o .wide };
+    scopes = o .scopes;
+    jump = rw e (resolves-entered (terminalAt (tableOf w) b) b (suc (C .visits)) C (resolvedOf found) (o .jump (here .stage)));
+  }
+
+  planned : {buffer buffer′ : List ℕ} (plan : Plan) (out : List Row)
+      → (plan .code ≡ 0 → (before : List Row) → Holds buffer (p .rows) (pushed before []) → Holds buffer′ (plan .position .rows) (pushed (before ++ out) []))
+      → ((F : List machine.Frame) (R : List Row) (C : definition.Context) → length F ≡ p .depth → On C → turn (visitTurn (tableOf w) b F R (p .count) C) ≡ applied plan F (R ++ out) (emit b C))
+      → (plan .code ≡ 0 → Fitting [] (p .depth) plan) → PlannedTurn w On p frame buffer plan buffer′
+  unfolding step
+  planned plan out held same fit = record {
+    out = out;
+    held = held;
+    same = λ F R C. subst (λ (s : Stage). length (inHand s (p .depth) frame ++ F) ≡ p .depth → On C → step (tableOf w) (stateAt s b (inHand s (p .depth) frame ++ F) R (p .count) C) ≡ applied plan (inHand s (p .depth) frame ++ F) (R ++ out) (emitting s b C)) (sym (here .stage)) (λ l o. same F R C l o);
+    fitting = λ z. subst (λ (s : Stage). Fitting (inHand s (p .depth) frame) (p .depth) plan) (sym (here .stage)) (fit z);
+  }
+
+  refused-turn : (buffer : List ℕ) (q : Position) (code at : ℕ) (plan : Plan) → (code ≡ 0 → ⊥) → plan ≡ refusing q code at
+      → ((F : List machine.Frame) (R : List Row) (C : definition.Context) → length F ≡ p .depth → On C → visitTurn (tableOf w) b F R (p .count) C ≡ refused code at (q .visits)) → PlannedTurn w On p frame buffer plan buffer
+  refused-turn buffer q code at plan nz e same = subst (λ (z : Plan). PlannedTurn w On p frame buffer z buffer) (sym e) (planned (refusing q code at) [] (λ z. absurd (nz z))
+      (λ F R C l o. ap turn (same F R C l o) ∙ turn-refused code at (q .visits) ∙ sym (refuse-applied q code at F (R ++ []) (emit b C) nz)) (λ z. absurd (nz z)))
+
+  pub deep-planned : (buffer : List ℕ) (plan : Plan) → 128 ≤ p .depth → plan ≡ refusing p 30 b → PlannedTurn w On p frame buffer plan buffer
+  deep-planned buffer plan h e = refused-turn buffer p 30 b plan (λ z. omega arith) e (λ F R C l o. too-deep (tableOf w) b F R (p .count) C (omega (arith, l)) ∙ ap (refused 30 b) (o .visits))
+
+  module _ (shallow : p .depth < 128) where
+    entering-turn : (F : List machine.Frame) (R : List Row) (C : definition.Context) (code at v : ℕ) → length F ≡ p .depth → enterBlock (tableOf w) b C ≡ refused code at v → visitTurn (tableOf w) b F R (p .count) C ≡ refused code at v
+    entering-turn F R C code at v l e = not-deep (tableOf w) b F R (p .count) C (omega (arith, l)) ∙ ap (inside (tableOf w) b F R (p .count) C) e ∙ inside-refused (tableOf w) b F R (p .count) C code at v
+
+    pub visits-planned : (buffer : List ℕ) (plan : Plan) → 8192 ≤ p .visits → plan ≡ refusing p 31 b → PlannedTurn w On p frame buffer plan buffer
+    visits-planned buffer plan h e = refused-turn buffer p 31 b plan (λ z. omega arith) e
+        (λ F R C l o. entering-turn F R C 31 b (p .visits) l (many-visits (tableOf w) b F R (p .count) C (omega (arith, o .visits, h)) ∙ ap (refused 31 b) (o .visits)))
+
+    module _ (few : p .visits < 8192) where
+      next-visit : (C : definition.Context) (q : Position) → On C → q .visits ≡ p .visits + 1 → suc (C .visits) ≡ q .visits
+      next-visit C q o s = omega (arith, o .visits, s)
+
+      pub absent-planned : (buffer : List ℕ) (q : Position) (plan : Plan) → q .visits ≡ p .visits + 1 → blockWord w b 2 ≡ 0 → plan ≡ refusing q 10 b → PlannedTurn w On p frame buffer plan buffer
+      absent-planned buffer q plan s z e = refused-turn buffer q 10 b plan (λ y. omega arith) e (λ F R C l o. entering-turn F R C 10 b (q .visits) l
+          (no-block (tableOf w) b F R (p .count) C (omega (arith, o .visits, few)) (ap (λ (k : ℕ). eqb k 0) (code-at w b (here .promise) (here .block)) ∙ eq-eqb (blockWord w b 2) 0 z) ∙ ap (refused 10 b) (next-visit C q o s)))
+
+      module _ (there : blockWord w b 2 ≡ 0 → ⊥) where
+        present : eqb (codeOf (terminalAt (tableOf w) b)) 0 ≡ false
+        present = ap (λ (k : ℕ). eqb k 0) (code-at w b (here .promise) (here .block)) ∙ ne-eqb (blockWord w b 2) 0 there
+
+        pub emitted-planned : (buffer : List ℕ) (q : Position) (plan : Plan) → q .visits ≡ p .visits + 1 → has E b ≡ true → plan ≡ refusing q 11 b → PlannedTurn w On p frame buffer plan buffer
+        emitted-planned buffer q plan s z e = refused-turn buffer q 11 b plan (λ y. omega arith) e (λ F R C l o. entering-turn F R C 11 b (q .visits) l
+            (emitted-twice (tableOf w) b F R (p .count) C (omega (arith, o .visits, few)) present (ap (λ (k : Flags). has k b) (o .emitted) ∙ z) ∙ ap (refused 11 b) (next-visit C q o s)))
+
+        -- the terminal's planner goes on from the instructions
+        pub entered-planned : (buffer buffer₁ buffer′ : List ℕ) (q : Position) (plan : Plan) → has E b ≡ false → q .block ≡ b → q .depth ≡ p .depth → q .count ≡ p .count + blockWord w b 1 → q .visits ≡ p .visits + 1
+            → InstructionsPut w (blockWord w b 0) (blockWord w b 1) buffer (p .rows) buffer₁ (q .rows)
+            → Planned (terminalStep w q) (AtTerminal w S H Z q found) [] (q .depth) (q .rows) buffer₁ plan buffer′ → PlannedTurn w On p frame buffer plan buffer′
+        entered-planned buffer buffer₁ buffer′ q plan z eb ed ec ev put m = planned plan (lines ++ m .out)
+            (λ y before h. subst (λ (R : List Row). Holds buffer′ (plan .position .rows) (pushed R [])) (append-assoc before lines (m .out)) (m .held y (before ++ lines) (written before h)))
+            (λ F R C l o. ap turn (goes F R C l o) ∙ m .same F (R ++ lines) (emit b (withVisits (suc (C .visits)) C)) (l ∙ sym ed) (sees C o)
+            ∙ entered-applied plan b (suc (C .visits)) F ((R ++ lines) ++ m .out) C ∙ ap (λ (X : List Row). applied plan F X (emit b C)) (append-assoc R lines (m .out)))
+            (λ y. subst (λ (d : ℕ). Fitting [] d plan) ed (m .fitting y))
+          where
+            lines : List Row
+            lines = instructionsOut (tableOf w) (instructionRowsAt (tableOf w) b)
+
+            written : (before : List Row) → Holds buffer (p .rows) (pushed before []) → Holds buffer₁ (q .rows) (pushed (before ++ lines) [])
+            written before h = subst (λ (X : List Row). Holds buffer₁ (q .rows) X)
+                (ap (λ (is : List ℕ). pushInstructionRows (tableOf w) is (pushed before [])) (sym (rows-at w b (here .block))) ∙ push-instruction-rows-after (tableOf w) (instructionRowsAt (tableOf w) b) before) (put .kept (pushed before []) h)
+
+            goes : (F : List machine.Frame) (R : List Row) (C : definition.Context) → length F ≡ p .depth → On C → visitTurn (tableOf w) b F R (p .count) C ≡ terminalStep w q F (R ++ lines) (emit b (withVisits (suc (C .visits)) C))
+            goes F R C l o = not-deep (tableOf w) b F R (p .count) C (omega (arith, l))
+                ∙ ap (inside (tableOf w) b F R (p .count) C) (enters (tableOf w) b F R (p .count) C (omega (arith, o .visits, few)) present (ap (λ (k : Flags). has k b) (o .emitted) ∙ z))
+                ∙ inside-ok (tableOf w) b F R (p .count) C (emit b (withVisits (suc (C .visits)) C))
+                ∙ rw (eb, ed, ec, l, ap length (rows-at w b (here .block)) ∙ length-rows (blockWord w b 0) (blockWord w b 1)) refl
+
+            sees : (C : definition.Context) → On C → AtTerminal w S H Z q found (emit b (withVisits (suc (C .visits)) C))
+            sees C o = entered-sees q C o (next-visit C q o ev) eb
+
+-- ---- codes from 20 on
+
+pub twenty : (n : ℕ) → (n ≡ 0 → ⊥) → (n ≡ 1 → ⊥) → (n ≡ 2 → ⊥) → (n ≡ 3 → ⊥) → (n ≡ 4 → ⊥) → (n ≡ 5 → ⊥) → (n ≡ 6 → ⊥) → (n ≡ 7 → ⊥) → (n ≡ 8 → ⊥) → (n ≡ 9 → ⊥) → (n ≡ 10 → ⊥) → (n ≡ 11 → ⊥) → (n ≡ 12 → ⊥) → (n ≡ 13 → ⊥) → (n ≡ 14 → ⊥) → (n ≡ 15 → ⊥) → (n ≡ 16 → ⊥) → (n ≡ 17 → ⊥) → (n ≡ 18 → ⊥) → (n ≡ 19 → ⊥) → 20 ≤ n
+twenty zero f0 f1 f2 f3 f4 f5 f6 f7 f8 f9 f10 f11 f12 f13 f14 f15 f16 f17 f18 f19 = absurd (f0 refl)
+twenty (suc (zero)) f0 f1 f2 f3 f4 f5 f6 f7 f8 f9 f10 f11 f12 f13 f14 f15 f16 f17 f18 f19 = absurd (f1 refl)
+twenty (suc (suc (zero))) f0 f1 f2 f3 f4 f5 f6 f7 f8 f9 f10 f11 f12 f13 f14 f15 f16 f17 f18 f19 = absurd (f2 refl)
+twenty (suc (suc (suc (zero)))) f0 f1 f2 f3 f4 f5 f6 f7 f8 f9 f10 f11 f12 f13 f14 f15 f16 f17 f18 f19 = absurd (f3 refl)
+twenty (suc (suc (suc (suc (zero))))) f0 f1 f2 f3 f4 f5 f6 f7 f8 f9 f10 f11 f12 f13 f14 f15 f16 f17 f18 f19 = absurd (f4 refl)
+twenty (suc (suc (suc (suc (suc (zero)))))) f0 f1 f2 f3 f4 f5 f6 f7 f8 f9 f10 f11 f12 f13 f14 f15 f16 f17 f18 f19 = absurd (f5 refl)
+twenty (suc (suc (suc (suc (suc (suc (zero))))))) f0 f1 f2 f3 f4 f5 f6 f7 f8 f9 f10 f11 f12 f13 f14 f15 f16 f17 f18 f19 = absurd (f6 refl)
+twenty (suc (suc (suc (suc (suc (suc (suc (zero)))))))) f0 f1 f2 f3 f4 f5 f6 f7 f8 f9 f10 f11 f12 f13 f14 f15 f16 f17 f18 f19 = absurd (f7 refl)
+twenty (suc (suc (suc (suc (suc (suc (suc (suc (zero))))))))) f0 f1 f2 f3 f4 f5 f6 f7 f8 f9 f10 f11 f12 f13 f14 f15 f16 f17 f18 f19 = absurd (f8 refl)
+twenty (suc (suc (suc (suc (suc (suc (suc (suc (suc (zero)))))))))) f0 f1 f2 f3 f4 f5 f6 f7 f8 f9 f10 f11 f12 f13 f14 f15 f16 f17 f18 f19 = absurd (f9 refl)
+twenty (suc (suc (suc (suc (suc (suc (suc (suc (suc (suc (zero))))))))))) f0 f1 f2 f3 f4 f5 f6 f7 f8 f9 f10 f11 f12 f13 f14 f15 f16 f17 f18 f19 = absurd (f10 refl)
+twenty (suc (suc (suc (suc (suc (suc (suc (suc (suc (suc (suc (zero)))))))))))) f0 f1 f2 f3 f4 f5 f6 f7 f8 f9 f10 f11 f12 f13 f14 f15 f16 f17 f18 f19 = absurd (f11 refl)
+twenty (suc (suc (suc (suc (suc (suc (suc (suc (suc (suc (suc (suc (zero))))))))))))) f0 f1 f2 f3 f4 f5 f6 f7 f8 f9 f10 f11 f12 f13 f14 f15 f16 f17 f18 f19 = absurd (f12 refl)
+twenty (suc (suc (suc (suc (suc (suc (suc (suc (suc (suc (suc (suc (suc (zero)))))))))))))) f0 f1 f2 f3 f4 f5 f6 f7 f8 f9 f10 f11 f12 f13 f14 f15 f16 f17 f18 f19 = absurd (f13 refl)
+twenty (suc (suc (suc (suc (suc (suc (suc (suc (suc (suc (suc (suc (suc (suc (zero))))))))))))))) f0 f1 f2 f3 f4 f5 f6 f7 f8 f9 f10 f11 f12 f13 f14 f15 f16 f17 f18 f19 = absurd (f14 refl)
+twenty (suc (suc (suc (suc (suc (suc (suc (suc (suc (suc (suc (suc (suc (suc (suc (zero)))))))))))))))) f0 f1 f2 f3 f4 f5 f6 f7 f8 f9 f10 f11 f12 f13 f14 f15 f16 f17 f18 f19 = absurd (f15 refl)
+twenty (suc (suc (suc (suc (suc (suc (suc (suc (suc (suc (suc (suc (suc (suc (suc (suc (zero))))))))))))))))) f0 f1 f2 f3 f4 f5 f6 f7 f8 f9 f10 f11 f12 f13 f14 f15 f16 f17 f18 f19 = absurd (f16 refl)
+twenty (suc (suc (suc (suc (suc (suc (suc (suc (suc (suc (suc (suc (suc (suc (suc (suc (suc (zero)))))))))))))))))) f0 f1 f2 f3 f4 f5 f6 f7 f8 f9 f10 f11 f12 f13 f14 f15 f16 f17 f18 f19 = absurd (f17 refl)
+twenty (suc (suc (suc (suc (suc (suc (suc (suc (suc (suc (suc (suc (suc (suc (suc (suc (suc (suc (zero))))))))))))))))))) f0 f1 f2 f3 f4 f5 f6 f7 f8 f9 f10 f11 f12 f13 f14 f15 f16 f17 f18 f19 = absurd (f18 refl)
+twenty (suc (suc (suc (suc (suc (suc (suc (suc (suc (suc (suc (suc (suc (suc (suc (suc (suc (suc (suc (zero)))))))))))))))))))) f0 f1 f2 f3 f4 f5 f6 f7 f8 f9 f10 f11 f12 f13 f14 f15 f16 f17 f18 f19 = absurd (f19 refl)
+twenty (suc (suc (suc (suc (suc (suc (suc (suc (suc (suc (suc (suc (suc (suc (suc (suc (suc (suc (suc (suc (n))))))))))))))))))))) f0 f1 f2 f3 f4 f5 f6 f7 f8 f9 f10 f11 f12 f13 f14 f15 f16 f17 f18 f19 = omega arith
+
+pub visits-ready : (w : List ℕ) (p : Position) (frame : Frame) → Ready w p frame → p .stage ≡ Visit → Visits w p
+visits-ready w p frame ready e =
+    let here : StageFits w Visit p frame = subst (λ (s : Stage). StageFits w s p frame) e (ready .stage) in
+    record { promise = ready .promise; stage = e; block = here .0; depth = ready .depth; visits = ready .visits; rows = ready .rows; count = here .1 }
+
+pub shown-seen : {w : List ℕ} {E S H Z : Flags} {p : Position} {found : Resolved} {C : definition.Context} → Shown w E S H Z p found C → Seen S H (p .visits) C
+shown-seen o = record { scheduled = o .scheduled; handlers = o .handlers; visits = o .visits; wide = o .wide }
+
+pub not-halted : (w : List ℕ) (p : Position) (frame : Frame) → Ready w p frame → p .stage ≡ Halt → ⊥
+not-halted w p frame ready e = subst (λ (s : Stage). StageFits w s p frame) e (ready .stage)

@@ -1,0 +1,18 @@
+use borrow.Author.Needs.{needs}
+use Rattle.planner.proofs.fallthrough.unless_scheduled.Statement.{statement}
+use Rattle.planner.proofs.fallthrough.unless_scheduled.Tie as tie
+
+-- src/fallthrough.rt:50:18
+scheduled-at-requires : tie.Need-scheduled-at-requires
+scheduled-at-requires c κs = search needs
+
+-- src/fallthrough.rt:50:5
+unless-taken-requires : tie.Need-unless-taken-requires
+unless-taken-requires c κs = search needs
+
+-- src/fallthrough.rt:46:1
+returns : tie.Need-returns
+returns c = rw (c .unless-taken .ensures, c .before .scheduled-at .ensures)
+
+pub unless-scheduled-spec : {M : Type 1} → statement M
+unless-scheduled-spec = tie.close (tie.spec scheduled-at-requires unless-taken-requires returns)

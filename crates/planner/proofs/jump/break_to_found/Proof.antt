@@ -1,0 +1,64 @@
+use Rattle.planner.proofs.JumpLaws.{break-scope, break-out, break-row}
+use mathlib.Core.Path.{refl, sym, _∙_}
+use borrow.Author.Needs.{needs}
+use Rattle.planner.proofs.jump.break_to_found.Statement.{statement}
+use Rattle.planner.proofs.jump.break_to_found.Tie as tie
+
+number-requires : tie.Need-number-requires
+number-requires c κs = search needs
+
+cast-place : tie.Need-cast-place
+cast-place c = search needs
+
+element-copy-out-if1 : tie.Need-element-copy-out-if1
+element-copy-out-if1 c = search needs
+
+returns : tie.Need-returns
+returns c =
+    let at-if1 = c .before in
+    let at-number = at-if1 .before .before in
+    let at-entry = at-number .before .before in
+    break-scope (at-entry .args .p .block) (at-entry .args .id) (at-entry .args .scopes .now) (at-entry .args .p .visits) (at-entry .args .p .rows) (at-entry .args .found) _ _ (at-if1 .if1 .taken) (sym (at-number .number .ensures) ∙ c .if2 .taken) refl
+
+refuse-jump-requires : tie.Need-refuse-jump-requires
+refuse-jump-requires c κs = search needs
+
+returns-2 : tie.Need-returns-2
+returns-2 c =
+    let at-if2 = c .before in
+    let at-if1 = at-if2 .before in
+    let at-number = at-if1 .before .before in
+    let at-entry = at-number .before .before in
+    break-out (at-entry .args .p .block) (at-entry .args .id) (at-entry .args .scopes .now) (at-entry .args .p .visits) (at-entry .args .p .rows) (at-entry .args .found) _ _ (at-if1 .if1 .taken) (λ z. at-if2 .if2 .left (at-number .number .ensures ∙ z)) (c .refuse-jump .ensures)
+
+cast-put : tie.Need-cast-put
+cast-put c = search needs
+
+put-requires : tie.Need-put-requires
+put-requires c κs = search needs
+
+same-length : tie.Need-same-length
+same-length c = search needs
+
+returns-3 : tie.Need-returns-3
+returns-3 c =
+    let at-put = c .before .before in
+    let at-if1 = at-put .before .before in
+    let at-number = at-if1 .before .before in
+    let at-entry = at-number .before .before in
+    break-row (at-entry .args .p .block) (at-entry .args .id) (at-entry .args .scopes .now) (at-entry .args .p .visits) (at-entry .args .p .rows) (at-put .put .result) (at-entry .args .found) 24 (at-entry .args .found .target) (at-number .number .result) _ _ _ (at-if1 .if1 .left) refl refl (at-number .number .ensures) (at-put .put .ensures) refl
+
+pub break-to-found-spec : {M : Type 1} → statement M
+break-to-found-spec =
+    tie.close
+    (tie.spec
+    number-requires
+    cast-place
+    element-copy-out-if1
+    returns
+    refuse-jump-requires
+    returns-2
+    cast-put
+    put-requires
+    same-length
+    returns-3)

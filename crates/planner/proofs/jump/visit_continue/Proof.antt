@@ -1,0 +1,43 @@
+use Rattle.planner.proofs.JumpLaws.{continue-none}
+use borrow.Author.Needs.{needs}
+use Rattle.planner.proofs.jump.visit_continue.Statement.{statement}
+use Rattle.planner.proofs.jump.visit_continue.Tie as tie
+
+enum-told : tie.Need-enum-told
+enum-told c = search needs
+
+refuse-jump-requires : tie.Need-refuse-jump-requires
+refuse-jump-requires c κs = search needs
+
+enum-known-resolved : tie.Need-enum-known-resolved
+enum-known-resolved c = search needs
+
+continue-to-found-requires : tie.Need-continue-to-found-requires
+continue-to-found-requires c κs = search needs
+
+returns : tie.Need-returns
+returns c =
+    let at-enum-told = c .before in
+    rw (at-enum-told .enum-told .given .1) (continue-none _ _ _ _ _ (c .refuse-jump .ensures))
+
+same-length : tie.Need-same-length
+same-length c = search needs
+
+returns-2 : tie.Need-returns-2
+returns-2 c =
+    let at-continue-to-found = c .before .before in
+    let at-resolved = at-continue-to-found .before .before .before in
+    let at-entry = at-resolved .before .before .before in
+    λ v O. rw (at-resolved .resolved .given .1) (at-continue-to-found .continue-to-found .ensures (at-entry .args .target) v O)
+
+pub visit-continue-spec : {M : Type 1} → statement M
+visit-continue-spec =
+    tie.close
+    (tie.spec
+    enum-told
+    refuse-jump-requires
+    enum-known-resolved
+    continue-to-found-requires
+    returns
+    same-length
+    returns-2)

@@ -1,0 +1,68 @@
+use borrow.Author.Tests.{eq-eqb, ne-eqb}
+use mathlib.Core.Path.{sym, _∙_}
+use borrow.Author.Needs.{needs}
+use Rattle.planner.proofs.loops.enter_loop.Statement.{statement}
+use Rattle.planner.proofs.loops.enter_loop.Tie as tie
+
+advance-requires : tie.Need-advance-requires
+advance-requires c κs = search needs
+
+refuse-requires : tie.Need-refuse-requires
+refuse-requires c κs = search needs
+
+returns : tie.Need-returns
+returns c =
+    let at-if1 = c .before in
+    let at-advance = at-if1 .before .before in
+    rw (ne-eqb _ _ (at-if1 .if1 .taken)) (rw (at-advance .advance .ensures) at (c .refuse .ensures))
+
+loop-is-taken-requires : tie.Need-loop-is-taken-requires
+loop-is-taken-requires c κs = search needs
+
+refuse-requires-2 : tie.Need-refuse-requires-2
+refuse-requires-2 c κs = search needs
+
+returns-2 : tie.Need-returns-2
+returns-2 c =
+    let at-if2 = c .before in
+    let at-loop-is-taken = at-if2 .before in
+    let at-if1 = at-loop-is-taken .before in
+    let at-advance = at-if1 .before .before in
+    rw (eq-eqb _ _ (at-if1 .if1 .left), sym (at-loop-is-taken .loop-is-taken .ensures) ∙ at-if2 .if2 .taken) (rw (at-advance .advance .ensures) at (c .refuse2 .ensures))
+
+frame-of-requires : tie.Need-frame-of-requires
+frame-of-requires c κs = search needs
+
+add-traverse-block : tie.Need-add-traverse-block
+add-traverse-block c = search needs
+
+schedule-loop-requires : tie.Need-schedule-loop-requires
+schedule-loop-requires c κs = search needs
+
+traverse-block-requires : tie.Need-traverse-block-requires
+traverse-block-requires c κs = search needs
+
+returns-3 : tie.Need-returns-3
+returns-3 c =
+    let at-schedule-loop = c .before in
+    let at-frame-of = at-schedule-loop .before .before in
+    let at-if2 = at-frame-of .before in
+    let at-loop-is-taken = at-if2 .before in
+    let at-if1 = at-loop-is-taken .before in
+    rw (eq-eqb _ _ (at-if1 .if1 .left), sym (at-loop-is-taken .loop-is-taken .ensures) ∙ at-if2 .if2 .left) (rw (at-frame-of .frame-of .ensures, at-schedule-loop .schedule-loop .ensures) at (c .traverse-block .ensures))
+
+pub enter-loop-spec : {M : Type 1} → statement M
+enter-loop-spec =
+    tie.close
+    (tie.spec
+    advance-requires
+    refuse-requires
+    returns
+    loop-is-taken-requires
+    refuse-requires-2
+    returns-2
+    frame-of-requires
+    add-traverse-block
+    schedule-loop-requires
+    traverse-block-requires
+    returns-3)

@@ -1,0 +1,90 @@
+use Rattle.planner.proofs.LoopLaws.{fallthrough-below, value-statement-refused, value-statement-left}
+use Rattle.planner.proofs.VisitLaws.{few-blocks}
+use native.Mathlib.Omega.{arith}
+use borrow.Author.Needs.{needs}
+use Rattle.planner.proofs.loops.visit_value.Statement.{statement}
+use Rattle.planner.proofs.loops.visit_value.Tie as tie
+
+block-word-requires : tie.Need-block-word-requires
+block-word-requires c κs = search needs
+
+unless-scheduled-requires : tie.Need-unless-scheduled-requires
+unless-scheduled-requires c κs =
+    let at-entry = c .before .before .before in
+    few-blocks (at-entry .args .words .now) (at-entry .pre .0 .promise) (c .block-word .result) (rw (c .block-word .ensures) (fallthrough-below (at-entry .args .words .now) (at-entry .args .scheduled .now) (at-entry .args .catch-handlers .now) (at-entry .args .p) (at-entry .pre .0) _ (at-entry .pre .1 .1)))
+
+block-word-requires-2 : tie.Need-block-word-requires-2
+block-word-requires-2 c κs = search needs
+
+sub-visit-value-block-terminal : tie.Need-sub-visit-value-block-terminal
+sub-visit-value-block-terminal c = search needs
+
+visit-value-block-terminal-requires : tie.Need-visit-value-block-terminal-requires
+visit-value-block-terminal-requires c κs = search needs
+
+advance-requires : tie.Need-advance-requires
+advance-requires c κs = search needs
+
+refuse-requires : tie.Need-refuse-requires
+refuse-requires c κs = search needs
+
+same-length : tie.Need-same-length
+same-length c = search needs
+
+returns : tie.Need-returns
+returns c =
+    let at-advance = c .before in
+    let at-if1 = at-advance .before in
+    let at-visit-value-block-terminal = at-if1 .before .before .before .before .before in
+    let at-entry = at-visit-value-block-terminal .before .before .before .before .before .before .before .before in
+    value-statement-refused (at-entry .args .words .now) (at-entry .args .scheduled .now) (at-entry .args .catch-handlers .now) (at-entry .args .p) (at-entry .pre .0) _ (at-entry .pre .1 .1) (at-visit-value-block-terminal .visit-value-block-terminal .ensures) _ _ (at-if1 .if1 .taken) (rw (at-advance .advance .ensures) at (c .refuse .ensures))
+
+put-requires : tie.Need-put-requires
+put-requires c κs =
+    let at-visit-value-block-terminal = c .before .before .before .before .before .before in
+    let at-entry = at-visit-value-block-terminal .before .before .before .before .before .before .before .before in
+    omega (arith, at-visit-value-block-terminal .visit-value-block-terminal .ensures .numbers, at-entry .pre .0)
+
+add-leave : tie.Need-add-leave
+add-leave c = omega (arith, c .before .before .before .before .before .before .before .before .before .before .before .before .before .before .before .before .before .before .pre .0 .count, c .before .before .before .before .before .before .before .before .before .before .before .before .before .before .before .before .before .before .pre .0 .rows)
+
+take-id-requires : tie.Need-take-id-requires
+take-id-requires c κs = search needs
+
+leave-requires : tie.Need-leave-requires
+leave-requires c κs = search needs
+
+same-length-2 : tie.Need-same-length-2
+same-length-2 c = search needs
+
+returns-2 : tie.Need-returns-2
+returns-2 c =
+    let at-take-id = c .before in
+    let at-put = at-take-id .before .before .before .before in
+    let at-if1 = at-put .before .before in
+    let at-visit-value-block-terminal = at-if1 .before .before .before .before .before in
+    let at-block-word2 = at-visit-value-block-terminal .before .before .before in
+    let at-unless-scheduled = at-block-word2 .before in
+    let at-block-word = at-unless-scheduled .before in
+    let at-entry = at-block-word .before .before .before in
+    value-statement-left (at-entry .args .words .now) (at-entry .args .scheduled .now) (at-entry .args .catch-handlers .now) (at-entry .args .p) (at-entry .pre .0) _ (at-entry .pre .1 .1) (at-visit-value-block-terminal .visit-value-block-terminal .ensures) (at-unless-scheduled .unless-scheduled .result) _ _ _ (at-if1 .if1 .left) (rw (at-block-word .block-word .ensures) at (at-unless-scheduled .unless-scheduled .ensures)) (rw (at-block-word2 .block-word2 .ensures) at (at-put .put .ensures)) (rw (← (at-take-id .take-id .ensures)) (c .leave .ensures))
+
+pub visit-value-spec : {M : Type 1} → statement M
+visit-value-spec =
+    tie.close
+    (tie.spec
+    block-word-requires
+    unless-scheduled-requires
+    block-word-requires-2
+    sub-visit-value-block-terminal
+    visit-value-block-terminal-requires
+    advance-requires
+    refuse-requires
+    same-length
+    returns
+    put-requires
+    add-leave
+    take-id-requires
+    leave-requires
+    same-length-2
+    returns-2)

@@ -1,0 +1,148 @@
+use mathlib.Core.Path.{refl, sym, _∙_}
+use native.Mathlib.Omega.{arith}
+use Rattle.table.proofs.RangeLaws.{run-within}
+use Rattle.definition.specs.Context.{has}
+use Rattle.planner.proofs.TerminalLaws.{deep-planned, visits-planned, absent-planned, emitted-planned, entered-planned}
+use borrow.Author.Needs.{needs}
+use Rattle.planner.proofs.visit.visit_block.Statement.{statement}
+use Rattle.planner.proofs.visit.visit_block.Tie as tie
+
+refuse-requires : tie.Need-refuse-requires
+refuse-requires c κs = search needs
+
+returns : tie.Need-returns
+returns c frame =
+    let at-if1 = c .before in
+    let at-entry = at-if1 .before .before .before .before in
+    deep-planned _ _ _ _ _ _ _ (at-entry .pre .0) frame _ _ (at-if1 .if1 .taken) (c .refuse .ensures)
+
+refuse-requires-2 : tie.Need-refuse-requires-2
+refuse-requires-2 c κs = search needs
+
+returns-2 : tie.Need-returns-2
+returns-2 c frame =
+    let at-if2 = c .before in
+    let at-if1 = at-if2 .before .before in
+    let at-entry = at-if1 .before .before .before .before in
+    visits-planned _ _ _ _ _ _ _ (at-entry .pre .0) frame (at-if1 .if1 .left) _ _ (at-if2 .if2 .taken) (c .refuse2 .ensures)
+
+add-visits : tie.Need-add-visits
+add-visits c = search needs
+
+advance-requires : tie.Need-advance-requires
+advance-requires c κs = search needs
+
+block-word-requires : tie.Need-block-word-requires
+block-word-requires c κs = search needs
+
+refuse-requires-3 : tie.Need-refuse-requires-3
+refuse-requires-3 c κs = search needs
+
+returns-3 : tie.Need-returns-3
+returns-3 c frame =
+    let at-if3 = c .before in
+    let at-block-word = at-if3 .before in
+    let at-advance = at-block-word .before in
+    let at-if2 = at-advance .before .before in
+    let at-if1 = at-if2 .before .before in
+    let at-entry = at-if1 .before .before .before .before in
+    absent-planned _ _ _ _ _ _ _ (at-entry .pre .0) frame (at-if1 .if1 .left) (at-if2 .if2 .left) _ _ _ refl (sym (at-block-word .block-word .ensures) ∙ at-if3 .if3 .taken) (rw (at-advance .advance .ensures) at (c .refuse3 .ensures))
+
+cast-if4 : tie.Need-cast-if4
+cast-if4 c = search needs
+
+element-copy-out-if4 : tie.Need-element-copy-out-if4
+element-copy-out-if4 c = search needs
+
+refuse-requires-4 : tie.Need-refuse-requires-4
+refuse-requires-4 c κs = search needs
+
+returns-4 : tie.Need-returns-4
+unfolding has
+returns-4 c frame =
+    let at-if4 = c .before in
+    let at-if3 = at-if4 .before .before in
+    let at-block-word = at-if3 .before in
+    let at-advance = at-block-word .before in
+    let at-if2 = at-advance .before .before in
+    let at-if1 = at-if2 .before .before in
+    let at-entry = at-if1 .before .before .before .before in
+    emitted-planned _ _ _ _ _ _ _ (at-entry .pre .0) frame (at-if1 .if1 .left) (at-if2 .if2 .left) (λ e. at-if3 .if3 .left (at-block-word .block-word .ensures ∙ e)) _ _ _ refl (at-if4 .if4 .taken) (rw (at-advance .advance .ensures) at (c .refuse4 .ensures))
+
+block-word-requires-2 : tie.Need-block-word-requires-2
+block-word-requires-2 c κs = search needs
+
+block-word-requires-3 : tie.Need-block-word-requires-3
+block-word-requires-3 c κs = (c .before .before .before .before .before .before .before .before .before .before .before .before .before .before .pre .0 .promise .sized, (c .before .before .before .before .before .before .before .before .before .before .before .before .before .before .pre .0 .block, omega arith))
+
+put-instructions-requires : tie.Need-put-instructions-requires
+put-instructions-requires c κs =
+    let at-block-word2 = c .before .before in
+    let at-entry = at-block-word2 .before .before .before .before .before .before .before .before .before .before .before .before .before in
+    (at-entry .pre .0 .promise, (rw (at-block-word2 .block-word2 .ensures, c .block-word3 .ensures) (run-within _ (at-entry .pre .0 .promise) _ (at-entry .pre .0 .block)), omega (arith, at-entry .pre .0 .rows)))
+
+add-advance : tie.Need-add-advance
+add-advance c =
+    let at-block-word2 = c .before .before .before .before .before .before in
+    let at-entry = at-block-word2 .before .before .before .before .before .before .before .before .before .before .before .before .before in
+    omega (arith, at-block-word2 .block-word2 .ensures, at-entry .pre .0 .rows, at-entry .pre .0 .count, run-within _ (at-entry .pre .0 .promise) _ (at-entry .pre .0 .block), at-entry .pre .0 .promise .sized .limited .instructions)
+
+advance-requires-2 : tie.Need-advance-requires-2
+advance-requires-2 c κs = search needs
+
+visit-terminal-requires : tie.Need-visit-terminal-requires
+visit-terminal-requires c κs =
+    let at-advance2 = c .before in
+    let at-put-instructions = at-advance2 .before .before .before .before in
+    let at-block-word2 = at-put-instructions .before .before .before in
+    let at-if3 = at-block-word2 .before .before .before in
+    let at-block-word = at-if3 .before in
+    let at-if2 = at-block-word .before .before .before in
+    let at-if1 = at-if2 .before .before in
+    let at-entry = at-if1 .before .before .before .before in
+    rw (at-advance2 .advance2 .ensures) (record { promise = at-entry .pre .0 .promise; block = at-entry .pre .0 .block; depth = at-if1 .if1 .left; visits = omega (arith, at-if2 .if2 .left); rows = omega (arith, at-put-instructions .put-instructions .ensures .more, at-block-word2 .block-word2 .ensures, at-entry .pre .0 .rows, run-within _ (at-entry .pre .0 .promise) _ (at-entry .pre .0 .block), at-entry .pre .0 .promise .sized .limited .instructions); count = omega (arith, at-put-instructions .put-instructions .ensures .more, at-entry .pre .0 .count) }, (at-entry .pre .1, λ e. at-if3 .if3 .left (at-block-word .block-word .ensures ∙ e)))
+
+same-length : tie.Need-same-length
+same-length c = search needs
+
+returns-5 : tie.Need-returns-5
+unfolding has
+returns-5 c frame =
+    let at-visit-terminal = c .before .before in
+    let at-advance2 = at-visit-terminal .before .before in
+    let at-put-instructions = at-advance2 .before .before .before .before in
+    let at-block-word3 = at-put-instructions .before in
+    let at-block-word2 = at-block-word3 .before .before in
+    let at-if4 = at-block-word2 .before in
+    let at-if3 = at-if4 .before .before in
+    let at-block-word = at-if3 .before in
+    let at-if2 = at-block-word .before .before .before in
+    let at-if1 = at-if2 .before .before in
+    let at-entry = at-if1 .before .before .before .before in
+    entered-planned _ _ _ _ _ _ _ (at-entry .pre .0) frame (at-if1 .if1 .left) (at-if2 .if2 .left) (λ e. at-if3 .if3 .left (at-block-word .block-word .ensures ∙ e)) _ _ _ _ _ (at-if4 .if4 .left) refl refl (omega (arith, at-block-word2 .block-word2 .ensures)) refl (rw (at-block-word2 .block-word2 .ensures, at-block-word3 .block-word3 .ensures) at (at-put-instructions .put-instructions .ensures)) (rw (at-advance2 .advance2 .ensures) at (at-visit-terminal .visit-terminal .ensures))
+
+pub visit-block-spec : {M : Type 1} → statement M
+visit-block-spec =
+    tie.close
+    (tie.spec
+    refuse-requires
+    returns
+    refuse-requires-2
+    returns-2
+    add-visits
+    advance-requires
+    block-word-requires
+    refuse-requires-3
+    returns-3
+    cast-if4
+    element-copy-out-if4
+    refuse-requires-4
+    returns-4
+    block-word-requires-2
+    block-word-requires-3
+    put-instructions-requires
+    add-advance
+    advance-requires-2
+    visit-terminal-requires
+    same-length
+    returns-5)

@@ -1,0 +1,263 @@
+use mathlib.Core.Path.{refl, sym, _∙_}
+use native.Mathlib.Omega.{arith}
+use Rattle.table.specs.Table.{terminalOf}
+use Rattle.planner.proofs.VisitLaws.{unreachable-left}
+use Rattle.planner.proofs.ResumeLaws.{planned-as}
+use Rattle.planner.proofs.TerminalLaws.{goto-seen, branch-seen, fallthrough-by, twenty}
+use borrow.Author.Needs.{needs}
+use Rattle.planner.proofs.visit.visit_terminal.Statement.{statement}
+use Rattle.planner.proofs.visit.visit_terminal.Tie as tie
+
+block-word-requires : tie.Need-block-word-requires
+block-word-requires c κs = search needs
+
+leave-requires : tie.Need-leave-requires
+leave-requires c κs = search needs
+
+visit-throw-requires : tie.Need-visit-throw-requires
+visit-throw-requires c κs = search needs
+
+visit-return-requires : tie.Need-visit-return-requires
+visit-return-requires c κs = search needs
+
+visit-goto-requires : tie.Need-visit-goto-requires
+visit-goto-requires c κs = search needs
+
+visit-if-requires : tie.Need-visit-if-requires
+visit-if-requires c κs = search needs
+
+visit-branch-requires : tie.Need-visit-branch-requires
+visit-branch-requires c κs = search needs
+
+visit-switch-requires : tie.Need-visit-switch-requires
+visit-switch-requires c κs = search needs
+
+visit-do-while-requires : tie.Need-visit-do-while-requires
+visit-do-while-requires c κs = search needs
+
+visit-while-requires : tie.Need-visit-while-requires
+visit-while-requires c κs = search needs
+
+visit-for-requires : tie.Need-visit-for-requires
+visit-for-requires c κs = search needs
+
+visit-for-of-requires : tie.Need-visit-for-of-requires
+visit-for-of-requires c κs = search needs
+
+visit-for-in-requires : tie.Need-visit-for-in-requires
+visit-for-in-requires c κs = search needs
+
+visit-value-requires : tie.Need-visit-value-requires
+unfolding terminalOf
+visit-value-requires c κs =
+    let at-match = c .before in
+    let at-block-word = at-match .before in
+    let at-entry = at-block-word .before .before .before in
+    (at-entry .pre .0, (omega arith, fallthrough-by _ _ (at-entry .pre .0 .block) 13 5 (sym (at-block-word .block-word .ensures) ∙ at-match .match .keys13) refl))
+
+visit-value-requires-2 : tie.Need-visit-value-requires-2
+unfolding terminalOf
+visit-value-requires-2 c κs =
+    let at-match = c .before in
+    let at-block-word = at-match .before in
+    let at-entry = at-block-word .before .before .before in
+    (at-entry .pre .0, (omega arith, fallthrough-by _ _ (at-entry .pre .0 .block) 14 4 (sym (at-block-word .block-word .ensures) ∙ at-match .match .keys14) refl))
+
+visit-value-requires-3 : tie.Need-visit-value-requires-3
+unfolding terminalOf
+visit-value-requires-3 c κs =
+    let at-match = c .before in
+    let at-block-word = at-match .before in
+    let at-entry = at-block-word .before .before .before in
+    (at-entry .pre .0, (omega arith, fallthrough-by _ _ (at-entry .pre .0 .block) 15 5 (sym (at-block-word .block-word .ensures) ∙ at-match .match .keys15) refl))
+
+visit-label-requires : tie.Need-visit-label-requires
+visit-label-requires c κs = search needs
+
+visit-value-requires-4 : tie.Need-visit-value-requires-4
+unfolding terminalOf
+visit-value-requires-4 c κs =
+    let at-match = c .before in
+    let at-block-word = at-match .before in
+    let at-entry = at-block-word .before .before .before in
+    (at-entry .pre .0, (omega arith, fallthrough-by _ _ (at-entry .pre .0 .block) 17 4 (sym (at-block-word .block-word .ensures) ∙ at-match .match .keys17) refl))
+
+visit-maybe-throw-requires : tie.Need-visit-maybe-throw-requires
+visit-maybe-throw-requires c κs = search needs
+
+visit-try-requires : tie.Need-visit-try-requires
+visit-try-requires c κs = search needs
+
+visit-scope-requires : tie.Need-visit-scope-requires
+visit-scope-requires c κs =
+    let at-block-word = c .before in
+    let at-entry = at-block-word .before .before .before in
+    (at-entry .pre .0, twenty _ (λ e. at-entry .pre .1 .1 e) (λ e. c .match .rest .0 .0 .0 .0 .0 .0 .0 .0 .0 .0 .0 .0 .0 .0 .0 .0 .0 .0 .1 (at-block-word .block-word .ensures ∙ e)) (λ e. c .match .rest .0 .0 .0 .0 .0 .0 .0 .0 .0 .0 .0 .0 .0 .0 .0 .0 .0 .1 (at-block-word .block-word .ensures ∙ e)) (λ e. c .match .rest .0 .0 .0 .0 .0 .0 .0 .0 .0 .0 .0 .0 .0 .0 .0 .0 .1 (at-block-word .block-word .ensures ∙ e)) (λ e. c .match .rest .0 .0 .0 .0 .0 .0 .0 .0 .0 .0 .0 .0 .0 .0 .0 .1 (at-block-word .block-word .ensures ∙ e)) (λ e. c .match .rest .0 .0 .0 .0 .0 .0 .0 .0 .0 .0 .0 .0 .0 .0 .1 (at-block-word .block-word .ensures ∙ e)) (λ e. c .match .rest .0 .0 .0 .0 .0 .0 .0 .0 .0 .0 .0 .0 .0 .1 (at-block-word .block-word .ensures ∙ e)) (λ e. c .match .rest .0 .0 .0 .0 .0 .0 .0 .0 .0 .0 .0 .0 .1 (at-block-word .block-word .ensures ∙ e)) (λ e. c .match .rest .0 .0 .0 .0 .0 .0 .0 .0 .0 .0 .0 .1 (at-block-word .block-word .ensures ∙ e)) (λ e. c .match .rest .0 .0 .0 .0 .0 .0 .0 .0 .0 .0 .1 (at-block-word .block-word .ensures ∙ e)) (λ e. c .match .rest .0 .0 .0 .0 .0 .0 .0 .0 .0 .1 (at-block-word .block-word .ensures ∙ e)) (λ e. c .match .rest .0 .0 .0 .0 .0 .0 .0 .0 .1 (at-block-word .block-word .ensures ∙ e)) (λ e. c .match .rest .0 .0 .0 .0 .0 .0 .0 .1 (at-block-word .block-word .ensures ∙ e)) (λ e. c .match .rest .0 .0 .0 .0 .0 .0 .1 (at-block-word .block-word .ensures ∙ e)) (λ e. c .match .rest .0 .0 .0 .0 .0 .1 (at-block-word .block-word .ensures ∙ e)) (λ e. c .match .rest .0 .0 .0 .0 .1 (at-block-word .block-word .ensures ∙ e)) (λ e. c .match .rest .0 .0 .0 .1 (at-block-word .block-word .ensures ∙ e)) (λ e. c .match .rest .0 .0 .1 (at-block-word .block-word .ensures ∙ e)) (λ e. c .match .rest .0 .1 (at-block-word .block-word .ensures ∙ e)) (λ e. c .match .rest .1 (at-block-word .block-word .ensures ∙ e)))
+
+returns : tie.Need-returns
+returns c =
+    let at-match = c .before in
+    let at-block-word = at-match .before in
+    let at-entry = at-block-word .before .before .before in
+    planned-as (λ F R C. refl) (λ C o. o .seen) (unreachable-left _ _ _ _ (at-entry .pre .0) _ (sym (at-block-word .block-word .ensures) ∙ at-match .match .keys1) (c .leave .ensures) _)
+
+same-length : tie.Need-same-length
+same-length c = search needs
+
+returns-2 : tie.Need-returns-2
+returns-2 c = planned-as (λ F R C. refl) (λ C o. o .seen .visits) (c .before .before .visit-throw .ensures)
+
+same-length-2 : tie.Need-same-length-2
+same-length-2 c = search needs
+
+returns-3 : tie.Need-returns-3
+returns-3 c = planned-as (λ F R C. refl) (λ C o. o .seen .visits) (c .before .before .visit-return .ensures)
+
+same-length-3 : tie.Need-same-length-3
+same-length-3 c = search needs
+
+returns-4 : tie.Need-returns-4
+returns-4 c =
+    let at-visit-goto = c .before .before in
+    let at-match = at-visit-goto .before .before in
+    let at-block-word = at-match .before in
+    let at-entry = at-block-word .before .before .before in
+    planned-as (λ F R C. refl) (λ C o. goto-seen _ _ _ _ _ _ (at-entry .pre .0 .promise) (at-entry .pre .0 .block) C o (sym (at-block-word .block-word .ensures) ∙ at-match .match .keys4)) (at-visit-goto .visit-goto .ensures)
+
+returns-5 : tie.Need-returns-5
+returns-5 c = planned-as (λ F R C. refl) (λ C o. o .seen) (c .visit-if .ensures _)
+
+same-length-4 : tie.Need-same-length-4
+same-length-4 c = search needs
+
+returns-6 : tie.Need-returns-6
+returns-6 c =
+    let at-visit-branch = c .before .before in
+    let at-match = at-visit-branch .before .before in
+    let at-block-word = at-match .before in
+    let at-entry = at-block-word .before .before .before in
+    planned-as (λ F R C. refl) (λ C o. branch-seen _ _ _ _ _ _ (at-entry .pre .0 .promise) (at-entry .pre .0 .block) C o (sym (at-block-word .block-word .ensures) ∙ at-match .match .keys6)) (at-visit-branch .visit-branch .ensures)
+
+returns-7 : tie.Need-returns-7
+returns-7 c = planned-as (λ F R C. refl) (λ C o. o .seen) (c .visit-switch .ensures _)
+
+returns-8 : tie.Need-returns-8
+returns-8 c = planned-as (λ F R C. refl) (λ C o. o .seen) (c .visit-do-while .ensures _)
+
+same-length-5 : tie.Need-same-length-5
+same-length-5 c = search needs
+
+returns-9 : tie.Need-returns-9
+returns-9 c = planned-as (λ F R C. refl) (λ C o. o .seen) (c .before .before .visit-while .ensures)
+
+same-length-6 : tie.Need-same-length-6
+same-length-6 c = search needs
+
+returns-10 : tie.Need-returns-10
+returns-10 c = planned-as (λ F R C. refl) (λ C o. o .seen) (c .before .before .visit-for .ensures)
+
+same-length-7 : tie.Need-same-length-7
+same-length-7 c = search needs
+
+returns-11 : tie.Need-returns-11
+returns-11 c = planned-as (λ F R C. refl) (λ C o. o .seen) (c .before .before .visit-for-of .ensures)
+
+same-length-8 : tie.Need-same-length-8
+same-length-8 c = search needs
+
+returns-12 : tie.Need-returns-12
+returns-12 c = planned-as (λ F R C. refl) (λ C o. o .seen) (c .before .before .visit-for-in .ensures)
+
+same-length-9 : tie.Need-same-length-9
+same-length-9 c = search needs
+
+returns-13 : tie.Need-returns-13
+returns-13 c = planned-as (λ F R C. refl) (λ C o. o .seen) (c .before .before .visit-value .ensures)
+
+same-length-10 : tie.Need-same-length-10
+same-length-10 c = search needs
+
+returns-14 : tie.Need-returns-14
+returns-14 c = planned-as (λ F R C. refl) (λ C o. o .seen) (c .before .before .visit-value2 .ensures)
+
+same-length-11 : tie.Need-same-length-11
+same-length-11 c = search needs
+
+returns-15 : tie.Need-returns-15
+returns-15 c = planned-as (λ F R C. refl) (λ C o. o .seen) (c .before .before .visit-value3 .ensures)
+
+returns-16 : tie.Need-returns-16
+returns-16 c = planned-as (λ F R C. refl) (λ C o. o .seen) (c .visit-label .ensures _)
+
+same-length-12 : tie.Need-same-length-12
+same-length-12 c = search needs
+
+returns-17 : tie.Need-returns-17
+returns-17 c = planned-as (λ F R C. refl) (λ C o. o .seen) (c .before .before .visit-value4 .ensures)
+
+returns-18 : tie.Need-returns-18
+returns-18 c = planned-as (λ F R C. refl) (λ C o. o .seen) (c .visit-maybe-throw .ensures _)
+
+returns-19 : tie.Need-returns-19
+returns-19 c = planned-as (λ F R C. refl) (λ C o. o .seen) (c .visit-try .ensures _)
+
+returns-20 : tie.Need-returns-20
+returns-20 c = planned-as (λ F R C. refl) (λ C o. o .seen) (c .visit-scope .ensures _)
+
+pub visit-terminal-spec : {M : Type 1} → statement M
+visit-terminal-spec =
+    tie.close
+    (tie.spec
+    block-word-requires
+    leave-requires
+    visit-throw-requires
+    visit-return-requires
+    visit-goto-requires
+    visit-if-requires
+    visit-branch-requires
+    visit-switch-requires
+    visit-do-while-requires
+    visit-while-requires
+    visit-for-requires
+    visit-for-of-requires
+    visit-for-in-requires
+    visit-value-requires
+    visit-value-requires-2
+    visit-value-requires-3
+    visit-label-requires
+    visit-value-requires-4
+    visit-maybe-throw-requires
+    visit-try-requires
+    visit-scope-requires
+    returns
+    same-length
+    returns-2
+    same-length-2
+    returns-3
+    same-length-3
+    returns-4
+    returns-5
+    same-length-4
+    returns-6
+    returns-7
+    returns-8
+    same-length-5
+    returns-9
+    same-length-6
+    returns-10
+    same-length-7
+    returns-11
+    same-length-8
+    returns-12
+    same-length-9
+    returns-13
+    same-length-10
+    returns-14
+    same-length-11
+    returns-15
+    returns-16
+    same-length-12
+    returns-17
+    returns-18
+    returns-19
+    returns-20)

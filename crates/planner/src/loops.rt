@@ -1,0 +1,437 @@
+// Loops, whose values are made before their body, and value terminals as statements.
+use crate::fallthrough::narrow;
+use crate::fallthrough::scheduled_at;
+use crate::fallthrough::unless_scheduled;
+use crate::fallthrough::unless_unreachable;
+use crate::plan::Change;
+use crate::plan::NONE;
+use crate::plan::Plan;
+use crate::plan::Position;
+use crate::plan::Stage;
+use crate::plan::advance;
+use crate::plan::frame_of;
+use crate::plan::leave;
+use crate::plan::refuse;
+use crate::plan::traverse_block;
+use control::continue_block_is_scheduled;
+use rows::INSTR;
+use rows::put;
+use table::words::block_word;
+use value::result::Tally;
+use value::result::ValueResult;
+use value::sequence::value_block_result_to_sequence;
+use value::walk::visit_value_block;
+use value::walk::visit_value_block_terminal;
+ghost use mathlib.Core.Path.{_≡_};
+ghost use mathlib.Core.Option.{some};
+ghost use Prim.Native.Nat.{_-_, _<_};
+ghost use lib.Dec.{eqb};
+ghost use Rattle.table.specs.Words.{blockCount, blockWord};
+ghost use Rattle.table.specs.Table.{tableOf, terminalAt, unlessNone};
+ghost use Rattle.definition.specs.Value.{visitValueBlock};
+ghost use Rattle.control.specs.Contract.{continueScheduled};
+ghost use Rattle.planner.specs.Planned.{Entered, PlannedBare};
+ghost use Rattle.planner.specs.Loops.{PlannedRows, noneMade, valueMade, plainForm, flatForm, forMade, forOfMade, noValues, valuesOf, Makes, Spent, MakesMore, MakesTested, scheduleLoop, enteringLoop, loopTaken, continuesAt, valueFallthrough, takeIdIf};
+
+// What a loop's values came to: a refusal, or the rows and visits then.
+pub struct Values {
+    pub code: u32,
+    pub at: u32,
+    pub rows: u32,
+    pub visits: u32,
+}
+
+// A loop's blocks: its fallthrough, its label, where it continues, and its loop block.
+pub struct Loop {
+    pub fallthrough: u32,
+    pub label: u32,
+    pub continue_block: u32,
+    pub loop_block: u32,
+}
+
+fn values_of(result: ValueResult) -> Values
+    ensures { λ r. ⌜ r ≡ valuesOf result ⌝ }
+{
+    let tally = result.tally;
+    Values {
+        code: result.code,
+        at: result.at,
+        rows: tally.rows,
+        visits: tally.visits,
+    }
+}
+
+fn no_values(p: Position) -> Values
+    ensures { λ r. ⌜ r ≡ noValues p ⌝ }
+{
+    Values {
+        code: 0,
+        at: 0,
+        rows: p.rows,
+        visits: p.visits,
+    }
+}
+
+// One value more, as it is.
+fn plain_value(words: &[u32], tree: &mut [u32], p: Position, before: Values, block: u32) -> Values
+    requires { ⌜ Entered (now words) p ⌝ }
+    requires { ⌜ block < blockCount (now words) ⌝ }
+    requires { ⌜ Spent (noValues p) 6 before ⌝ }
+    ensures { λ r. ⌜ MakesMore p (valueMade (visitValueBlock (tableOf (now (words .entry))) (127 - p .depth)) plainForm block (blockWord (now (words .entry)) (p .block) 9)) before (now (tree .entry)) r (now (tree .exit)) ⌝ }
+{
+    if before.code != 0 {
+        return before;
+    }
+    let span = block_word(words, p.block, 9);
+    let tally = Tally {
+        rows: before.rows,
+        visits: before.visits,
+    };
+    values_of(visit_value_block(words, tree, tally, 127 - p.depth, block, NONE, span))
+}
+
+// One value more, flattened: init, and ForOf's test.
+fn flat_value(words: &[u32], tree: &mut [u32], p: Position, before: Values, block: u32) -> Values
+    requires { ⌜ Entered (now words) p ⌝ }
+    requires { ⌜ block < blockCount (now words) ⌝ }
+    requires { ⌜ Spent (noValues p) 6 before ⌝ }
+    ensures { λ r. ⌜ MakesMore p (valueMade (visitValueBlock (tableOf (now (words .entry))) (127 - p .depth)) (flatForm (tableOf (now (words .entry))) (blockWord (now (words .entry)) (p .block) 9)) block (blockWord (now (words .entry)) (p .block) 9)) before (now (tree .entry)) r (now (tree .exit)) ⌝ }
+{
+    if before.code != 0 {
+        return before;
+    }
+    let span = block_word(words, p.block, 9);
+    let tally = Tally {
+        rows: before.rows,
+        visits: before.visits,
+    };
+    let result = visit_value_block(words, tree, tally, 127 - p.depth, block, NONE, span);
+    if result.code != 0 {
+        return values_of(result);
+    }
+    let rows = value_block_result_to_sequence(words, tree, result, span);
+    let after = result.tally;
+    Values {
+        code: 0,
+        at: 0,
+        rows: rows,
+        visits: after.visits,
+    }
+}
+
+// schedule_loop's test, refused 15.
+fn continues_scheduled(scheduled: &[bool; 1024], fallthrough: u32, continue_block: u32) -> bool
+    requires { ⌜ fallthrough < 1024 ⌝ }
+    requires { ⌜ «continue_block» < 1024 ⌝ }
+    ensures { λ r. ⌜ r ≡ continueScheduled (now (scheduled .entry)) fallthrough «continue_block» ⌝ }
+{
+    continue_block_is_scheduled(scheduled, narrow(fallthrough), narrow(continue_block))
+}
+
+fn loop_is_taken<'a>(
+    scheduled: &'a [bool; 1024],
+    catch_handlers: &'a [bool; 1024],
+    loop_block: u32,
+    fallthrough: u32,
+) -> bool
+    requires { ⌜ «loop_block» < 1024 ⌝ }
+    ensures { λ r. ⌜ r ≡ loopTaken (now (scheduled .entry)) (now («catch_handlers» .entry)) «loop_block» fallthrough ⌝ }
+{
+    if loop_block == fallthrough {
+        return true;
+    }
+    scheduled_at(scheduled, catch_handlers, loop_block)
+}
+
+fn schedule_loop(blocks: Loop) -> Change
+    requires { ⌜ blocks .fallthrough < 1024 ⌝ }
+    requires { ⌜ blocks .«continue_block» < 1024 ⌝ }
+    requires { ⌜ blocks .«loop_block» < 1024 ⌝ }
+    ensures { λ r. ⌜ r ≡ scheduleLoop blocks ⌝ }
+{
+    Change::ScheduleLoop {
+        fallthrough: narrow(blocks.fallthrough),
+        continue_block: narrow(blocks.continue_block),
+        loop_block: narrow(blocks.loop_block),
+    }
+}
+
+// The body of a loop whose values are made.
+fn enter_loop<'a>(
+    scheduled: &'a [bool; 1024],
+    catch_handlers: &'a [bool; 1024],
+    p: Position,
+    values: Values,
+    blocks: Loop,
+) -> Plan
+    requires { ⌜ p .depth < 128 ⌝ }
+    requires { ⌜ blocks .fallthrough < 1024 ⌝ }
+    requires { ⌜ blocks .«continue_block» < 1024 ⌝ }
+    requires { ⌜ blocks .«loop_block» < 1024 ⌝ }
+    ensures { λ r. ⌜ r ≡ enteringLoop (eqb (values .code) 0) (loopTaken (now (scheduled .entry)) (now («catch_handlers» .entry)) (blocks .«loop_block») (blocks .fallthrough)) p values blocks ⌝ }
+{
+    let after = advance(p, p.count, values.rows, values.visits, Stage::Visit);
+    if values.code != 0 {
+        return refuse(after, values.code, values.at);
+    }
+    if loop_is_taken(
+        scheduled,
+        catch_handlers,
+        blocks.loop_block,
+        blocks.fallthrough,
+    ) {
+        return refuse(after, 16, p.block);
+    }
+    let frame = frame_of(p, blocks.label, 1);
+    traverse_block(
+        blocks.loop_block,
+        frame,
+        p.depth + 1,
+        values.rows,
+        values.visits,
+        schedule_loop(blocks),
+    )
+}
+
+pub fn visit_do_while<'a>(
+    words: &[u32],
+    scheduled: &'a [bool; 1024],
+    catch_handlers: &'a [bool; 1024],
+    p: Position,
+) -> Plan
+    requires { ⌜ Entered (now words) p ⌝ }
+    requires { ⌜ blockWord (now words) (p .block) 2 ≡ 8 ⌝ }
+    ensures { λ r. ⌜ PlannedBare (now (words .entry)) (now (scheduled .entry)) (now («catch_handlers» .entry)) p r ⌝ }
+{
+    let loop_block = block_word(words, p.block, 3);
+    let test = block_word(words, p.block, 4);
+    let fallthrough = block_word(words, p.block, 5);
+    if continues_scheduled(scheduled, fallthrough, test) {
+        return refuse(p, 15, test);
+    }
+    let label = unless_scheduled(scheduled, catch_handlers, fallthrough);
+    let blocks = Loop {
+        fallthrough: fallthrough,
+        label: label,
+        continue_block: test,
+        loop_block: loop_block,
+    };
+    enter_loop(scheduled, catch_handlers, p, no_values(p), blocks)
+}
+
+pub fn visit_while<'a>(
+    words: &[u32],
+    tree: &mut [u32],
+    scheduled: &'a [bool; 1024],
+    catch_handlers: &'a [bool; 1024],
+    p: Position,
+) -> Plan
+    requires { ⌜ Entered (now words) p ⌝ }
+    requires { ⌜ blockWord (now words) (p .block) 2 ≡ 9 ⌝ }
+    ensures { λ r. ⌜ PlannedRows (now (words .entry)) (now (scheduled .entry)) (now («catch_handlers» .entry)) p (now (tree .entry)) r (now (tree .exit)) ⌝ }
+{
+    let test = block_word(words, p.block, 3);
+    let loop_block = block_word(words, p.block, 4);
+    let fallthrough = block_word(words, p.block, 5);
+    if block_word(words, fallthrough, 2) == 0 {
+        return refuse(p, 10, fallthrough);
+    }
+    if continues_scheduled(scheduled, fallthrough, test) {
+        return refuse(p, 15, test);
+    }
+    let label = unless_unreachable(words, scheduled, catch_handlers, fallthrough);
+    let values = plain_value(words, tree, p, no_values(p), test);
+    let blocks = Loop {
+        fallthrough: fallthrough,
+        label: label,
+        continue_block: test,
+        loop_block: loop_block,
+    };
+    enter_loop(scheduled, catch_handlers, p, values, blocks)
+}
+
+// A For continues at its update, if it has one.
+fn for_continues_at(test: u32, update: u32) -> u32
+    ensures { λ r. ⌜ r ≡ continuesAt (eqb update 65535) test update ⌝ }
+{
+    if update == NONE {
+        return test;
+    }
+    update
+}
+
+fn init_and_test(words: &[u32], tree: &mut [u32], p: Position, init: u32, test: u32) -> Values
+    requires { ⌜ Entered (now words) p ⌝ }
+    requires { ⌜ init < blockCount (now words) ⌝ }
+    requires { ⌜ test < blockCount (now words) ⌝ }
+    ensures { λ r. ⌜ MakesTested (now (words .entry)) p init test (now (tree .entry)) r (now (tree .exit)) ⌝ }
+{
+    let first = flat_value(words, tree, p, no_values(p), init);
+    plain_value(words, tree, p, first, test)
+}
+
+fn for_values(
+    words: &[u32],
+    tree: &mut [u32],
+    p: Position,
+    init: u32,
+    test: u32,
+    update: u32,
+) -> Values
+    requires { ⌜ Entered (now words) p ⌝ }
+    requires { ⌜ init < blockCount (now words) ⌝ }
+    requires { ⌜ test < blockCount (now words) ⌝ }
+    requires { ⌜ ((update ≡ 65535 → ⊥) → update < blockCount (now words)) ⌝ }
+    ensures { λ r. ⌜ Makes p (forMade (tableOf (now (words .entry))) (visitValueBlock (tableOf (now (words .entry))) (127 - p .depth)) init test (unlessNone update) (blockWord (now (words .entry)) (p .block) 9) (noneMade (p .visits))) (now (tree .entry)) r (now (tree .exit)) ⌝ }
+{
+    let tested = init_and_test(words, tree, p, init, test);
+    if update == NONE {
+        return tested;
+    }
+    plain_value(words, tree, p, tested, update)
+}
+
+pub fn visit_for<'a>(
+    words: &[u32],
+    tree: &mut [u32],
+    scheduled: &'a [bool; 1024],
+    catch_handlers: &'a [bool; 1024],
+    p: Position,
+) -> Plan
+    requires { ⌜ Entered (now words) p ⌝ }
+    requires { ⌜ blockWord (now words) (p .block) 2 ≡ 10 ⌝ }
+    ensures { λ r. ⌜ PlannedRows (now (words .entry)) (now (scheduled .entry)) (now («catch_handlers» .entry)) p (now (tree .entry)) r (now (tree .exit)) ⌝ }
+{
+    let init = block_word(words, p.block, 3);
+    let test = block_word(words, p.block, 4);
+    let update = block_word(words, p.block, 5);
+    let loop_block = block_word(words, p.block, 6);
+    let fallthrough = block_word(words, p.block, 7);
+    let continue_block = for_continues_at(test, update);
+    if continues_scheduled(scheduled, fallthrough, continue_block) {
+        return refuse(p, 15, continue_block);
+    }
+    let label = unless_scheduled(scheduled, catch_handlers, fallthrough);
+    let values = for_values(words, tree, p, init, test, update);
+    let blocks = Loop {
+        fallthrough: fallthrough,
+        label: label,
+        continue_block: continue_block,
+        loop_block: loop_block,
+    };
+    enter_loop(scheduled, catch_handlers, p, values, blocks)
+}
+
+fn for_of_values(words: &[u32], tree: &mut [u32], p: Position, init: u32, test: u32) -> Values
+    requires { ⌜ Entered (now words) p ⌝ }
+    requires { ⌜ init < blockCount (now words) ⌝ }
+    requires { ⌜ test < blockCount (now words) ⌝ }
+    ensures { λ r. ⌜ Makes p (forOfMade (tableOf (now (words .entry))) (visitValueBlock (tableOf (now (words .entry))) (127 - p .depth)) init test (blockWord (now (words .entry)) (p .block) 9) (noneMade (p .visits))) (now (tree .entry)) r (now (tree .exit)) ⌝ }
+{
+    let first = flat_value(words, tree, p, no_values(p), init);
+    flat_value(words, tree, p, first, test)
+}
+
+pub fn visit_for_of<'a>(
+    words: &[u32],
+    tree: &mut [u32],
+    scheduled: &'a [bool; 1024],
+    catch_handlers: &'a [bool; 1024],
+    p: Position,
+) -> Plan
+    requires { ⌜ Entered (now words) p ⌝ }
+    requires { ⌜ blockWord (now words) (p .block) 2 ≡ 11 ⌝ }
+    ensures { λ r. ⌜ PlannedRows (now (words .entry)) (now (scheduled .entry)) (now («catch_handlers» .entry)) p (now (tree .entry)) r (now (tree .exit)) ⌝ }
+{
+    let init = block_word(words, p.block, 3);
+    let test = block_word(words, p.block, 4);
+    let loop_block = block_word(words, p.block, 5);
+    let fallthrough = block_word(words, p.block, 6);
+    if continues_scheduled(scheduled, fallthrough, init) {
+        return refuse(p, 15, init);
+    }
+    let label = unless_scheduled(scheduled, catch_handlers, fallthrough);
+    let values = for_of_values(words, tree, p, init, test);
+    let blocks = Loop {
+        fallthrough: fallthrough,
+        label: label,
+        continue_block: init,
+        loop_block: loop_block,
+    };
+    enter_loop(scheduled, catch_handlers, p, values, blocks)
+}
+
+pub fn visit_for_in<'a>(
+    words: &[u32],
+    tree: &mut [u32],
+    scheduled: &'a [bool; 1024],
+    catch_handlers: &'a [bool; 1024],
+    p: Position,
+) -> Plan
+    requires { ⌜ Entered (now words) p ⌝ }
+    requires { ⌜ blockWord (now words) (p .block) 2 ≡ 12 ⌝ }
+    ensures { λ r. ⌜ PlannedRows (now (words .entry)) (now (scheduled .entry)) (now («catch_handlers» .entry)) p (now (tree .entry)) r (now (tree .exit)) ⌝ }
+{
+    let init = block_word(words, p.block, 3);
+    let loop_block = block_word(words, p.block, 4);
+    let fallthrough = block_word(words, p.block, 5);
+    if continues_scheduled(scheduled, fallthrough, init) {
+        return refuse(p, 15, init);
+    }
+    let label = unless_scheduled(scheduled, catch_handlers, fallthrough);
+    let values = flat_value(words, tree, p, no_values(p), init);
+    let blocks = Loop {
+        fallthrough: fallthrough,
+        label: label,
+        continue_block: init,
+        loop_block: loop_block,
+    };
+    enter_loop(scheduled, catch_handlers, p, values, blocks)
+}
+
+fn take_id(label: u32) -> Change
+    ensures { λ r. ⌜ r ≡ takeIdIf (eqb label 65535) ⌝ }
+{
+    if label == NONE {
+        return Change::Nothing;
+    }
+    Change::TakeId
+}
+
+// A Logical, Ternary, Optional or Sequence, whose fallthrough is that column, as a statement: an INSTR with the terminal's own span.
+pub fn visit_value<'a>(
+    words: &[u32],
+    tree: &mut [u32],
+    scheduled: &'a [bool; 1024],
+    catch_handlers: &'a [bool; 1024],
+    p: Position,
+    column: u32,
+) -> Plan
+    requires { ⌜ Entered (now words) p ⌝ }
+    requires { ⌜ column < 10 ⌝ }
+    requires { ⌜ valueFallthrough (terminalAt (tableOf (now words)) (p .block)) ≡ some (blockWord (now words) (p .block) column) ⌝ }
+    ensures { λ r. ⌜ PlannedRows (now (words .entry)) (now (scheduled .entry)) (now («catch_handlers» .entry)) p (now (tree .entry)) r (now (tree .exit)) ⌝ }
+{
+    let fallthrough = block_word(words, p.block, column);
+    let label = unless_scheduled(scheduled, catch_handlers, fallthrough);
+    let span = block_word(words, p.block, 9);
+    let tally = Tally {
+        rows: p.rows,
+        visits: p.visits,
+    };
+    let result = visit_value_block_terminal(words, tree, tally, 127 - p.depth, p.block);
+    let after = result.tally;
+    if result.code != 0 {
+        let position = advance(p, p.count, after.rows, after.visits, Stage::Visit);
+        return refuse(position, result.code, result.at);
+    }
+    let rows = put(tree, after.rows, INSTR, result.id, result.place, span, 0, 0);
+    leave(
+        label,
+        p.depth,
+        p.count + 1,
+        rows,
+        after.visits,
+        take_id(label),
+    )
+}

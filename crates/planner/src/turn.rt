@@ -1,0 +1,47 @@
+// A turn of the walk: the visit of a block, the end of a nested list, a Switch's next case, or an entry that comes off the stack.
+use crate::plan::Frame;
+use crate::plan::Plan;
+use crate::plan::Position;
+use crate::plan::Stage;
+use crate::plan::refuse;
+use crate::resume::choose_case;
+use crate::resume::close_statement;
+use crate::resume::resume;
+use crate::visit::visit_block;
+use control::Resolved;
+ghost use Rattle.planner.specs.Jumps.{FoundBelow};
+ghost use Rattle.planner.specs.Turn.{Ready, Shown, PlannedTurn};
+
+pub fn plan_turn<'a>(
+    words: &[u32],
+    tree: &mut [u32],
+    emitted: &'a [bool; 1024],
+    scheduled: &'a [bool; 1024],
+    catch_handlers: &'a [bool; 1024],
+    scopes: &'a [bool; 1024],
+    p: Position,
+    frame: Frame,
+    resolved: Resolved,
+) -> Plan
+    requires { ⌜ Ready (now words) p frame ⌝ }
+    requires { ⌜ FoundBelow resolved ⌝ }
+    ensures { λ r. ⌜ PlannedTurn (now (words .entry)) (Shown (now (words .entry)) (now (emitted .entry)) (now (scheduled .entry)) (now («catch_handlers» .entry)) (now (scopes .entry)) p resolved) p frame (now (tree .entry)) r (now (tree .exit)) ⌝ }
+{
+    let stage = p.stage;
+    match stage {
+        Stage::Visit => visit_block(
+            words,
+            tree,
+            emitted,
+            scheduled,
+            catch_handlers,
+            scopes,
+            p,
+            resolved,
+        ),
+        Stage::Ended => resume(words, tree, scheduled, catch_handlers, p, frame),
+        Stage::Choose => choose_case(words, tree, scheduled, catch_handlers, p, frame),
+        Stage::Pop => close_statement(words, tree, p, frame),
+        Stage::Halt => refuse(p, 99, 0),
+    }
+}
