@@ -16,7 +16,7 @@ use Rattle.control.specs.declared.Entry.{Entry}
 use Rattle.control.specs.Abstraction.{targetOf, noEntry, contextOf, stored}
 use Rattle.control.specs.Contract.{Bounded, Last, withEntry, loopTarget, loopScheduled, Scheduled, ScheduledLoop, Unscheduled}
 use Rattle.control.proofs.ContextLaws.{stored-pushed, pops}
-use Rattle.definition.proofs.Invariant.{Below}
+use Rattle.definition.specs.Framed.{Below}
 use Rattle.planner.specs.declared.plan.Change.{Change}
 use Rattle.planner.specs.declared.plan.Change.the-variants.{Nothing, Schedule, ScheduleLoop, TakeId, Unschedule}
 use Rattle.planner.specs.declared.plan.Plan.{Plan}

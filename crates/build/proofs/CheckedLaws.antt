@@ -15,7 +15,8 @@ use Rattle.table.proofs.BlockLaws.{length-rows}
 use Rattle.table.proofs.TableLaws.{length-blocks, length-cases, case-at}
 use Rattle.table.proofs.RangeLaws.{in-range, run-in-range, case-block}
 use Rattle.definition.specs.Machine.{caseAt, noCase}
-use Rattle.definition.proofs.Invariant.{Checked, Below, NamesBelow}
+use Rattle.definition.specs.Framed.{Below}
+use Rattle.definition.proofs.Invariant.{Checked, NamesBelow}
 
 below-option : (n : ℕ) (o : Option ℕ) → BelowUnlessNone n o → Below n o
 below-option n none h = tt

@@ -15,13 +15,15 @@ use Rattle.table.specs.Promise.{Promise}
 use Rattle.table.specs.Table.{Table, tableOf, terminalAt, unlessNone}
 use Rattle.table.proofs.TableLaws.{length-blocks}
 use Rattle.table.proofs.BlockLaws.{no-number, some-number}
+use Rattle.definition.proofs.Steps.{true-false}
 use Rattle.definition.specs.Build.{Report, accepted, rejected, report}
 use Rattle.definition.specs.Context.{emit, withVisits}
 use Rattle.definition.specs.Context as definition
 use Rattle.definition.specs.Machine.{State, visiting, ended, choosing, popping, going, halt, step}
 use Rattle.definition.specs.Machine as machine
 use Rattle.definition.specs.Tree.{Row}
-use Rattle.definition.proofs.Invariant.{Checked, Below, Framed, Sound, Going, going-start, going-step, going-lower, going-halt, entriesOf, marks-below, potential}
+use Rattle.definition.specs.Framed.{Below, Framed}
+use Rattle.definition.proofs.Invariant.{Checked, Sound, Going, going-start, going-step, going-lower, going-halt, entriesOf, marks-below, potential}
 use Rattle.definition.proofs.Invariant as invariant
 use Rattle.control.specs.declared.Context.{Context}
 use Rattle.control.specs.declared.Resolved.{Resolved}
@@ -61,9 +63,6 @@ is-some (some r) = 1
 
 none-some : {r : definition.Resolution} → none ≡ some r → ⊥
 none-some e = let o : _≡_ {A = ℕ} 0 1 = ap is-some e in omega arith
-
-unlike : _≡_ {A = Bool} false true → ⊥
-unlike e = let o : _≡_ {A = ℕ} 0 1 = ap (λ (y : Bool). elim y [ true ↦ 1 | false ↦ 0 ]) e in omega arith
 
 -- ---- the array of frames
 
@@ -358,10 +357,10 @@ module _ (w : List ℕ) (pr : Promise w) (ck : Checked (tableOf w)) where
         accepted-report z = going-halt (tableOf w) (stateOf p A (I .rows) cx) _ (I .going) (stepped ∙ ahead ∙ at (plan .position .stage) z)
           where
             at : (s : Stage) → isHalt s ≡ true → onward s plan (framesOf A (p .depth)) after entering ≡ halt (accepted after (plan .position .visits))
-            at Visit e = absurd (unlike e)
-            at Ended e = absurd (unlike e)
-            at Choose e = absurd (unlike e)
-            at Pop e = absurd (unlike e)
+            at Visit e = absurd (true-false (sym e))
+            at Ended e = absurd (true-false (sym e))
+            at Choose e = absurd (true-false (sym e))
+            at Pop e = absurd (true-false (sym e))
             at Halt e = refl
 
         accepted-reported : isHalt (plan .position .stage) ≡ true → Reported (report (tableOf w)) (walkedBy plan) buffer′
@@ -384,7 +383,7 @@ module _ (w : List ℕ) (pr : Promise w) (ck : Checked (tableOf w)) where
               at Ended e n = tt
               at Choose e n = fit .deep n
               at Pop e n = fit .deep n
-              at Halt e n = absurd (unlike (sym e))
+              at Halt e n = absurd (true-false e)
 
           next : State
           next = stateAt (plan .position .stage) (plan .position .block) K after (plan .position .count) (contextAfter plan entering)
@@ -406,7 +405,7 @@ module _ (w : List ℕ) (pr : Promise w) (ck : Checked (tableOf w)) where
               at Ended e l = refl
               at Choose e l = ap going (choose-same K (contextAfter plan entering) (omega (arith, kept-deep)))
               at Pop e l = ap going (pop-same K (contextAfter plan entering) (omega (arith, kept-deep)))
-              at Halt e l = absurd (unlike (sym e))
+              at Halt e l = absurd (true-false e)
 
           next-going : Going (tableOf w) next
           next-going = going-step (tableOf w) ck (stateOf p A (I .rows) cx) next (I .going) leads
@@ -552,7 +551,7 @@ module _ {w buffer : List ℕ} {cx : Context} {A : List Frame} {p : Position} {b
       where
         at : (y : Bool) → eqb (plan .code) 0 ≡ y → elim y [ true ↦ isHalt (plan .position .stage) | false ↦ true ] ≡ false → (plan .code ≡ 0) × (isHalt (plan .position .stage) ≡ false)
         at true q h = (eqb-true _ _ q, h)
-        at false q h = absurd (unlike (sym h))
+        at false q h = absurd (true-false h)
 
     pub turn-applicable : Applicable (visitedBlock (p .stage) (p .block)) plan cx
     turn-applicable = applicable w (t .promise) ck buffer cx A p (t .walking) (t .frame) (t .read) (t .found) buffer′ plan (t .planned) (t .jump) (fine-on .0) (fine-on .1)

@@ -10,6 +10,7 @@ use Rattle.table.specs.Check.{Verdict, checked}
 use Rattle.table.specs.Check as check
 use Rattle.table.specs.Table.{tableOf}
 use Rattle.table.specs.Answer.{codeOf, placeOf, isAccepted}
+use Rattle.definition.proofs.Steps.{true-false}
 use Rattle.definition.specs.Build.{Report, accepted, rejected, report, refusal, wordsOf, placed, outcomeOf, afterCheck, built}
 use Rattle.definition.specs.Build as definition
 use Rattle.definition.specs.Tree.{Row}
@@ -21,9 +22,6 @@ use Rattle.build.specs.declared.driver.Walked.{Walked}
 use Rattle.build.specs.declared.Outcome.{Outcome}
 use Rattle.build.specs.Driver.{Reported}
 use Rattle.build.specs.Entry.{outcome}
-
-unlike : _≡_ {A = Bool} false true → ⊥
-unlike e = let o : _≡_ {A = ℕ} 0 1 = ap (λ (y : Bool). elim y [ true ↦ 1 | false ↦ 0 ]) e in omega arith
 
 -- all zeros
 pub refused-outcome : (code at rows visits : ℕ) (buffer buffer′ : List ℕ) → buffer′ ≡ take 0 buffer ++ replicate (length buffer - 0) 0
@@ -70,14 +68,14 @@ accepted-outcome walked buffer buffer′ z l e (rejected code at visits) h = abs
 
 pub unchecked-built : (words : List ℕ) (lent : ℕ) (o : definition.Outcome) (verdict : Verdict) → verdict ≡ checked words → isAccepted verdict ≡ false → o ≡ refusal (codeOf verdict) (placeOf verdict) 0 0 lent → o ≡ built words lent
 unfolding built afterCheck
-unchecked-built words lent o check.accepted v z e = absurd (unlike (sym z))
+unchecked-built words lent o check.accepted v z e = absurd (true-false z)
 unchecked-built words lent o (check.refused code at) v z e = rw (← v) e
 
 pub checked-built : (words : List ℕ) (lent lent′ : ℕ) (o : definition.Outcome) (verdict : Verdict) → verdict ≡ checked words → isAccepted verdict ≡ true → lent′ ≡ lent → o ≡ outcomeOf lent′ (report (tableOf words)) → o ≡ built words lent
 unfolding built afterCheck
 checked-built words lent lent′ o check.accepted v z l e = rw (← v) (rw l at e)
-checked-built words lent lent′ o (check.refused code at) v z l e = absurd (unlike z)
+checked-built words lent lent′ o (check.refused code at) v z l e = absurd (true-false (sym z))
 
 pub accepted-checked : (words : List ℕ) (verdict : Verdict) → verdict ≡ checked words → isAccepted verdict ≡ true → checked words ≡ check.accepted
 accepted-checked words check.accepted v z = sym v
-accepted-checked words (check.refused code at) v z = absurd (unlike z)
+accepted-checked words (check.refused code at) v z = absurd (true-false (sym z))

@@ -1,5 +1,5 @@
 -- What a block's jump looks for, and the search of the stack for it, an entry at a time.
-use Prim.Native.Nat.{ℕ, zero, suc, _-_, _<_, _≤_}
+use Prim.Native.Nat.{ℕ, _-_, _<_, _≤_}
 use native.Mathlib.Omega.{arith}
 use mathlib.Core.Path.{_≡_, refl, sym, ap, _∙_, subst}
 use mathlib.Core.Bool.{Bool, true, false, _||_}
@@ -10,7 +10,7 @@ use Rattle.table.specs.Words.{blockCount, placeCount, caseCount, blockWord}
 use Rattle.table.specs.Promise.{Promise, InRange}
 use Rattle.table.specs.Table.{Terminal, absent, unreachable, throw, return, goto, if, branch, switch, do-while, while, for, for-of, for-in, logical, ternary, optional, label, sequence, maybe-throw, try, scope, Break, Continue, Try, codeOf, tableOf, terminalOf, terminalAt, variantOf}
 use Rattle.table.proofs.RangeLaws.{in-range}
-use Rattle.table.proofs.BlockLaws.{end-by, code-at, goto-at, branch-at}
+use Rattle.table.proofs.BlockLaws.{end-by, code-at, goto-at, branch-at, try-variant}
 use Rattle.definition.specs.Context.{Flags, has, isScheduled, isLoop, breakTargetFrom, continueTargetFrom, getBreakTarget, getContinueTarget}
 use Rattle.definition.specs.Context as definition
 use Rattle.control.specs.declared.Context.{Context}
@@ -73,14 +73,8 @@ module _ (w : List ℕ) (S H : Flags) (b : ℕ) (pr : Promise w) (below : b < bl
     unfolding variantOf
     goto-continues n s e = record { resolves = λ cx _ _. subst (λ (z : Terminal). Resolves z cx (getContinueTarget cx n)) (sym (goto-at w b below code Continue (ap variantOf e))) (ap (getContinueTarget cx) s) }
 
-    is-try : (n : ℕ) → (n ≡ 0 → ⊥) → (n ≡ 1 → ⊥) → variantOf n ≡ Try
-    unfolding variantOf
-    is-try zero f g = absurd (f refl)
-    is-try (suc zero) f g = absurd (g refl)
-    is-try (suc (suc n)) f g = refl
-
     pub goto-tries : (blockWord w b 4 ≡ 0 → ⊥) → (blockWord w b 4 ≡ 1 → ⊥) → Searches w S H b Nothing
-    goto-tries f g = record { resolves = λ cx _ _. subst (λ (z : Terminal). Resolves z cx none) (sym (goto-at w b below code Try (is-try (blockWord w b 4) f g))) tt }
+    goto-tries f g = record { resolves = λ cx _ _. subst (λ (z : Terminal). Resolves z cx none) (sym (goto-at w b below code Try (try-variant (blockWord w b 4) f g))) tt }
 
   -- ---- Branch
 

@@ -10,7 +10,7 @@ use Rattle.table.specs.Table.{unlessNone, scope, Break, Continue, tableOf, term
 use Rattle.definition.specs.Build.{Report, accepted, rejected}
 use Rattle.definition.specs.Context.{Flags, add, emit, targetBlock, continuesAt, getBreakTarget, getContinueTarget}
 use Rattle.definition.specs.Context as definition
-use Rattle.definition.proofs.Invariant.{Below}
+use Rattle.definition.specs.Framed.{Below}
 use Rattle.control.specs.declared.Context.{Context}
 use Rattle.control.specs.Abstraction.{contextOf}
 use Rattle.control.specs.Contract.{Named, Bounded, Room, breakTo, continueTo}

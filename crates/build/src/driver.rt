@@ -22,7 +22,7 @@ ghost use Rattle.table.specs.Words.{entryWord};
 ghost use Rattle.table.specs.Table.{tableOf, unlessNone};
 ghost use Rattle.table.specs.Promise.{Promise};
 ghost use Rattle.definition.specs.Build.{report};
-ghost use Rattle.definition.proofs.Invariant.{Below};
+ghost use Rattle.definition.specs.Framed.{Below};
 ghost use Rattle.build.specs.Driver.{visitedBlock, marked, startingAt, planEnds, isHalt, slot, walkedBy, Reported};
 
 // Where the walk ended: a refusal, or the rows that are out.

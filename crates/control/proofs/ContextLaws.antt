@@ -5,12 +5,13 @@ use native.Mathlib.Nat.{eq-or-lt-of-le}
 use native.Mathlib.Omega.{arith}
 use native.Mathlib.Numerals.{add-one}
 use mathlib.Core.List.{List, _∷_}
-use mathlib.Core.Bool.{Bool, true, false, not, _||_}
+use mathlib.Core.Bool.{true, false, _||_}
 use mathlib.Core.Logic.{⊎-elim}
 use lib.ListN.{getD, set, length, replicate}
 use lib.Seq.{getD-set-same, getD-set-other}
 use lib.Dec.{eqb}
 use borrow.Author.Tests.{eq-eqb, eqb-true, eqb-false}
+use Rattle.definition.proofs.Flags.{has-new}
 use Rattle.definition.specs.Result.{ok, _>>=_, refuseIf, alreadyScheduled}
 use Rattle.definition.specs.Context as definition
 use Rattle.definition.specs.Context.{Flags, has, add, noFlags, start, isScheduled, emit, markScopeFallthrough, scheduleCatchHandler, targetBlock, pushed, popped, schedule, scheduleLoop, unscheduledBy, unschedule, unscheduleTop}
@@ -24,10 +25,6 @@ use Rattle.control.specs.Contract.{continueScheduled, Named, Bounded, Ro
 
 -- ---- sets of blocks
 
-pub has-added : (flags : Flags) (block : ℕ) → block < length flags → has (add flags block) block ≡ true
-unfolding has add
-has-added flags block h = getD-set-same flags block true false h
-
 pub has-other : (flags : Flags) (added block : ℕ) → (block ≡ added → ⊥) → has (add flags added) block ≡ has flags block
 unfolding has add
 has-other flags added block h = getD-set-other flags added block true false h
@@ -36,7 +33,7 @@ has-other flags added block h = getD-set-other flags added block true false h
 pub continue-scheduled : (flags : Flags) (fallthrough continueBlock : ℕ) → continueBlock < length flags → has (add flags fallthrough) continueBlock ≡ continueScheduled flags fallthrough continueBlock
 continue-scheduled flags fallthrough continueBlock h =
     elim (eqb continueBlock fallthrough) as (λ y. eqb continueBlock fallthrough ≡ y → has (add flags fallthrough) continueBlock ≡ (y || has flags continueBlock)) [
-      | true ↦ λ same. ap (λ (block : ℕ). has (add flags block) continueBlock) (sym (eqb-true _ _ same)) ∙ has-added flags continueBlock h
+      | true ↦ λ same. ap (λ (block : ℕ). has (add flags block) continueBlock) (sym (eqb-true _ _ same)) ∙ has-new flags continueBlock h
       | false ↦ λ other. has-other flags fallthrough continueBlock (eqb-false _ _ other)
     ] refl
 

@@ -8,7 +8,7 @@ use mathlib.Core.Bool.{Bool, true, false, _||_}
 use lib.ListN.{getD}
 use borrow.Author.Tests.{eq-eqb, ne-eqb}
 use Rattle.definition.specs.Context as definition
-use Rattle.definition.specs.Context.{targetBlock, isLoop, continuesAt, breakKind, breakTargetFrom, continueTargetFrom}
+use Rattle.definition.specs.Context.{targetBlock, isLoop, continuesAt, breakTargetFrom, continueTargetFrom}
 use Rattle.control.specs.declared.Entry.{Entry}
 use Rattle.control.specs.Abstraction.{targetOf, entryOf, noEntry, stackOf}
 use Rattle.control.specs.Contract.{breakTo, continueTo}

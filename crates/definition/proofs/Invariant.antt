@@ -12,6 +12,7 @@ use lib.Dec.{eqb, T}
 use borrow.Author.Tests.{leb-false}
 use Rattle.table.specs.Table.{Table, Terminal, absent, unreachable, throw, return, goto, if, branch, switch, do-while, while, for, for-of, for-in, logical, ternary, optional, sequence, maybe-throw, try, scope, Variant, Break, Continue, Try, blockAt, terminalAt, instructionRowsAt, isUnreachable, label}
 use Rattle.definition.specs.Build.{Report, report}
+use Rattle.definition.specs.Framed.{Below, isSwitch, Framed}
 use Rattle.definition.specs.Context.{getBreakTarget, getContinueTarget, Resolution, Flags, has, add, ControlFlowTarget, target-if, target-switch, target-case, Entry, Context, start, isScheduled, emit, withVisits, scheduleCatchHandler, markScopeFallthrough, pushed, scheduleLoop, popped}
 use Rattle.definition.specs.Machine.{Frame, State, visiting, ended, choosing, popping, Turn, going, halt, turn, leave, blockRow, valueOut, updateOut, statementOut, jumpOut, added, instructionsOut, closingRow, scheduled, scheduledIf, scheduledSwitch, unscheduledTop, unscheduled, unscheduledIf, opens, frameOf, secondPart, withLeft, caseBuilt, into, intoLoop, closeBy, close, caseAt, numberOfCases, chooseCase, switchColumns, resumeAt, resume, branchTurn, valueTurn, terminalTurn, depthLeft, visitTurn, step, begin, Gives, run}
 use Rattle.definition.specs.Result.{refused, Result, ok, refuseIf}
@@ -24,10 +25,6 @@ use Rattle.definition.proofs.ValueWalk.{sizeOf, value-out-size, sequenc
 use Rattle.definition.proofs.Simulation.{machine-builds, gives-next, gives-halt, number-below}
 
 -- ---- what the check of the words promises of a table
-
-abbrev pub Below : ℕ → Option ℕ → Type 0
-Below n none = Unit {0}
-Below n (some block) = block < n
 
 -- every block that a terminal names is in the table
 abbrev pub NamesBelow : ℕ → Terminal → Type 0
@@ -96,36 +93,6 @@ potential (choosing frame frames rows cx) = 2053 * (8192 - cx .visits) + (2 + (2
 potential (popping frame frames rows cx) = 2053 * (8192 - cx .visits) + (2 + frame .entries + turnsOfAll frames)
 
 -- ---- the invariant
-
-abbrev pub isSwitch : Terminal → Bool
-isSwitch absent = false
-isSwitch unreachable = false
-isSwitch (throw value) = false
-isSwitch (return value) = false
-isSwitch (goto block variant) = false
-isSwitch (if test consequent alternate fallthrough) = false
-isSwitch (branch test consequent alternate) = false
-isSwitch (switch test first number fallthrough) = true
-isSwitch (do-while loop test fallthrough) = false
-isSwitch (while test loop fallthrough) = false
-isSwitch (for init test update loop fallthrough) = false
-isSwitch (for-of init test loop fallthrough) = false
-isSwitch (for-in init loop fallthrough) = false
-isSwitch (logical operator test fallthrough) = false
-isSwitch (ternary test fallthrough) = false
-isSwitch (optional flag test fallthrough) = false
-isSwitch (label body fallthrough) = false
-isSwitch (sequence body fallthrough) = false
-isSwitch (maybe-throw continuation) = false
-isSwitch (try body handler fallthrough binding) = false
-isSwitch (scope pruned body fallthrough number) = false
-
--- a frame's blocks are in the table, and of a Switch the case that is awaited; with `chosen` 1 the cases that it has still to take
-pub record Framed (t : Table) (chosen : ℕ) (frame : Frame) : Type 0 where
-  pub block : frame .block < length (t .blocks)
-  pub label : Below (length (t .blocks)) (frame .label)
-  pub entries : frame .entries ≤ suc (frame .built)
-  pub case : isSwitch (terminalAt t (frame .block)) ≡ true → frame .left < chosen + (length (t .cases) - switchColumns (terminalAt t (frame .block)) .first)
 
 abbrev pub Frames : Table → List Frame → Type 0
 Frames t [] = Unit {0}

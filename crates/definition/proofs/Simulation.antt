@@ -33,7 +33,7 @@ unfolding turn
 gives-turn t s (ok s′) a e h = goes e h
 gives-turn t s (refused c p v) a e h = halts (e ∙ ap halt h)
 
-bind-assoc : {A B C : Type 0} (m : Result A) (f : A → Result B) (g : B → Result C) → (m >>= f) >>= g ≡ m >>= (λ a. f a >>= g)
+pub bind-assoc : {A B C : Type 0} (m : Result A) (f : A → Result B) (g : B → Result C) → (m >>= f) >>= g ≡ m >>= (λ a. f a >>= g)
 unfolding _>>=_
 bind-assoc (ok a) f g = refl
 bind-assoc (refused c p v) f g = refl

@@ -11,4 +11,5 @@ pub mod Completion
 pub mod TreeRun
 pub mod Plain
 pub mod Machine
+pub mod Framed
 pub mod RunLaw

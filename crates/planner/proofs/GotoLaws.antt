@@ -1,5 +1,5 @@
 -- Goto.
-use Prim.Native.Nat.{ℕ, zero, suc, _+_, _-_, _≤_}
+use Prim.Native.Nat.{ℕ, _+_, _-_, _≤_}
 use native.Mathlib.Omega.{arith}
 use mathlib.Core.Path.{_≡_, refl, sym, ap, _∙_, subst}
 use mathlib.Core.Bool.{Bool, true, false}
@@ -9,7 +9,7 @@ use lib.Dec.{eqb}
 use borrow.Author.Tests.{eq-eqb, eqb-true}
 use Rattle.table.specs.Words.{blockWord}
 use Rattle.table.specs.Table.{Terminal, tableOf, terminalOf, terminalAt, goto, Variant, Break, Continue, Try, variantOf}
-use Rattle.table.proofs.BlockLaws.{no-number, end-by, id-at}
+use Rattle.table.proofs.BlockLaws.{no-number, end-by, id-at, try-variant}
 use Rattle.definition.specs.Context.{Flags, getBreakTarget, getContinueTarget, Resolution}
 use Rattle.definition.specs.Context as definition
 use Rattle.definition.specs.Machine.{State, ended, turn, leave, jumpOut, added, terminalTurn}
@@ -122,12 +122,7 @@ module _ (w : List ℕ) (p : Position) (en : Entered w p) (code : blockWord w (p
   goto-try b plan n₀ n₁ e = subst (λ (z : Plan). Planned (terminalStep w p) (GotoSeen w p O resolved) [] (p .depth) (p .rows) b z b) (sym e) (record {
     out = [];
     held = λ _ before h. rw (append-nil before) h;
-    same = λ F R C d o. ap turn (step-by w p _ F R C (variant-is Try (blockWord w (p .block) 4) refl (third (blockWord w (p .block) 4) n₀ n₁))) ∙ turn-ok _
+    same = λ F R C d o. ap turn (step-by w p _ F R C (variant-is Try (blockWord w (p .block) 4) refl (try-variant (blockWord w (p .block) 4) n₀ n₁))) ∙ turn-ok _
         ∙ sym (leave-applied 65535 (p .depth) (p .count) (p .rows) (p .visits) Nothing F (R ++ []) C ∙ rw (no-number, visits-same (p .visits) C (o .seen .visits), within-all (p .depth) F d));
     fitting = λ _. record { change = tt; handler = rw no-number tt; scope = rw no-number tt; deep = λ z. absurd (let o : _≡_ {A = ℕ} 0 1 = cc in omega arith); next = omega arith; nested = tt };
   })
-    where
-      third : (n : ℕ) → (n ≡ 0 → ⊥) → (n ≡ 1 → ⊥) → variantOf n ≡ Try
-      third zero a c = absurd (a refl)
-      third (suc zero) a c = absurd (c refl)
-      third (suc (suc n)) a c = refl

@@ -16,6 +16,8 @@ use Rattle.table.specs.Promise.{InRange, BelowUnlessNone}
 use Rattle.table.specs.Table.{Table, Block, Terminal, absent, unreachable, throw, return, goto, if, branch, switch, do-while, while, for, for-of, for-in, logical, ternary, optional, label, sequence, maybe-throw, try, scope, tableOf, terminalOf, terminalAt, blockAt, unlessNone}
 use Rattle.table.proofs.RangeLaws.{in-range}
 use Rattle.table.proofs.BlockLaws.{no-number, some-number, end-by, span-at}
+use Rattle.definition.proofs.Never.{or-false}
+use Rattle.definition.proofs.Simulation.{bind-assoc}
 use Rattle.definition.specs.Context.{Flags, has, add, remove, pushed, popped, target-if, withVisits, scheduleLoop, unscheduledBy}
 use Rattle.definition.specs.Context as definition
 use Rattle.definition.specs.Machine.{State, visiting, turn, leave, intoLoop, scheduled, scheduledIf, unscheduled, unscheduledTop, unscheduledIf, valueOut, updateOut, valueTurn, terminalTurn}
@@ -52,11 +54,6 @@ some-same : {f g : ℕ} → _≡_ {A = Option ℕ} (some f) (some g) → f ≡ g
 some-same q = cc
 
 -- ---- steps in a row
-
-then-then : {A B C : Type 0} (o : Result A) (f : A → Result B) (g : B → Result C) → ((o >>= f) >>= g) ≡ (o >>= λ a. f a >>= g)
-unfolding _>>=_
-then-then (ok a) f g = refl
-then-then (refused code at visits) f g = refl
 
 then-same : {A B : Type 0} (o : Result A) (f g : A → Result B) → ((a : A) → f a ≡ g a) → (o >>= f) ≡ (o >>= g)
 unfolding _>>=_
@@ -129,7 +126,7 @@ module _ {p : Position} {b : List ℕ} (before : Values) where
 value-then : {B : Type 0} (visit : VisitValueBlock) (form : ValueBlockResult → Value) (block span : ℕ) (made : Made) (k : Made → Result B)
     → (valueMade visit form block span made >>= k) ≡ (visit block none span (made .visits) >>= λ result. k (record { out = made .out ++ valueOut (form result); visits = result .visits }))
 unfolding valueMade _>>=_
-value-then visit form block span made k = then-then (visit block none span (made .visits)) (λ result. ok (record { out = made .out ++ valueOut (form result); visits = result .visits })) k
+value-then visit form block span made k = bind-assoc (visit block none span (made .visits)) (λ result. ok (record { out = made .out ++ valueOut (form result); visits = result .visits })) k
 
 update-then : {B : Type 0} (visit : VisitValueBlock) (update : Option ℕ) (span : ℕ) (made : Made) (k : Made → Result B)
     → (updateMade visit update span made >>= k) ≡ (visitUpdate visit update span (made .visits) >>= λ updated. k (record { out = made .out ++ updateOut (updated .value); visits = updated .visits }))
@@ -137,7 +134,7 @@ unfolding visitUpdate updateOut _>>=_
 update-then visit none span made k = ap (λ (out : List Row). k (record { out = out; visits = made .visits })) (sym (append-nil (made .out)))
 update-then visit (some update) span made k =
     value-then visit plainForm update span made k
-    ∙ sym (then-then (visit update none span (made .visits)) (λ result. ok (record { value = some (result .value); visits = result .visits })) (λ updated. k (record { out = made .out ++ updateOut (updated .value); visits = updated .visits })))
+    ∙ sym (bind-assoc (visit update none span (made .visits)) (λ result. ok (record { value = some (result .value); visits = result .visits })) (λ updated. k (record { out = made .out ++ updateOut (updated .value); visits = updated .visits })))
 
 -- ---- schedule_loop, by what a planner sees
 
@@ -346,7 +343,7 @@ module _ (w : List ℕ) (S H : Flags) (p : Position) (en : Entered w p) where
   for-of-turns c test l f n q h o = turns (for-of c test l f) f c l n _ q (λ F R C. rw span-is (then-same (scheduleLoop f c (some l) C) _ _ (λ inside.
       let k : Made → Result State = body f l F R C inside (unlessScheduled C f) in
       let flat : ValueBlockResult → Value = flatForm (tableOf w) span in
-      sym (then-then (valueMade visit flat c span (noneMade (inside .visits))) (valueMade visit flat test span) k
+      sym (bind-assoc (valueMade visit flat c span (noneMade (inside .visits))) (valueMade visit flat test span) k
       ∙ value-then visit flat c span (noneMade (inside .visits)) (λ made. valueMade visit flat test span made >>= k)
       ∙ then-same (visit c none span (inside .visits)) _ _ (λ first.
       value-then visit flat test span (record { out = valueOut (flat first); visits = first .visits }) k
@@ -359,8 +356,8 @@ module _ (w : List ℕ) (S H : Flags) (p : Position) (en : Entered w p) where
       let k : Made → Result State = body f l F R C inside (unlessScheduled C f) in
       let flat : ValueBlockResult → Value = flatForm (tableOf w) span in
       let start : Result Made = valueMade visit flat init span (noneMade (inside .visits)) in
-      sym (then-then (start >>= valueMade visit plainForm test span) (updateMade visit update span) k
-      ∙ then-then start (valueMade visit plainForm test span) (λ made. updateMade visit update span made >>= k)
+      sym (bind-assoc (start >>= valueMade visit plainForm test span) (updateMade visit update span) k
+      ∙ bind-assoc start (valueMade visit plainForm test span) (λ made. updateMade visit update span made >>= k)
       ∙ value-then visit flat init span (noneMade (inside .visits)) (λ made. valueMade visit plainForm test span made >>= λ more. updateMade visit update span more >>= k)
       ∙ then-same (visit init none span (inside .visits)) _ _ (λ first.
       value-then visit plainForm test span (record { out = valueOut (flat first); visits = first .visits }) (λ made. updateMade visit update span made >>= k)
@@ -478,17 +475,13 @@ id-taken : (f v : ℕ) (C : definition.Context) → has (C .scheduled) f ≡ fal
 unfolding unscheduled unscheduledTop unscheduledBy popped withVisits scheduled pushed idTaken
 id-taken f v C e = ap (λ (S : Flags). popped (C .stack) S (withVisits v (pushed (target-if f) (add (C .scheduled) f) C))) (remove-added (C .scheduled) f e)
 
-or-left : (x y : Bool) → x || y ≡ false → x ≡ false
-or-left true y e = e
-or-left false y e = refl
-
 module _ (S H : Flags) (v : ℕ) (C : definition.Context) (seen : Seen S H v C) (f n : ℕ) (h : f < 1024) (o : n ≡ unlessTaken (has S f || has H f) f) where
   value-context : (after : ℕ) → unscheduledIf (unlessNone n) (withVisits after (scheduledIf (unlessNone n) C)) ≡ changed (takeIdIf (eqb n 65535)) (withVisits after C)
   value-context after = by (has S f || has H f) refl o
     where
       by : (y : Bool) → has S f || has H f ≡ y → n ≡ unlessTaken y f → unscheduledIf (unlessNone n) (withVisits after (scheduledIf (unlessNone n) C)) ≡ changed (takeIdIf (eqb n 65535)) (withVisits after C)
       by true e q = rw (q, no-number)
-      by false e q = rw (q, some-number f (λ z. omega arith), ne-eqb f 65535 (λ z. omega arith)) (id-taken f after C (ap (λ (z : Flags). has z f) (seen .scheduled) ∙ or-left (has S f) (has H f) e))
+      by false e q = rw (q, some-number f (λ z. omega arith), ne-eqb f 65535 (λ z. omega arith)) (id-taken f after C (ap (λ (z : Flags). has z f) (seen .scheduled) ∙ or-false (has S f) (has H f) e))
 
 -- a terminal with such a fallthrough: its turn, and the fallthrough's range
 pub record ValueTerminal (e : Terminal) (f : ℕ) : Type 0 where

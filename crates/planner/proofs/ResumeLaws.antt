@@ -20,7 +20,7 @@ use Rattle.definition.specs.Machine as machine
 use Rattle.definition.specs.Result.{Result, ok, _>>=_, refuseIf}
 use Rattle.definition.specs.Tree.{Row, row}
 use Rattle.definition.specs.Value.{visitValueBlock, VisitValueBlock, ValueBlockResult}
-use Rattle.definition.proofs.Invariant.{isSwitch}
+use Rattle.definition.specs.Framed.{isSwitch}
 use Rattle.control.specs.declared.ControlFlowTarget.the-variants.{Case as CaseTarget}
 use Rattle.rows.specs.Rows.{Holds, Written}
 use Rattle.rows.specs.Stack as stack

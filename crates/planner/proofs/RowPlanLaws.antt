@@ -24,7 +24,7 @@ use Rattle.definition.specs.Machine as machine
 use Rattle.definition.specs.Result.{ok}
 use Rattle.definition.specs.Statement.{unlessScheduled, markScopeFallthroughIf}
 use Rattle.definition.specs.Tree.{Row, row}
-use Rattle.definition.proofs.Invariant.{Below}
+use Rattle.definition.specs.Framed.{Below}
 use Rattle.rows.specs.Rows.{Holds, Written}
 use Rattle.rows.specs.Stack as stack
 use Rattle.rows.proofs.StackLaws.{push-row-after}

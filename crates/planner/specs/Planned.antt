@@ -14,7 +14,7 @@ use Rattle.definition.specs.Machine as machine
 use Rattle.definition.specs.Result.{Result}
 use Rattle.definition.specs.Tree.{Row}
 use Rattle.definition.specs.Value.{visitValueBlock}
-use Rattle.definition.proofs.Invariant.{Below}
+use Rattle.definition.specs.Framed.{Below}
 use Rattle.control.specs.Contract.{Named}
 use Rattle.rows.specs.Rows.{Holds}
 use Rattle.rows.specs.Stack.{pushed}

@@ -13,7 +13,7 @@ use Rattle.definition.specs.Context as definition
 use Rattle.definition.specs.Machine.{step}
 use Rattle.definition.specs.Machine as machine
 use Rattle.definition.specs.Tree.{Row}
-use Rattle.definition.proofs.Invariant.{Framed, isSwitch}
+use Rattle.definition.specs.Framed.{Framed, isSwitch}
 use Rattle.control.specs.declared.Context.{Context}
 use Rattle.control.specs.declared.Resolved.{Resolved}
 use Rattle.control.specs.Abstraction.{resolvedOf}

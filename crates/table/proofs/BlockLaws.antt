@@ -9,7 +9,7 @@ use lib.Dec.{eqb}
 use lib.ListN.{length}
 use borrow.Author.Tests.{eqb-true, ne-eqb}
 use Rattle.table.specs.Words.{blockCount, blockWord}
-use Rattle.table.specs.Table.{Block, Variant, goto, branch, tableOf, blockOf, terminalOf, terminalAt, blockAt, instructionRowsAt, rowsFrom, codeOf, variantOf, unlessNone}
+use Rattle.table.specs.Table.{Block, Variant, Try, goto, branch, tableOf, blockOf, terminalOf, terminalAt, blockAt, instructionRowsAt, rowsFrom, codeOf, variantOf, unlessNone}
 use Rattle.table.specs.Promise.{Promise}
 use Rattle.table.proofs.TableLaws.{block-at}
 use Rattle.table.proofs.RangeLaws.{code-known}
@@ -42,6 +42,13 @@ module _ (ws : List ℕ) (b : ℕ) (h : b < blockCount ws) where
   pub branch-at : blockWord ws b 2 ≡ 6 → terminalAt (tableOf ws) b ≡ branch (blockWord ws b 3) (blockWord ws b 4) (blockWord ws b 5)
   unfolding terminalOf
   branch-at code = end-by 6 code
+
+-- a Goto's variant other than 0 and 1
+pub try-variant : (n : ℕ) → (n ≡ 0 → ⊥) → (n ≡ 1 → ⊥) → variantOf n ≡ Try
+unfolding variantOf
+try-variant zero f g = absurd (f refl)
+try-variant (suc zero) f g = absurd (g refl)
+try-variant (suc (suc n)) f g = refl
 
 pub length-rows : (first count : ℕ) → length (rowsFrom first count) ≡ count
 length-rows first zero = refl

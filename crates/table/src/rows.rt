@@ -5,7 +5,7 @@ use crate::words;
 ghost use mathlib.Core.Path.{_≡_};
 ghost use mathlib.Core.List.{[], _∷_};
 ghost use Prim.Native.Nat.{suc, _-_, _<_, _≤_};
-ghost use lib.ListN.{length, replicate};
+ghost use lib.ListN.{replicate};
 ghost use Rattle.table.specs.Words.{blockCount, instructionCount, caseCount, placeCount, identifierCount};
 ghost use Rattle.table.specs.Words.{blocksBegin, instructionsBegin, casesBegin, placesBegin, identifiersBegin};
 ghost use Rattle.table.specs.Words.{blockWord, instructionWord, caseWord};

@@ -1,6 +1,5 @@
 ghost use mathlib.Core.Path.{_≡_};
-ghost use mathlib.Core.List.{List};
-ghost use Prim.Native.Nat.{_+_, _*_, _^_, _/_, _≤_, _<_};
+ghost use Prim.Native.Nat.{_+_, _*_, _^_, _/_, _<_};
 ghost use lib.ListN.{length};
 ghost use Rattle.text.specs.Decimal.{decimal};
 ghost use Rattle.text.specs.Line.{line, lines};

@@ -1,16 +1,15 @@
 -- From what reading, building and writing give to what is printed of a file.
-use Prim.Native.Nat.{ℕ, _+_, _-_, _*_, _≤_}
+use Prim.Native.Nat.{ℕ, _-_, _≤_}
 use mathlib.Core.Path.{_≡_, refl, sym, ap, _∙_}
 use mathlib.Core.Bool.{Bool, true, false}
-use mathlib.Core.List.{List, [], _++_}
+use mathlib.Core.List.{List, []}
 use lib.Dec.{leb}
 use borrow.Author.Tests.{leb-true}
 use mathlib.Core.Logic.{⊎-elim, inl, inr}
 use native.Mathlib.Omega.{arith}
-use lib.ListN.{length, take, replicate, length-append, length-replicate}
+use lib.ListN.{length, take, length-append, length-replicate}
 use lib.Seq.{take-at}
 use Rattle.text.specs.Answer.{Refusal, Answered}
-use Rattle.text.specs.Lent.{padded}
 use Rattle.text.specs.Printed.{printed, writtenOf, lentOf}
 use Rattle.text.specs.declared.read.Answer.the-variants.{Words}
 use Rattle.text.specs.declared.read.Answer.the-variants as read

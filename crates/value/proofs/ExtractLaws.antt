@@ -2,18 +2,18 @@
 use mathlib.Core.Path.{_≡_, refl, sym, ap, _∙_}
 use mathlib.Core.Bool.{Bool, true, false}
 use mathlib.Core.List.{List, [], _∷_}
-use mathlib.Core.Option.{Option, none, some}
+use mathlib.Core.Option.{none, some}
 use Prim.Native.Nat.{ℕ, zero, suc, _+_, _-_, _≤_, _<_}
 use native.Mathlib.Omega.{arith}
 use lib.Dec.{eqb}
 use lib.ListN.{getD}
-use borrow.Author.Tests.{eqb-true, eqb-false, eq-eqb, ne-eqb}
-use Rattle.table.specs.Words.{blockCount, instructionCount, placeCount, blockWord, instructionWord, placeWord, identifierWord, largest}
-use Rattle.table.specs.Table.{Table, Instruction, Operation, other, load-local, store-local, tableOf, instructionOf, operationOf, instructionAt, rowsFrom, unlessNone}
+use borrow.Author.Tests.{eqb-true, eq-eqb}
+use Rattle.table.specs.Words.{instructionCount, instructionWord, placeWord, identifierWord}
+use Rattle.table.specs.Table.{Table, store-local, tableOf, instructionOf, operationOf, rowsFrom}
 use Rattle.table.specs.Promise.{Promise}
-use Rattle.definition.specs.Result.{Result, ok, refused}
-use Rattle.definition.specs.Tree.{Value, PLAIN, LOAD}
-use Rattle.definition.specs.Value.{ValueBlockResult, wrapWithSequence, finalValue, finalPlace, storedToNamed, allButLast, last, extractValueBlockResult, extractOrRefuse, branchValue, loadedBy}
+use Rattle.definition.specs.Result.{ok, refused}
+use Rattle.definition.specs.Tree.{PLAIN, LOAD}
+use Rattle.definition.specs.Value.{wrapWithSequence, finalValue, finalPlace, storedToNamed, allButLast, last, extractValueBlockResult, extractOrRefuse, branchValue, loadedBy}
 use Rattle.value.specs.Met.{unnamed, unnamedStore}
 use Rattle.value.proofs.Ranges.{few-operations, stored-to, place-identifier}
 use Rattle.table.proofs.TableLaws.{instruction-at, place-at, named-at}

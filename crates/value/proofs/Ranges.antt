@@ -3,11 +3,11 @@ use mathlib.Core.Path.{_≡_, ap, subst, _∙_}
 use mathlib.Core.List.{List}
 use Prim.Native.Nat.{ℕ, _+_, _≤_, _<_}
 use Rattle.table.specs.Words.{blockCount, instructionCount, placeCount, identifierCount, caseCount, blockWord, instructionWord, placeWord}
-use Rattle.table.specs.Table.{Terminal, Instruction, Operation, tableOf, terminalOf, instructionOf, operationOf}
+use Rattle.table.specs.Table.{Terminal, Instruction, Operation, terminalOf, instructionOf, operationOf}
 use Rattle.table.specs.Promise.{Promise, InRange, OperandsInRange}
 use Rattle.table.proofs.TableLaws.{instruction-at}
 use Rattle.table.proofs.RangeLaws.{run-within, in-range, lvalue-below, operation-known, operands-in-range}
-use Rattle.table.proofs.BlockLaws.{end-at}
+use Rattle.table.proofs.BlockLaws.{end-by}
 
 module _ {ws : List ℕ} (p : Promise ws) where
   module _ (b : ℕ) (h : b < blockCount ws) where
@@ -17,9 +17,7 @@ module _ {ws : List ℕ} (p : Promise ws) where
     -- what the columns of a code name is there
     columns : {code : ℕ} → blockWord ws b 2 ≡ code
         → InRange (blockCount ws) (placeCount ws) (caseCount ws) (terminalOf code (blockWord ws b 3) (blockWord ws b 4) (blockWord ws b 5) (blockWord ws b 6) (blockWord ws b 7))
-    columns e =
-        subst (λ (m : Terminal). InRange (blockCount ws) (placeCount ws) (caseCount ws) m)
-        (end-at ws b h ∙ ap (λ (k : ℕ). terminalOf k (blockWord ws b 3) (blockWord ws b 4) (blockWord ws b 5) (blockWord ws b 6) (blockWord ws b 7)) e) (in-range ws p b h)
+    columns {code} e = subst (λ (m : Terminal). InRange (blockCount ws) (placeCount ws) (caseCount ws) m) (end-by ws b h code e) (in-range ws p b h)
 
     pub branch-test : blockWord ws b 2 ≡ 6 → blockWord ws b 3 < placeCount ws
     unfolding terminalOf

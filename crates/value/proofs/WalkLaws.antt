@@ -1,19 +1,19 @@
 -- The definition's walk over the words: what a visit gives by the block's code, and what a value terminal gives by its code.
 use mathlib.Core.Path.{_≡_, refl, sym, ap, _∙_}
 use mathlib.Core.Bool.{Bool, true, false, _&&_}
-use mathlib.Core.List.{List, [], _∷_}
+use mathlib.Core.List.{List, []}
 use mathlib.Core.Option.{Option, none, some}
-use Prim.Native.Nat.{ℕ, zero, suc, _+_, _-_, _≤_, _<_}
+use Prim.Native.Nat.{ℕ, zero, suc, _+_, _-_, _<_}
 use native.Mathlib.Numerals.{add-one}
 use native.Mathlib.Omega.{arith}
 use lib.Dec.{eqb, leb}
 use borrow.Author.Tests.{eq-eqb, ne-eqb, eqb-true, lt-leb}
 use Rattle.table.specs.Words.{blockCount, blockWord, largest}
-use Rattle.table.specs.Table.{Table, Block, Terminal, absent, unreachable, throw, return, goto, if, branch, switch, do-while, while, for, for-of, for-in, logical, ternary, optional, label, sequence, maybe-throw, try, scope, tableOf, terminalOf, terminalAt, blockAt, instructionRows, instructionRowsAt, rowsFrom, codeOf, isAbsent, isGoto, unlessNone}
+use Rattle.table.specs.Table.{Table, Block, Terminal, absent, unreachable, throw, return, goto, if, branch, switch, do-while, while, for, for-of, for-in, logical, ternary, optional, label, sequence, maybe-throw, try, scope, tableOf, terminalOf, terminalAt, blockAt, instructionRowsAt, rowsFrom, codeOf, isAbsent, isGoto, unlessNone}
 use Rattle.table.specs.Promise.{Promise}
 use Rattle.table.proofs.BlockLaws.{end-at, id-at, span-at, rows-at, code-at}
 use Rattle.definition.specs.Result.{Result, ok, refused, _>>=_, refuseIf}
-use Rattle.definition.specs.Value.{ValueBlockResult, ValueTerminalResult, VisitValueBlock, visitValueBlock, visitValueBlockAt, visitValueBlockTerminal, thenFallthrough, beginVisit, extractOrRefuse, branchValue, maybeThrowValue, isEmpty, isEmptyGoto, isFallthrough, Ways, TestBlockResult, branchWays, testBlockEnded}
+use Rattle.definition.specs.Value.{ValueBlockResult, ValueTerminalResult, VisitValueBlock, visitValueBlock, visitValueBlockAt, visitValueBlockTerminal, thenFallthrough, beginVisit, extractOrRefuse, branchValue, maybeThrowValue, isEmpty, isEmptyGoto, isFallthrough, Ways, branchWays, testBlockEnded}
 use Rattle.value.specs.Outcome.{visit, blockOutcome, terminalOutcome}
 use Rattle.value.proofs.MetLaws.{wrap, unless-on, unless-off}
 

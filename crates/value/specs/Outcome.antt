@@ -1,9 +1,9 @@
 -- The definition's outcomes over the words, as the contracts of the walk cite them.
 use mathlib.Core.List.{List}
 use Prim.Native.Nat.{ℕ}
-use Rattle.table.specs.Table.{Table, tableOf, Terminal, terminalAt, blockAt, unlessNone}
+use Rattle.table.specs.Table.{tableOf, Terminal, terminalAt, blockAt, unlessNone}
 use Rattle.definition.specs.Result.{Result}
-use Rattle.definition.specs.Value.{ValueBlockResult, ValueTerminalResult, TestBlockResult, VisitValueBlock, visitValueBlock, visitValueBlockAt, visitValueBlockTerminal, visitTestBlock, thenFallthrough}
+use Rattle.definition.specs.Value.{ValueBlockResult, ValueTerminalResult, TestBlockResult, VisitValueBlock, visitValueBlock, visitValueBlockAt, visitValueBlockTerminal, visitTestBlock}
 use Rattle.value.specs.declared.walk.ValueTerminal.{ValueTerminal}
 
 -- the value walk with so many levels of depth left

@@ -19,7 +19,7 @@ use table::words::place_word;
 ghost use mathlib.Core.Path.{_≡_};
 ghost use mathlib.Core.List.{[]};
 ghost use Prim.Native.Nat.{suc, _+_, _≤_, _<_};
-ghost use Rattle.table.specs.Words.{blockCount, instructionCount, blockWord, instructionWord};
+ghost use Rattle.table.specs.Words.{blockCount, instructionCount, blockWord};
 ghost use Rattle.table.specs.Table.{tableOf, instructionRowsAt, blockAt, rowsFrom};
 ghost use Rattle.table.specs.Promise.{Promise};
 ghost use Rattle.definition.specs.Result.{ok};

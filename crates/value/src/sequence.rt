@@ -7,7 +7,7 @@ use rows::UNDEF;
 use rows::put;
 use table::words::place_word;
 ghost use mathlib.Core.Path.{_≡_};
-ghost use Prim.Native.Nat.{_+_, _≤_, _<_};
+ghost use Prim.Native.Nat.{_+_, _<_};
 ghost use Rattle.table.specs.Words.{placeCount, largest};
 ghost use Rattle.table.specs.Table.{tableOf, unlessNone};
 ghost use Rattle.table.specs.Promise.{Promise};

@@ -20,7 +20,7 @@ use rows::SEQ;
 use table::words::block_word;
 ghost use mathlib.Core.Path.{_≡_};
 ghost use mathlib.Core.Option.{some};
-ghost use Prim.Native.Nat.{_+_, _≤_, _<_};
+ghost use Prim.Native.Nat.{_+_, _<_};
 ghost use Rattle.table.specs.Words.{blockCount, blockWord};
 ghost use Rattle.table.specs.Promise.{Sized};
 ghost use Rattle.table.specs.Table.{tableOf, blockAt, unlessNone, logical, ternary, optional, sequence};

@@ -8,7 +8,6 @@ use value::result::ValueResult;
 use value::sequence::value_block_result_to_sequence;
 use value::walk::visit_value_block;
 use value::walk::visit_value_block_terminal;
-ghost use mathlib.Core.Path.{_≡_};
 ghost use mathlib.Core.Bool.{true};
 ghost use Prim.Native.Nat.{_<_, _≤_};
 ghost use lib.ListN.{length};

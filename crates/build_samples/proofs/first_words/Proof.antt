@@ -1,13 +1,10 @@
 use borrow.Author.Needs.{needs}
 use native.Mathlib.Omega.{arith}
-use mathlib.Core.Path.{_≡_, refl, sym, _∙_}
-use Prim.Native.Nat.{ℕ, _+_, _-_, _≤_, _<_}
-use lib.ListN.{length, take, length-set}
+use mathlib.Core.Path.{sym}
+use Prim.Native.Nat.{_-_}
 use lib.Seq.{length-take-le}
 use Rattle.build_samples.proofs.first_words.Statement.{statement}
 use Rattle.build_samples.proofs.first_words.Tie as tie
-use Rattle.build_samples.proofs.first_words.Reads as reads
-use Rattle.build_samples.proofs.first_words.Lts as lts
 
 -- src/main.rt:244:9
 slice-aggregate-result : tie.Need-slice-aggregate-result

@@ -1,15 +1,8 @@
 use borrow.Author.Needs.{needs}
 use native.Mathlib.Omega.{arith}
-use mathlib.Core.Path.{_≡_, refl, sym, _∙_}
-use Prim.Native.Nat.{ℕ, _+_, _-_, _≤_, _<_}
-use lib.ListN.{length, take, length-set}
-use lib.Seq.{length-take-le}
+use Prim.Native.Nat.{_-_}
 use Rattle.build_samples.proofs.labels.Statement.{statement}
 use Rattle.build_samples.proofs.labels.Tie as tie
-use Rattle.build_samples.proofs.labels.Reads as reads
-use Rattle.build_samples.proofs.labels.Lts as lts
-use Rattle.build_samples.proofs.block.Reads as block-reads
-use Rattle.build_samples.proofs.returns.Reads as returns-reads
 
 abbrev Inv-loop : tie.InvT-loop
 Inv-loop words₀ count level₀ words level = Unit {0}

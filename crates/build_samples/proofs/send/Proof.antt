@@ -1,14 +1,9 @@
 use borrow.Author.Needs.{needs}
-use native.Mathlib.Omega.{arith}
-use mathlib.Core.Path.{_≡_, refl, sym, _∙_}
-use Prim.Native.Nat.{ℕ, _+_, _-_, _≤_, _<_}
-use lib.ListN.{length, take, length-set}
+use mathlib.Core.Path.{sym}
+use Prim.Native.Nat.{_-_}
 use lib.Seq.{length-take-le}
 use Rattle.build_samples.proofs.send.Statement.{statement}
 use Rattle.build_samples.proofs.send.Tie as tie
-use Rattle.build_samples.proofs.send.Reads as reads
-use Rattle.build_samples.proofs.send.Lts as lts
-use Rattle.io.proofs.write_all.Reads as write-all-reads
 
 -- src/main.rt:228:38
 slice-aggregate-write-all : tie.Need-slice-aggregate-write-all

@@ -1,14 +1,9 @@
 use borrow.Author.Needs.{needs}
 use native.Mathlib.Omega.{arith}
-use mathlib.Core.Path.{_≡_, refl, sym, _∙_}
-use Prim.Native.Nat.{ℕ, _+_, _-_, _≤_, _<_}
-use lib.ListN.{length, take, length-set}
-use lib.Seq.{length-take-le}
+use Prim.Native.Nat.{_-_, _<_}
+use lib.ListN.{length}
 use Rattle.build_samples.proofs.sum_of.Statement.{statement}
 use Rattle.build_samples.proofs.sum_of.Tie as tie
-use Rattle.build_samples.proofs.sum_of.Reads as reads
-use Rattle.build_samples.proofs.sum_of.Lts as lts
-use Rattle.build_samples.proofs.mixed.Reads as mixed-reads
 
 abbrev Inv-loop : tie.InvT-loop
 Inv-loop words sum₀ i₀ sum i = sum < 4294967291

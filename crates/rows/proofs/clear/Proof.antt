@@ -8,8 +8,6 @@ use lib.ListN.{length, take, replicate, length-set, replicate-append-replicate}
 use lib.Seq.{take-length, take-suc-set}
 use Rattle.rows.proofs.clear.Statement.{statement}
 use Rattle.rows.proofs.clear.Tie as tie
-use Rattle.rows.proofs.clear.Reads as reads
-use Rattle.rows.proofs.clear.Lts as lts
 
 -- the words from `from` up to i are cleared
 record Clear (b₀ : List ℕ) (from : ℕ) (b : List ℕ) (i : ℕ) : Type 0 where

@@ -2,9 +2,6 @@ use borrow.Author.Needs.{needs}
 use Rattle.rows.proofs.RowLaws.{holds-put}
 use Rattle.rows.proofs.put.Statement.{statement}
 use Rattle.rows.proofs.put.Tie as tie
-use Rattle.rows.proofs.put.Reads as reads
-use Rattle.rows.proofs.put.Lts as lts
-use Rattle.rows.proofs.put_at.Reads as put-at-reads
 
 put-at-requires : tie.Need-put-at-requires
 put-at-requires c κs = search needs

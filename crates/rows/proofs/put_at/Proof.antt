@@ -6,8 +6,6 @@ use lib.ListN.{length-set}
 use Rattle.rows.specs.Rows.{placed}
 use Rattle.rows.proofs.put_at.Statement.{statement}
 use Rattle.rows.proofs.put_at.Tie as tie
-use Rattle.rows.proofs.put_at.Reads as reads
-use Rattle.rows.proofs.put_at.Lts as lts
 
 mul-i : tie.Need-mul-i
 mul-i c = search needs

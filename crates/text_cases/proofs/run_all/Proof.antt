@@ -5,9 +5,6 @@ use Prim.Native.Nat.{_-_}
 use lib.ListN.{length}
 use Rattle.text_cases.proofs.run_all.Statement.{statement}
 use Rattle.text_cases.proofs.run_all.Tie as tie
-use Rattle.text_cases.proofs.run_all.Reads as reads
-use Rattle.text_cases.proofs.run_all.Lts as lts
-use Rattle.text_cases.proofs.run_named.Reads as run-named-reads
 
 abbrev Inv-loop : tie.InvT-loop
 Inv-loop words₀ i₀ words i = length words ≡ length words₀

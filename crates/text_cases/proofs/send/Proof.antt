@@ -3,9 +3,6 @@ use lib.Seq.{length-take-le}
 use borrow.Author.Needs.{needs}
 use Rattle.text_cases.proofs.send.Statement.{statement}
 use Rattle.text_cases.proofs.send.Tie as tie
-use Rattle.text_cases.proofs.send.Reads as reads
-use Rattle.text_cases.proofs.send.Lts as lts
-use Rattle.io.proofs.write_all.Reads as write-all-reads
 
 -- src/main.rt:50:38
 slice-aggregate-write-all : tie.Need-slice-aggregate-write-all

@@ -1,13 +1,9 @@
 use borrow.Author.Needs.{needs}
 use native.Mathlib.Omega.{arith}
-use mathlib.Core.Path.{_≡_, refl, sym, _∙_}
-use Prim.Native.Nat.{ℕ, _+_, _-_, _≤_, _<_}
-use lib.ListN.{length, take, length-set}
-use lib.Seq.{length-take-le}
+use Prim.Native.Nat.{_-_}
+use lib.ListN.{length}
 use Rattle.text_cases.proofs.soiled.Statement.{statement}
 use Rattle.text_cases.proofs.soiled.Tie as tie
-use Rattle.text_cases.proofs.soiled.Reads as reads
-use Rattle.text_cases.proofs.soiled.Lts as lts
 
 abbrev Inv-loop : tie.InvT-loop
 Inv-loop words from i₀ i = Unit {0}

@@ -5,11 +5,6 @@ use Rattle.treefile.proofs.FileLaws.{bytes-within}
 use borrow.Author.Needs.{needs}
 use Rattle.treebuild.proofs.main.Statement.{statement}
 use Rattle.treebuild.proofs.main.Tie as tie
-use Rattle.treebuild.proofs.main.Reads as reads
-use Rattle.treebuild.proofs.main.Lts as lts
-use Rattle.io.proofs.read_full.Reads as read-full-reads
-use Rattle.io.proofs.write_all.Reads as write-all-reads
-use Rattle.treefile.proofs.build_file.Reads as build-file-reads
 
 -- src/main.rt:10:45
 slice-aggregate-read-full : tie.Need-slice-aggregate-read-full

@@ -3,9 +3,6 @@ use native.Mathlib.Omega.{arith}
 use Prim.Native.Nat.{_-_}
 use Rattle.treebuild_cases.proofs.main.Statement.{statement}
 use Rattle.treebuild_cases.proofs.main.Tie as tie
-use Rattle.treebuild_cases.proofs.main.Reads as reads
-use Rattle.treebuild_cases.proofs.main.Lts as lts
-use Rattle.treebuild_cases.proofs.run_named.Reads as run-named-reads
 
 abbrev Inv-loop : tie.InvT-loop
 Inv-loop i₀ i = Unit {0}

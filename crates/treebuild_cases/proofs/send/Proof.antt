@@ -3,9 +3,6 @@ use lib.Seq.{length-take-le}
 use borrow.Author.Needs.{needs}
 use Rattle.treebuild_cases.proofs.send.Statement.{statement}
 use Rattle.treebuild_cases.proofs.send.Tie as tie
-use Rattle.treebuild_cases.proofs.send.Reads as reads
-use Rattle.treebuild_cases.proofs.send.Lts as lts
-use Rattle.io.proofs.write_all.Reads as write-all-reads
 
 -- src/main.rt:9:38
 slice-aggregate-write-all : tie.Need-slice-aggregate-write-all

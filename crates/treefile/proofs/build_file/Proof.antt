@@ -7,11 +7,6 @@ use Rattle.treefile.proofs.FileLaws.{words-within, tree-built, refusal-
 use borrow.Author.Needs.{needs}
 use Rattle.treefile.proofs.build_file.Statement.{statement}
 use Rattle.treefile.proofs.build_file.Tie as tie
-use Rattle.treefile.proofs.build_file.Reads as reads
-use Rattle.treefile.proofs.build_file.Lts as lts
-use Rattle.text.proofs.read.read.Reads as read-reads
-use Rattle.treefile.proofs.build_words.Reads as build-words-reads
-use Rattle.treefile.proofs.write_result.Reads as write-result-reads
 
 -- src/lib.rt:44:29
 slice-aggregate-read : tie.Need-slice-aggregate-read

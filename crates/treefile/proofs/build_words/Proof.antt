@@ -1,20 +1,16 @@
 use borrow.Author.Needs.{needs}
 use native.Mathlib.Omega.{arith}
-use mathlib.Core.Path.{_≡_, sym, ap, _∙_}
+use mathlib.Core.Path.{sym, ap, _∙_}
 use Prim.Native.Nat.{ℕ, _*_, _≤_}
 use mathlib.Core.List.{List}
 use Rattle.text.specs.declared.write.Written.the-variants.{Bytes}
-use lib.ListN.{length, take, length-replicate}
+use lib.ListN.{length, length-replicate}
 use Rattle.text.specs.Printed.{writtenOf, lentOf}
 use Rattle.treefile.specs.Prints.{lentWords}
 use lib.Seq.{length-take-le}
 use Rattle.treefile.proofs.OutcomeLaws.{built-within, refusal-lines, built-printed}
 use Rattle.treefile.proofs.build_words.Statement.{statement}
 use Rattle.treefile.proofs.build_words.Tie as tie
-use Rattle.treefile.proofs.build_words.Reads as reads
-use Rattle.treefile.proofs.build_words.Lts as lts
-use Rattle.build.proofs.build_reactive_function.Reads as build-reactive-function-reads
-use Rattle.treefile.proofs.write_result.Reads as write-result-reads
 
 -- src/lib.rt:19:48
 slice-aggregate-build-reactive-function : tie.Need-slice-aggregate-build-reactive-function

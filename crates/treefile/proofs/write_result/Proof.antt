@@ -8,9 +8,6 @@ use Rattle.text.proofs.WriteLaws.{written-fits, Narrow}
 use borrow.Author.Needs.{needs}
 use Rattle.treefile.proofs.write_result.Statement.{statement}
 use Rattle.treefile.proofs.write_result.Tie as tie
-use Rattle.treefile.proofs.write_result.Reads as reads
-use Rattle.treefile.proofs.write_result.Lts as lts
-use Rattle.text.proofs.write.write.Reads as write-reads
 
 -- src/lib.rt:21:5
 write-requires : tie.Need-write-requires

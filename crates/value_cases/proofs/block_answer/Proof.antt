@@ -2,12 +2,6 @@ use native.Mathlib.Omega.{arith}
 use borrow.Author.Needs.{needs}
 use Rattle.value_cases.proofs.block_answer.Statement.{statement}
 use Rattle.value_cases.proofs.block_answer.Tie as tie
-use Rattle.value_cases.proofs.block_answer.Reads as reads
-use Rattle.value_cases.proofs.block_answer.Lts as lts
-use Rattle.value.proofs.sequence.value_block_result_to_sequence.Reads as value-block-result-to-sequence-reads
-use Rattle.value.proofs.walk.visit_value_block.Reads as visit-value-block-reads
-use Rattle.value_cases.proofs.at.Reads as at-reads
-use Rattle.value_cases.proofs.given.Reads as given-reads
 
 at-requires : tie.Need-at-requires
 at-requires c κs = search needs

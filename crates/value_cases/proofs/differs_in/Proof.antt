@@ -4,10 +4,6 @@ use mathlib.Core.Path.{sym}
 use borrow.Author.Needs.{needs}
 use Rattle.value_cases.proofs.differs_in.Statement.{statement}
 use Rattle.value_cases.proofs.differs_in.Tie as tie
-use Rattle.value_cases.proofs.differs_in.Reads as reads
-use Rattle.value_cases.proofs.differs_in.Lts as lts
-use Rattle.value_cases.proofs.at.Reads as at-reads
-use Rattle.value_cases.proofs.differs.Reads as differs-reads
 
 at-requires : tie.Need-at-requires
 at-requires c κs = search needs

@@ -4,13 +4,6 @@ use mathlib.Core.Path.{sym}
 use borrow.Author.Needs.{needs}
 use Rattle.value_cases.proofs.main.Statement.{statement}
 use Rattle.value_cases.proofs.main.Tie as tie
-use Rattle.value_cases.proofs.main.Reads as reads
-use Rattle.value_cases.proofs.main.Lts as lts
-use Rattle.io.proofs.print_decimal.Reads as print-decimal-reads
-use Rattle.io.proofs.read_full.Reads as read-full-reads
-use Rattle.io.proofs.write_all.Reads as write-all-reads
-use Rattle.value_cases.proofs.read.Reads as read-reads
-use Rattle.value_cases.proofs.run.Reads as run-reads
 
 slice-aggregate-read-full : tie.Need-slice-aggregate-read-full
 slice-aggregate-read-full c = search needs

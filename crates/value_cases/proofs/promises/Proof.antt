@@ -4,10 +4,6 @@ use mathlib.Core.Path.{sym, _∙_}
 use borrow.Author.Needs.{needs}
 use Rattle.value_cases.proofs.promises.Statement.{statement}
 use Rattle.value_cases.proofs.promises.Tie as tie
-use Rattle.value_cases.proofs.promises.Reads as reads
-use Rattle.value_cases.proofs.promises.Lts as lts
-use Rattle.table.proofs.Checked.is_accepted.Reads as is-accepted-reads
-use Rattle.table.proofs.check.Reads as check-reads
 
 check-requires : tie.Need-check-requires
 check-requires c κs = search needs

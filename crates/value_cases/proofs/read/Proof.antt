@@ -1,14 +1,9 @@
 use lib.ListN.{length}
 use Prim.Native.Nat.{_≤_, _<_, _-_}
 use mathlib.Core.Path.{_≡_}
-use borrow.Author.Needs.{needs}
 use native.Mathlib.Omega.{arith}
 use Rattle.value_cases.proofs.read.Statement.{statement}
 use Rattle.value_cases.proofs.read.Tie as tie
-use Rattle.value_cases.proofs.read.Reads as reads
-use Rattle.value_cases.proofs.read.Lts as lts
-use Rattle.value_cases.proofs.digit.Reads as digit-reads
-use Rattle.value_cases.proofs.stored.Reads as stored-reads
 
 abbrev Inv-loop : tie.InvT-loop
 Inv-loop text numbers₀ n₀ value₀ i₀ numbers n value i = (n ≤ length numbers) × (value < 4294967296) × (length numbers ≡ length numbers₀) × (i ≤ length text)

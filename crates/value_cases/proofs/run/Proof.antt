@@ -1,15 +1,10 @@
 use lib.ListN.{length}
-use Prim.Native.Nat.{_≤_, _<_, _-_}
+use Prim.Native.Nat.{_≤_, _-_}
 use mathlib.Core.Path.{_≡_}
 use borrow.Author.Needs.{needs}
 use native.Mathlib.Omega.{arith}
 use Rattle.value_cases.proofs.run.Statement.{statement}
 use Rattle.value_cases.proofs.run.Tie as tie
-use Rattle.value_cases.proofs.run.Reads as reads
-use Rattle.value_cases.proofs.run.Lts as lts
-use Rattle.value_cases.proofs.at.Reads as at-reads
-use Rattle.value_cases.proofs.differs_in.Reads as differs-in-reads
-use Rattle.value_cases.proofs.part.Reads as part-reads
 
 abbrev Inv-loop : tie.InvT-loop
 Inv-loop numbers buffer₀ cases₀ differences₀ i₀ buffer cases differences i = (cases ≤ i) × (differences ≤ cases) × (i ≤ 10000000000) × (length buffer ≡ length buffer₀)

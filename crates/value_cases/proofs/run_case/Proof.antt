@@ -3,14 +3,6 @@ use native.Mathlib.Omega.{arith}
 use borrow.Author.Needs.{needs}
 use Rattle.value_cases.proofs.run_case.Statement.{statement}
 use Rattle.value_cases.proofs.run_case.Tie as tie
-use Rattle.value_cases.proofs.run_case.Reads as reads
-use Rattle.value_cases.proofs.run_case.Lts as lts
-use Rattle.table.proofs.words.block_count.Reads as block-count-reads
-use Rattle.value_cases.proofs.at.Reads as at-reads
-use Rattle.value_cases.proofs.block_answer.Reads as block-answer-reads
-use Rattle.value_cases.proofs.disorder.Reads as disorder-reads
-use Rattle.value_cases.proofs.promises.Reads as promises-reads
-use Rattle.value_cases.proofs.terminal_answer.Reads as terminal-answer-reads
 
 promises-requires : tie.Need-promises-requires
 promises-requires c κs = search needs

@@ -1,12 +1,8 @@
 use lib.ListN.{length}
 use Prim.Native.Nat.{_≤_, _-_}
-use borrow.Author.Needs.{needs}
 use native.Mathlib.Omega.{arith}
 use Rattle.value_cases.proofs.same_words.Statement.{statement}
 use Rattle.value_cases.proofs.same_words.Tie as tie
-use Rattle.value_cases.proofs.same_words.Reads as reads
-use Rattle.value_cases.proofs.same_words.Lts as lts
-use Rattle.value_cases.proofs.at.Reads as at-reads
 
 abbrev Inv-loop : tie.InvT-loop
 Inv-loop buffer expected i₀ i = i ≤ length expected

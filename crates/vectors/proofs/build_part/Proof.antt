@@ -3,10 +3,6 @@ use lib.Seq.{length-take-le}
 use borrow.Author.Needs.{needs}
 use Rattle.vectors.proofs.build_part.Statement.{statement}
 use Rattle.vectors.proofs.build_part.Tie as tie
-use Rattle.vectors.proofs.build_part.Reads as reads
-use Rattle.vectors.proofs.build_part.Lts as lts
-use Rattle.build.proofs.build_reactive_function.Reads as build-reactive-function-reads
-use Rattle.vectors.proofs.within.Reads as within-reads
 
 -- src/main.rt:115:9
 within-requires : tie.Need-within-requires

@@ -1,14 +1,8 @@
 use borrow.Author.Needs.{needs}
 use native.Mathlib.Omega.{arith}
-use mathlib.Core.Path.{_≡_, refl, sym, _∙_}
-use Prim.Native.Nat.{ℕ, _+_, _-_, _≤_, _<_}
-use lib.ListN.{length, take, length-set}
-use lib.Seq.{length-take-le}
+use Prim.Native.Nat.{_-_}
 use Rattle.vectors.proofs.read_words.Statement.{statement}
 use Rattle.vectors.proofs.read_words.Tie as tie
-use Rattle.vectors.proofs.read_words.Reads as reads
-use Rattle.vectors.proofs.read_words.Lts as lts
-use Rattle.vectors.proofs.word_at.Reads as word-at-reads
 
 abbrev Inv-loop : tie.InvT-loop
 Inv-loop bytes start count words₀ at₀ i₀ words at i = Unit {0}

@@ -1,18 +1,8 @@
 use borrow.Author.Needs.{needs}
 use native.Mathlib.Omega.{arith}
-use mathlib.Core.Path.{_≡_, refl, sym, _∙_}
-use Prim.Native.Nat.{ℕ, _+_, _-_, _≤_, _<_}
-use lib.ListN.{length, take, length-set}
-use lib.Seq.{length-take-le}
+use Prim.Native.Nat.{_-_}
 use Rattle.vectors.proofs.replay_all.Statement.{statement}
 use Rattle.vectors.proofs.replay_all.Tie as tie
-use Rattle.vectors.proofs.replay_all.Reads as reads
-use Rattle.vectors.proofs.replay_all.Lts as lts
-use Rattle.vectors.proofs.counted.Reads as counted-reads
-use Rattle.vectors.proofs.left.Reads as left-reads
-use Rattle.vectors.proofs.number_at.Reads as number-at-reads
-use Rattle.vectors.proofs.print_counts.Reads as print-counts-reads
-use Rattle.vectors.proofs.replay.Reads as replay-reads
 
 abbrev Inv-loop : tie.InvT-loop
 Inv-loop bytes words₀ tree₀ expected₀ count at₀ differences₀ i₀ words tree expected at differences i = Unit {0}

@@ -1,21 +1,12 @@
 use borrow.Author.Needs.{needs}
 use native.Mathlib.Omega.{arith}
-use mathlib.Core.Path.{_≡_, refl, sym, ap, subst, _∙_}
-use mathlib.Core.Bool.{Bool}
-use mathlib.Core.List.{List, [], _∷_, _++_, append-nil, append-assoc}
-use Prim.Native.Nat.{ℕ, _+_, _-_, _≤_, _<_}
-use lib.ListN.{length, take, drop, getD}
+use mathlib.Core.Path.{sym, _∙_}
+use Prim.Native.Nat.{_-_}
 use Rattle.text.specs.Form.{finished}
 use Rattle.text.proofs.StepLaws.{finished-good, finished-more, true-false}
 use Rattle.text.proofs.PartLaws.{stored-too}
 use Rattle.text.proofs.table.read_file.Statement.{statement}
 use Rattle.text.proofs.table.read_file.Tie as tie
-use Rattle.text.proofs.table.read_file.Reads as reads
-use Rattle.text.proofs.table.read_file.Lts as lts
-use Rattle.text.proofs.lent.put_words.Reads as put-words-reads
-use Rattle.text.proofs.table.cursor_refused.Reads as cursor-refused-reads
-use Rattle.text.proofs.table.read_head.Reads as read-head-reads
-use Rattle.text.proofs.table.read_tables.Reads as read-tables-reads
 
 -- src/table.rt:153:34
 slice-aggregate-read-head : tie.Need-slice-aggregate-read-head

@@ -1,18 +1,10 @@
 use borrow.Author.Needs.{needs}
 use native.Mathlib.Omega.{arith}
-use mathlib.Core.Path.{_≡_, refl, sym, ap, subst, _∙_}
-use mathlib.Core.Bool.{Bool}
-use mathlib.Core.List.{List, [], _∷_, _++_, append-nil, append-assoc}
-use Prim.Native.Nat.{ℕ, _+_, _-_, _≤_, _<_}
-use lib.ListN.{length, take, drop, getD}
+use mathlib.Core.Path.{_∙_}
+use Prim.Native.Nat.{_-_}
 use Rattle.text.proofs.PartLaws.{head-names, head-row}
 use Rattle.text.proofs.table.read_head.Statement.{statement}
 use Rattle.text.proofs.table.read_head.Tie as tie
-use Rattle.text.proofs.table.read_head.Reads as reads
-use Rattle.text.proofs.table.read_head.Lts as lts
-use Rattle.text.proofs.table.cursor_at.Reads as cursor-at-reads
-use Rattle.text.proofs.table.read_names.Reads as read-names-reads
-use Rattle.text.proofs.table.read_row.Reads as read-row-reads
 
 -- src/table.rt:141:34
 cursor-at-requires : tie.Need-cursor-at-requires

@@ -6,18 +6,11 @@ use Rattle.definition.specs.Tree.{LOAD}
 use Rattle.table.specs.Table.{tableOf}
 use Rattle.table.specs.Words.{blockWord}
 use native.Mathlib.Omega.{arith}
-use mathlib.Core.Path.{_≡_, refl, sym, ap, _∙_}
+use mathlib.Core.Path.{refl, sym, _∙_}
 use borrow.Author.Needs.{needs}
 use Rattle.value.proofs.instructions.branch_value.Statement.{statement}
 use Rattle.value.proofs.instructions.branch_value.Tie as tie
-use Rattle.value.proofs.instructions.branch_value.Reads as reads
-use Rattle.value.proofs.instructions.branch_value.Lts as lts
-use Rattle.table.proofs.words.block_word.Reads as block-word-reads
 use Rattle.table.proofs.BlockLaws.{rows-at, low-number}
-use Rattle.value.proofs.instructions.extract_value_block_result.Reads as extract-value-block-result-reads
-use Rattle.value.proofs.result.found.Reads as found-reads
-use Rattle.value.proofs.result.loading.Reads as loading-reads
-use Rattle.value.proofs.result.put_row.Reads as put-row-reads
 
 block-word-requires : tie.Need-block-word-requires
 block-word-requires c κs = search needs

@@ -6,16 +6,11 @@ use Rattle.table.specs.Table.{tableOf}
 use Rattle.table.specs.Words.{blockWord}
 use borrow.Author.Tests.{ne-eqb}
 use native.Mathlib.Omega.{arith}
-use mathlib.Core.Path.{_≡_, refl, sym, ap, _∙_}
+use mathlib.Core.Path.{sym, _∙_}
 use borrow.Author.Needs.{needs}
 use Rattle.value.proofs.instructions.extract_or_refuse.Statement.{statement}
 use Rattle.value.proofs.instructions.extract_or_refuse.Tie as tie
-use Rattle.value.proofs.instructions.extract_or_refuse.Reads as reads
-use Rattle.value.proofs.instructions.extract_or_refuse.Lts as lts
-use Rattle.table.proofs.words.block_word.Reads as block-word-reads
 use Rattle.table.proofs.BlockLaws.{rows-at}
-use Rattle.value.proofs.instructions.extract_value_block_result.Reads as extract-value-block-result-reads
-use Rattle.value.proofs.result.refused.Reads as refused-reads
 
 block-word-requires : tie.Need-block-word-requires
 block-word-requires c κs = search needs

@@ -2,15 +2,9 @@ use Rattle.value.proofs.MetLaws.{accepted, met-wrap}
 use Rattle.value.proofs.ExtractLaws.{extract-many}
 use Rattle.definition.specs.Result.{_>>=_}
 use native.Mathlib.Omega.{arith}
-use mathlib.Core.Path.{_≡_, refl, sym, ap, _∙_}
 use borrow.Author.Needs.{needs}
 use Rattle.value.proofs.instructions.extract_value_block_result.Statement.{statement}
 use Rattle.value.proofs.instructions.extract_value_block_result.Tie as tie
-use Rattle.value.proofs.instructions.extract_value_block_result.Reads as reads
-use Rattle.value.proofs.instructions.extract_value_block_result.Lts as lts
-use Rattle.value.proofs.instructions.final_value.Reads as final-value-reads
-use Rattle.value.proofs.instructions.put_instructions.Reads as put-instructions-reads
-use Rattle.value.proofs.instructions.wrap_with_sequence.Reads as wrap-with-sequence-reads
 
 put-instructions-requires : tie.Need-put-instructions-requires
 put-instructions-requires c κs = search needs

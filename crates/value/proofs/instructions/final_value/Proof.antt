@@ -4,20 +4,11 @@ use Rattle.value.proofs.Ranges.{lvalue, stored-to, stored-value}
 use Rattle.rows.specs.Stack.{pushValue}
 use Rattle.definition.specs.Tree.{PLAIN, LOAD}
 use native.Mathlib.Omega.{arith}
-use mathlib.Core.Bool.{true, false}
-use mathlib.Core.Path.{_≡_, refl, sym, ap, _∙_}
+use mathlib.Core.Path.{refl, sym, _∙_}
 use borrow.Author.Needs.{needs}
 use Rattle.value.proofs.instructions.final_value.Statement.{statement}
 use Rattle.value.proofs.instructions.final_value.Tie as tie
-use Rattle.value.proofs.instructions.final_value.Reads as reads
-use Rattle.value.proofs.instructions.final_value.Lts as lts
-use Rattle.table.proofs.words.instruction_word.Reads as instruction-word-reads
 use Rattle.table.proofs.BlockLaws.{low-number}
-use Rattle.value.proofs.instructions.loaded_by.Reads as loaded-by-reads
-use Rattle.value.proofs.instructions.stores_to_unnamed.Reads as stores-to-unnamed-reads
-use Rattle.value.proofs.result.found.Reads as found-reads
-use Rattle.value.proofs.result.loading.Reads as loading-reads
-use Rattle.value.proofs.result.put_row.Reads as put-row-reads
 
 instruction-word-requires : tie.Need-instruction-word-requires
 instruction-word-requires c κs = search needs

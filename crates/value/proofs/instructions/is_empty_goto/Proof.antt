@@ -1,13 +1,8 @@
 use Rattle.value.proofs.WalkLaws.{goto-full, goto-empty}
-use lib.Dec.{eqb}
-use Prim.Native.Nat.{ℕ}
-use mathlib.Core.Path.{sym, ap, _∙_}
+use mathlib.Core.Path.{sym, _∙_}
 use borrow.Author.Needs.{needs}
 use Rattle.value.proofs.instructions.is_empty_goto.Statement.{statement}
 use Rattle.value.proofs.instructions.is_empty_goto.Tie as tie
-use Rattle.value.proofs.instructions.is_empty_goto.Reads as reads
-use Rattle.value.proofs.instructions.is_empty_goto.Lts as lts
-use Rattle.table.proofs.words.block_word.Reads as block-word-reads
 
 block-word-requires : tie.Need-block-word-requires
 block-word-requires c κs = search needs

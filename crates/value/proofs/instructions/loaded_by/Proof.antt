@@ -4,14 +4,10 @@ use Rattle.value.proofs.Ranges.{loaded}
 use Rattle.definition.specs.Value.{loadedBy}
 use Rattle.table.specs.Table.{Instruction, instructionOf}
 use native.Mathlib.Omega.{arith}
-use Rattle.table.specs.Words.{instructionWord}
-use mathlib.Core.Path.{_≡_, refl, sym, ap, _∙_}
+use mathlib.Core.Path.{refl, sym, ap, _∙_}
 use borrow.Author.Needs.{needs}
 use Rattle.value.proofs.instructions.loaded_by.Statement.{statement}
 use Rattle.value.proofs.instructions.loaded_by.Tie as tie
-use Rattle.value.proofs.instructions.loaded_by.Reads as reads
-use Rattle.value.proofs.instructions.loaded_by.Lts as lts
-use Rattle.table.proofs.words.instruction_word.Reads as instruction-word-reads
 use Rattle.table.proofs.BlockLaws.{no-number, low-number}
 
 instruction-word-requires : tie.Need-instruction-word-requires

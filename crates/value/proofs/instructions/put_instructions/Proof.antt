@@ -2,21 +2,17 @@ use Rattle.table.proofs.TableLaws.{instruction-at}
 use Rattle.rows.proofs.StackLaws.{push-next-row}
 use Rattle.rows.specs.Stack.{pushInstructionRows}
 use Rattle.rows.specs.Rows.{Holds}
-use Rattle.definition.specs.Tree.{Row, row}
-use Rattle.table.specs.Table.{tableOf, rowsFrom, Instruction, instructionOf}
+use Rattle.definition.specs.Tree.{Row}
+use Rattle.table.specs.Table.{tableOf, rowsFrom, instructionOf}
 use lib.ListN.{length}
-use Prim.Native.Nat.{ℕ, _+_, _-_, _*_, _≤_, _<_}
+use Prim.Native.Nat.{ℕ, _+_, _-_, _*_, _≤_}
 use mathlib.Core.List.{List}
 use native.Mathlib.Numerals.{add-one}
-use mathlib.Core.Path.{_≡_, refl, sym, ap, _∙_}
+use mathlib.Core.Path.{_≡_, refl, _∙_}
 use native.Mathlib.Omega.{arith}
 use borrow.Author.Needs.{needs}
 use Rattle.value.proofs.instructions.put_instructions.Statement.{statement}
 use Rattle.value.proofs.instructions.put_instructions.Tie as tie
-use Rattle.value.proofs.instructions.put_instructions.Reads as reads
-use Rattle.value.proofs.instructions.put_instructions.Lts as lts
-use Rattle.rows.proofs.put.Reads as put-reads
-use Rattle.table.proofs.words.instruction_word.Reads as instruction-word-reads
 
 -- the rows of k instructions are out
 record Run (words buffer₀ : List ℕ) (rows first count : ℕ) (buffer : List ℕ) (out k : ℕ) : Type 0 where

@@ -1,15 +1,9 @@
 use Rattle.value.proofs.Ranges.{stored-to, place-identifier}
 use borrow.Author.Tests.{eq-eqb, ne-eqb}
-use native.Mathlib.Omega.{arith}
-use mathlib.Core.Path.{_≡_, refl, sym, ap, _∙_}
+use mathlib.Core.Path.{sym, _∙_}
 use borrow.Author.Needs.{needs}
 use Rattle.value.proofs.instructions.stores_to_unnamed.Statement.{statement}
 use Rattle.value.proofs.instructions.stores_to_unnamed.Tie as tie
-use Rattle.value.proofs.instructions.stores_to_unnamed.Reads as reads
-use Rattle.value.proofs.instructions.stores_to_unnamed.Lts as lts
-use Rattle.table.proofs.words.identifier_word.Reads as identifier-word-reads
-use Rattle.table.proofs.words.instruction_word.Reads as instruction-word-reads
-use Rattle.table.proofs.words.place_word.Reads as place-word-reads
 
 instruction-word-requires : tie.Need-instruction-word-requires
 instruction-word-requires c κs = search needs

@@ -1,13 +1,8 @@
-use Rattle.value.specs.Met.{blockResult}
 use native.Mathlib.Omega.{arith}
-use mathlib.Core.Path.{_≡_, refl, sym, ap, _∙_}
+use mathlib.Core.Path.{refl}
 use borrow.Author.Needs.{needs}
 use Rattle.value.proofs.instructions.wrap_with_sequence.Statement.{statement}
 use Rattle.value.proofs.instructions.wrap_with_sequence.Tie as tie
-use Rattle.value.proofs.instructions.wrap_with_sequence.Reads as reads
-use Rattle.value.proofs.instructions.wrap_with_sequence.Lts as lts
-use Rattle.value.proofs.result.found.Reads as found-reads
-use Rattle.value.proofs.result.put_row.Reads as put-row-reads
 
 returns : tie.Need-returns
 returns c =

@@ -1,13 +1,8 @@
 use Rattle.table.proofs.TableLaws.{place-at}
 use Rattle.definition.specs.Value.{sameIdentifier}
 use native.Mathlib.Omega.{arith}
-use mathlib.Core.Path.{_≡_, refl, sym, ap, _∙_}
-use borrow.Author.Needs.{needs}
 use Rattle.value.proofs.sequence.loads_same_identifier.Statement.{statement}
 use Rattle.value.proofs.sequence.loads_same_identifier.Tie as tie
-use Rattle.value.proofs.sequence.loads_same_identifier.Reads as reads
-use Rattle.value.proofs.sequence.loads_same_identifier.Lts as lts
-use Rattle.table.proofs.words.place_word.Reads as place-word-reads
 use Rattle.table.proofs.BlockLaws.{no-number, low-number}
 
 returns : tie.Need-returns

@@ -3,15 +3,10 @@ use Rattle.value.specs.Met.{blockResult}
 use Rattle.definition.specs.Value.{innermostValue}
 use Rattle.table.specs.Table.{tableOf}
 use native.Mathlib.Omega.{arith}
-use mathlib.Core.Bool.{true, false}
-use mathlib.Core.Path.{_≡_, refl, sym, ap, _∙_}
+use mathlib.Core.Path.{sym, _∙_}
 use borrow.Author.Needs.{needs}
 use Rattle.value.proofs.sequence.value_block_result_to_sequence.Statement.{statement}
 use Rattle.value.proofs.sequence.value_block_result_to_sequence.Tie as tie
-use Rattle.value.proofs.sequence.value_block_result_to_sequence.Reads as reads
-use Rattle.value.proofs.sequence.value_block_result_to_sequence.Lts as lts
-use Rattle.rows.proofs.put.Reads as put-reads
-use Rattle.value.proofs.sequence.loads_same_identifier.Reads as loads-same-identifier-reads
 
 sub-rows : tie.Need-sub-rows
 sub-rows c = search needs

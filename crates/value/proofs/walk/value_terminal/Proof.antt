@@ -1,9 +1,6 @@
 use borrow.Author.Needs.{needs}
 use Rattle.value.proofs.walk.value_terminal.Statement.{statement}
 use Rattle.value.proofs.walk.value_terminal.Tie as tie
-use Rattle.value.proofs.walk.value_terminal.Reads as reads
-use Rattle.value.proofs.walk.value_terminal.Lts as lts
-use Rattle.table.proofs.words.block_word.Reads as block-word-reads
 
 block-word-requires : tie.Need-block-word-requires
 block-word-requires c κs = search needs

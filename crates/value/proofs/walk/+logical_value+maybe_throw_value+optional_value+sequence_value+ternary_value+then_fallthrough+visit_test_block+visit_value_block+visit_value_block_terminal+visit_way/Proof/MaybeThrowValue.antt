@@ -1,10 +1,9 @@
 -- The answers of `maybe_throw_value`.
 use Rattle.value.proofs.WalkLaws.{maybe-throw-missing, maybe-throw-own, maybe-throw-visits}
 use Rattle.value.proofs.Ranges.{run, continuation}
-use Rattle.value.proofs.MetLaws.{pass, stops, named, defined, moved, met-wrap}
+use Rattle.value.proofs.MetLaws.{pass, stops, defined, moved, met-wrap}
 use Rattle.definition.specs.Tree.{PLAIN}
-use mathlib.Core.Path.{_≡_, refl, sym, ap, _∙_}
-use borrow.Author.Needs.{needs}
+use mathlib.Core.Path.{refl, sym, _∙_}
 use native.Mathlib.Omega.{arith}
 use Prim.Native.Nat.{ℕ}
 use Rattle.table.proofs.words.block_word.Reads as block-word-reads

@@ -1,8 +1,7 @@
 -- The answers of `sequence_value`.
 use Rattle.value.proofs.MetLaws.{pass, goes, named}
 use Rattle.definition.specs.Value.{visitValueBlockTerminal}
-use mathlib.Core.Path.{_≡_, refl, sym, ap, _∙_}
-use borrow.Author.Needs.{needs}
+use mathlib.Core.Path.{refl}
 use native.Mathlib.Omega.{arith}
 use Prim.Native.Nat.{ℕ}
 use Rattle.value.proofs.result.found.Reads as found-reads

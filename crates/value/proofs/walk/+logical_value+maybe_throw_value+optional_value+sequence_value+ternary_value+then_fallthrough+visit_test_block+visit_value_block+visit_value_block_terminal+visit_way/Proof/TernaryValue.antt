@@ -4,8 +4,7 @@ use Rattle.value.proofs.MetLaws.{pass, goes, named}
 use Rattle.rows.specs.Stack.{pushValue}
 use Rattle.definition.specs.Value.{visitValueBlockTerminal}
 use Rattle.definition.specs.Tree.{COND}
-use mathlib.Core.Path.{_≡_, refl, sym, ap, _∙_}
-use borrow.Author.Needs.{needs}
+use mathlib.Core.Path.{refl}
 use native.Mathlib.Omega.{arith}
 use Prim.Native.Nat.{ℕ}
 use Rattle.table.proofs.words.block_word.Reads as block-word-reads

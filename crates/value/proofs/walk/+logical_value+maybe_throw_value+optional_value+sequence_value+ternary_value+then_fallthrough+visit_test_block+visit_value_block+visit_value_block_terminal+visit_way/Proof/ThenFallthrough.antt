@@ -9,8 +9,7 @@ use Rattle.definition.specs.Result.{ok}
 use Rattle.table.specs.Table.{tableOf, rowsFrom, unlessNone}
 use Prim.Native.Nat.{_+_}
 use borrow.Author.Tests.{eq-eqb}
-use mathlib.Core.Path.{_≡_, refl, sym, ap, _∙_}
-use borrow.Author.Needs.{needs}
+use mathlib.Core.Path.{sym, ap}
 use native.Mathlib.Omega.{arith}
 use Prim.Native.Nat.{ℕ}
 use Rattle.table.proofs.words.block_word.Reads as block-word-reads

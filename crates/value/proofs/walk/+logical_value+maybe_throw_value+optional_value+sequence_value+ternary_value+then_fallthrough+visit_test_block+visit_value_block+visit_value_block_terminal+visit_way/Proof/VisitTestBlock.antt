@@ -5,8 +5,7 @@ use Rattle.value.proofs.MetLaws.{pass, goes, stops, defined}
 use Rattle.definition.specs.Value.{visitTestBlock}
 use Rattle.table.specs.Table.{unlessNone}
 use borrow.Author.Tests.{eq-eqb}
-use mathlib.Core.Path.{_≡_, refl, sym, ap, _∙_}
-use borrow.Author.Needs.{needs}
+use mathlib.Core.Path.{refl, sym, _∙_}
 use native.Mathlib.Omega.{arith}
 use Prim.Native.Nat.{ℕ}
 use Rattle.table.proofs.words.block_word.Reads as block-word-reads

@@ -3,8 +3,7 @@ use Rattle.value.proofs.WalkLaws.{visit-30, visit-31, visit-10, visit-2
 use Rattle.value.proofs.MetLaws.{stops, defined, moved}
 use Rattle.definition.specs.Tree.{PLAIN}
 use Prim.Native.Nat.{_+_, _-_}
-use mathlib.Core.Path.{_≡_, refl, sym, ap, _∙_}
-use borrow.Author.Needs.{needs}
+use mathlib.Core.Path.{refl, sym, _∙_}
 use native.Mathlib.Omega.{arith}
 use Prim.Native.Nat.{ℕ}
 use Rattle.table.proofs.words.block_word.Reads as block-word-reads

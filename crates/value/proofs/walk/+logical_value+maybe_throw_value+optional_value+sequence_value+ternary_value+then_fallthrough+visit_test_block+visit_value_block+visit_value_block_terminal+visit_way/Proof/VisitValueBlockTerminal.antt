@@ -1,10 +1,9 @@
 -- The answers of `visit_value_block_terminal`.
 use Rattle.value.proofs.WalkLaws.{terminal-logical, terminal-ternary, terminal-optional, terminal-label, terminal-sequence, terminal-maybe-throw, terminal-other}
 use Rattle.value.proofs.Ranges.{logical-test, logical-fallthrough, ternary-test, ternary-fallthrough, optional-test, optional-fallthrough, sequence-block, sequence-fallthrough}
-use Rattle.value.proofs.MetLaws.{stops, defined, moved}
+use Rattle.value.proofs.MetLaws.{stops, defined}
 use Rattle.definition.specs.Tree.{PLAIN}
-use mathlib.Core.Path.{_≡_, refl, sym, ap, _∙_}
-use borrow.Author.Needs.{needs}
+use mathlib.Core.Path.{refl, sym, _∙_}
 use native.Mathlib.Omega.{arith}
 use Prim.Native.Nat.{ℕ}
 use Rattle.table.proofs.words.block_word.Reads as block-word-reads

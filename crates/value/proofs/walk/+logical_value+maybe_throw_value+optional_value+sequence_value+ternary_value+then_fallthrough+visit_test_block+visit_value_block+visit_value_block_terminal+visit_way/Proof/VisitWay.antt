@@ -1,7 +1,5 @@
 -- The answers of `visit_way`.
 use Rattle.table.proofs.BlockLaws.{low-number}
-use mathlib.Core.Path.{_≡_, refl, sym, ap, _∙_}
-use borrow.Author.Needs.{needs}
 use native.Mathlib.Omega.{arith}
 use Prim.Native.Nat.{ℕ}
 use Rattle.value.proofs.walk.visit_value_block.Reads as visit-value-block
