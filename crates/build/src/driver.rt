@@ -126,8 +126,8 @@ fn frame_slot(keep: bool, depth: u32) -> usize
     depth as usize
 }
 
-// One function, and longer than others: what is handed the Context by value without being inlined whole copies it, 18 KB a turn (docs/PERFORMANCE.md).
-// So the search of the stack (`get_break_target`, `get_continue_target`) and the plan's change stand in the loop, each method called once.
+// The one function over 40 lines: a function that is handed the Context by value and indexes its entries copies it, 18 KB a turn (docs/PERFORMANCE.md).
+// So the search of the stack (the Rust's `get_break_target` and `get_continue_target`) and the plan's change stand in the loop, each method called once.
 pub fn walk(words: &[u32], tree: &mut [u32]) -> Walked
     requires { ⌜ Promise (now words) ⌝ }
     ensures { λ r. ⌜ Reported (report (tableOf (now (words .entry)))) r (now (tree .exit)) ⌝ }

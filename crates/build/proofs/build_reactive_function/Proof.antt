@@ -5,15 +5,12 @@ use borrow.Author.Needs.{needs}
 use Rattle.build.proofs.build_reactive_function.Statement.{statement}
 use Rattle.build.proofs.build_reactive_function.Tie as tie
 
--- src/lib.rt:54:9
 check-requires : tie.Need-check-requires
 check-requires c κs = search needs
 
--- src/lib.rt:55:8
 is-accepted-requires : tie.Need-is-accepted-requires
 is-accepted-requires c κs = search needs
 
--- src/lib.rt:56:13
 walk-requires : tie.Need-walk-requires
 walk-requires c κs =
     let at-if1 = c .before in
@@ -21,15 +18,12 @@ walk-requires c κs =
     let at-check = at-is-accepted .before in
     promised _ (accepted-checked _ _ (at-check .check .ensures) (sym (at-is-accepted .is-accepted .ensures) ∙ at-if1 .if1 .taken))
 
--- src/lib.rt:57:9
 finish-requires : tie.Need-finish-requires
 finish-requires c κs = search needs
 
--- src/lib.rt:57:9
 same-length : tie.Need-same-length
 same-length c = search needs
 
--- src/lib.rt:57:9
 returns : tie.Need-returns
 returns c =
     let at-finish = c .before .before in
@@ -39,23 +33,18 @@ returns c =
     let at-check = at-is-accepted .before in
     checked-built _ _ _ _ _ (at-check .check .ensures) (sym (at-is-accepted .is-accepted .ensures) ∙ at-if1 .if1 .taken) (at-walk .walk .kept .1 .0) (at-finish .finish .ensures _ (at-walk .walk .ensures))
 
--- src/lib.rt:59:18
 code-requires : tie.Need-code-requires
 code-requires c κs = search needs
 
--- src/lib.rt:59:34
 place-requires : tie.Need-place-requires
 place-requires c κs = search needs
 
--- src/lib.rt:59:5
 refuse-requires : tie.Need-refuse-requires
 refuse-requires c κs = search needs
 
--- src/lib.rt:51:1
 same-length-2 : tie.Need-same-length-2
 same-length-2 c = search needs
 
--- src/lib.rt:51:1
 returns-2 : tie.Need-returns-2
 returns-2 c =
     let at-refuse = c .before .before in

@@ -3,34 +3,27 @@ use borrow.Author.Needs.{needs}
 use Rattle.build.proofs.finish.Statement.{statement}
 use Rattle.build.proofs.finish.Tie as tie
 
--- src/lib.rt:41:9
 refuse-requires : tie.Need-refuse-requires
 refuse-requires c κs = search needs
 
--- src/lib.rt:41:9
 same-length : tie.Need-same-length
 same-length c = search needs
 
--- src/lib.rt:41:9
 returns : tie.Need-returns
 returns c a h =
     let at-refuse = c .before .before in
     let at-if1 = at-refuse .before .before in
     rejected-outcome _ _ _ _ (at-if1 .if1 .taken) (at-refuse .refuse .ensures) a h
 
--- src/lib.rt:43:16
 cast-rows : tie.Need-cast-rows
 cast-rows c = search needs
 
--- src/lib.rt:45:9
 refuse-requires-2 : tie.Need-refuse-requires-2
 refuse-requires-2 c κs = search needs
 
--- src/lib.rt:45:9
 same-length-2 : tie.Need-same-length-2
 same-length-2 c = search needs
 
--- src/lib.rt:45:9
 returns-2 : tie.Need-returns-2
 returns-2 c a h =
     let at-refuse2 = c .before .before in
@@ -38,19 +31,15 @@ returns-2 c a h =
     let at-if1 = at-if2 .before .before in
     overfull-outcome _ _ _ (at-if1 .if1 .left) (at-if2 .if2 .taken) (at-refuse2 .refuse2 .ensures) a h
 
--- src/lib.rt:47:17
 mul-clear : tie.Need-mul-clear
 mul-clear c = search needs
 
--- src/lib.rt:47:5
 clear-requires : tie.Need-clear-requires
 clear-requires c κs = search needs
 
--- src/lib.rt:37:1
 same-length-3 : tie.Need-same-length-3
 same-length-3 c = search needs
 
--- src/lib.rt:37:1
 returns-3 : tie.Need-returns-3
 returns-3 c a h =
     let at-clear = c .before .before in

@@ -3,15 +3,12 @@ use borrow.Author.Needs.{needs}
 use Rattle.build.proofs.refuse.Statement.{statement}
 use Rattle.build.proofs.refuse.Tie as tie
 
--- src/lib.rt:32:5
 clear-requires : tie.Need-clear-requires
 clear-requires c κs = search needs
 
--- src/lib.rt:29:1
 same-length : tie.Need-same-length
 same-length c = search needs
 
--- src/lib.rt:29:1
 returns : tie.Need-returns
 returns c =
     let at-clear = c .before .before in

@@ -6,15 +6,12 @@ use lib.Seq.{length-take-le}
 use Rattle.build_samples.proofs.first_words.Statement.{statement}
 use Rattle.build_samples.proofs.first_words.Tie as tie
 
--- src/main.rt:244:9
 slice-aggregate-result : tie.Need-slice-aggregate-result
 slice-aggregate-result c = sym (length-take-le _ _ (omega arith))
 
--- src/main.rt:244:9
 returns : tie.Need-returns
 returns c = search needs
 
--- src/main.rt:242:1
 returns-2 : tie.Need-returns-2
 returns-2 c = search needs
 

@@ -10,31 +10,24 @@ Inv-loop words₀ first last row₀ words row = Unit {0}
 abbrev μ-loop : tie.MeasureT-loop
 μ-loop words₀ first last row₀ words row = last - row
 
--- src/main.rt:179:5
 loop-holds : tie.Need-loop-holds Inv-loop μ-loop
 loop-holds c = tt
 
--- src/main.rt:180:22
 add-block : tie.Need-add-block Inv-loop μ-loop
 add-block c = search needs
 
--- src/main.rt:180:9
 block-requires : tie.Need-block-requires Inv-loop μ-loop
 block-requires c κs = search needs
 
--- src/main.rt:181:9
 add-row : tie.Need-add-row Inv-loop μ-loop
 add-row c = search needs
 
--- src/main.rt:179:5
 loop-less : tie.Need-loop-less Inv-loop μ-loop
 loop-less c = omega arith
 
--- src/main.rt:179:5
 loop-again : tie.Need-loop-again Inv-loop μ-loop
 loop-again c = tt
 
--- src/main.rt:177:1
 returns : tie.Need-returns Inv-loop μ-loop
 returns c = search needs
 

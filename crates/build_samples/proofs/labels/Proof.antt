@@ -10,47 +10,36 @@ Inv-loop words₀ count level₀ words level = Unit {0}
 abbrev μ-loop : tie.MeasureT-loop
 μ-loop words₀ count level₀ words level = count - level
 
--- src/main.rt:119:5
 loop-holds : tie.Need-loop-holds Inv-loop μ-loop
 loop-holds c = tt
 
--- src/main.rt:120:19
 mul-row : tie.Need-mul-row Inv-loop μ-loop
 mul-row c = search needs
 
--- src/main.rt:121:34
 add-block : tie.Need-add-block Inv-loop μ-loop
 add-block c = search needs
 
--- src/main.rt:121:43
 add-block-2 : tie.Need-add-block-2 Inv-loop μ-loop
 add-block-2 c = search needs
 
--- src/main.rt:121:9
 block-requires : tie.Need-block-requires Inv-loop μ-loop
 block-requires c κs = search needs
 
--- src/main.rt:122:24
 add-returns : tie.Need-add-returns Inv-loop μ-loop
 add-returns c = search needs
 
--- src/main.rt:122:9
 returns-requires : tie.Need-returns-requires Inv-loop μ-loop
 returns-requires c κs = search needs
 
--- src/main.rt:123:9
 add-level : tie.Need-add-level Inv-loop μ-loop
 add-level c = search needs
 
--- src/main.rt:119:5
 loop-less : tie.Need-loop-less Inv-loop μ-loop
 loop-less c = omega arith
 
--- src/main.rt:119:5
 loop-again : tie.Need-loop-again Inv-loop μ-loop
 loop-again c = tt
 
--- src/main.rt:115:1
 returns : tie.Need-returns Inv-loop μ-loop
 returns c = search needs
 

@@ -10,51 +10,39 @@ Inv-loop words₀ count level₀ words level = Unit {0}
 abbrev μ-loop : tie.MeasureT-loop
 μ-loop words₀ count level₀ words level = count - level
 
--- src/main.rt:168:5
 loop-holds : tie.Need-loop-holds Inv-loop μ-loop
 loop-holds c = tt
 
--- src/main.rt:169:21
 mul-below : tie.Need-mul-below Inv-loop μ-loop
 mul-below c = search needs
 
--- src/main.rt:169:21
 add-below : tie.Need-add-below Inv-loop μ-loop
 add-below c = search needs
 
--- src/main.rt:170:22
 add-block : tie.Need-add-block Inv-loop μ-loop
 add-block c = search needs
 
--- src/main.rt:170:9
 block-requires : tie.Need-block-requires Inv-loop μ-loop
 block-requires c κs = search needs
 
--- src/main.rt:171:22
 add-block-2 : tie.Need-add-block-2 Inv-loop μ-loop
 add-block-2 c = search needs
 
--- src/main.rt:171:47
 add-block-3 : tie.Need-add-block-3 Inv-loop μ-loop
 add-block-3 c = search needs
 
--- src/main.rt:171:9
 block-requires-2 : tie.Need-block-requires-2 Inv-loop μ-loop
 block-requires-2 c κs = search needs
 
--- src/main.rt:172:9
 add-level : tie.Need-add-level Inv-loop μ-loop
 add-level c = search needs
 
--- src/main.rt:168:5
 loop-less : tie.Need-loop-less Inv-loop μ-loop
 loop-less c = omega arith
 
--- src/main.rt:168:5
 loop-again : tie.Need-loop-again Inv-loop μ-loop
 loop-again c = tt
 
--- src/main.rt:164:1
 returns : tie.Need-returns Inv-loop μ-loop
 returns c = search needs
 

@@ -5,19 +5,15 @@ use lib.Seq.{length-take-le}
 use Rattle.build_samples.proofs.send.Statement.{statement}
 use Rattle.build_samples.proofs.send.Tie as tie
 
--- src/main.rt:228:38
 slice-aggregate-write-all : tie.Need-slice-aggregate-write-all
 slice-aggregate-write-all c = sym (length-take-le _ _ (search needs))
 
--- src/main.rt:228:9
 write-all-requires : tie.Need-write-all-requires
 write-all-requires c κs = search needs
 
--- src/main.rt:226:1
 returns : tie.Need-returns
 returns c = search needs
 
--- src/main.rt:226:1
 returns-2 : tie.Need-returns-2
 returns-2 c = search needs
 

@@ -12,35 +12,27 @@ Inv-loop tree₀ i₀ tree i = length tree ≡ length tree₀
 abbrev μ-loop : tie.MeasureT-loop
 μ-loop tree₀ i₀ tree i = length tree - i
 
--- src/main.rt:276:5
 loop-holds : tie.Need-loop-holds Inv-loop μ-loop
 loop-holds c = refl
 
--- src/main.rt:277:9
 mul-tree : tie.Need-mul-tree Inv-loop μ-loop
 mul-tree c = search needs
 
--- src/main.rt:277:9
 slice-write-tree : tie.Need-slice-write-tree Inv-loop μ-loop
 slice-write-tree c = search needs
 
--- src/main.rt:278:9
 add-i : tie.Need-add-i Inv-loop μ-loop
 add-i c = search needs
 
--- src/main.rt:276:5
 loop-less : tie.Need-loop-less Inv-loop μ-loop
 loop-less c = simp length-set (omega arith)
 
--- src/main.rt:276:5
 loop-again : tie.Need-loop-again Inv-loop μ-loop
 loop-again c = simp length-set (c .before .loop .inv)
 
--- src/main.rt:274:1
 same-length : tie.Need-same-length Inv-loop μ-loop
 same-length c = c .before .loop .inv
 
--- src/main.rt:274:1
 returns : tie.Need-returns Inv-loop μ-loop
 returns c = search needs
 

@@ -6,27 +6,21 @@ use lib.Seq.{length-take-le}
 use Rattle.text_cases.proofs.first_words.Statement.{statement}
 use Rattle.text_cases.proofs.first_words.Tie as tie
 
--- src/main.rt:37:13
 slice-aggregate-result : tie.Need-slice-aggregate-result
 slice-aggregate-result c = sym (length-take-le 24 (c .before .before .before .args .words .now) (omega arith))
 
--- src/main.rt:37:13
 returns : tie.Need-returns
 returns c = search needs
 
--- src/main.rt:39:9
 returns-2 : tie.Need-returns-2
 returns-2 c = search needs
 
--- src/main.rt:42:9
 slice-aggregate-result-2 : tie.Need-slice-aggregate-result-2
 slice-aggregate-result-2 c = let a = c .before .before .before .args in sym (length-take-le (a .n) (a .words .now) (omega arith))
 
--- src/main.rt:42:9
 returns-3 : tie.Need-returns-3
 returns-3 c = search needs
 
--- src/main.rt:34:1
 returns-4 : tie.Need-returns-4
 returns-4 c = search needs
 

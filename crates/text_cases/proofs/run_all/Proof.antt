@@ -12,46 +12,36 @@ Inv-loop words₀ i₀ words i = length words ≡ length words₀
 abbrev μ-loop : tie.MeasureT-loop
 μ-loop words₀ i₀ words i = 56 - i
 
--- src/main.rt:93:5
 loop-holds : tie.Need-loop-holds Inv-loop μ-loop
 loop-holds c = refl
 
--- src/main.rt:94:21
 add-t6 : tie.Need-add-t6 Inv-loop μ-loop
 add-t6 c = search needs
 
--- src/main.rt:94:36
 add-t8 : tie.Need-add-t8 Inv-loop μ-loop
 add-t8 c = search needs
 
--- src/main.rt:95:19
 slice-aggregate-run-named : tie.Need-slice-aggregate-run-named Inv-loop μ-loop
 slice-aggregate-run-named c = search needs
 
--- src/main.rt:95:9
 run-named-requires : tie.Need-run-named-requires Inv-loop μ-loop
 run-named-requires c κs = search needs
 
--- src/main.rt:96:9
 add-i : tie.Need-add-i Inv-loop μ-loop
 add-i c = search needs
 
--- src/main.rt:93:5
 loop-less : tie.Need-loop-less Inv-loop μ-loop
 loop-less c = omega arith
 
--- src/main.rt:93:5
 loop-again : tie.Need-loop-again Inv-loop μ-loop
 loop-again c =
     let at-run-named = c .before .before in
     let at-loop = at-run-named .before .before .before .before in
     at-run-named .run-named .kept .1 .0 ∙ at-loop .loop .inv
 
--- src/main.rt:91:1
 same-length : tie.Need-same-length Inv-loop μ-loop
 same-length c = c .before .loop .inv
 
--- src/main.rt:91:1
 returns : tie.Need-returns Inv-loop μ-loop
 returns c = search needs
 

@@ -12,35 +12,27 @@ Inv-loop words₀ i₀ words i = length words ≡ length words₀
 abbrev μ-loop : tie.MeasureT-loop
 μ-loop words₀ i₀ words i = length words - i
 
--- src/main.rt:10:5
 loop-holds : tie.Need-loop-holds Inv-loop μ-loop
 loop-holds c = refl
 
--- src/main.rt:11:9
 mul-words : tie.Need-mul-words Inv-loop μ-loop
 mul-words c = search needs
 
--- src/main.rt:11:9
 slice-write-words : tie.Need-slice-write-words Inv-loop μ-loop
 slice-write-words c = search needs
 
--- src/main.rt:12:9
 add-i : tie.Need-add-i Inv-loop μ-loop
 add-i c = search needs
 
--- src/main.rt:10:5
 loop-less : tie.Need-loop-less Inv-loop μ-loop
 loop-less c = simp length-set (omega arith)
 
--- src/main.rt:10:5
 loop-again : tie.Need-loop-again Inv-loop μ-loop
 loop-again c = simp length-set (c .before .loop .inv)
 
--- src/main.rt:8:1
 same-length : tie.Need-same-length Inv-loop μ-loop
 same-length c = c .before .loop .inv
 
--- src/main.rt:8:1
 returns : tie.Need-returns Inv-loop μ-loop
 returns c = search needs
 

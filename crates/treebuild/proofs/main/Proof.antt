@@ -6,58 +6,46 @@ use borrow.Author.Needs.{needs}
 use Rattle.treebuild.proofs.main.Statement.{statement}
 use Rattle.treebuild.proofs.main.Tie as tie
 
--- src/main.rt:10:45
 slice-aggregate-read-full : tie.Need-slice-aggregate-read-full
 slice-aggregate-read-full c = search needs
 
--- src/main.rt:10:9
 read-full-requires : tie.Need-read-full-requires
 read-full-requires c κs = search needs
 
--- src/main.rt:13:30
 array-share-prefix-file : tie.Need-array-share-prefix-file
 array-share-prefix-file c = search needs
 
--- src/main.rt:13:30
 slice-aggregate-build-file : tie.Need-slice-aggregate-build-file
 slice-aggregate-build-file c = search needs
 
--- src/main.rt:13:46
 slice-aggregate-build-file-2 : tie.Need-slice-aggregate-build-file-2
 slice-aggregate-build-file-2 c = search needs
 
--- src/main.rt:13:9
 build-file-requires : tie.Need-build-file-requires
 build-file-requires c κs = search needs
 
--- src/main.rt:15:24
 enum-known-written : tie.Need-enum-known-written
 enum-known-written c = search needs
 
--- src/main.rt:16:42
 array-share-prefix-out : tie.Need-array-share-prefix-out
 array-share-prefix-out c =
     let built = c .before .before .before .before .build-file in
     omega (arith, bytes-within _ _ _ _ (built .ensures .answer) (c .before .written .given .1), built .kept .1 .0)
 
--- src/main.rt:16:42
 slice-aggregate-write-all : tie.Need-slice-aggregate-write-all
 slice-aggregate-write-all c =
     let built = c .before .before .before .before .before .build-file in
     sym (length-take-le _ _ (omega (arith, bytes-within _ _ _ _ (built .ensures .answer) (c .before .before .written .given .1), built .kept .1 .0)))
 
--- src/main.rt:16:13
 write-all-requires : tie.Need-write-all-requires
 write-all-requires c κs = search needs
 
 enum-told : tie.Need-enum-told
 enum-told c = search needs
 
--- src/main.rt:7:1
 returns : tie.Need-returns
 returns c = search needs
 
--- src/main.rt:7:1
 returns-2 : tie.Need-returns-2
 returns-2 c = search needs
 

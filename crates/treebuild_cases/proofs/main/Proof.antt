@@ -10,39 +10,30 @@ Inv-loop i₀ i = Unit {0}
 abbrev μ-loop : tie.MeasureT-loop
 μ-loop i₀ i = 60 - i
 
--- src/main.rt:37:5
 loop-holds : tie.Need-loop-holds Inv-loop μ-loop
 loop-holds c = tt
 
--- src/main.rt:38:21
 add-t5 : tie.Need-add-t5 Inv-loop μ-loop
 add-t5 c = search needs
 
--- src/main.rt:38:36
 add-t7 : tie.Need-add-t7 Inv-loop μ-loop
 add-t7 c = search needs
 
--- src/main.rt:39:19
 slice-aggregate-run-named : tie.Need-slice-aggregate-run-named Inv-loop μ-loop
 slice-aggregate-run-named c = search needs
 
--- src/main.rt:39:9
 run-named-requires : tie.Need-run-named-requires Inv-loop μ-loop
 run-named-requires c κs = search needs
 
--- src/main.rt:40:9
 add-i : tie.Need-add-i Inv-loop μ-loop
 add-i c = search needs
 
--- src/main.rt:37:5
 loop-less : tie.Need-loop-less Inv-loop μ-loop
 loop-less c = omega arith
 
--- src/main.rt:37:5
 loop-again : tie.Need-loop-again Inv-loop μ-loop
 loop-again c = tt
 
--- src/main.rt:35:1
 returns : tie.Need-returns Inv-loop μ-loop
 returns c = search needs
 

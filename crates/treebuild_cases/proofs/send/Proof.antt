@@ -4,19 +4,15 @@ use borrow.Author.Needs.{needs}
 use Rattle.treebuild_cases.proofs.send.Statement.{statement}
 use Rattle.treebuild_cases.proofs.send.Tie as tie
 
--- src/main.rt:9:38
 slice-aggregate-write-all : tie.Need-slice-aggregate-write-all
 slice-aggregate-write-all c = sym (length-take-le _ _ (search needs))
 
--- src/main.rt:9:9
 write-all-requires : tie.Need-write-all-requires
 write-all-requires c κs = search needs
 
--- src/main.rt:7:1
 returns : tie.Need-returns
 returns c = search needs
 
--- src/main.rt:7:1
 returns-2 : tie.Need-returns-2
 returns-2 c = search needs
 

@@ -8,67 +8,52 @@ use borrow.Author.Needs.{needs}
 use Rattle.treefile.proofs.build_file.Statement.{statement}
 use Rattle.treefile.proofs.build_file.Tie as tie
 
--- src/lib.rt:44:29
 slice-aggregate-read : tie.Need-slice-aggregate-read
 slice-aggregate-read c = search needs
 
--- src/lib.rt:44:9
 read-requires : tie.Need-read-requires
 read-requires c κs = search needs
 
--- src/lib.rt:46:23
 enum-known-answer : tie.Need-enum-known-answer
 enum-known-answer c = search needs
 
--- src/lib.rt:46:45
 array-share-prefix-words : tie.Need-array-share-prefix-words
 array-share-prefix-words c = words-within _ _ _ _ (rw (c .before .answer .given .1) at (c .before .before .before .before .read .ensures))
 
--- src/lib.rt:46:45
 slice-aggregate-build-words : tie.Need-slice-aggregate-build-words
 slice-aggregate-build-words c = sym (length-take-le _ _ (words-within _ _ _ _ (rw (c .before .before .answer .given .1) at (c .before .before .before .before .before .read .ensures))))
 
--- src/lib.rt:46:33
 build-words-requires : tie.Need-build-words-requires
 build-words-requires c κs = search needs
 
--- src/lib.rt:47:27
 enum-known-answer-2 : tie.Need-enum-known-answer-2
 enum-known-answer-2 c = search needs
 
--- src/lib.rt:47:75
 slice-aggregate-write-result : tie.Need-slice-aggregate-write-result
 slice-aggregate-write-result c = search needs
 
--- src/lib.rt:47:41
 write-result-requires : tie.Need-write-result-requires
 write-result-requires c κs = search needs
 
--- src/lib.rt:48:27
 enum-told : tie.Need-enum-told
 enum-told c = search needs
 
--- src/lib.rt:40:1
 same-length : tie.Need-same-length
 same-length c = search needs
 
--- src/lib.rt:40:1
 returns : tie.Need-returns
 returns c =
     let w = c .before .before .build-words .ensures in
     tree-built _ _ _ _ _ _ _ (rw (c .before .before .before .before .before .before .answer .given .1) at (c .before .before .before .before .before .before .before .before .before .read .ensures)) (w .0) (w .1 .0) (w .1 .1)
 
--- src/lib.rt:40:1
 same-length-2 : tie.Need-same-length-2
 same-length-2 c = search needs
 
--- src/lib.rt:40:1
 returns-2 : tie.Need-returns-2
 returns-2 c =
     let w = c .before .before .write-result .ensures in
     refusal-built _ _ _ _ _ _ _ ((rw (c .before .before .before .before .before .before .answer2 .given .1) at (c .before .before .before .before .before .before .before .before .before .read .ensures)) .0) (w .0) (w .1 .0) (w .1 .1 (omega arith))
 
--- src/lib.rt:40:1
 returns-3 : tie.Need-returns-3
 returns-3 c = never-short _ _ _ _ _ _ (omega (arith, length-replicate {A = ℕ} 16384 0)) (rw (c .enum-told .given .1) at (c .before .before .before .read .ensures))
 

@@ -12,27 +12,21 @@ use Rattle.treefile.proofs.OutcomeLaws.{built-within, refusal-lines, bu
 use Rattle.treefile.proofs.build_words.Statement.{statement}
 use Rattle.treefile.proofs.build_words.Tie as tie
 
--- src/lib.rt:19:48
 slice-aggregate-build-reactive-function : tie.Need-slice-aggregate-build-reactive-function
 slice-aggregate-build-reactive-function c = search needs
 
--- src/lib.rt:19:9
 build-reactive-function-requires : tie.Need-build-reactive-function-requires
 build-reactive-function-requires c κs = search needs
 
--- src/lib.rt:21:75
 slice-aggregate-write-result : tie.Need-slice-aggregate-write-result
 slice-aggregate-write-result c = search needs
 
--- src/lib.rt:21:9
 write-result-requires : tie.Need-write-result-requires
 write-result-requires c κs = search needs
 
--- src/lib.rt:21:9
 same-length : tie.Need-same-length
 same-length c = search needs
 
--- src/lib.rt:21:9
 returns : tie.Need-returns
 returns c =
     let b = c .before .before .before .before .before .before .before .before .build-reactive-function in
@@ -41,35 +35,28 @@ returns c =
     let e = refusal-lines _ _ _ _ _ _ (c .before .before .before .before .before .if1 .taken) ∙ built-printed (c .before .before .before .before .before .before .before .before .before .before .before .before .args .words .now) lentWords (b .result) (b .last .1 .0) (length-replicate {A = ℕ} 12288 0) h in
     (w .0 ∙ ap (writtenOf _) e, (w .1 .0 ∙ ap (lentOf _) e, λ p. w .1 .1 (omega (arith, c .before .before .before .before .before .before .before .tree2 .given)) p ∙ ap (λ (text : List ℕ). Bytes (length text)) e))
 
--- src/lib.rt:23:16
 cast-end : tie.Need-cast-end
 cast-end c = search needs
 
--- src/lib.rt:23:15
 mul-end : tie.Need-mul-end
 mul-end c = search needs
 
--- src/lib.rt:24:64
 array-share-prefix-tree : tie.Need-array-share-prefix-tree
 array-share-prefix-tree c =
     let b = c .before .before .before .before .before .build-reactive-function in
     omega (arith, built-within _ _ _ _ (b .ensures) (c .before .before .if1 .left), b .kept .1 .0)
 
--- src/lib.rt:24:64
 slice-aggregate-write-result-2 : tie.Need-slice-aggregate-write-result-2
 slice-aggregate-write-result-2 c =
     let b = c .before .before .before .before .before .before .build-reactive-function in
     sym (length-take-le _ _ (omega (arith, built-within _ _ _ _ (b .ensures) (c .before .before .before .if1 .left), b .kept .1 .0)))
 
--- src/lib.rt:24:5
 write-result-requires-2 : tie.Need-write-result-requires-2
 write-result-requires-2 c κs = search needs
 
--- src/lib.rt:14:1
 same-length-2 : tie.Need-same-length-2
 same-length-2 c = search needs
 
--- src/lib.rt:14:1
 returns-2 : tie.Need-returns-2
 returns-2 c =
     let b = c .before .before .before .before .before .before .before .before .before .build-reactive-function in

@@ -9,15 +9,12 @@ use borrow.Author.Needs.{needs}
 use Rattle.treefile.proofs.write_result.Statement.{statement}
 use Rattle.treefile.proofs.write_result.Tie as tie
 
--- src/lib.rt:21:5
 write-requires : tie.Need-write-requires
 write-requires c κs = search needs
 
--- src/lib.rt:16:1
 same-length : tie.Need-same-length
 same-length c = search needs
 
--- src/lib.rt:16:1
 returns : tie.Need-returns
 returns c =
     let w = c .before .before .write .ensures in

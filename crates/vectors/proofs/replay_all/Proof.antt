@@ -10,43 +10,33 @@ Inv-loop bytes words₀ tree₀ expected₀ count at₀ differences₀ i₀ word
 abbrev μ-loop : tie.MeasureT-loop
 μ-loop bytes words₀ tree₀ expected₀ count at₀ differences₀ i₀ words tree expected at differences i = count .value - i
 
--- src/main.rt:198:9
 number-at-requires : tie.Need-number-at-requires Inv-loop μ-loop
 number-at-requires c κs = search needs
 
--- src/main.rt:202:5
 loop-holds : tie.Need-loop-holds Inv-loop μ-loop
 loop-holds c = tt
 
--- src/main.rt:203:13
 replay-requires : tie.Need-replay-requires Inv-loop μ-loop
 replay-requires c κs = search needs
 
--- src/main.rt:204:9
 counted-requires : tie.Need-counted-requires Inv-loop μ-loop
 counted-requires c κs = search needs
 
--- src/main.rt:206:9
 add-i : tie.Need-add-i Inv-loop μ-loop
 add-i c = search needs
 
--- src/main.rt:202:5
 loop-less : tie.Need-loop-less Inv-loop μ-loop
 loop-less c = omega arith
 
--- src/main.rt:202:5
 loop-again : tie.Need-loop-again Inv-loop μ-loop
 loop-again c = tt
 
--- src/main.rt:208:34
 left-requires : tie.Need-left-requires Inv-loop μ-loop
 left-requires c κs = search needs
 
--- src/main.rt:208:5
 print-counts-requires : tie.Need-print-counts-requires Inv-loop μ-loop
 print-counts-requires c κs = search needs
 
--- src/main.rt:197:1
 returns : tie.Need-returns Inv-loop μ-loop
 returns c = search needs
 

@@ -10,47 +10,36 @@ Inv-loop left right count i₀ i = Unit {0}
 abbrev μ-loop : tie.MeasureT-loop
 μ-loop left right count i₀ i = count - i
 
--- src/main.rt:94:5
 loop-holds : tie.Need-loop-holds Inv-loop μ-loop
 loop-holds c = tt
 
--- src/main.rt:96:13
 returns : tie.Need-returns Inv-loop μ-loop
 returns c = search needs
 
--- src/main.rt:98:12
 mul-if2 : tie.Need-mul-if2 Inv-loop μ-loop
 mul-if2 c = search needs
 
--- src/main.rt:98:12
 element-copy-out-if2 : tie.Need-element-copy-out-if2 Inv-loop μ-loop
 element-copy-out-if2 c = search needs
 
--- src/main.rt:98:23
 mul-if2-2 : tie.Need-mul-if2-2 Inv-loop μ-loop
 mul-if2-2 c = search needs
 
--- src/main.rt:98:23
 element-copy-out-if2-2 : tie.Need-element-copy-out-if2-2 Inv-loop μ-loop
 element-copy-out-if2-2 c = search needs
 
--- src/main.rt:99:13
 returns-2 : tie.Need-returns-2 Inv-loop μ-loop
 returns-2 c = search needs
 
--- src/main.rt:101:9
 add-i : tie.Need-add-i Inv-loop μ-loop
 add-i c = search needs
 
--- src/main.rt:94:5
 loop-less : tie.Need-loop-less Inv-loop μ-loop
 loop-less c = omega arith
 
--- src/main.rt:94:5
 loop-again : tie.Need-loop-again Inv-loop μ-loop
 loop-again c = tt
 
--- src/main.rt:92:1
 returns-3 : tie.Need-returns-3 Inv-loop μ-loop
 returns-3 c = search needs
 

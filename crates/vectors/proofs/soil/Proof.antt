@@ -10,31 +10,24 @@ Inv-loop words₀ i₀ words i = Unit {0}
 abbrev μ-loop : tie.MeasureT-loop
 μ-loop words₀ i₀ words i = 16384 - i
 
--- src/main.rt:85:5
 loop-holds : tie.Need-loop-holds Inv-loop μ-loop
 loop-holds c = tt
 
--- src/main.rt:86:9
 mul-words : tie.Need-mul-words Inv-loop μ-loop
 mul-words c = search needs
 
--- src/main.rt:86:9
 element-write-words : tie.Need-element-write-words Inv-loop μ-loop
 element-write-words c = search needs
 
--- src/main.rt:87:9
 add-i : tie.Need-add-i Inv-loop μ-loop
 add-i c = search needs
 
--- src/main.rt:85:5
 loop-less : tie.Need-loop-less Inv-loop μ-loop
 loop-less c = omega arith
 
--- src/main.rt:85:5
 loop-again : tie.Need-loop-again Inv-loop μ-loop
 loop-again c = tt
 
--- src/main.rt:83:1
 returns : tie.Need-returns Inv-loop μ-loop
 returns c = search needs
 

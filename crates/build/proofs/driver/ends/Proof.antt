@@ -13,15 +13,12 @@ refused plan z = rw (ne-eqb (plan .code) 0 z, planEnds) refl
 accepted : (plan : Plan) (b : Bool) → plan .code ≡ 0 → b ≡ isHalt (plan .position .stage) → b ≡ planEnds plan
 accepted plan b z e = rw (eq-eqb (plan .code) 0 z, planEnds) e
 
--- src/driver.rt:90:9
 returns : tie.Need-returns
 returns c = refused (c .before .before .args .plan) (c .if1 .taken)
 
--- src/driver.rt:94:5
 halted-requires : tie.Need-halted-requires
 halted-requires c κs = search needs
 
--- src/driver.rt:86:1
 returns-2 : tie.Need-returns-2
 returns-2 c = accepted (c .before .before .before .before .args .plan) _ (c .before .before .if1 .left) (c .halted .ensures)
 

@@ -2,15 +2,12 @@ use borrow.Author.Needs.{needs}
 use Rattle.build.proofs.driver.frame_slot.Statement.{statement}
 use Rattle.build.proofs.driver.frame_slot.Tie as tie
 
--- src/driver.rt:69:9
 innermost-requires : tie.Need-innermost-requires
 innermost-requires c κs = search needs
 
--- src/driver.rt:69:9
 returns : tie.Need-returns
 returns c = rw (c .before .if1 .taken) (c .innermost .ensures)
 
--- src/driver.rt:65:1
 returns-2 : tie.Need-returns-2
 returns-2 c = search needs
 

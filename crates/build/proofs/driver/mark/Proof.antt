@@ -3,19 +3,15 @@ use Rattle.build.proofs.ApplyLaws.{marked-none, marked-some, below-bloc
 use Rattle.build.proofs.driver.mark.Statement.{statement}
 use Rattle.build.proofs.driver.mark.Tie as tie
 
--- src/driver.rt:23:9
 returns : tie.Need-returns
 returns c = marked-none _ _ (c .if1 .taken)
 
--- src/driver.rt:25:17
 narrow-requires : tie.Need-narrow-requires
 narrow-requires c κs = omega (arith, below-block _ (c .before .before .pre) (c .before .if1 .left))
 
--- src/driver.rt:25:5
 insert-requires : tie.Need-insert-requires
 insert-requires c κs = rw (c .narrow .ensures) (below-block _ (c .before .before .before .pre) (c .before .before .if1 .left))
 
--- src/driver.rt:18:1
 returns-2 : tie.Need-returns-2
 returns-2 c = rw (c .insert .ensures, c .before .narrow .ensures) (marked-some _ _ (c .before .before .before .if1 .left))
 

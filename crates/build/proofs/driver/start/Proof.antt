@@ -3,11 +3,9 @@ use borrow.Author.Needs.{needs}
 use Rattle.build.proofs.driver.start.Statement.{statement}
 use Rattle.build.proofs.driver.start.Tie as tie
 
--- src/driver.rt:41:16
 entry-requires : tie.Need-entry-requires
 entry-requires c κs = search needs
 
--- src/driver.rt:36:1
 returns : tie.Need-returns
 returns c = rw (c .entry .ensures) refl
 

@@ -41,86 +41,68 @@ Inv-loop words tree₀ cx₀ frames₀ p₀ tree cx frames p = Inv words tree₀
 abbrev μ-loop : tie.MeasureT-loop
 μ-loop words tree₀ cx₀ frames₀ p₀ tree cx frames p = turnsLeft p frames cx
 
--- src/driver.rt:135:18
 new-requires : tie.Need-new-requires Inv-loop2 μ-loop2 Inv-loop μ-loop
 new-requires c κs = tt
 
--- src/driver.rt:136:9
 no-frame-requires : tie.Need-no-frame-requires Inv-loop2 μ-loop2 Inv-loop μ-loop
 no-frame-requires c κs = tt
 
--- src/driver.rt:138:9
 start-requires : tie.Need-start-requires Inv-loop2 μ-loop2 Inv-loop μ-loop
 start-requires c κs = search needs
 
--- src/driver.rt:139:5
 loop-holds : tie.Need-loop-holds Inv-loop2 μ-loop2 Inv-loop μ-loop
 loop-holds c =
     let start = c .before .before .before .before .before in
     record { walking = walking-start _ (start .pre) (checked-table _ (start .pre)) _ _ _ _ (c .before .before .new .ensures) refl (c .start .ensures); long = refl }
 
--- src/driver.rt:140:28
 innermost-requires : tie.Need-innermost-requires Inv-loop2 μ-loop2 Inv-loop μ-loop
 innermost-requires c κs = tt
 
--- src/driver.rt:140:21
 mul-frame : tie.Need-mul-frame Inv-loop2 μ-loop2 Inv-loop μ-loop
 mul-frame c =
     let at-loop = c .before in
     let start = at-loop .before .before .before .before .before .before in
     omega (arith, c .innermost .ensures, shallow _ (start .pre) (checked-table _ (start .pre)) _ _ _ _ (at-loop .loop .inv .walking))
 
--- src/driver.rt:140:21
 array-copy-out-frame : tie.Need-array-copy-out-frame Inv-loop2 μ-loop2 Inv-loop μ-loop
 array-copy-out-frame c =
     let at-loop = c .before in
     let start = at-loop .before .before .before .before .before .before in
     omega (arith, c .innermost .ensures, shallow _ (start .pre) (checked-table _ (start .pre)) _ _ _ _ (at-loop .loop .inv .walking))
 
--- src/driver.rt:141:13
 jump-at-requires : tie.Need-jump-at-requires Inv-loop2 μ-loop2 Inv-loop μ-loop
 jump-at-requires c κs =
     let at-loop = c .before .before .before .before .before in
     let start = at-loop .before .before .before .before .before .before in
     ((start .pre), visit-below _ (start .pre) (checked-table _ (start .pre)) _ _ _ _ (at-loop .loop .inv .walking))
 
--- src/driver.rt:142:13
 search-from-requires : tie.Need-search-from-requires Inv-loop2 μ-loop2 Inv-loop μ-loop
 search-from-requires c κs = tt
 
--- src/driver.rt:145:13
 loop2-holds : tie.Need-loop2-holds Inv-loop2 μ-loop2 Inv-loop μ-loop
 loop2-holds c = search-start _ _ _ (c .search-from .ensures)
 
--- src/driver.rt:149:13
 sub-at : tie.Need-sub-at Inv-loop2 μ-loop2 Inv-loop μ-loop
 sub-at c = search needs
 
--- src/driver.rt:150:25
 mul-entry : tie.Need-mul-entry Inv-loop2 μ-loop2 Inv-loop μ-loop
 mul-entry c = omega (arith, c .before .loop2 .inv .within, c .before .before .before .before .before .before .before .before .before .loop .inv .walking .whole .bounded .most)
 
--- src/driver.rt:150:25
 element-copy-out-entry : tie.Need-element-copy-out-entry Inv-loop2 μ-loop2 Inv-loop μ-loop
 element-copy-out-entry c = omega (arith, c .if1 .left, c .before .loop2 .inv .within, c .before .before .before .before .before .before .before .before .before .loop .inv .walking .whole .bounded .most)
 
--- src/driver.rt:152:16
 meets-requires : tie.Need-meets-requires Inv-loop2 μ-loop2 Inv-loop μ-loop
 meets-requires c κs = tt
 
--- src/driver.rt:153:23
 resolve-requires : tie.Need-resolve-requires Inv-loop2 μ-loop2 Inv-loop μ-loop
 resolve-requires c κs = tt
 
--- src/driver.rt:155:13
 or-loop-requires : tie.Need-or-loop-requires Inv-loop2 μ-loop2 Inv-loop μ-loop
 or-loop-requires c κs = tt
 
--- src/driver.rt:145:13
 loop2-less : tie.Need-loop2-less Inv-loop2 μ-loop2 Inv-loop μ-loop
 loop2-less c = search needs
 
--- src/driver.rt:145:13
 loop2-again : tie.Need-loop2-again Inv-loop2 μ-loop2 Inv-loop μ-loop
 loop2-again c = rw (c .or-loop .ensures) (search-on _ _ _ _ _ (c .before .before .before .before .before .loop2 .inv) (c .before .before .before .before .if1 .left) (sym (c .before .before .meets .ensures) ∙ c .before .if2 .left))
 
@@ -155,7 +137,6 @@ module _ (c : tie.After-plan-turn Inv-loop2 μ-loop2 Inv-loop μ-loop) where
         jump = found-jump _ _ (at-head .loop .p) _ (at-if1 .if1 .resolved) (at-jump-at .jump-at .ensures) (found at-if1);
       }
 
--- src/driver.rt:158:13
 plan-turn-requires : tie.Need-plan-turn-requires Inv-loop2 μ-loop2 Inv-loop μ-loop
 plan-turn-requires c κs =
     let at-if1 = c .before .before .before .before .before .before in
@@ -165,39 +146,30 @@ plan-turn-requires c κs =
     let start = at-loop .before .before .before .before .before .before in
     (ready _ (start .pre) (checked-table _ (start .pre)) _ _ _ _ (at-loop .loop .inv .walking) _ (frame-read _ (start .pre) (checked-table _ (start .pre)) _ _ _ _ (at-loop .loop .inv .walking) _ (at-innermost .innermost .ensures)), found-below _ (at-jump-at .jump-at .result) (at-if1 .if1 .resolved) (at-loop .loop .inv .walking .whole) (found at-if1))
 
--- src/driver.rt:169:12
 ends-requires : tie.Need-ends-requires Inv-loop2 μ-loop2 Inv-loop μ-loop
 ends-requires c κs = tt
 
--- src/driver.rt:170:13
 answer-requires : tie.Need-answer-requires Inv-loop2 μ-loop2 Inv-loop μ-loop
 answer-requires c κs = tt
 
--- src/driver.rt:170:13
 same-length : tie.Need-same-length Inv-loop2 μ-loop2 Inv-loop μ-loop
 same-length c = omega (arith, c .before .before .before .before .before .plan-turn .kept .1 .0, c .before .before .before .before .before .before .before .before .before .before .before .before .before .before .before .before .before .before .before .before .before .loop .inv .long)
 
--- src/driver.rt:170:13
 returns : tie.Need-returns Inv-loop2 μ-loop2 Inv-loop μ-loop
 returns c = rw (c .answer .ensures) (turn-ends (turn (c .before .before .before .before .before)) (sym (c .before .before .ends .ensures) ∙ c .before .if3 .taken))
 
--- src/driver.rt:172:31
 visited-block-requires : tie.Need-visited-block-requires Inv-loop2 μ-loop2 Inv-loop μ-loop
 visited-block-requires c κs = tt
 
--- src/driver.rt:172:9
 mark-requires : tie.Need-mark-requires Inv-loop2 μ-loop2 Inv-loop μ-loop
 mark-requires c κs = rw (c .visited-block .ensures) (turn-applicable (turn (c .before .before .before .before .before .before)) (sym (c .before .before .before .ends .ensures) ∙ c .before .before .if3 .left) .block)
 
--- src/driver.rt:173:9
 mark-requires-2 : tie.Need-mark-requires-2 Inv-loop2 μ-loop2 Inv-loop μ-loop
 mark-requires-2 c κs = turn-applicable (turn (c .before .before .before .before .before .before .before .before)) (sym (c .before .before .before .before .before .ends .ensures) ∙ c .before .before .before .before .if3 .left) .handler
 
--- src/driver.rt:174:9
 mark-requires-3 : tie.Need-mark-requires-3 Inv-loop2 μ-loop2 Inv-loop μ-loop
 mark-requires-3 c κs = turn-applicable (turn (c .before .before .before .before .before .before .before .before .before .before)) (sym (c .before .before .before .before .before .before .before .ends .ensures) ∙ c .before .before .before .before .before .before .if3 .left) .scope
 
--- src/driver.rt:177:16
 frame-slot-requires : tie.Need-frame-slot-requires Inv-loop2 μ-loop2 Inv-loop μ-loop
 frame-slot-requires c κs = tt
 
@@ -270,126 +242,97 @@ module _ (c : tie.After-unschedule Inv-loop2 μ-loop2 Inv-loop μ-loop) where
   by-unschedule : Changed Unschedule (with-marks (c .before .before .before .before)) (c .unschedule .result)
   by-unschedule = unschedule-changed _ _ _ (last-entry _ (changeable (c .before .before .before .before) _ (c .before .before .enum-told3 .given .1)) (whole (c .before .before .before .before))) (c .unschedule .ensures) (whole (c .before .before .before .before))
 
--- src/driver.rt:177:9
 mul-frames : tie.Need-mul-frames Inv-loop2 μ-loop2 Inv-loop μ-loop
 mul-frames c = omega (arith, c .frame-slot .ensures, turn-slot (turn (planned c)) (goes-on c))
 
--- src/driver.rt:177:9
 array-set-from-frames : tie.Need-array-set-from-frames Inv-loop2 μ-loop2 Inv-loop μ-loop
 array-set-from-frames c = rw (c .frame-slot .ensures) (turn-slot (turn (planned c)) (goes-on c))
 
 enum-told : tie.Need-enum-told Inv-loop2 μ-loop2 Inv-loop μ-loop
 enum-told c = search needs
 
--- src/driver.rt:139:5
 loop-less : tie.Need-loop-less Inv-loop2 μ-loop2 Inv-loop μ-loop
 loop-less c = lower (c .before .before) _ (c .enum-told .given .1) _ (nothing-changed _ (whole (c .before .before)))
 
--- src/driver.rt:139:5
 loop-again : tie.Need-loop-again Inv-loop2 μ-loop2 Inv-loop μ-loop
 loop-again c = next (c .before .before) _ (c .enum-told .given .1) _ (nothing-changed _ (whole (c .before .before)))
 
--- src/driver.rt:181:30
 enum-known-change : tie.Need-enum-known-change Inv-loop2 μ-loop2 Inv-loop μ-loop
 enum-known-change c = search needs
 
--- src/driver.rt:182:22
 schedule-requires : tie.Need-schedule-requires Inv-loop2 μ-loop2 Inv-loop μ-loop
 schedule-requires c κs = changeable (c .before .before .before) _ (c .before .change .given .1)
 
--- src/driver.rt:184:26
 sub-entry : tie.Need-sub-entry Inv-loop2 μ-loop2 Inv-loop μ-loop
 sub-entry c = omega (arith, c .before .schedule .ensures .len)
 
--- src/driver.rt:184:17
 mul-entry-2 : tie.Need-mul-entry-2 Inv-loop2 μ-loop2 Inv-loop μ-loop
 mul-entry-2 c = omega (arith, c .before .schedule .ensures .len, schedule-room c .len)
 
--- src/driver.rt:184:17
 element-set-from-entry : tie.Need-element-set-from-entry Inv-loop2 μ-loop2 Inv-loop μ-loop
 element-set-from-entry c = omega (arith, c .before .schedule .ensures .len, schedule-room c .len)
 
--- src/driver.rt:139:5
 loop-less-2 : tie.Need-loop-less-2 Inv-loop2 μ-loop2 Inv-loop μ-loop
 unfolding stored
 loop-less-2 c = lower (c .before .before .before .before .before) _ (c .before .before .before .change .given .1) _ (by-schedule c)
 
--- src/driver.rt:139:5
 loop-again-2 : tie.Need-loop-again-2 Inv-loop2 μ-loop2 Inv-loop μ-loop
 unfolding stored
 loop-again-2 c = next (c .before .before .before .before .before) _ (c .before .before .before .change .given .1) _ (by-schedule c)
 
--- src/driver.rt:187:17
 enum-known-change-2 : tie.Need-enum-known-change-2 Inv-loop2 μ-loop2 Inv-loop μ-loop
 enum-known-change-2 c = search needs
 
--- src/driver.rt:191:22
 schedule-loop-requires : tie.Need-schedule-loop-requires Inv-loop2 μ-loop2 Inv-loop μ-loop
 schedule-loop-requires c κs = changeable (c .before .before .before) _ (c .before .change2 .given .1)
 
--- src/driver.rt:193:26
 sub-entry-2 : tie.Need-sub-entry-2 Inv-loop2 μ-loop2 Inv-loop μ-loop
 sub-entry-2 c = omega (arith, c .before .schedule-loop .ensures .len)
 
--- src/driver.rt:193:17
 mul-entry-3 : tie.Need-mul-entry-3 Inv-loop2 μ-loop2 Inv-loop μ-loop
 mul-entry-3 c = omega (arith, c .before .schedule-loop .ensures .len, loop-room c .len)
 
--- src/driver.rt:193:17
 element-set-from-entry-2 : tie.Need-element-set-from-entry-2 Inv-loop2 μ-loop2 Inv-loop μ-loop
 element-set-from-entry-2 c = omega (arith, c .before .schedule-loop .ensures .len, loop-room c .len)
 
--- src/driver.rt:139:5
 loop-less-3 : tie.Need-loop-less-3 Inv-loop2 μ-loop2 Inv-loop μ-loop
 unfolding stored
 loop-less-3 c = lower (c .before .before .before .before .before) _ (c .before .before .before .change2 .given .1) _ (by-schedule-loop c)
 
--- src/driver.rt:139:5
 loop-again-3 : tie.Need-loop-again-3 Inv-loop2 μ-loop2 Inv-loop μ-loop
 unfolding stored
 loop-again-3 c = next (c .before .before .before .before .before) _ (c .before .before .before .change2 .given .1) _ (by-schedule-loop c)
 
--- src/driver.rt:195:31
 enum-told-2 : tie.Need-enum-told-2 Inv-loop2 μ-loop2 Inv-loop μ-loop
 enum-told-2 c = search needs
 
--- src/driver.rt:195:31
 add-cx : tie.Need-add-cx Inv-loop2 μ-loop2 Inv-loop μ-loop
 add-cx c = omega (arith, changeable (c .before .before) _ (c .enum-told2 .given .1))
 
--- src/driver.rt:139:5
 loop-less-4 : tie.Need-loop-less-4 Inv-loop2 μ-loop2 Inv-loop μ-loop
 loop-less-4 c = lower (c .before .before) _ (c .enum-told2 .given .1) _ (id-changed _ (whole (c .before .before)))
 
--- src/driver.rt:139:5
 loop-again-4 : tie.Need-loop-again-4 Inv-loop2 μ-loop2 Inv-loop μ-loop
 loop-again-4 c = next (c .before .before) _ (c .enum-told2 .given .1) _ (id-changed _ (whole (c .before .before)))
 
--- src/driver.rt:197:38
 enum-told-3 : tie.Need-enum-told-3 Inv-loop2 μ-loop2 Inv-loop μ-loop
 enum-told-3 c = search needs
 
--- src/driver.rt:197:38
 sub-entry-3 : tie.Need-sub-entry-3 Inv-loop2 μ-loop2 Inv-loop μ-loop
 sub-entry-3 c = changeable (c .before .before) _ (c .enum-told3 .given .1)
 
--- src/driver.rt:197:29
 mul-entry-4 : tie.Need-mul-entry-4 Inv-loop2 μ-loop2 Inv-loop μ-loop
 mul-entry-4 c = omega (arith, whole (c .before .before) .bounded .most)
 
--- src/driver.rt:197:29
 element-copy-out-entry-2 : tie.Need-element-copy-out-entry-2 Inv-loop2 μ-loop2 Inv-loop μ-loop
 element-copy-out-entry-2 c = omega (arith, changeable (c .before .before) _ (c .enum-told3 .given .1), whole (c .before .before) .bounded .most)
 
--- src/driver.rt:198:22
 unschedule-requires : tie.Need-unschedule-requires Inv-loop2 μ-loop2 Inv-loop μ-loop
 unschedule-requires c κs = last-entry _ (changeable (c .before .before .before) _ (c .before .enum-told3 .given .1)) (whole (c .before .before .before))
 
--- src/driver.rt:139:5
 loop-less-5 : tie.Need-loop-less-5 Inv-loop2 μ-loop2 Inv-loop μ-loop
 loop-less-5 c = lower (c .before .before .before .before) _ (c .before .before .enum-told3 .given .1) _ (by-unschedule c)
 
--- src/driver.rt:139:5
 loop-again-5 : tie.Need-loop-again-5 Inv-loop2 μ-loop2 Inv-loop μ-loop
 loop-again-5 c = next (c .before .before .before .before) _ (c .before .before .enum-told3 .given .1) _ (by-unschedule c)
 

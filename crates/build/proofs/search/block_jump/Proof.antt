@@ -4,27 +4,21 @@ use borrow.Author.Needs.{needs}
 use Rattle.build.proofs.search.block_jump.Statement.{statement}
 use Rattle.build.proofs.search.block_jump.Tie as tie
 
--- src/search.rt:69:11
 block-word-requires : tie.Need-block-word-requires
 block-word-requires c κs = search needs
 
--- src/search.rt:70:14
 goto-jump-requires : tie.Need-goto-jump-requires
 goto-jump-requires c κs = search needs
 
--- src/search.rt:71:14
 branch-jump-requires : tie.Need-branch-jump-requires
 branch-jump-requires c κs = search needs
 
--- src/search.rt:64:1
 returns : tie.Need-returns
 returns c = search needs
 
--- src/search.rt:64:1
 returns-2 : tie.Need-returns-2
 returns-2 c = search needs
 
--- src/search.rt:64:1
 returns-3 : tie.Need-returns-3
 returns-3 c =
     let pre = c .before .before .before .pre in

@@ -5,29 +5,24 @@ use borrow.Author.Needs.{needs}
 use Rattle.build.proofs.search.branch_jump.Statement.{statement}
 use Rattle.build.proofs.search.branch_jump.Tie as tie
 
--- src/search.rt:57:9
 block-word-requires : tie.Need-block-word-requires
 block-word-requires c κs = search needs
 
--- src/search.rt:58:8
 scheduled-at-requires : tie.Need-scheduled-at-requires
 scheduled-at-requires c κs =
     let pre = c .before .before .pre in
     omega (arith, c .block-word .ensures, branch-consequent _ _ (pre .0) (pre .1 .0) (pre .1 .1))
 
--- src/search.rt:59:28
 narrow-requires : tie.Need-narrow-requires
 narrow-requires c κs =
     let pre = c .before .before .before .before .pre in
     omega (arith, c .before .before .block-word .ensures, branch-consequent _ _ (pre .0) (pre .1 .0) (pre .1 .1))
 
--- src/search.rt:59:9
 returns : tie.Need-returns
 returns c =
     let pre = c .before .before .before .before .before .pre in
     branch-breaks _ _ _ _ (pre .0) (pre .1 .0) (pre .1 .1) _ (c .narrow .ensures ∙ c .before .before .before .block-word .ensures)
 
--- src/search.rt:51:1
 returns-2 : tie.Need-returns-2
 returns-2 c =
     let pre = c .before .before .before .before .pre in

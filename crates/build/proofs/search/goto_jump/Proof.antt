@@ -5,33 +5,27 @@ use borrow.Author.Needs.{needs}
 use Rattle.build.proofs.search.goto_jump.Statement.{statement}
 use Rattle.build.proofs.search.goto_jump.Tie as tie
 
--- src/search.rt:42:25
 block-word-requires : tie.Need-block-word-requires
 block-word-requires c κs = search needs
 
--- src/search.rt:42:9
 narrow-requires : tie.Need-narrow-requires
 narrow-requires c κs =
     let pre = c .before .before .pre in
     omega (arith, c .block-word .ensures, goto-target _ _ (pre .0) (pre .1 .0) (pre .1 .1))
 
--- src/search.rt:43:11
 block-word-requires-2 : tie.Need-block-word-requires-2
 block-word-requires-2 c κs = search needs
 
--- src/search.rt:36:1
 returns : tie.Need-returns
 returns c =
     let pre = c .before .before .before .before .before .pre in
     goto-breaks _ _ _ _ (pre .0) (pre .1 .0) (pre .1 .1) _ (c .before .before .narrow .ensures ∙ c .before .before .before .block-word .ensures) (sym (c .before .block-word2 .ensures) ∙ c .match .keys1)
 
--- src/search.rt:36:1
 returns-2 : tie.Need-returns-2
 returns-2 c =
     let pre = c .before .before .before .before .before .pre in
     goto-continues _ _ _ _ (pre .0) (pre .1 .0) (pre .1 .1) _ (c .before .before .narrow .ensures ∙ c .before .before .before .block-word .ensures) (sym (c .before .block-word2 .ensures) ∙ c .match .keys2)
 
--- src/search.rt:36:1
 returns-3 : tie.Need-returns-3
 returns-3 c =
     let pre = c .before .before .before .before .before .pre in

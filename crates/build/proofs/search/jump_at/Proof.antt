@@ -18,47 +18,36 @@ other Halt = 1
 other-stage : (s : Stage) → s ≡ Visit → other s ≡ 1 → ⊥
 other-stage s e o = let z : other s ≡ 0 = ap other e in omega (arith, z, o)
 
--- src/search.rt:83:25
 enum-told : tie.Need-enum-told
 enum-told c = search needs
 
--- src/search.rt:83:25
 block-jump-requires : tie.Need-block-jump-requires
 block-jump-requires c κs = (c .before .before .before .pre .0, c .before .before .before .pre .1 (c .enum-told .given .1))
 
--- src/search.rt:84:25
 enum-told-2 : tie.Need-enum-told-2
 enum-told-2 c = search needs
 
--- src/search.rt:85:26
 enum-told-3 : tie.Need-enum-told-3
 enum-told-3 c = search needs
 
--- src/search.rt:86:23
 enum-told-4 : tie.Need-enum-told-4
 enum-told-4 c = search needs
 
--- src/search.rt:87:24
 enum-told-5 : tie.Need-enum-told-5
 enum-told-5 c = search needs
 
--- src/search.rt:76:1
 returns : tie.Need-returns
 returns c = search needs
 
--- src/search.rt:76:1
 returns-2 : tie.Need-returns-2
 returns-2 c e = absurd (other-stage _ e (ap other (c .enum-told2 .given .1)))
 
--- src/search.rt:76:1
 returns-3 : tie.Need-returns-3
 returns-3 c e = absurd (other-stage _ e (ap other (c .enum-told3 .given .1)))
 
--- src/search.rt:76:1
 returns-4 : tie.Need-returns-4
 returns-4 c e = absurd (other-stage _ e (ap other (c .enum-told4 .given .1)))
 
--- src/search.rt:76:1
 returns-5 : tie.Need-returns-5
 returns-5 c e = absurd (other-stage _ e (ap other (c .enum-told5 .given .1)))
 

@@ -4,23 +4,18 @@ use borrow.Author.Needs.{needs}
 use Rattle.planner.proofs.branch.after_jump.Statement.{statement}
 use Rattle.planner.proofs.branch.after_jump.Tie as tie
 
--- src/branch.rt:33:9
 refuse-requires : tie.Need-refuse-requires
 refuse-requires c κs = search needs
 
--- src/branch.rt:33:9
 returns : tie.Need-returns
 returns c = rw (ne-eqb _ _ (c .before .if1 .taken)) (c .refuse .ensures)
 
--- src/branch.rt:35:26
 add-leave : tie.Need-add-leave
 add-leave c = omega (arith, c .before .before .before .before .pre .0, c .before .before .before .before .pre .1 (c .before .before .if1 .left))
 
--- src/branch.rt:35:5
 leave-requires : tie.Need-leave-requires
 leave-requires c κs = search needs
 
--- src/branch.rt:27:1
 returns-2 : tie.Need-returns-2
 returns-2 c = rw (eq-eqb _ _ (c .before .before .before .if1 .left)) (c .leave .ensures)
 

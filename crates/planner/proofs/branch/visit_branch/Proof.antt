@@ -8,39 +8,30 @@ use borrow.Author.Needs.{needs}
 use Rattle.planner.proofs.branch.visit_branch.Statement.{statement}
 use Rattle.planner.proofs.branch.visit_branch.Tie as tie
 
--- src/branch.rt:108:9
 block-word-requires : tie.Need-block-word-requires
 block-word-requires c κs = search needs
 
--- src/branch.rt:109:9
 scheduled-at-requires : tie.Need-scheduled-at-requires
 scheduled-at-requires c κs = few-blocks (c .before .before .before .args .words .now) (c .before .before .before .pre .0 .promise) (c .block-word .result) (rw (c .block-word .ensures) (branch-below (c .before .before .before .args .words .now) (c .before .before .before .args .p) (c .before .before .before .pre .0) (c .before .before .before .pre .1 .0) .0))
 
--- src/branch.rt:111:9
 branch-break-requires : tie.Need-branch-break-requires
 branch-break-requires c κs = (c .before .before .before .before .before .before .pre .0, (c .before .before .before .before .before .before .pre .1 .0, (c .before .before .before .before .before .before .pre .1 .1, ap (λ (k : ℕ). has (c .before .before .before .before .before .before .args .scheduled .now) k || has (c .before .before .before .before .before .before .args .catch-handlers .now) k) (sym (c .before .before .before .block-word .ensures)) ∙ sym (c .before .before .scheduled-at .ensures) ∙ c .before .if1 .taken)))
 
--- src/branch.rt:111:9
 same-length : tie.Need-same-length
 same-length c = search needs
 
--- src/branch.rt:111:9
 returns : tie.Need-returns
 returns c = search needs
 
--- src/branch.rt:113:9
 frame-of-requires : tie.Need-frame-of-requires
 frame-of-requires c κs = search needs
 
--- src/branch.rt:114:39
 add-traverse-block : tie.Need-add-traverse-block
 add-traverse-block c = search needs
 
--- src/branch.rt:114:5
 traverse-block-requires : tie.Need-traverse-block-requires
 traverse-block-requires c κs = search needs
 
--- src/branch.rt:94:1
 returns-2 : tie.Need-returns-2
 returns-2 c = branch-nested (c .before .before .before .before .before .before .before .before .args .words .now) (c .before .before .before .before .before .before .before .before .args .p) (c .before .before .before .before .before .before .before .before .pre .0) (c .before .before .before .before .before .before .before .before .pre .1 .0) (c .before .before .before .before .before .before .before .before .args .scheduled .now) (c .before .before .before .before .before .before .before .before .args .catch-handlers .now) (c .before .before .before .before .before .before .before .before .args .scopes .now) (c .before .before .before .before .before .before .before .before .args .resolved) (c .before .before .before .before .before .block-word .result) _ _ (c .before .before .before .before .before .block-word .ensures) (sym (c .before .before .before .before .scheduled-at .ensures) ∙ c .before .before .before .if1 .left) (rw (← (c .before .before .frame-of .ensures)) (c .traverse-block .ensures))
 

@@ -2,11 +2,9 @@ use borrow.Author.Tests.{eq-eqb, ne-eqb}
 use Rattle.planner.proofs.fallthrough.entries_of.Statement.{statement}
 use Rattle.planner.proofs.fallthrough.entries_of.Tie as tie
 
--- src/fallthrough.rt:82:9
 returns : tie.Need-returns
 returns c = rw (eq-eqb _ _ (c .if1 .taken))
 
--- src/fallthrough.rt:78:1
 returns-2 : tie.Need-returns-2
 returns-2 c = rw (ne-eqb _ _ (c .if1 .left))
 

@@ -3,15 +3,12 @@ use borrow.Author.Needs.{needs}
 use Rattle.planner.proofs.fallthrough.schedule_if.Statement.{statement}
 use Rattle.planner.proofs.fallthrough.schedule_if.Tie as tie
 
--- src/fallthrough.rt:93:9
 returns : tie.Need-returns
 returns c = rw (eq-eqb _ _ (c .if1 .taken))
 
--- src/fallthrough.rt:95:53
 narrow-requires : tie.Need-narrow-requires
 narrow-requires c κs = search needs
 
--- src/fallthrough.rt:88:1
 returns-2 : tie.Need-returns-2
 returns-2 c = rw (ne-eqb _ _ (c .before .if1 .left), c .narrow .ensures)
 

@@ -2,15 +2,12 @@ use borrow.Author.Needs.{needs}
 use Rattle.planner.proofs.fallthrough.scheduled_at.Statement.{statement}
 use Rattle.planner.proofs.fallthrough.scheduled_at.Tie as tie
 
--- src/fallthrough.rt:33:45
 narrow-requires : tie.Need-narrow-requires
 narrow-requires c κs = search needs
 
--- src/fallthrough.rt:33:5
 is-scheduled-requires : tie.Need-is-scheduled-requires
 is-scheduled-requires c κs = search needs
 
--- src/fallthrough.rt:29:1
 returns : tie.Need-returns
 returns c = rw (c .is-scheduled .ensures, c .before .narrow .ensures)
 

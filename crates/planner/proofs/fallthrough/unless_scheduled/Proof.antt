@@ -2,15 +2,12 @@ use borrow.Author.Needs.{needs}
 use Rattle.planner.proofs.fallthrough.unless_scheduled.Statement.{statement}
 use Rattle.planner.proofs.fallthrough.unless_scheduled.Tie as tie
 
--- src/fallthrough.rt:50:18
 scheduled-at-requires : tie.Need-scheduled-at-requires
 scheduled-at-requires c κs = search needs
 
--- src/fallthrough.rt:50:5
 unless-taken-requires : tie.Need-unless-taken-requires
 unless-taken-requires c κs = search needs
 
--- src/fallthrough.rt:46:1
 returns : tie.Need-returns
 returns c = rw (c .unless-taken .ensures, c .before .scheduled-at .ensures)
 

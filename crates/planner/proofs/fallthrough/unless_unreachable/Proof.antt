@@ -2,23 +2,18 @@ use borrow.Author.Needs.{needs}
 use Rattle.planner.proofs.fallthrough.unless_unreachable.Statement.{statement}
 use Rattle.planner.proofs.fallthrough.unless_unreachable.Tie as tie
 
--- src/fallthrough.rt:73:23
 block-word-requires : tie.Need-block-word-requires
 block-word-requires c κs = search needs
 
--- src/fallthrough.rt:74:9
 scheduled-at-requires : tie.Need-scheduled-at-requires
 scheduled-at-requires c κs = search needs
 
--- src/fallthrough.rt:75:18
 either-requires : tie.Need-either-requires
 either-requires c κs = search needs
 
--- src/fallthrough.rt:75:5
 unless-taken-requires : tie.Need-unless-taken-requires
 unless-taken-requires c κs = search needs
 
--- src/fallthrough.rt:63:1
 returns : tie.Need-returns
 returns c = rw (c .unless-taken .ensures, c .before .either .ensures, c .before .before .scheduled-at .ensures, c .before .before .before .block-word .ensures)
 

@@ -4,23 +4,18 @@ use borrow.Author.Needs.{needs}
 use Rattle.planner.proofs.jump.continue_to_found.Statement.{statement}
 use Rattle.planner.proofs.jump.continue_to_found.Tie as tie
 
--- src/jump.rt:59:9
 number-requires : tie.Need-number-requires
 number-requires c κs = search needs
 
--- src/jump.rt:60:43
 cast-put : tie.Need-cast-put
 cast-put c = search needs
 
--- src/jump.rt:60:9
 put-requires : tie.Need-put-requires
 put-requires c κs = search needs
 
--- src/jump.rt:53:1
 same-length : tie.Need-same-length
 same-length c = search needs
 
--- src/jump.rt:53:1
 returns : tie.Need-returns
 returns c = continue-row (c .before .before .before .before .before .before .args .id) (c .before .before .before .before .before .before .args .rows) (c .before .before .put .result) (c .before .before .before .before .before .before .args .found) 25 (c .before .before .before .before .before .before .args .found .target) (c .before .before .before .before .number .result) _ _ _ refl refl (c .before .before .before .before .number .ensures) (c .before .before .put .ensures) refl
 

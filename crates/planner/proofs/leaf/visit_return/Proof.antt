@@ -4,31 +4,24 @@ use borrow.Author.Needs.{needs}
 use Rattle.planner.proofs.leaf.visit_return.Statement.{statement}
 use Rattle.planner.proofs.leaf.visit_return.Tie as tie
 
--- src/leaf.rt:20:9
 block-word-requires : tie.Need-block-word-requires
 block-word-requires c κs = search needs
 
--- src/leaf.rt:21:9
 block-word-requires-2 : tie.Need-block-word-requires-2
 block-word-requires-2 c κs = search needs
 
--- src/leaf.rt:22:9
 put-requires : tie.Need-put-requires
 put-requires c κs = search needs
 
--- src/leaf.rt:23:26
 add-leave : tie.Need-add-leave
 add-leave c = search needs
 
--- src/leaf.rt:23:5
 leave-requires : tie.Need-leave-requires
 leave-requires c κs = search needs
 
--- src/leaf.rt:15:1
 same-length : tie.Need-same-length
 same-length c = search needs
 
--- src/leaf.rt:15:1
 returns : tie.Need-returns
 returns c = return-left (c .before .before .before .before .before .before .before .before .before .before .args .words .now) (c .before .before .before .before .before .before .before .before .before .before .args .p) (c .before .before .before .before .before .before .before .before .before .before .pre .0) _ _ (c .before .before .before .before .put .result) _ _ (c .before .before .before .before .before .before .before .block-word .result) (c .before .before .before .before .before .before .block-word2 .result) (c .before .before .before .before .before .before .before .before .before .before .pre .1) refl (c .before .before .before .before .before .before .before .block-word .ensures) (c .before .before .before .before .before .before .block-word2 .ensures) (c .before .before .before .before .put .ensures) (c .leave .ensures)
 

@@ -2,19 +2,15 @@ use borrow.Author.Needs.{needs}
 use Rattle.planner.proofs.loops.continues_scheduled.Statement.{statement}
 use Rattle.planner.proofs.loops.continues_scheduled.Tie as tie
 
--- src/loops.rt:107:44
 narrow-requires : tie.Need-narrow-requires
 narrow-requires c κs = search needs
 
--- src/loops.rt:107:65
 narrow-requires-2 : tie.Need-narrow-requires-2
 narrow-requires-2 c κs = search needs
 
--- src/loops.rt:107:5
 continue-block-is-scheduled-requires : tie.Need-continue-block-is-scheduled-requires
 continue-block-is-scheduled-requires c κs = search needs
 
--- src/loops.rt:102:1
 returns : tie.Need-returns
 returns c = rw (c .continue-block-is-scheduled .ensures, c .before .before .narrow .ensures, c .before .narrow2 .ensures)
 

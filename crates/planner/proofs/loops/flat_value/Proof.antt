@@ -9,43 +9,33 @@ use borrow.Author.Needs.{needs}
 use Rattle.planner.proofs.loops.flat_value.Statement.{statement}
 use Rattle.planner.proofs.loops.flat_value.Tie as tie
 
--- src/loops.rt:88:9
 returns : tie.Need-returns
 returns c = more-refused (c .before .before .before .before .args .before) _ (c .if1 .taken) (c .before .before .before .before .pre .1 .1)
 
--- src/loops.rt:90:9
 block-word-requires : tie.Need-block-word-requires
 block-word-requires c κs = search needs
 
--- src/loops.rt:92:56
 sub-visit-value-block : tie.Need-sub-visit-value-block
 sub-visit-value-block c = search needs
 
--- src/loops.rt:92:9
 visit-value-block-requires : tie.Need-visit-value-block-requires
 visit-value-block-requires c κs = search needs
 
--- src/loops.rt:94:9
 values-of-requires : tie.Need-values-of-requires
 values-of-requires c κs = search needs
 
--- src/loops.rt:94:9
 same-length : tie.Need-same-length
 same-length c = search needs
 
--- src/loops.rt:94:9
 returns-2 : tie.Need-returns-2
 returns-2 c = rw (← (c .before .before .before .before .before .before .before .before .block-word .ensures)) (value-more (c .before .before .before .before .before .before .before .before .before .before .before .before .before .args .before) (visitValueBlock (tableOf (c .before .before .before .before .before .before .before .before .before .before .before .before .before .args .words .now)) (127 - c .before .before .before .before .before .before .before .before .before .before .before .before .before .args .p .depth)) (flatForm (tableOf (c .before .before .before .before .before .before .before .before .before .before .before .before .before .args .words .now)) (c .before .before .before .before .before .before .before .before .block-word .result)) (c .before .before .before .before .before .before .before .before .before .before .before .before .before .args .block) (c .before .before .before .before .before .before .before .before .block-word .result) (c .before .before .before .before .before .before .before .before .before .if1 .left) (c .before .before .before .before .before .visit-value-block .ensures) _ (c .values-of .ensures) (c .before .if2 .taken))
 
--- src/loops.rt:96:9
 value-block-result-to-sequence-requires : tie.Need-value-block-result-to-sequence-requires
 value-block-result-to-sequence-requires c κs = record { promise = c .before .before .before .before .before .before .before .before .before .before .before .before .before .pre .0 .promise; place = c .before .before .before .before .before .visit-value-block .ensures .found (c .before .if2 .left) .place; there = c .before .before .before .before .before .visit-value-block .ensures .found (c .before .if2 .left) .ends .there; more = omega (arith, c .before .before .before .before .before .visit-value-block .ensures .found (c .before .if2 .left) .more); room = omega (arith, c .before .before .before .before .before .visit-value-block .ensures .numbers .paid, c .before .before .before .before .before .visit-value-block .ensures .numbers .visits, c .before .before .before .before .before .before .before .before .before .before .before .before .before .pre .1 .1 .paid, c .before .before .before .before .before .before .before .before .before .before .before .before .before .pre .1 .1 .visits, c .before .before .before .before .before .before .before .before .before .before .before .before .before .pre .0 .rows, c .before .before .before .before .before .before .before .before .before .before .before .before .before .pre .0 .visits) }
 
--- src/loops.rt:81:1
 same-length-2 : tie.Need-same-length-2
 same-length-2 c = search needs
 
--- src/loops.rt:81:1
 returns-3 : tie.Need-returns-3
 returns-3 c = rw (← (c .before .before .before .before .before .before .before .before .before .before .before .before .block-word .ensures)) (flat-more (c .before .before .before .before .before .before .before .before .before .before .before .before .before .before .before .before .before .args .before) (visitValueBlock (tableOf (c .before .before .before .before .before .before .before .before .before .before .before .before .before .before .before .before .before .args .words .now)) (127 - c .before .before .before .before .before .before .before .before .before .before .before .before .before .before .before .before .before .args .p .depth)) (flatForm (tableOf (c .before .before .before .before .before .before .before .before .before .before .before .before .before .before .before .before .before .args .words .now)) (c .before .before .before .before .before .before .before .before .before .before .before .before .block-word .result)) (c .before .before .before .before .before .before .before .before .before .before .before .before .before .before .before .before .before .args .block) (c .before .before .before .before .before .before .before .before .before .before .before .before .block-word .result) (c .before .before .before .before .before .before .before .before .before .before .before .before .before .if1 .left) (c .before .before .before .before .before .before .before .before .before .visit-value-block .ensures) _ _ (c .before .before .before .before .before .if2 .left) refl refl (c .before .before .before .value-block-result-to-sequence .ensures .most) (λ below h. c .before .before .before .value-block-result-to-sequence .ensures .held (c .before .before .before .before .before .before .before .before .before .visit-value-block .ensures .value) (c .before .before .before .before .before .before .before .before .before .visit-value-block .ensures .found (c .before .before .before .before .before .if2 .left) .ends) below h))
 

@@ -2,11 +2,9 @@ use borrow.Author.Tests.{eq-eqb, ne-eqb}
 use Rattle.planner.proofs.loops.for_continues_at.Statement.{statement}
 use Rattle.planner.proofs.loops.for_continues_at.Tie as tie
 
--- src/loops.rt:193:9
 returns : tie.Need-returns
 returns c = rw (eq-eqb _ _ (c .if1 .taken))
 
--- src/loops.rt:189:1
 returns-2 : tie.Need-returns-2
 returns-2 c = rw (ne-eqb _ _ (c .if1 .left))
 

@@ -7,27 +7,21 @@ use borrow.Author.Needs.{needs}
 use Rattle.planner.proofs.loops.for_values.Statement.{statement}
 use Rattle.planner.proofs.loops.for_values.Tie as tie
 
--- src/loops.rt:215:9
 init-and-test-requires : tie.Need-init-and-test-requires
 init-and-test-requires c κs = (c .before .before .before .pre .0, (c .before .before .before .pre .1 .0, c .before .before .before .pre .1 .1 .0))
 
--- src/loops.rt:217:9
 same-length : tie.Need-same-length
 same-length c = search needs
 
--- src/loops.rt:217:9
 returns : tie.Need-returns
 returns c = for-without-update (tableOf (c .before .before .before .before .before .before .before .args .words .now)) (visitValueBlock (tableOf (c .before .before .before .before .before .before .before .args .words .now)) (127 - c .before .before .before .before .before .before .before .args .p .depth)) (c .before .before .before .before .before .before .before .args .init) (c .before .before .before .before .before .before .before .args .test) (c .before .before .before .before .before .before .before .args .update) (blockWord (c .before .before .before .before .before .before .before .args .words .now) (c .before .before .before .before .before .before .before .args .p .block) 9) (c .if1 .taken) (c .before .before .before .init-and-test .ensures .made)
 
--- src/loops.rt:219:5
 plain-value-requires : tie.Need-plain-value-requires
 plain-value-requires c κs = (c .before .before .before .before .before .before .before .before .pre .0, (c .before .before .before .before .before .before .before .before .pre .1 .1 .1 (c .before .if1 .left), c .before .before .before .before .init-and-test .ensures .spent))
 
--- src/loops.rt:208:1
 same-length-2 : tie.Need-same-length-2
 same-length-2 c = search needs
 
--- src/loops.rt:208:1
 returns-2 : tie.Need-returns-2
 returns-2 c = for-with-update (tableOf (c .before .before .before .before .before .before .before .before .before .before .before .args .words .now)) (visitValueBlock (tableOf (c .before .before .before .before .before .before .before .before .before .before .before .args .words .now)) (127 - c .before .before .before .before .before .before .before .before .before .before .before .args .p .depth)) (c .before .before .before .before .before .before .before .before .before .before .before .args .init) (c .before .before .before .before .before .before .before .before .before .before .before .args .test) (c .before .before .before .before .before .before .before .before .before .before .before .args .update) (blockWord (c .before .before .before .before .before .before .before .before .before .before .before .args .words .now) (c .before .before .before .before .before .before .before .before .before .before .before .args .p .block) 9) (c .before .before .before .before .if1 .left) (c .before .before .plain-value .ensures .made _ _ (c .before .before .before .before .before .before .before .init-and-test .ensures .made))
 

@@ -3,15 +3,12 @@ use borrow.Author.Needs.{needs}
 use Rattle.planner.proofs.loops.loop_is_taken.Statement.{statement}
 use Rattle.planner.proofs.loops.loop_is_taken.Tie as tie
 
--- src/loops.rt:115:9
 returns : tie.Need-returns
 returns c = rw (eq-eqb _ _ (c .if1 .taken))
 
--- src/loops.rt:117:5
 scheduled-at-requires : tie.Need-scheduled-at-requires
 scheduled-at-requires c κs = search needs
 
--- src/loops.rt:110:1
 returns-2 : tie.Need-returns-2
 returns-2 c = rw (ne-eqb _ _ (c .before .if1 .left)) (c .scheduled-at .ensures)
 

@@ -6,31 +6,24 @@ use borrow.Author.Needs.{needs}
 use Rattle.planner.proofs.loops.plain_value.Statement.{statement}
 use Rattle.planner.proofs.loops.plain_value.Tie as tie
 
--- src/loops.rt:73:9
 returns : tie.Need-returns
 returns c = more-refused (c .before .before .before .before .args .before) _ (c .if1 .taken) (c .before .before .before .before .pre .1 .1)
 
--- src/loops.rt:75:9
 block-word-requires : tie.Need-block-word-requires
 block-word-requires c κs = search needs
 
--- src/loops.rt:77:53
 sub-visit-value-block : tie.Need-sub-visit-value-block
 sub-visit-value-block c = search needs
 
--- src/loops.rt:77:15
 visit-value-block-requires : tie.Need-visit-value-block-requires
 visit-value-block-requires c κs = search needs
 
--- src/loops.rt:77:5
 values-of-requires : tie.Need-values-of-requires
 values-of-requires c κs = search needs
 
--- src/loops.rt:66:1
 same-length : tie.Need-same-length
 same-length c = search needs
 
--- src/loops.rt:66:1
 returns-2 : tie.Need-returns-2
 returns-2 c = rw (← (c .before .before .before .before .before .before .block-word .ensures)) (plain-more (c .before .before .before .before .before .before .before .before .before .before .before .args .before) (visitValueBlock (tableOf (c .before .before .before .before .before .before .before .before .before .before .before .args .words .now)) (127 - c .before .before .before .before .before .before .before .before .before .before .before .args .p .depth)) (c .before .before .before .before .before .before .before .before .before .before .before .args .block) (c .before .before .before .before .before .before .block-word .result) (c .before .before .before .before .before .before .before .if1 .left) (c .before .before .before .visit-value-block .ensures) _ (c .values-of .ensures))
 

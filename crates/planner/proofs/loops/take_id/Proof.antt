@@ -2,11 +2,9 @@ use borrow.Author.Tests.{eq-eqb, ne-eqb}
 use Rattle.planner.proofs.loops.take_id.Statement.{statement}
 use Rattle.planner.proofs.loops.take_id.Tie as tie
 
--- src/loops.rt:291:9
 returns : tie.Need-returns
 returns c = rw (eq-eqb _ _ (c .if1 .taken))
 
--- src/loops.rt:287:1
 returns-2 : tie.Need-returns-2
 returns-2 c = rw (ne-eqb _ _ (c .if1 .left))
 

@@ -4,51 +4,39 @@ use borrow.Author.Needs.{needs}
 use Rattle.planner.proofs.loops.visit_for_in.Statement.{statement}
 use Rattle.planner.proofs.loops.visit_for_in.Tie as tie
 
--- src/loops.rt:275:9
 block-word-requires : tie.Need-block-word-requires
 block-word-requires c κs = search needs
 
--- src/loops.rt:276:9
 block-word-requires-2 : tie.Need-block-word-requires-2
 block-word-requires-2 c κs = search needs
 
--- src/loops.rt:277:9
 block-word-requires-3 : tie.Need-block-word-requires-3
 block-word-requires-3 c κs = search needs
 
--- src/loops.rt:278:8
 continues-scheduled-requires : tie.Need-continues-scheduled-requires
 continues-scheduled-requires c κs = let h = few-loop-blocks (c .before .before .before .before .before .args .words .now) (c .before .before .before .before .before .args .p) (c .before .before .before .before .before .pre .0) (for-in-blocks (c .before .before .before .before .before .args .words .now) (c .before .before .before .before .before .args .p) (c .before .before .before .before .before .pre .0) (c .before .before .block-word .result) (c .before .block-word2 .result) (c .block-word3 .result) (c .before .before .before .before .before .pre .1) (c .before .before .block-word .ensures) (c .before .block-word2 .ensures) (c .block-word3 .ensures)) in (h .0, h .1)
 
--- src/loops.rt:279:9
 refuse-requires : tie.Need-refuse-requires
 refuse-requires c κs = search needs
 
--- src/loops.rt:279:9
 returns : tie.Need-returns
 returns c = loop-refused (c .before .before .before .before .before .before .before .before .args .words .now) (c .before .before .before .before .before .before .before .before .args .scheduled .now) (c .before .before .before .before .before .before .before .before .args .catch-handlers .now) (c .before .before .before .before .before .before .before .before .args .p) (c .before .before .before .before .before .before .before .before .pre .0) (c .before .before .before .block-word3 .result) (c .before .before .before .before .before .block-word .result) (c .before .before .before .before .block-word2 .result) _ _ _ (for-in-turns (c .before .before .before .before .before .before .before .before .args .words .now) (c .before .before .before .before .before .before .before .before .args .scheduled .now) (c .before .before .before .before .before .before .before .before .args .catch-handlers .now) (c .before .before .before .before .before .before .before .before .args .p) (c .before .before .before .before .before .before .before .before .pre .0) (c .before .before .before .before .before .block-word .result) (c .before .before .before .before .block-word2 .result) (c .before .before .before .block-word3 .result) _ (for-in-ends (c .before .before .before .before .before .before .before .before .args .words .now) (c .before .before .before .before .before .before .before .before .args .p) (c .before .before .before .before .before .before .before .before .pre .0) (c .before .before .before .before .before .block-word .result) (c .before .before .before .before .block-word2 .result) (c .before .before .before .block-word3 .result) (c .before .before .before .before .before .before .before .before .pre .1) (c .before .before .before .before .before .block-word .ensures) (c .before .before .before .before .block-word2 .ensures) (c .before .before .before .block-word3 .ensures)) ((for-in-blocks (c .before .before .before .before .before .before .before .before .args .words .now) (c .before .before .before .before .before .before .before .before .args .p) (c .before .before .before .before .before .before .before .before .pre .0) (c .before .before .before .before .before .block-word .result) (c .before .before .before .before .block-word2 .result) (c .before .before .before .block-word3 .result) (c .before .before .before .before .before .before .before .before .pre .1) (c .before .before .before .before .before .block-word .ensures) (c .before .before .before .before .block-word2 .ensures) (c .before .before .before .block-word3 .ensures)) .0) refl) ((for-in-blocks (c .before .before .before .before .before .before .before .before .args .words .now) (c .before .before .before .before .before .before .before .before .args .p) (c .before .before .before .before .before .before .before .before .pre .0) (c .before .before .before .before .before .block-word .result) (c .before .before .before .before .block-word2 .result) (c .before .before .before .block-word3 .result) (c .before .before .before .before .before .before .before .before .pre .1) (c .before .before .before .before .before .block-word .ensures) (c .before .before .before .before .block-word2 .ensures) (c .before .before .before .block-word3 .ensures)) .0) (sym (c .before .before .continues-scheduled .ensures) ∙ c .before .if1 .taken) (c .refuse .ensures) _
 
--- src/loops.rt:281:9
 unless-scheduled-requires : tie.Need-unless-scheduled-requires
 unless-scheduled-requires c κs = let h = few-loop-blocks (c .before .before .before .before .before .before .before .args .words .now) (c .before .before .before .before .before .before .before .args .p) (c .before .before .before .before .before .before .before .pre .0) (for-in-blocks (c .before .before .before .before .before .before .before .args .words .now) (c .before .before .before .before .before .before .before .args .p) (c .before .before .before .before .before .before .before .pre .0) (c .before .before .before .before .block-word .result) (c .before .before .before .block-word2 .result) (c .before .before .block-word3 .result) (c .before .before .before .before .before .before .before .pre .1) (c .before .before .before .before .block-word .ensures) (c .before .before .before .block-word2 .ensures) (c .before .before .block-word3 .ensures)) in h .0
 
--- src/loops.rt:282:45
 no-values-requires : tie.Need-no-values-requires
 no-values-requires c κs = search needs
 
--- src/loops.rt:282:9
 flat-value-requires : tie.Need-flat-value-requires
 flat-value-requires c κs = (c .before .before .before .before .before .before .before .before .before .before .pre .0, ((for-in-blocks (c .before .before .before .before .before .before .before .before .before .before .args .words .now) (c .before .before .before .before .before .before .before .before .before .before .args .p) (c .before .before .before .before .before .before .before .before .before .before .pre .0) (c .before .before .before .before .before .before .before .block-word .result) (c .before .before .before .before .before .before .block-word2 .result) (c .before .before .before .before .before .block-word3 .result) (c .before .before .before .before .before .before .before .before .before .before .pre .1) (c .before .before .before .before .before .before .before .block-word .ensures) (c .before .before .before .before .before .before .block-word2 .ensures) (c .before .before .before .before .before .block-word3 .ensures)) .1, nothing-spent (c .before .before .before .before .before .before .before .before .before .before .args .words .now) (c .before .before .before .before .before .before .before .before .before .before .args .p) _ (c .before .before .before .before .before .before .before .before .before .before .pre .0) (c .no-values .ensures)))
 
--- src/loops.rt:284:5
 enter-loop-requires : tie.Need-enter-loop-requires
 enter-loop-requires c κs = let h = few-loop-blocks (c .before .before .before .before .before .before .before .before .before .before .before .before .before .args .words .now) (c .before .before .before .before .before .before .before .before .before .before .before .before .before .args .p) (c .before .before .before .before .before .before .before .before .before .before .before .before .before .pre .0) (for-in-blocks (c .before .before .before .before .before .before .before .before .before .before .before .before .before .args .words .now) (c .before .before .before .before .before .before .before .before .before .before .before .before .before .args .p) (c .before .before .before .before .before .before .before .before .before .before .before .before .before .pre .0) (c .before .before .before .before .before .before .before .before .before .before .block-word .result) (c .before .before .before .before .before .before .before .before .before .block-word2 .result) (c .before .before .before .before .before .before .before .before .block-word3 .result) (c .before .before .before .before .before .before .before .before .before .before .before .before .before .pre .1) (c .before .before .before .before .before .before .before .before .before .before .block-word .ensures) (c .before .before .before .before .before .before .before .before .before .block-word2 .ensures) (c .before .before .before .before .before .before .before .before .block-word3 .ensures)) in (c .before .before .before .before .before .before .before .before .before .before .before .before .before .pre .0 .depth, (h .0, (h .1, h .2)))
 
--- src/loops.rt:270:1
 same-length : tie.Need-same-length
 same-length c = search needs
 
--- src/loops.rt:270:1
 returns-2 : tie.Need-returns-2
 returns-2 c = loop-entered (c .before .before .before .before .before .before .before .before .before .before .before .before .before .before .args .words .now) (c .before .before .before .before .before .before .before .before .before .before .before .before .before .before .args .scheduled .now) (c .before .before .before .before .before .before .before .before .before .before .before .before .before .before .args .catch-handlers .now) (c .before .before .before .before .before .before .before .before .before .before .before .before .before .before .args .p) (c .before .before .before .before .before .before .before .before .before .before .before .before .before .before .pre .0) (c .before .before .before .before .before .before .before .before .before .block-word3 .result) (c .before .before .before .before .before .before .before .before .before .before .before .block-word .result) (c .before .before .before .before .before .before .before .before .before .before .block-word2 .result) (c .before .before .before .before .before .before .unless-scheduled .result) _ _ _ (for-in-turns (c .before .before .before .before .before .before .before .before .before .before .before .before .before .before .args .words .now) (c .before .before .before .before .before .before .before .before .before .before .before .before .before .before .args .scheduled .now) (c .before .before .before .before .before .before .before .before .before .before .before .before .before .before .args .catch-handlers .now) (c .before .before .before .before .before .before .before .before .before .before .before .before .before .before .args .p) (c .before .before .before .before .before .before .before .before .before .before .before .before .before .before .pre .0) (c .before .before .before .before .before .before .before .before .before .before .before .block-word .result) (c .before .before .before .before .before .before .before .before .before .before .block-word2 .result) (c .before .before .before .before .before .before .before .before .before .block-word3 .result) _ (for-in-ends (c .before .before .before .before .before .before .before .before .before .before .before .before .before .before .args .words .now) (c .before .before .before .before .before .before .before .before .before .before .before .before .before .before .args .p) (c .before .before .before .before .before .before .before .before .before .before .before .before .before .before .pre .0) (c .before .before .before .before .before .before .before .before .before .before .before .block-word .result) (c .before .before .before .before .before .before .before .before .before .before .block-word2 .result) (c .before .before .before .before .before .before .before .before .before .block-word3 .result) (c .before .before .before .before .before .before .before .before .before .before .before .before .before .before .pre .1) (c .before .before .before .before .before .before .before .before .before .before .before .block-word .ensures) (c .before .before .before .before .before .before .before .before .before .before .block-word2 .ensures) (c .before .before .before .before .before .before .before .before .before .block-word3 .ensures)) ((for-in-blocks (c .before .before .before .before .before .before .before .before .before .before .before .before .before .before .args .words .now) (c .before .before .before .before .before .before .before .before .before .before .before .before .before .before .args .p) (c .before .before .before .before .before .before .before .before .before .before .before .before .before .before .pre .0) (c .before .before .before .before .before .before .before .before .before .before .before .block-word .result) (c .before .before .before .before .before .before .before .before .before .before .block-word2 .result) (c .before .before .before .before .before .before .before .before .before .block-word3 .result) (c .before .before .before .before .before .before .before .before .before .before .before .before .before .before .pre .1) (c .before .before .before .before .before .before .before .before .before .before .before .block-word .ensures) (c .before .before .before .before .before .before .before .before .before .before .block-word2 .ensures) (c .before .before .before .before .before .before .before .before .before .block-word3 .ensures)) .0) (c .before .before .before .before .before .before .unless-scheduled .ensures)) (for-in-blocks (c .before .before .before .before .before .before .before .before .before .before .before .before .before .before .args .words .now) (c .before .before .before .before .before .before .before .before .before .before .before .before .before .before .args .p) (c .before .before .before .before .before .before .before .before .before .before .before .before .before .before .pre .0) (c .before .before .before .before .before .before .before .before .before .before .before .block-word .result) (c .before .before .before .before .before .before .before .before .before .before .block-word2 .result) (c .before .before .before .before .before .before .before .before .before .block-word3 .result) (c .before .before .before .before .before .before .before .before .before .before .before .before .before .before .pre .1) (c .before .before .before .before .before .before .before .before .before .before .before .block-word .ensures) (c .before .before .before .before .before .before .before .before .before .before .block-word2 .ensures) (c .before .before .before .before .before .before .before .before .before .block-word3 .ensures)) (sym (c .before .before .before .before .before .before .before .before .continues-scheduled .ensures) ∙ c .before .before .before .before .before .before .before .if1 .left) (first-made _ (c .before .before .before .before .no-values .ensures) (c .before .before .before .flat-value .ensures)) (c .enter-loop .ensures)
 

@@ -5,63 +5,48 @@ use borrow.Author.Needs.{needs}
 use Rattle.planner.proofs.loops.visit_while.Statement.{statement}
 use Rattle.planner.proofs.loops.visit_while.Tie as tie
 
--- src/loops.rt:173:9
 block-word-requires : tie.Need-block-word-requires
 block-word-requires c κs = search needs
 
--- src/loops.rt:174:9
 block-word-requires-2 : tie.Need-block-word-requires-2
 block-word-requires-2 c κs = search needs
 
--- src/loops.rt:175:9
 block-word-requires-3 : tie.Need-block-word-requires-3
 block-word-requires-3 c κs = search needs
 
--- src/loops.rt:176:8
 block-word-requires-4 : tie.Need-block-word-requires-4
 block-word-requires-4 c κs = (c .before .before .before .before .before .pre .0 .promise .sized, ((while-blocks (c .before .before .before .before .before .args .words .now) (c .before .before .before .before .before .args .p) (c .before .before .before .before .before .pre .0) (c .before .before .block-word .result) (c .before .block-word2 .result) (c .block-word3 .result) (c .before .before .before .before .before .pre .1) (c .before .before .block-word .ensures) (c .before .block-word2 .ensures) (c .block-word3 .ensures)) .0, omega arith))
 
--- src/loops.rt:177:9
 refuse-requires : tie.Need-refuse-requires
 refuse-requires c κs = search needs
 
--- src/loops.rt:177:9
 returns : tie.Need-returns
 returns c = while-missing (c .before .before .before .before .before .before .before .before .args .words .now) (c .before .before .before .before .before .before .before .before .args .scheduled .now) (c .before .before .before .before .before .before .before .before .args .catch-handlers .now) (c .before .before .before .before .before .before .before .before .args .p) (c .before .before .before .before .before .before .before .before .pre .0) (c .before .before .before .before .before .block-word .result) (c .before .before .before .before .block-word2 .result) (c .before .before .before .block-word3 .result) _ (while-ends (c .before .before .before .before .before .before .before .before .args .words .now) (c .before .before .before .before .before .before .before .before .args .p) (c .before .before .before .before .before .before .before .before .pre .0) (c .before .before .before .before .before .block-word .result) (c .before .before .before .before .block-word2 .result) (c .before .before .before .block-word3 .result) (c .before .before .before .before .before .before .before .before .pre .1) (c .before .before .before .before .before .block-word .ensures) (c .before .before .before .before .block-word2 .ensures) (c .before .before .before .block-word3 .ensures)) ((while-blocks (c .before .before .before .before .before .before .before .before .args .words .now) (c .before .before .before .before .before .before .before .before .args .p) (c .before .before .before .before .before .before .before .before .pre .0) (c .before .before .before .before .before .block-word .result) (c .before .before .before .before .block-word2 .result) (c .before .before .before .block-word3 .result) (c .before .before .before .before .before .before .before .before .pre .1) (c .before .before .before .before .before .block-word .ensures) (c .before .before .before .before .block-word2 .ensures) (c .before .before .before .block-word3 .ensures)) .0) (sym (c .before .before .block-word4 .ensures) ∙ c .before .if1 .taken) (c .refuse .ensures) _
 
--- src/loops.rt:179:8
 continues-scheduled-requires : tie.Need-continues-scheduled-requires
 continues-scheduled-requires c κs = let h = few-loop-blocks (c .before .before .before .before .before .before .before .args .words .now) (c .before .before .before .before .before .before .before .args .p) (c .before .before .before .before .before .before .before .pre .0) (while-blocks (c .before .before .before .before .before .before .before .args .words .now) (c .before .before .before .before .before .before .before .args .p) (c .before .before .before .before .before .before .before .pre .0) (c .before .before .before .before .block-word .result) (c .before .before .before .block-word2 .result) (c .before .before .block-word3 .result) (c .before .before .before .before .before .before .before .pre .1) (c .before .before .before .before .block-word .ensures) (c .before .before .before .block-word2 .ensures) (c .before .before .block-word3 .ensures)) in (h .0, h .1)
 
--- src/loops.rt:180:9
 refuse-requires-2 : tie.Need-refuse-requires-2
 refuse-requires-2 c κs = search needs
 
--- src/loops.rt:180:9
 returns-2 : tie.Need-returns-2
 returns-2 c = loop-refused (c .before .before .before .before .before .before .before .before .before .before .args .words .now) (c .before .before .before .before .before .before .before .before .before .before .args .scheduled .now) (c .before .before .before .before .before .before .before .before .before .before .args .catch-handlers .now) (c .before .before .before .before .before .before .before .before .before .before .args .p) (c .before .before .before .before .before .before .before .before .before .before .pre .0) (c .before .before .before .before .before .block-word3 .result) (c .before .before .before .before .before .before .before .block-word .result) (c .before .before .before .before .before .before .block-word2 .result) _ _ _ (while-turns (c .before .before .before .before .before .before .before .before .before .before .args .words .now) (c .before .before .before .before .before .before .before .before .before .before .args .scheduled .now) (c .before .before .before .before .before .before .before .before .before .before .args .catch-handlers .now) (c .before .before .before .before .before .before .before .before .before .before .args .p) (c .before .before .before .before .before .before .before .before .before .before .pre .0) (c .before .before .before .before .before .before .before .block-word .result) (c .before .before .before .before .before .before .block-word2 .result) (c .before .before .before .before .before .block-word3 .result) _ (while-ends (c .before .before .before .before .before .before .before .before .before .before .args .words .now) (c .before .before .before .before .before .before .before .before .before .before .args .p) (c .before .before .before .before .before .before .before .before .before .before .pre .0) (c .before .before .before .before .before .before .before .block-word .result) (c .before .before .before .before .before .before .block-word2 .result) (c .before .before .before .before .before .block-word3 .result) (c .before .before .before .before .before .before .before .before .before .before .pre .1) (c .before .before .before .before .before .before .before .block-word .ensures) (c .before .before .before .before .before .before .block-word2 .ensures) (c .before .before .before .before .before .block-word3 .ensures)) ((while-blocks (c .before .before .before .before .before .before .before .before .before .before .args .words .now) (c .before .before .before .before .before .before .before .before .before .before .args .p) (c .before .before .before .before .before .before .before .before .before .before .pre .0) (c .before .before .before .before .before .before .before .block-word .result) (c .before .before .before .before .before .before .block-word2 .result) (c .before .before .before .before .before .block-word3 .result) (c .before .before .before .before .before .before .before .before .before .before .pre .1) (c .before .before .before .before .before .before .before .block-word .ensures) (c .before .before .before .before .before .before .block-word2 .ensures) (c .before .before .before .before .before .block-word3 .ensures)) .0) (λ z. c .before .before .before .if1 .left (c .before .before .before .before .block-word4 .ensures ∙ z)) refl) ((while-blocks (c .before .before .before .before .before .before .before .before .before .before .args .words .now) (c .before .before .before .before .before .before .before .before .before .before .args .p) (c .before .before .before .before .before .before .before .before .before .before .pre .0) (c .before .before .before .before .before .before .before .block-word .result) (c .before .before .before .before .before .before .block-word2 .result) (c .before .before .before .before .before .block-word3 .result) (c .before .before .before .before .before .before .before .before .before .before .pre .1) (c .before .before .before .before .before .before .before .block-word .ensures) (c .before .before .before .before .before .before .block-word2 .ensures) (c .before .before .before .before .before .block-word3 .ensures)) .0) (sym (c .before .before .continues-scheduled .ensures) ∙ c .before .if2 .taken) (c .refuse2 .ensures) _
 
--- src/loops.rt:182:9
 unless-unreachable-requires : tie.Need-unless-unreachable-requires
 unless-unreachable-requires c κs = (c .before .before .before .before .before .before .before .before .before .pre .0 .promise, (while-blocks (c .before .before .before .before .before .before .before .before .before .args .words .now) (c .before .before .before .before .before .before .before .before .before .args .p) (c .before .before .before .before .before .before .before .before .before .pre .0) (c .before .before .before .before .before .before .block-word .result) (c .before .before .before .before .before .block-word2 .result) (c .before .before .before .before .block-word3 .result) (c .before .before .before .before .before .before .before .before .before .pre .1) (c .before .before .before .before .before .before .block-word .ensures) (c .before .before .before .before .before .block-word2 .ensures) (c .before .before .before .before .block-word3 .ensures)) .0)
 
--- src/loops.rt:183:46
 no-values-requires : tie.Need-no-values-requires
 no-values-requires c κs = search needs
 
--- src/loops.rt:183:9
 plain-value-requires : tie.Need-plain-value-requires
 plain-value-requires c κs = (c .before .before .before .before .before .before .before .before .before .before .before .before .pre .0, ((while-blocks (c .before .before .before .before .before .before .before .before .before .before .before .before .args .words .now) (c .before .before .before .before .before .before .before .before .before .before .before .before .args .p) (c .before .before .before .before .before .before .before .before .before .before .before .before .pre .0) (c .before .before .before .before .before .before .before .before .before .block-word .result) (c .before .before .before .before .before .before .before .before .block-word2 .result) (c .before .before .before .before .before .before .before .block-word3 .result) (c .before .before .before .before .before .before .before .before .before .before .before .before .pre .1) (c .before .before .before .before .before .before .before .before .before .block-word .ensures) (c .before .before .before .before .before .before .before .before .block-word2 .ensures) (c .before .before .before .before .before .before .before .block-word3 .ensures)) .1, nothing-spent (c .before .before .before .before .before .before .before .before .before .before .before .before .args .words .now) (c .before .before .before .before .before .before .before .before .before .before .before .before .args .p) _ (c .before .before .before .before .before .before .before .before .before .before .before .before .pre .0) (c .no-values .ensures)))
 
--- src/loops.rt:185:5
 enter-loop-requires : tie.Need-enter-loop-requires
 enter-loop-requires c κs = let h = few-loop-blocks (c .before .before .before .before .before .before .before .before .before .before .before .before .before .before .before .args .words .now) (c .before .before .before .before .before .before .before .before .before .before .before .before .before .before .before .args .p) (c .before .before .before .before .before .before .before .before .before .before .before .before .before .before .before .pre .0) (while-blocks (c .before .before .before .before .before .before .before .before .before .before .before .before .before .before .before .args .words .now) (c .before .before .before .before .before .before .before .before .before .before .before .before .before .before .before .args .p) (c .before .before .before .before .before .before .before .before .before .before .before .before .before .before .before .pre .0) (c .before .before .before .before .before .before .before .before .before .before .before .before .block-word .result) (c .before .before .before .before .before .before .before .before .before .before .before .block-word2 .result) (c .before .before .before .before .before .before .before .before .before .before .block-word3 .result) (c .before .before .before .before .before .before .before .before .before .before .before .before .before .before .before .pre .1) (c .before .before .before .before .before .before .before .before .before .before .before .before .block-word .ensures) (c .before .before .before .before .before .before .before .before .before .before .before .block-word2 .ensures) (c .before .before .before .before .before .before .before .before .before .before .block-word3 .ensures)) in (c .before .before .before .before .before .before .before .before .before .before .before .before .before .before .before .pre .0 .depth, (h .0, (h .1, h .2)))
 
--- src/loops.rt:168:1
 same-length : tie.Need-same-length
 same-length c = search needs
 
--- src/loops.rt:168:1
 returns-3 : tie.Need-returns-3
 returns-3 c = loop-entered (c .before .before .before .before .before .before .before .before .before .before .before .before .before .before .before .before .args .words .now) (c .before .before .before .before .before .before .before .before .before .before .before .before .before .before .before .before .args .scheduled .now) (c .before .before .before .before .before .before .before .before .before .before .before .before .before .before .before .before .args .catch-handlers .now) (c .before .before .before .before .before .before .before .before .before .before .before .before .before .before .before .before .args .p) (c .before .before .before .before .before .before .before .before .before .before .before .before .before .before .before .before .pre .0) (c .before .before .before .before .before .before .before .before .before .before .before .block-word3 .result) (c .before .before .before .before .before .before .before .before .before .before .before .before .before .block-word .result) (c .before .before .before .before .before .before .before .before .before .before .before .before .block-word2 .result) (c .before .before .before .before .before .before .unless-unreachable .result) _ _ _ (while-turns (c .before .before .before .before .before .before .before .before .before .before .before .before .before .before .before .before .args .words .now) (c .before .before .before .before .before .before .before .before .before .before .before .before .before .before .before .before .args .scheduled .now) (c .before .before .before .before .before .before .before .before .before .before .before .before .before .before .before .before .args .catch-handlers .now) (c .before .before .before .before .before .before .before .before .before .before .before .before .before .before .before .before .args .p) (c .before .before .before .before .before .before .before .before .before .before .before .before .before .before .before .before .pre .0) (c .before .before .before .before .before .before .before .before .before .before .before .before .before .block-word .result) (c .before .before .before .before .before .before .before .before .before .before .before .before .block-word2 .result) (c .before .before .before .before .before .before .before .before .before .before .before .block-word3 .result) _ (while-ends (c .before .before .before .before .before .before .before .before .before .before .before .before .before .before .before .before .args .words .now) (c .before .before .before .before .before .before .before .before .before .before .before .before .before .before .before .before .args .p) (c .before .before .before .before .before .before .before .before .before .before .before .before .before .before .before .before .pre .0) (c .before .before .before .before .before .before .before .before .before .before .before .before .before .block-word .result) (c .before .before .before .before .before .before .before .before .before .before .before .before .block-word2 .result) (c .before .before .before .before .before .before .before .before .before .before .before .block-word3 .result) (c .before .before .before .before .before .before .before .before .before .before .before .before .before .before .before .before .pre .1) (c .before .before .before .before .before .before .before .before .before .before .before .before .before .block-word .ensures) (c .before .before .before .before .before .before .before .before .before .before .before .before .block-word2 .ensures) (c .before .before .before .before .before .before .before .before .before .before .before .block-word3 .ensures)) ((while-blocks (c .before .before .before .before .before .before .before .before .before .before .before .before .before .before .before .before .args .words .now) (c .before .before .before .before .before .before .before .before .before .before .before .before .before .before .before .before .args .p) (c .before .before .before .before .before .before .before .before .before .before .before .before .before .before .before .before .pre .0) (c .before .before .before .before .before .before .before .before .before .before .before .before .before .block-word .result) (c .before .before .before .before .before .before .before .before .before .before .before .before .block-word2 .result) (c .before .before .before .before .before .before .before .before .before .before .before .block-word3 .result) (c .before .before .before .before .before .before .before .before .before .before .before .before .before .before .before .before .pre .1) (c .before .before .before .before .before .before .before .before .before .before .before .before .before .block-word .ensures) (c .before .before .before .before .before .before .before .before .before .before .before .before .block-word2 .ensures) (c .before .before .before .before .before .before .before .before .before .before .before .block-word3 .ensures)) .0) (λ z. c .before .before .before .before .before .before .before .before .before .if1 .left (c .before .before .before .before .before .before .before .before .before .before .block-word4 .ensures ∙ z)) (c .before .before .before .before .before .before .unless-unreachable .ensures)) (while-blocks (c .before .before .before .before .before .before .before .before .before .before .before .before .before .before .before .before .args .words .now) (c .before .before .before .before .before .before .before .before .before .before .before .before .before .before .before .before .args .p) (c .before .before .before .before .before .before .before .before .before .before .before .before .before .before .before .before .pre .0) (c .before .before .before .before .before .before .before .before .before .before .before .before .before .block-word .result) (c .before .before .before .before .before .before .before .before .before .before .before .before .block-word2 .result) (c .before .before .before .before .before .before .before .before .before .before .before .block-word3 .result) (c .before .before .before .before .before .before .before .before .before .before .before .before .before .before .before .before .pre .1) (c .before .before .before .before .before .before .before .before .before .before .before .before .before .block-word .ensures) (c .before .before .before .before .before .before .before .before .before .before .before .before .block-word2 .ensures) (c .before .before .before .before .before .before .before .before .before .before .before .block-word3 .ensures)) (sym (c .before .before .before .before .before .before .before .before .continues-scheduled .ensures) ∙ c .before .before .before .before .before .before .before .if2 .left) (first-made _ (c .before .before .before .before .no-values .ensures) (c .before .before .before .plain-value .ensures)) (c .enter-loop .ensures)
 

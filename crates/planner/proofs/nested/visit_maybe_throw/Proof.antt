@@ -3,19 +3,15 @@ use borrow.Author.Needs.{needs}
 use Rattle.planner.proofs.nested.visit_maybe_throw.Statement.{statement}
 use Rattle.planner.proofs.nested.visit_maybe_throw.Tie as tie
 
--- src/nested.rt:93:60
 block-word-requires : tie.Need-block-word-requires
 block-word-requires c κs = search needs
 
--- src/nested.rt:93:9
 unless-scheduled-requires : tie.Need-unless-scheduled-requires
 unless-scheduled-requires c κs = few-blocks (c .before .before .args .words .now) (c .before .before .pre .0 .promise) (c .block-word .result) (rw (c .block-word .ensures) (continuation-below (c .before .before .args .words .now) (c .before .before .args .p) (c .before .before .pre .0) (c .before .before .pre .1)))
 
--- src/nested.rt:94:5
 leave-requires : tie.Need-leave-requires
 leave-requires c κs = search needs
 
--- src/nested.rt:88:1
 returns : tie.Need-returns
 returns c = maybe-throw-left (c .before .before .before .before .args .words .now) (c .before .before .before .before .args .scheduled .now) (c .before .before .before .before .args .catch-handlers .now) (c .before .before .before .before .args .p) (c .before .before .before .before .pre .0) (c .before .before .block-word .result) (c .before .unless-scheduled .result) _ (c .before .before .before .before .pre .1) (c .before .before .block-word .ensures) (c .before .unless-scheduled .ensures) (c .leave .ensures)
 

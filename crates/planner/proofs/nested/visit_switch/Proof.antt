@@ -6,47 +6,36 @@ use borrow.Author.Needs.{needs}
 use Rattle.planner.proofs.nested.visit_switch.Statement.{statement}
 use Rattle.planner.proofs.nested.visit_switch.Tie as tie
 
--- src/nested.rt:61:9
 block-word-requires : tie.Need-block-word-requires
 block-word-requires c κs = search needs
 
--- src/nested.rt:62:8
 block-word-requires-2 : tie.Need-block-word-requires-2
 block-word-requires-2 c κs = (c .before .before .pre .0 .promise .sized, ((rw (c .block-word .ensures) (switch-ranges (c .before .before .args .words .now) (c .before .before .args .scheduled .now) (c .before .before .args .catch-handlers .now) (c .before .before .args .p) (c .before .before .pre .0) (c .before .before .pre .1) .2)), omega arith))
 
--- src/nested.rt:63:9
 refuse-requires : tie.Need-refuse-requires
 refuse-requires c κs = search needs
 
--- src/nested.rt:63:9
 returns : tie.Need-returns
 returns c = switch-missing (c .before .before .before .before .before .args .words .now) (c .before .before .before .before .before .args .scheduled .now) (c .before .before .before .before .before .args .catch-handlers .now) (c .before .before .before .before .before .args .p) (c .before .before .before .before .before .pre .0) (c .before .before .before .before .before .pre .1) (c .before .before .before .block-word .result) _ (c .before .before .before .block-word .ensures) (sym (c .before .before .block-word2 .ensures) ∙ c .before .if1 .taken) (c .refuse .ensures)
 
--- src/nested.rt:65:9
 unless-unreachable-requires : tie.Need-unless-unreachable-requires
 unless-unreachable-requires c κs = (c .before .before .before .before .pre .0 .promise, (rw (c .before .before .block-word .ensures) (switch-ranges (c .before .before .before .before .args .words .now) (c .before .before .before .before .args .scheduled .now) (c .before .before .before .before .args .catch-handlers .now) (c .before .before .before .before .args .p) (c .before .before .before .before .pre .0) (c .before .before .before .before .pre .1) .2)))
 
--- src/nested.rt:66:9
 block-word-requires-3 : tie.Need-block-word-requires-3
 block-word-requires-3 c κs = search needs
 
--- src/nested.rt:67:64
 entries-of-requires : tie.Need-entries-of-requires
 entries-of-requires c κs = search needs
 
--- src/nested.rt:68:19
 add-choose : tie.Need-add-choose
 add-choose c = search needs
 
--- src/nested.rt:68:50
 schedule-switch-requires : tie.Need-schedule-switch-requires
 schedule-switch-requires c κs = (label-most (c .before .before .before .unless-unreachable .result) (reached-label (c .before .before .before .before .before .before .before .before .args .words .now) (c .before .before .before .before .before .before .before .before .args .scheduled .now) (c .before .before .before .before .before .before .before .before .args .catch-handlers .now) (c .before .before .before .before .before .before .before .before .args .p) (c .before .before .before .before .before .before .before .before .pre .0) (c .before .before .before .before .before .before .block-word .result) (c .before .before .before .before .before .before .block-word .result) (c .before .before .before .unless-unreachable .result) (rw (c .before .before .before .before .before .before .block-word .ensures) (switch-ranges (c .before .before .before .before .before .before .before .before .args .words .now) (c .before .before .before .before .before .before .before .before .args .scheduled .now) (c .before .before .before .before .before .before .before .before .args .catch-handlers .now) (c .before .before .before .before .before .before .before .before .args .p) (c .before .before .before .before .before .before .before .before .pre .0) (c .before .before .before .before .before .before .before .before .pre .1) .2)) refl (c .before .before .before .unless-unreachable .ensures)))
 
--- src/nested.rt:68:5
 choose-requires : tie.Need-choose-requires
 choose-requires c κs = search needs
 
--- src/nested.rt:56:1
 returns-2 : tie.Need-returns-2
 returns-2 c = switch-begins (c .before .before .before .before .before .before .before .before .before .before .args .words .now) (c .before .before .before .before .before .before .before .before .before .before .args .scheduled .now) (c .before .before .before .before .before .before .before .before .before .before .args .catch-handlers .now) (c .before .before .before .before .before .before .before .before .before .before .args .p) (c .before .before .before .before .before .before .before .before .before .before .pre .0) (c .before .before .before .before .before .before .before .before .before .before .pre .1) (c .before .before .before .before .before .before .before .before .block-word .result) (c .before .before .before .before .before .unless-unreachable .result) (c .before .before .before .before .block-word3 .result) _ (c .before .before .before .before .before .before .before .before .block-word .ensures) (λ z. c .before .before .before .before .before .before .if1 .left (c .before .before .before .before .before .before .before .block-word2 .ensures ∙ z)) (c .before .before .before .before .before .unless-unreachable .ensures) (c .before .before .before .before .block-word3 .ensures) (rw (← (c .before .schedule-switch .ensures), ← (c .before .before .before .entries-of .ensures)) (c .choose .ensures))
 

@@ -2,15 +2,12 @@ use borrow.Author.Needs.{needs}
 use Rattle.planner.proofs.plan.leave.Statement.{statement}
 use Rattle.planner.proofs.plan.leave.Tie as tie
 
--- src/plan.rt:100:9
 stage-after-requires : tie.Need-stage-after-requires
 stage-after-requires c κs = search needs
 
--- src/plan.rt:102:9
 no-frame-requires : tie.Need-no-frame-requires
 no-frame-requires c κs = search needs
 
--- src/plan.rt:97:1
 returns : tie.Need-returns
 returns c = cc
 

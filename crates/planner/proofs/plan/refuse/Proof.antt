@@ -2,11 +2,9 @@ use borrow.Author.Needs.{needs}
 use Rattle.planner.proofs.plan.refuse.Statement.{statement}
 use Rattle.planner.proofs.plan.refuse.Tie as tie
 
--- src/plan.rt:83:9
 no-frame-requires : tie.Need-no-frame-requires
 no-frame-requires c κs = search needs
 
--- src/plan.rt:80:1
 returns : tie.Need-returns
 returns c = cc
 

@@ -2,11 +2,9 @@ use borrow.Author.Tests.{eq-eqb, ne-eqb}
 use Rattle.planner.proofs.plan.stage_after.Statement.{statement}
 use Rattle.planner.proofs.plan.stage_after.Tie as tie
 
--- src/plan.rt:91:9
 returns : tie.Need-returns
 returns c = rw (eq-eqb _ _ (c .if1 .taken))
 
--- src/plan.rt:87:1
 returns-2 : tie.Need-returns-2
 returns-2 c = rw (ne-eqb _ _ (c .if1 .left))
 

@@ -3,27 +3,21 @@ use borrow.Author.Needs.{needs}
 use Rattle.planner.proofs.resume.alternate.Statement.{statement}
 use Rattle.planner.proofs.resume.alternate.Tie as tie
 
--- src/resume.rt:145:8
 scheduled-at-requires : tie.Need-scheduled-at-requires
 scheduled-at-requires c κs = search needs
 
--- src/resume.rt:146:9
 refuse-requires : tie.Need-refuse-requires
 refuse-requires c κs = search needs
 
--- src/resume.rt:146:9
 returns : tie.Need-returns
 returns c = rw (sym (c .before .before .scheduled-at .ensures) ∙ c .before .if1 .taken) (c .refuse .ensures)
 
--- src/resume.rt:148:27
 second-part-requires : tie.Need-second-part-requires
 second-part-requires c κs = search needs
 
--- src/resume.rt:148:5
 traverse-block-requires : tie.Need-traverse-block-requires
 traverse-block-requires c κs = search needs
 
--- src/resume.rt:133:1
 returns-2 : tie.Need-returns-2
 returns-2 c = rw (sym (c .before .before .before .scheduled-at .ensures) ∙ c .before .before .if1 .left) (cc)
 

@@ -2,11 +2,9 @@ use Rattle.table.proofs.BlockLaws.{no-number, some-number}
 use Rattle.planner.proofs.resume.has_update.Statement.{statement}
 use Rattle.planner.proofs.resume.has_update.Tie as tie
 
--- src/resume.rt:74:9
 returns : tie.Need-returns
 returns c = rw (c .if1 .taken, no-number)
 
--- src/resume.rt:70:1
 returns-2 : tie.Need-returns-2
 returns-2 c = rw (some-number _ (c .if1 .left))
 

@@ -5,43 +5,33 @@ use borrow.Author.Needs.{needs}
 use Rattle.planner.proofs.resume.resume_if.Statement.{statement}
 use Rattle.planner.proofs.resume.resume_if.Tie as tie
 
--- src/resume.rt:164:9
 close-statement-requires : tie.Need-close-statement-requires
 close-statement-requires c κs = closing-of (c .before .before .before .before .args .words .now) (c .before .before .before .before .args .p) (c .before .before .before .before .args .frame) (c .before .before .before .before .pre .0)
 
--- src/resume.rt:164:9
 same-length : tie.Need-same-length
 same-length c = search needs
 
--- src/resume.rt:164:9
 returns : tie.Need-returns
 returns c = resumed-seen (c .before .before .before .before .before .before .before .args .words .now) (c .before .before .before .before .before .before .before .args .p) (c .before .before .before .before .before .before .before .args .frame) (resumed-closed (c .before .before .before .before .before .before .before .args .words .now) (c .before .before .before .before .before .before .before .args .p) (c .before .before .before .before .before .before .before .args .frame) (if-second (c .before .before .before .before .before .before .before .args .words .now) (c .before .before .before .before .before .before .before .args .p) (c .before .before .before .before .before .before .before .args .frame) (c .before .before .before .before .before .before .before .pre .0) (c .before .before .before .before .before .before .before .pre .1) (c .before .before .before .before .if1 .taken)) (c .before .before .close-statement .ensures))
 
--- src/resume.rt:166:9
 block-word-requires : tie.Need-block-word-requires
 block-word-requires c κs = search needs
 
--- src/resume.rt:167:17
 block-word-requires-2 : tie.Need-block-word-requires-2
 block-word-requires-2 c κs = search needs
 
--- src/resume.rt:168:9
 close-statement-requires-2 : tie.Need-close-statement-requires-2
 close-statement-requires-2 c κs = closing-of (c .before .before .before .before .before .before .before .args .words .now) (c .before .before .before .before .before .before .before .args .p) (c .before .before .before .before .before .before .before .args .frame) (c .before .before .before .before .before .before .before .pre .0)
 
--- src/resume.rt:168:9
 same-length-2 : tie.Need-same-length-2
 same-length-2 c = search needs
 
--- src/resume.rt:168:9
 returns-2 : tie.Need-returns-2
 returns-2 c = resumed-seen (c .before .before .before .before .before .before .before .before .before .before .args .words .now) (c .before .before .before .before .before .before .before .before .before .before .args .p) (c .before .before .before .before .before .before .before .before .before .before .args .frame) (resumed-closed (c .before .before .before .before .before .before .before .before .before .before .args .words .now) (c .before .before .before .before .before .before .before .before .before .before .args .p) (c .before .before .before .before .before .before .before .before .before .before .args .frame) (if-without (c .before .before .before .before .before .before .before .before .before .before .args .words .now) (c .before .before .before .before .before .before .before .before .before .before .args .p) (c .before .before .before .before .before .before .before .before .before .before .args .frame) (c .before .before .before .before .before .before .before .before .before .before .pre .0) (c .before .before .before .before .before .before .before .before .before .before .pre .1) (c .before .before .before .before .before .before .before .if1 .left) (sym (c .before .before .before .before .before .before .block-word .ensures) ∙ c .before .before .before .before .if2 .taken ∙ c .before .before .before .before .before .block-word2 .ensures)) (c .before .before .close-statement2 .ensures))
 
--- src/resume.rt:170:5
 alternate-requires : tie.Need-alternate-requires
 alternate-requires c κs = rw (c .before .before .block-word .ensures) (if-alternate-below (c .before .before .before .before .before .before .args .words .now) (c .before .before .before .before .before .before .args .p) (c .before .before .before .before .before .before .args .frame) (c .before .before .before .before .before .before .pre .0) (c .before .before .before .before .before .before .pre .1))
 
--- src/resume.rt:151:1
 returns-3 : tie.Need-returns-3
 returns-3 c = resumed-alternate (c .before .before .before .before .before .before .before .args .words .now) (c .before .before .before .before .before .before .before .args .p) (c .before .before .before .before .before .before .before .args .frame) (c .before .before .before .before .before .before .before .args .scheduled .now) (c .before .before .before .before .before .before .before .args .catch-handlers .now) _ 13 _ _ (c .before .before .before .before .before .before .before .args .tree .now) (if-alternate (c .before .before .before .before .before .before .before .args .words .now) (c .before .before .before .before .before .before .before .args .p) (c .before .before .before .before .before .before .before .args .frame) (c .before .before .before .before .before .before .before .pre .0) (c .before .before .before .before .before .before .before .pre .1) (c .before .before .before .before .if1 .left) (λ z. c .before .if2 .left (c .before .before .before .block-word .ensures ∙ z ∙ sym (c .before .before .block-word2 .ensures)))) (c .before .before .before .before .before .before .before .pre .0 .depth) (λ z. omega arith) (rw (← (c .before .before .before .block-word .ensures)) (c .alternate .ensures))
 

@@ -4,79 +4,60 @@ use borrow.Author.Needs.{needs}
 use Rattle.planner.proofs.resume.resume_statement.Statement.{statement}
 use Rattle.planner.proofs.resume.resume_statement.Tie as tie
 
--- src/resume.rt:246:11
 block-word-requires : tie.Need-block-word-requires
 block-word-requires c κs = search needs
 
--- src/resume.rt:247:14
 resume-if-requires : tie.Need-resume-if-requires
 resume-if-requires c κs = search needs
 
--- src/resume.rt:248:14
 resume-branch-requires : tie.Need-resume-branch-requires
 resume-branch-requires c κs = search needs
 
--- src/resume.rt:249:14
 resume-switch-requires : tie.Need-resume-switch-requires
 resume-switch-requires c κs = search needs
 
--- src/resume.rt:250:14
 resume-do-while-requires : tie.Need-resume-do-while-requires
 resume-do-while-requires c κs = search needs
 
--- src/resume.rt:251:15
 resume-try-requires : tie.Need-resume-try-requires
 resume-try-requires c κs = search needs
 
--- src/resume.rt:252:14
 close-statement-requires : tie.Need-close-statement-requires
 close-statement-requires c κs = closing-of (c .before .before .before .before .before .args .words .now) (c .before .before .before .before .before .args .p) (c .before .before .before .before .before .args .frame) (c .before .before .before .before .before .pre)
 
--- src/resume.rt:235:1
 same-length : tie.Need-same-length
 same-length c = search needs
 
--- src/resume.rt:235:1
 returns : tie.Need-returns
 returns c = search needs
 
--- src/resume.rt:235:1
 same-length-2 : tie.Need-same-length-2
 same-length-2 c = search needs
 
--- src/resume.rt:235:1
 returns-2 : tie.Need-returns-2
 returns-2 c = search needs
 
--- src/resume.rt:235:1
 same-length-3 : tie.Need-same-length-3
 same-length-3 c = search needs
 
--- src/resume.rt:235:1
 returns-3 : tie.Need-returns-3
 returns-3 c = resumed-seen (c .before .before .before .before .before .before .before .before .args .words .now) (c .before .before .before .before .before .before .before .before .args .p) (c .before .before .before .before .before .before .before .before .args .frame) (c .before .before .resume-switch .ensures)
 
--- src/resume.rt:235:1
 same-length-4 : tie.Need-same-length-4
 same-length-4 c = search needs
 
--- src/resume.rt:235:1
 returns-4 : tie.Need-returns-4
 returns-4 c = resumed-seen (c .before .before .before .before .before .before .before .before .args .words .now) (c .before .before .before .before .before .before .before .before .args .p) (c .before .before .before .before .before .before .before .before .args .frame) (c .before .before .resume-do-while .ensures)
 
--- src/resume.rt:235:1
 same-length-5 : tie.Need-same-length-5
 same-length-5 c = search needs
 
--- src/resume.rt:235:1
 returns-5 : tie.Need-returns-5
 returns-5 c = resumed-seen (c .before .before .before .before .before .before .before .before .args .words .now) (c .before .before .before .before .before .before .before .before .args .p) (c .before .before .before .before .before .before .before .before .args .frame) (c .before .before .resume-try .ensures)
 
--- src/resume.rt:235:1
 same-length-6 : tie.Need-same-length-6
 same-length-6 c = search needs
 
--- src/resume.rt:235:1
 returns-6 : tie.Need-returns-6
 returns-6 c = resumed-seen (c .before .before .before .before .before .before .before .before .args .words .now) (c .before .before .before .before .before .before .before .before .args .p) (c .before .before .before .before .before .before .before .before .args .frame) (resumed-closed (c .before .before .before .before .before .before .before .before .args .words .now) (c .before .before .before .before .before .before .before .before .args .p) (c .before .before .before .before .before .before .before .before .args .frame) (other-closed (c .before .before .before .before .before .before .before .before .args .words .now) (c .before .before .before .before .before .before .before .before .args .p) (c .before .before .before .before .before .before .before .before .args .frame) (c .before .before .before .before .before .before .before .before .pre) (subst (Other (c .before .before .before .before .before .before .before .before .args .words .now) (c .before .before .before .before .before .before .before .before .args .p) (c .before .before .before .before .before .before .before .before .args .frame) (c .before .before .before .before .before .before .before .before .pre)) (c .before .before .before .before .before .block-word .ensures) (c .before .before .before .before .match .rest .0 .0 .0 .0 .1, c .before .before .before .before .match .rest .0 .0 .0 .1, c .before .before .before .before .match .rest .0 .0 .1, c .before .before .before .before .match .rest .0 .1, c .before .before .before .before .match .rest .1))) (c .before .before .close-statement .ensures))
 

@@ -3,31 +3,24 @@ use borrow.Author.Needs.{needs}
 use Rattle.planner.proofs.resume.resume_try.Statement.{statement}
 use Rattle.planner.proofs.resume.resume_try.Tie as tie
 
--- src/resume.rt:198:9
 close-statement-requires : tie.Need-close-statement-requires
 close-statement-requires c κs = closing-of (c .before .before .before .before .args .words .now) (c .before .before .before .before .args .p) (c .before .before .before .before .args .frame) (c .before .before .before .before .pre .0)
 
--- src/resume.rt:198:9
 same-length : tie.Need-same-length
 same-length c = search needs
 
--- src/resume.rt:198:9
 returns : tie.Need-returns
 returns c = resumed-closed (c .before .before .before .before .before .before .before .args .words .now) (c .before .before .before .before .before .before .before .args .p) (c .before .before .before .before .before .before .before .args .frame) (try-second (c .before .before .before .before .before .before .before .args .words .now) (c .before .before .before .before .before .before .before .args .p) (c .before .before .before .before .before .before .before .args .frame) (c .before .before .before .before .before .before .before .pre .0) (c .before .before .before .before .before .before .before .pre .1) (c .before .before .before .before .if1 .taken)) (c .before .before .close-statement .ensures)
 
--- src/resume.rt:200:9
 block-word-requires : tie.Need-block-word-requires
 block-word-requires c κs = search needs
 
--- src/resume.rt:201:29
 second-part-requires : tie.Need-second-part-requires
 second-part-requires c κs = search needs
 
--- src/resume.rt:201:5
 traverse-block-requires : tie.Need-traverse-block-requires
 traverse-block-requires c κs = search needs
 
--- src/resume.rt:192:1
 returns-2 : tie.Need-returns-2
 returns-2 c = try-handler (c .before .before .before .before .before .before .args .words .now) (c .before .before .before .before .before .before .args .p) (c .before .before .before .before .before .before .args .frame) (c .before .before .before .before .before .before .pre .0) (c .before .before .before .before .before .before .pre .1) _ (c .before .before .before .before .before .before .args .tree .now) (c .before .before .before .if1 .left) (rw (← (c .before .before .block-word .ensures), ← (c .before .second-part .ensures)) (c .traverse-block .ensures))
 

@@ -2,11 +2,9 @@ use borrow.Author.Tests.{eq-eqb, ne-eqb}
 use Rattle.planner.proofs.resume.unschedule_if.Statement.{statement}
 use Rattle.planner.proofs.resume.unschedule_if.Tie as tie
 
--- src/resume.rt:113:9
 returns : tie.Need-returns
 returns c = rw (eq-eqb _ _ (c .if1 .taken))
 
--- src/resume.rt:109:1
 returns-2 : tie.Need-returns-2
 returns-2 c = rw (ne-eqb _ _ (c .if1 .left))
 

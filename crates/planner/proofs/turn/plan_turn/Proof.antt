@@ -4,81 +4,63 @@ use borrow.Author.Needs.{needs}
 use Rattle.planner.proofs.turn.plan_turn.Statement.{statement}
 use Rattle.planner.proofs.turn.plan_turn.Tie as tie
 
--- src/turn.rt:33:44
 enum-told : tie.Need-enum-told
 enum-told c = search needs
 
--- src/turn.rt:33:25
 visit-block-requires : tie.Need-visit-block-requires
 visit-block-requires c κs =
     let at-enum-told = c .before in
     let at-entry = at-enum-told .before .before .before .before in
     (visits-ready _ _ _ (at-entry .pre .0) (at-enum-told .enum-told .given .1), at-entry .pre .1)
 
--- src/turn.rt:34:39
 enum-told-2 : tie.Need-enum-told-2
 enum-told-2 c = search needs
 
--- src/turn.rt:34:25
 resume-requires : tie.Need-resume-requires
 resume-requires c κs = search needs
 
--- src/turn.rt:35:45
 enum-told-3 : tie.Need-enum-told-3
 enum-told-3 c = search needs
 
--- src/turn.rt:35:26
 choose-case-requires : tie.Need-choose-case-requires
 choose-case-requires c κs = search needs
 
--- src/turn.rt:36:46
 enum-told-4 : tie.Need-enum-told-4
 enum-told-4 c = search needs
 
--- src/turn.rt:36:23
 close-statement-requires : tie.Need-close-statement-requires
 close-statement-requires c κs =
     let at-enum-told4 = c .before in
     let at-entry = at-enum-told4 .before .before .before .before in
     closing-at-pop _ _ _ (at-entry .pre .0) (at-enum-told4 .enum-told4 .given .1)
 
--- src/turn.rt:37:24
 enum-told-5 : tie.Need-enum-told-5
 enum-told-5 c = search needs
 
--- src/turn.rt:37:24
 refuse-requires : tie.Need-refuse-requires
 refuse-requires c κs = search needs
 
--- src/turn.rt:16:1
 same-length : tie.Need-same-length
 same-length c = search needs
 
--- src/turn.rt:16:1
 returns : tie.Need-returns
 returns c = c .before .before .visit-block .ensures _
 
--- src/turn.rt:16:1
 same-length-2 : tie.Need-same-length-2
 same-length-2 c = search needs
 
--- src/turn.rt:16:1
 returns-2 : tie.Need-returns-2
 returns-2 c = turn-on _ _ _ (λ C o. shown-seen o) (c .before .before .resume .ensures)
 
--- src/turn.rt:16:1
 same-length-3 : tie.Need-same-length-3
 same-length-3 c = search needs
 
--- src/turn.rt:16:1
 returns-3 : tie.Need-returns-3
 returns-3 c = turn-on _ _ _ (λ C o. shown-seen o) (c .before .before .choose-case .ensures)
 
--- src/turn.rt:16:1
 same-length-4 : tie.Need-same-length-4
 same-length-4 c = search needs
 
--- src/turn.rt:16:1
 returns-4 : tie.Need-returns-4
 returns-4 c =
     let at-close-statement = c .before .before in
@@ -86,7 +68,6 @@ returns-4 c =
     let at-entry = at-enum-told4 .before .before .before .before in
     turn-on _ _ _ (λ C o. o .visits) (popped _ _ _ (at-entry .pre .0) (at-enum-told4 .enum-told4 .given .1) (at-close-statement .close-statement .ensures))
 
--- src/turn.rt:16:1
 returns-5 : tie.Need-returns-5
 returns-5 c =
     let at-enum-told5 = c .before in

@@ -8,42 +8,33 @@ use Rattle.text.proofs.PartLaws.{stored-too}
 use Rattle.text.proofs.table.read_file.Statement.{statement}
 use Rattle.text.proofs.table.read_file.Tie as tie
 
--- src/table.rt:153:34
 slice-aggregate-read-head : tie.Need-slice-aggregate-read-head
 slice-aggregate-read-head c = search needs
 
--- src/table.rt:153:9
 read-head-requires : tie.Need-read-head-requires
 read-head-requires c κs = search needs
 
--- src/table.rt:155:9
 returns : tie.Need-returns
 returns c =
     let at-read-head = c .before .before in
     let H = at-read-head .read-head .ensures in
     record { near = H .near; stopped = H .stopped; reached = λ g. absurd (true-false (sym (c .if1 .taken) ∙ g)) }
 
--- src/table.rt:157:22
 slice-aggregate-put-words : tie.Need-slice-aggregate-put-words
 slice-aggregate-put-words c = search needs
 
--- src/table.rt:157:5
 put-words-requires : tie.Need-put-words-requires
 put-words-requires c κs = search needs
 
--- src/table.rt:158:41
 slice-aggregate-read-tables : tie.Need-slice-aggregate-read-tables
 slice-aggregate-read-tables c = search needs
 
--- src/table.rt:158:9
 read-tables-requires : tie.Need-read-tables-requires
 read-tables-requires c κs = search needs
 
--- src/table.rt:160:9
 same-length : tie.Need-same-length
 same-length c = search needs
 
--- src/table.rt:160:9
 returns-2 : tie.Need-returns-2
 returns-2 c =
     let at-read-tables = c .before .before .before in
@@ -55,15 +46,12 @@ returns-2 c =
     let T = at-read-tables .read-tables .ensures in
     record { near = T .near; stopped = T .stopped _ finished S; reached = λ g. absurd (true-false (sym (c .if2 .taken) ∙ g)) }
 
--- src/table.rt:163:9
 cursor-refused-requires : tie.Need-cursor-refused-requires
 cursor-refused-requires c κs = search needs
 
--- src/table.rt:163:9
 same-length-2 : tie.Need-same-length-2
 same-length-2 c = search needs
 
--- src/table.rt:163:9
 returns-3 : tie.Need-returns-3
 returns-3 c =
     let at-if3 = c .before in
@@ -82,11 +70,9 @@ returns-3 c =
       reached = λ g. absurd (true-false g);
     })
 
--- src/table.rt:149:1
 same-length-3 : tie.Need-same-length-3
 same-length-3 c = search needs
 
--- src/table.rt:149:1
 returns-4 : tie.Need-returns-4
 returns-4 c =
     let at-if2 = c .before .before in

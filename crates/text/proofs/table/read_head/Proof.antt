@@ -6,34 +6,27 @@ use Rattle.text.proofs.PartLaws.{head-names, head-row}
 use Rattle.text.proofs.table.read_head.Statement.{statement}
 use Rattle.text.proofs.table.read_head.Tie as tie
 
--- src/table.rt:141:34
 cursor-at-requires : tie.Need-cursor-at-requires
 cursor-at-requires c κs = search needs
 
--- src/table.rt:141:51
 slice-aggregate-read-names : tie.Need-slice-aggregate-read-names
 slice-aggregate-read-names c = search needs
 
--- src/table.rt:141:9
 read-names-requires : tie.Need-read-names-requires
 read-names-requires c κs = rw (c .before .cursor-at .ensures) (record { within = omega arith; few = omega arith })
 
--- src/table.rt:143:9
 returns : tie.Need-returns
 returns c =
     let at-read-names = c .before in
     let at-cursor-at = at-read-names .before .before in
     head-names (rw (at-cursor-at .cursor-at .ensures) at (at-read-names .read-names .ensures)) _ (c .if1 .taken)
 
--- src/table.rt:145:5
 read-row-requires : tie.Need-read-row-requires
 read-row-requires c κs = search needs
 
--- src/table.rt:137:1
 same-length : tie.Need-same-length
 same-length c = search needs
 
--- src/table.rt:137:1
 returns-2 : tie.Need-returns-2
 returns-2 c =
     let at-read-row = c .before .before in
