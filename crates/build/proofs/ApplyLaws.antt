@@ -1,4 +1,4 @@
--- What applying a plan does to the definition's Context.
+-- A plan, applied to the Context: what it asks, and what it does to the definition's Context. For the driver's loop.
 use Prim.Native.Nat.{ℕ, _+_, _-_, _<_}
 use native.Mathlib.Omega.{arith}
 use native.Mathlib.Numerals.{add-one}
@@ -9,19 +9,68 @@ use lib.ListN.{length, getD, set, length-set}
 use Rattle.table.specs.Table.{unlessNone}
 use Rattle.table.proofs.BlockLaws.{no-number, some-number}
 use Rattle.definition.specs.Context.{Flags, add, emit, remove, targetBlock, pushed, scheduleCatchHandler, markScopeFallthrough, unscheduledBy, ControlFlowTarget, target-if, target-switch, target-case, target-loop}
+use Rattle.definition.specs.Context as definition
 use Rattle.definition.specs.Machine.{scheduled}
 use Rattle.control.specs.declared.ControlFlowTarget as code
 use Rattle.control.specs.declared.Context.{Context}
 use Rattle.control.specs.declared.Entry.{Entry}
 use Rattle.control.specs.Abstraction.{targetOf, noEntry, contextOf, stored}
-use Rattle.control.specs.Contract.{Bounded, Last, withEntry, loopTarget, loopScheduled, Scheduled, ScheduledLoop, Unscheduled}
+use Rattle.control.specs.Contract.{Named, Room, Bounded, Last, withEntry, loopTarget, loopScheduled, Scheduled, ScheduledLoop, Unscheduled}
 use Rattle.control.proofs.ContextLaws.{stored-pushed, pops}
 use Rattle.definition.specs.Framed.{Below}
 use Rattle.planner.specs.declared.plan.Change.{Change}
 use Rattle.planner.specs.declared.plan.Change.the-variants.{Nothing, Schedule, ScheduleLoop, TakeId, Unschedule}
 use Rattle.planner.specs.declared.plan.Plan.{Plan}
 use Rattle.planner.specs.Plans.{changed, handled, scoped, idTaken, scheduledLoop}
-use Rattle.build.specs.Driver.{marked, emitted, withMarks, Whole, Changeable, Changed, Applied}
+use Rattle.build.specs.Driver.{marked}
+
+-- ---- what applying a plan asks, and what it leaves
+
+abbrev pub emitted : Option ℕ → definition.Context → definition.Context
+emitted none cx = cx
+emitted (some block) cx = emit block cx
+
+-- the Context with its sets marked
+abbrev pub withMarks : (visited handler fallthrough : ℕ) → Context → Context
+withMarks visited handler fallthrough cx = record {
+  emitted = marked (unlessNone visited) (cx .emitted);
+  «catch_handlers» = marked (unlessNone handler) (cx .«catch_handlers»);
+  «scope_fallthroughs» = marked (unlessNone fallthrough) (cx .«scope_fallthroughs»);
+  len = cx .len;
+  scheduled = cx .scheduled;
+  pushed = cx .pushed;
+  «next_schedule_id» = cx .«next_schedule_id»;
+  stack = cx .stack;
+}
+
+-- what a change asks of the Context
+abbrev pub Changeable : Change → Context → Type 0
+Changeable Nothing cx = Unit {0}
+Changeable (Schedule target) cx = Named target × Room cx
+Changeable (ScheduleLoop fallthrough continueBlock loopBlock) cx = ((fallthrough < 1024) × (continueBlock < 1024) × (loopBlock < 1024)) × Room cx
+Changeable TakeId cx = cx .«next_schedule_id» < 65535
+Changeable Unschedule cx = 0 < cx .len
+
+-- what the driver carries along: the stack's bound, the blocks of its entries, and the arrays' lengths
+pub record Whole (cx : Context) : Type 0 where
+  pub bounded : Bounded (cx .stack) (cx .len)
+  pub wide : length (cx .scheduled) ≡ 1024
+  pub tall : length (cx .stack) ≡ 1152
+
+pub record Changed (change : Change) (cx r : Context) : Type 0 where
+  pub context : (visits : ℕ) → contextOf visits r ≡ changed change (contextOf visits cx)
+  pub whole : Whole r
+
+pub record Applicable (visited : ℕ) (plan : Plan) (cx : Context) : Type 0 where
+  pub block : Below 1024 (unlessNone visited)
+  pub handler : Below 1024 (unlessNone (plan .handler))
+  pub scope : Below 1024 (unlessNone (plan .scope))
+  pub change : Changeable (plan .change) cx
+  pub whole : Whole cx
+
+pub record Applied (visited : ℕ) (plan : Plan) (cx r : Context) : Type 0 where
+  pub context : (visits : ℕ) → contextOf visits r ≡ changed (plan .change) (scoped (unlessNone (plan .scope)) (handled (unlessNone (plan .handler)) (emitted (unlessNone visited) (contextOf visits cx))))
+  pub whole : Whole r
 
 -- ---- the stack
 

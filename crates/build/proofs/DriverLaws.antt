@@ -49,8 +49,8 @@ use Rattle.planner.specs.Plans.{frameOf, noFrame, framesOf, stateAt, scheduledL
 use Rattle.planner.specs.Planned.{NamedChange, entriesOnTop, deepest, Nested, Fitting}
 use Rattle.planner.specs.Jumps.{FoundBelow}
 use Rattle.planner.specs.Turn.{Resolves, Shown, inHand, FrameFits, StageFits, Ready, emitting, PlannedTurn}
-use Rattle.build.specs.Driver.{foundBy, Searches, visitedBlock, emitted, withMarks, Whole, Changeable, Applicable, Applied, slot, isHalt, planEnds, startingAt, walkedBy, Reported}
-use Rattle.build.proofs.ApplyLaws.{marks}
+use Rattle.build.specs.Driver.{foundBy, Searches, visitedBlock, slot, isHalt, planEnds, startingAt, walkedBy, Reported}
+use Rattle.build.proofs.ApplyLaws.{emitted, withMarks, Whole, Changeable, Applicable, Applied, marks}
 use Rattle.build.proofs.CheckedLaws.{checked-table}
 
 abbrev target-or : Option definition.Resolution → ℕ

@@ -1,7 +1,8 @@
 //! A table with its answer, and lists of them as bytes.
 
 use crate::model::check::check;
-use crate::model::{self, Outcome, ROW_WORDS};
+use crate::model::text::{LENT_ROWS, parse, print};
+use crate::model::{self, Outcome, ROW_WORDS, Refusal};
 use crate::reference;
 
 pub struct Vector {
@@ -32,6 +33,17 @@ impl Vector {
         let length = rows.len();
         rows.truncate(if outcome.code == 0 { ROW_WORDS * outcome.rows as usize } else { 0 });
         Self { words, length, outcome, rows }
+    }
+}
+
+/// What treebuild prints of a file.
+pub fn printed(file: &[u8]) -> String {
+    match parse(file) {
+        Ok(words) => {
+            let Vector { outcome, rows, .. } = Vector::answer(words, |_| LENT_ROWS * ROW_WORDS);
+            print(outcome, &rows)
+        }
+        Err(Refusal { code, at }) => print(Outcome { code, at, rows: 0, visits: 0 }, &[]),
     }
 }
 

@@ -8,10 +8,9 @@ use std::path::Path;
 use comparison::generate::corners::corners;
 use comparison::generate::files::{good_of_length, many_rows};
 use comparison::generate::generate;
-use comparison::model::text::{LENT_ROWS, MAX_BYTES, parse, print, write_file};
-use comparison::model::{Outcome, ROW_WORDS, Refusal};
+use comparison::model::text::{MAX_BYTES, write_file};
 use comparison::reference;
-use comparison::vector::Vector;
+use comparison::vector::printed;
 
 const FILES: usize = 60;
 
@@ -32,16 +31,6 @@ fn write(folder: &Path) {
     }
     fs::write(folder.join("stdout"), out).expect("written");
     println!("{FILES} files");
-}
-
-fn printed(file: &[u8]) -> String {
-    match parse(file) {
-        Ok(words) => {
-            let Vector { outcome, rows, .. } = Vector::answer(words, |_| LENT_ROWS * ROW_WORDS);
-            print(outcome, &rows)
-        }
-        Err(Refusal { code, at }) => print(Outcome { code, at, rows: 0, visits: 0 }, &[]),
-    }
 }
 
 /// Paper 01's sample, then files that are not in the form, or too long, or whose words are refused.

@@ -11,8 +11,8 @@ use Rattle.control.specs.Contract.{Room}
 use Rattle.planner.specs.declared.plan.Plan.{Plan}
 use Rattle.planner.specs.declared.plan.Change.{Change}
 use Rattle.planner.specs.declared.plan.Change.the-variants.{Schedule, ScheduleLoop, Unschedule}
-use Rattle.build.specs.Driver.{foundBy, visitedBlock, planEnds, withMarks, Whole, Changeable, Changed, Applicable, Applied}
-use Rattle.build.proofs.ApplyLaws.{nothing-changed, schedule-changed, loop-changed, unschedule-changed, id-changed, changeable-marked, whole-marked, plan-applied, last-entry}
+use Rattle.build.specs.Driver.{foundBy, visitedBlock, planEnds}
+use Rattle.build.proofs.ApplyLaws.{withMarks, Whole, Changeable, Changed, Applicable, Applied, nothing-changed, schedule-changed, loop-changed, unschedule-changed, id-changed, changeable-marked, whole-marked, plan-applied, last-entry}
 use Rattle.control.specs.declared.Context.{Context}
 use Rattle.planner.specs.declared.plan.Position.{Position}
 use Rattle.planner.specs.declared.plan.Frame.{Frame}
