@@ -12,6 +12,7 @@ ghost use mathlib.Core.Path.{_≡_};
 ghost use Prim.Native.Nat.{_<_};
 ghost use Rattle.table.specs.Words.{blockCount, blockWord};
 ghost use Rattle.table.specs.Promise.{Promise};
+ghost use Rattle.definition.specs.Context.{Flags};
 ghost use Rattle.control.specs.Abstraction.{targetOf, resolvedOf};
 ghost use Rattle.planner.specs.declared.plan.Stage.the-variants.{Visit};
 ghost use Rattle.build.specs.Driver.{searchedFrom, isMet, resolvedAt, Searches};
@@ -44,6 +45,7 @@ pub fn meets(jump: Jump, target: ControlFlowTarget) -> bool
     }
 }
 
+// What the jump resolves to at the entry that its search ended at.
 pub fn resolve(
     jump: Jump,
     found: ControlFlowTarget,
@@ -59,16 +61,11 @@ pub fn resolve(
     }
 }
 
-fn goto_jump<'a>(
-    words: &[u32],
-    scheduled: &'a [bool; 1024],
-    catch_handlers: &'a [bool; 1024],
-    block: u32,
-) -> Jump
+fn goto_jump(words: &[u32], block: u32) -> Jump
     requires { ⌜ Promise (now words) ⌝ }
     requires { ⌜ block < blockCount (now words) ⌝ }
     requires { ⌜ blockWord (now words) block 2 ≡ 4 ⌝ }
-    ensures { λ r. ⌜ Searches (now (words .entry)) (now (scheduled .entry)) (now («catch_handlers» .entry)) block r ⌝ }
+    ensures { λ r. ⌜ ((scheduledSet handlerSet : Flags) → Searches (now (words .entry)) scheduledSet handlerSet block r) ⌝ }
 {
     let target = narrow(block_word(words, block, 3));
     match block_word(words, block, 4) {
@@ -108,7 +105,7 @@ fn block_jump<'a>(
     ensures { λ r. ⌜ Searches (now (words .entry)) (now (scheduled .entry)) (now («catch_handlers» .entry)) block r ⌝ }
 {
     match block_word(words, block, 2) {
-        4 => goto_jump(words, scheduled, catch_handlers, block),
+        4 => goto_jump(words, block),
         6 => branch_jump(words, scheduled, catch_handlers, block),
         _ => Jump::Nothing,
     }

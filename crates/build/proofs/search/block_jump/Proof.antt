@@ -14,7 +14,7 @@ branch-jump-requires : tie.Need-branch-jump-requires
 branch-jump-requires c κs = search needs
 
 returns : tie.Need-returns
-returns c = search needs
+returns c = c .goto-jump .ensures _ _
 
 returns-2 : tie.Need-returns-2
 returns-2 c = search needs

@@ -17,19 +17,19 @@ block-word-requires-2 : tie.Need-block-word-requires-2
 block-word-requires-2 c κs = search needs
 
 returns : tie.Need-returns
-returns c =
+returns c scheduled handlers =
     let pre = c .before .before .before .before .before .pre in
-    goto-breaks _ _ _ _ (pre .0) (pre .1 .0) (pre .1 .1) _ (c .before .before .narrow .ensures ∙ c .before .before .before .block-word .ensures) (sym (c .before .block-word2 .ensures) ∙ c .match .keys1)
+    goto-breaks _ scheduled handlers _ (pre .0) (pre .1 .0) (pre .1 .1) _ (c .before .before .narrow .ensures ∙ c .before .before .before .block-word .ensures) (sym (c .before .block-word2 .ensures) ∙ c .match .keys1)
 
 returns-2 : tie.Need-returns-2
-returns-2 c =
+returns-2 c scheduled handlers =
     let pre = c .before .before .before .before .before .pre in
-    goto-continues _ _ _ _ (pre .0) (pre .1 .0) (pre .1 .1) _ (c .before .before .narrow .ensures ∙ c .before .before .before .block-word .ensures) (sym (c .before .block-word2 .ensures) ∙ c .match .keys2)
+    goto-continues _ scheduled handlers _ (pre .0) (pre .1 .0) (pre .1 .1) _ (c .before .before .narrow .ensures ∙ c .before .before .before .block-word .ensures) (sym (c .before .block-word2 .ensures) ∙ c .match .keys2)
 
 returns-3 : tie.Need-returns-3
-returns-3 c =
+returns-3 c scheduled handlers =
     let pre = c .before .before .before .before .before .pre in
-    goto-tries _ _ _ _ (pre .0) (pre .1 .0) (pre .1 .1) (λ e. c .match .rest .0 .1 (c .before .block-word2 .ensures ∙ e)) (λ e. c .match .rest .1 (c .before .block-word2 .ensures ∙ e))
+    goto-tries _ scheduled handlers _ (pre .0) (pre .1 .0) (pre .1 .1) (λ e. c .match .rest .0 .1 (c .before .block-word2 .ensures ∙ e)) (λ e. c .match .rest .1 (c .before .block-word2 .ensures ∙ e))
 
 pub goto-jump-spec : {M : Type 1} → statement M
 goto-jump-spec =
