@@ -12,7 +12,7 @@ use lib.Seq.{getD-set-same, getD-set-other}
 use native.Mathlib.Decide.{ℕ-discrete}
 use borrow.Author.Tests.{eq-eqb, ne-eqb, eqb-true, eqb-false}
 use Rattle.table.specs.Words.{blockCount, placeCount, caseCount, blockWord}
-use Rattle.table.specs.Promise.{InRange, BelowUnlessNone}
+use Rattle.table.specs.Promise.{Promise, InRange, BelowUnlessNone, Ends}
 use Rattle.table.specs.Table.{Table, Block, Terminal, absent, unreachable, throw, return, goto, if, branch, switch, do-while, while, for, for-of, for-in, logical, ternary, optional, label, sequence, maybe-throw, try, scope, tableOf, terminalOf, terminalAt, blockAt, unlessNone}
 use Rattle.table.proofs.RangeLaws.{in-range}
 use Rattle.table.proofs.BlockLaws.{no-number, some-number, end-by, span-at}
@@ -42,7 +42,7 @@ use Rattle.planner.specs.declared.loops.Values.{Values}
 use Rattle.planner.specs.declared.loops.Loop.{Loop}
 use Rattle.planner.specs.Plans.{frameOf, changed, applied, openFrame, refusing, leaving, scheduledLoop, idTaken, unlessTaken}
 use Rattle.planner.specs.Planned.{Seen, NamedChange, Fitting, PlannedBare, Entered, terminalStep}
-use Rattle.planner.specs.Loops.{PlannedRows, Made, noneMade, valueMade, plainForm, flatForm, updateMade, testedMade, forMade, forOfMade, noValues, valuesOf, Makes, Spent, MakesMore, loopTurn, afterValues, enteringBody, enteringLoop, loopTaken, continuesAt, valueFallthrough, takeIdIf}
+use Rattle.planner.specs.Loops.{PlannedRows, Made, plainMade, flatMade, testedValues, forValues, forOfValues, noneMade, valueMade, plainForm, flatForm, updateMade, testedMade, forMade, forOfMade, noValues, valuesOf, Makes, Spent, MakesMore, MakesTested, loopTurn, afterValues, enteringBody, enteringLoop, loopTaken, continuesAt, valueFallthrough, takeIdIf}
 use Rattle.planner.proofs.PlanLaws.{within-all, refuse-applied, leave-applied, leave-nested, nest-applied}
 use Rattle.planner.proofs.StepLaws.{label-scheduled, seen-scheduled, turn-refused, turn-ok}
 use Rattle.planner.proofs.VisitLaws.{bare-planned, step-by, few-blocks, ranges, reach-same, reached-missing}
@@ -233,19 +233,26 @@ pub first-made : {p : Position} {b b′ : List ℕ} {before r : Values} (step : 
 unfolding _>>=_
 first-made {p} {b} {before = before} step q m = m .made (ok (noneMade (p .visits))) b (rw q (start-made p b))
 
-pub no-values-made : (p : Position) (b : List ℕ) (r : Values) → r ≡ noValues p → Makes p (ok (noneMade (p .visits))) b r b
+module _ {w : List ℕ} {p : Position} (init test : ℕ) {before first r : Values} {b b₁ b′ : List ℕ} (en : Entered w p) (start : before ≡ noValues p) (made : MakesMore p (flatMade w p init) before b first b₁) where
+  pub tested-made : MakesMore p (plainMade w p test) first b₁ r b′ → Makes p (testedValues w p init test) b r b′
+  tested-made more = more .made _ b (first-made _ start made)
+
+  pub for-of-made : MakesMore p (flatMade w p test) first b₁ r b′ → Makes p (forOfValues w p init test) b r b′
+  for-of-made more = more .made _ b (first-made _ start made)
+
+no-values-made : (p : Position) (b : List ℕ) (r : Values) → r ≡ noValues p → Makes p (ok (noneMade (p .visits))) b r b
 no-values-made p b r q = rw q (start-made p b)
 
 -- ---- rows and visits
 
-pub nothing-spent : (w : List ℕ) (p : Position) (before : Values) → Entered w p → before ≡ noValues p → Spent (noValues p) 6 before
-nothing-spent w p before en q = rw q (record { visits = en .visits; paid = omega arith })
+pub nothing-spent : {w : List ℕ} {p : Position} {before : Values} → Entered w p → before ≡ noValues p → Spent (noValues p) 6 before
+nothing-spent en q = rw q (record { visits = en .visits; paid = omega arith })
 
-pub first-spent : (p : Position) {before r : Values} → before ≡ noValues p → Spent before 3 r → Spent (noValues p) 6 r
-first-spent p q s = let t = rw q at s in record { visits = s .visits; paid = omega (arith, t .paid) }
+pub first-spent : {w : List ℕ} {p : Position} {before r : Values} → Entered w p → before ≡ noValues p → Spent before 3 r → Spent (noValues p) 6 r
+first-spent en q s = let t = rw q at s in record { visits = s .visits; paid = omega (arith, t .paid) }
 
-pub second-spent : (p : Position) {before first r : Values} → before ≡ noValues p → Spent before 3 first → Spent first 3 r → Spent (noValues p) 6 r
-second-spent p q s u = let t = rw q at s in record { visits = u .visits; paid = omega (arith, t .paid, u .paid) }
+pub second-spent : {w : List ℕ} {p : Position} {before first r : Values} → Entered w p → before ≡ noValues p → Spent before 3 first → Spent first 3 r → Spent (noValues p) 6 r
+second-spent en q s u = let t = rw q at s in record { visits = u .visits; paid = omega (arith, t .paid, u .paid) }
 
 -- ---- a For's update
 
@@ -254,13 +261,15 @@ unfolding _>>=_
 then-ok (ok a) = refl
 then-ok (refused code at visits) = refl
 
-module _ {p : Position} {b b′ : List ℕ} {r : Values} (t : Table) (visit : VisitValueBlock) (init test update span : ℕ) where
-  pub for-without-update : update ≡ 65535 → Makes p (testedMade t visit init test span (noneMade (p .visits))) b r b′ → Makes p (forMade t visit init test (unlessNone update) span (noneMade (p .visits))) b r b′
-  for-without-update e m = rw (e, no-number) (rw (then-ok (testedMade t visit init test span (noneMade (p .visits)))) m)
+pub there-unless-none : {update blocks : ℕ} → ((update ≡ 65535 → ⊥) → update < blocks) → (update ≡ 65535 → ⊥) → update < blocks
+there-unless-none h = h
 
-  pub for-with-update : (update ≡ 65535 → ⊥) → Makes p (testedMade t visit init test span (noneMade (p .visits)) >>= valueMade visit plainForm update span) b r b′
-      → Makes p (forMade t visit init test (unlessNone update) span (noneMade (p .visits))) b r b′
-  for-with-update f m = rw (some-number update f) m
+module _ {w : List ℕ} {p : Position} {b b₁ : List ℕ} {init test update : ℕ} {tested : Values} (made : MakesTested w p init test b tested b₁) where
+  pub for-without-update : update ≡ 65535 → Makes p (forValues w p init test update) b tested b₁
+  for-without-update e = rw (e, no-number) (rw then-ok (made .made))
+
+  pub for-with-update : {r : Values} {b′ : List ℕ} → (update ≡ 65535 → ⊥) → MakesMore p (plainMade w p update) tested b₁ r b′ → Makes p (forValues w p init test update) b r b′
+  for-with-update f m = rw (some-number update f) (m .made _ b (made .made))
 
 module _ (w : List ℕ) (S H : Flags) (p : Position) (en : Entered w p) where
   abbrev visit : VisitValueBlock
@@ -274,11 +283,11 @@ module _ (w : List ℕ) (S H : Flags) (p : Position) (en : Entered w p) where
   Turns f c l n values = (F : List machine.Frame) (R : List Row) (C : definition.Context) → Seen S H (p .visits) C
       → turn (terminalStep w p F R C) ≡ turn (loopTurn (p .block) f c l (unlessNone n) (p .count) values F R C)
 
-  pub loop-refused : (f c l n : ℕ) (values : ℕ → Result Made) (plan : Plan) → Turns f c l n values → f < blockCount w → continueScheduled S f c ≡ true → plan ≡ refusing p 15 c → PlannedBare w S H p plan
+  loop-refused : (f c l n : ℕ) (values : ℕ → Result Made) (plan : Plan) → Turns f c l n values → f < blockCount w → continueScheduled S f c ≡ true → plan ≡ refusing p 15 c → PlannedBare w S H p plan
   loop-refused f c l n values plan turns h e q = subst (λ (z : Plan). PlannedBare w S H p z) (sym q)
       (bare-planned w S H p (refusing p 15 c) (λ _. refl) (λ F R C d seen. turns F R C seen ∙ refused-same S H p f c l n values F R C seen (few-blocks w (en .promise) f h) e) (λ z. absurd (omega arith)))
 
-  pub loop-entered : (f c l n : ℕ) (values : ℕ → Result Made) {b b′ : List ℕ} (r : Values) (plan : Plan) → Turns f c l n values → (f < blockCount w) × (c < blockCount w) × (l < blockCount w)
+  loop-entered : (f c l n : ℕ) (values : ℕ → Result Made) {b b′ : List ℕ} (r : Values) (plan : Plan) → Turns f c l n values → (f < blockCount w) × (c < blockCount w) × (l < blockCount w)
       → continueScheduled S f c ≡ false → Makes p (values (p .visits)) b r b′ → plan ≡ enteringLoop (eqb (r .code) 0) (loopTaken S H l f) p r (blocksOf f n c l) → PlannedRows w S H p b plan b′
   loop-entered f c l n values {b} {b′} r plan turns h e m q = subst (λ (z : Plan). PlannedRows w S H p b z b′) (sym q) (record {
     out = m .out;
@@ -309,22 +318,22 @@ module _ (w : List ℕ) (S H : Flags) (p : Position) (en : Entered w p) where
 
   -- ---- the turns of the loops
 
-  abbrev Ends : Terminal → Type 0
-  Ends e = terminalAt (tableOf w) (p .block) ≡ e
+  abbrev Is : Terminal → Type 0
+  Is e = terminalAt (tableOf w) (p .block) ≡ e
 
   -- a loop that does not ask whether its fallthrough is reachable
   abbrev Loops : Terminal → (f c l : ℕ) → (ℕ → Result Made) → Type 0
   Loops e f c l values = (F : List machine.Frame) (R : List Row) (C : definition.Context)
       → terminalTurn (tableOf w) visit e (p .block) (blockAt (tableOf w) (p .block)) F R (p .count) C ≡ loopTurn (p .block) f c l (unlessScheduled C f) (p .count) values F R C
 
-  turns : (e : Terminal) (f c l n : ℕ) (values : ℕ → Result Made) → Ends e → Loops e f c l values → f < blockCount w → n ≡ unlessTaken (has S f || has H f) f → Turns f c l n values
+  turns : (e : Terminal) (f c l n : ℕ) (values : ℕ → Result Made) → Is e → Loops e f c l values → f < blockCount w → n ≡ unlessTaken (has S f || has H f) f → Turns f c l n values
   turns e f c l n values q loops h o F R C seen = ap turn (step-by w p e F R C q ∙ loops F R C)
       ∙ ap (λ (z : Option ℕ). turn (loopTurn (p .block) f c l z (p .count) values F R C)) (label-scheduled w (en .promise) S H (p .visits) C seen f (few-blocks w (en .promise) f h) ∙ ap unlessNone (sym o))
 
   span-is : blockAt (tableOf w) (p .block) .span ≡ span
   span-is = span-at w (p .block) (en .block)
 
-  pub do-while-turns : (l c f n : ℕ) → Ends (do-while l c f) → f < blockCount w → n ≡ unlessTaken (has S f || has H f) f → Turns f c l n (λ v. ok (noneMade v))
+  do-while-turns : (l c f n : ℕ) → Is (do-while l c f) → f < blockCount w → n ≡ unlessTaken (has S f || has H f) f → Turns f c l n (λ v. ok (noneMade v))
   unfolding terminalTurn loopTurn _>>=_
   do-while-turns l c f n q h o = turns (do-while l c f) f c l n (λ v. ok (noneMade v)) q (λ F R C. then-same (scheduleLoop f c (some l) C) _ _ (λ inside. rw (append-nil R))) h o
 
@@ -333,12 +342,12 @@ module _ (w : List ℕ) (S H : Flags) (p : Position) (en : Entered w p) where
     abbrev body : Made → Result State
     body made = intoLoop (p .block) l (loopIsTaken C l f) (made .visits) (machine.frameOf (p .block) taken 1 (p .count)) F (R ++ made .out) inside
 
-  pub for-in-turns : (c l f n : ℕ) → Ends (for-in c l f) → f < blockCount w → n ≡ unlessTaken (has S f || has H f) f → Turns f c l n (λ v. valueMade visit (flatForm (tableOf w) span) c span (noneMade v))
+  for-in-turns : (c l f n : ℕ) → Is (for-in c l f) → f < blockCount w → n ≡ unlessTaken (has S f || has H f) f → Turns f c l n (λ v. valueMade visit (flatForm (tableOf w) span) c span (noneMade v))
   unfolding terminalTurn loopTurn
   for-in-turns c l f n q h o = turns (for-in c l f) f c l n _ q (λ F R C. rw span-is (then-same (scheduleLoop f c (some l) C) _ _ (λ inside.
       sym (value-then visit (flatForm (tableOf w) span) c span (noneMade (inside .visits)) (body f l F R C inside (unlessScheduled C f)))))) h o
 
-  pub for-of-turns : (c test l f n : ℕ) → Ends (for-of c test l f) → f < blockCount w → n ≡ unlessTaken (has S f || has H f) f → Turns f c l n (λ v. forOfMade (tableOf w) visit c test span (noneMade v))
+  for-of-turns : (c test l f n : ℕ) → Is (for-of c test l f) → f < blockCount w → n ≡ unlessTaken (has S f || has H f) f → Turns f c l n (λ v. forOfMade (tableOf w) visit c test span (noneMade v))
   unfolding terminalTurn loopTurn
   for-of-turns c test l f n q h o = turns (for-of c test l f) f c l n _ q (λ F R C. rw span-is (then-same (scheduleLoop f c (some l) C) _ _ (λ inside.
       let k : Made → Result State = body f l F R C inside (unlessScheduled C f) in
@@ -349,7 +358,7 @@ module _ (w : List ℕ) (S H : Flags) (p : Position) (en : Entered w p) where
       value-then visit flat test span (record { out = valueOut (flat first); visits = first .visits }) k
       ∙ then-same (visit test none span (first .visits)) _ _ (λ tested. rw (append-assoc R (valueOut (flat first)) (valueOut (flat tested))))))))) h o
 
-  pub for-turns : (init test : ℕ) (update : Option ℕ) (l f n : ℕ) → Ends (for init test update l f) → f < blockCount w → n ≡ unlessTaken (has S f || has H f) f
+  for-turns : (init test : ℕ) (update : Option ℕ) (l f n : ℕ) → Is (for init test update l f) → f < blockCount w → n ≡ unlessTaken (has S f || has H f) f
       → Turns f (continueBlockOf update test) l n (λ v. forMade (tableOf w) visit init test update span (noneMade v))
   unfolding terminalTurn loopTurn
   for-turns init test update l f n q h o = turns (for init test update l f) f (continueBlockOf update test) l n _ q (λ F R C. rw span-is (then-same (scheduleLoop f (continueBlockOf update test) (some l) C) _ _ (λ inside.
@@ -374,82 +383,18 @@ module _ (w : List ℕ) (S H : Flags) (p : Position) (en : Entered w p) where
   while-asks c l f F R C = rw span-is (then-same (unlessUnreachable (tableOf w) C f) _ _ (λ taken. then-same (scheduleLoop f c (some l) C) _ _ (λ inside.
       sym (value-then visit plainForm c span (noneMade (inside .visits)) (body f l F R C inside taken)))))
 
-  pub while-turns : (c l f n : ℕ) → Ends (while c l f) → f < blockCount w → (blockWord w f 2 ≡ 0 → ⊥) → n ≡ unlessTaken (eqb (blockWord w f 2) 1 || (has S f || has H f)) f
+  while-turns : (c l f n : ℕ) → Is (while c l f) → f < blockCount w → (blockWord w f 2 ≡ 0 → ⊥) → n ≡ unlessTaken (eqb (blockWord w f 2) 1 || (has S f || has H f)) f
       → Turns f c l n (λ v. valueMade visit plainForm c span (noneMade v))
   while-turns c l f n q h z o F R C seen = ap turn (step-by w p (while c l f) F R C q ∙ while-asks c l f F R C)
       ∙ reach-same w S H p (en .promise) f n h (few-blocks w (en .promise) f h) z o (λ taken. loopTurn (p .block) f c l taken (p .count) (λ v. valueMade visit plainForm c span (noneMade v)) F R C) C seen
 
-  pub while-missing : (c l f : ℕ) (plan : Plan) → Ends (while c l f) → f < blockCount w → blockWord w f 2 ≡ 0 → plan ≡ refusing p 10 f → PlannedBare w S H p plan
-  while-missing c l f plan q h z r =
+  while-unreached : (c l f : ℕ) (plan : Plan) → Is (while c l f) → f < blockCount w → blockWord w f 2 ≡ 0 → plan ≡ refusing p 10 f → PlannedBare w S H p plan
+  while-unreached c l f plan q h z r =
       reached-missing w S H p en (while c l f) f (λ F R C taken. loopTurn (p .block) f c l taken (p .count) (λ v. valueMade visit plainForm c span (noneMade v)) F R C) f plan q (while-asks c l f) h refl z r
 
--- ---- the columns of the loops, as the code reads them
+-- ---- a For's update, as its code reads it
 
-module _ (w : List ℕ) (p : Position) (en : Entered w p) where
-  pub few-loop-blocks : {f c l : ℕ} → (f < blockCount w) × (c < blockCount w) × (l < blockCount w) → (f < 1024) × (c < 1024) × (l < 1024)
-  few-loop-blocks {f} {c} {l} h = (few-blocks w (en .promise) f (h .0), few-blocks w (en .promise) c (h .1), few-blocks w (en .promise) l (h .2))
-
-  in-ranges : (e : Terminal) → terminalAt (tableOf w) (p .block) ≡ e → InRange (blockCount w) (placeCount w) (caseCount w) e
-  in-ranges e q = ranges w (en .promise) (p .block) (en .block) e q
-
-  module _ (l c f : ℕ) (code : blockWord w (p .block) 2 ≡ 8) (el : l ≡ blockWord w (p .block) 3) (ec : c ≡ blockWord w (p .block) 4) (ef : f ≡ blockWord w (p .block) 5) where
-    pub do-while-ends : terminalAt (tableOf w) (p .block) ≡ do-while l c f
-    unfolding terminalOf
-    do-while-ends = rw (el, ec, ef) (end-by w (p .block) (en .block) 8 code)
-
-    pub do-while-blocks : (f < blockCount w) × (c < blockCount w) × (l < blockCount w)
-    do-while-blocks = let h = in-ranges (do-while l c f) do-while-ends in (h .2, h .1, h .0)
-
-  module _ (c l f : ℕ) (code : blockWord w (p .block) 2 ≡ 9) (ec : c ≡ blockWord w (p .block) 3) (el : l ≡ blockWord w (p .block) 4) (ef : f ≡ blockWord w (p .block) 5) where
-    pub while-ends : terminalAt (tableOf w) (p .block) ≡ while c l f
-    unfolding terminalOf
-    while-ends = rw (ec, el, ef) (end-by w (p .block) (en .block) 9 code)
-
-    pub while-blocks : (f < blockCount w) × (c < blockCount w) × (l < blockCount w)
-    while-blocks = let h = in-ranges (while c l f) while-ends in (h .2, h .0, h .1)
-
-  module _ (init test update l f : ℕ) (code : blockWord w (p .block) 2 ≡ 10) (ei : init ≡ blockWord w (p .block) 3) (et : test ≡ blockWord w (p .block) 4) (eu : update ≡ blockWord w (p .block) 5)
-      (el : l ≡ blockWord w (p .block) 6) (ef : f ≡ blockWord w (p .block) 7) where
-    pub for-ends : terminalAt (tableOf w) (p .block) ≡ for init test (unlessNone update) l f
-    unfolding terminalOf
-    for-ends = rw (ei, et, eu, el, ef) (end-by w (p .block) (en .block) 10 code)
-
-    pub update-below : (update ≡ 65535 → ⊥) → update < blockCount w
-    update-below z = subst (λ (o : Option ℕ). BelowUnlessNone (blockCount w) o) (some-number update z) (in-ranges (for init test (unlessNone update) l f) for-ends .2)
-
-    pub init-below : init < blockCount w
-    init-below = in-ranges (for init test (unlessNone update) l f) for-ends .0
-
-    pub test-below : test < blockCount w
-    test-below = in-ranges (for init test (unlessNone update) l f) for-ends .1
-
-    pub for-blocks : (c : ℕ) → c ≡ continuesAt (eqb update 65535) test update → (f < blockCount w) × (c < blockCount w) × (l < blockCount w)
-    for-blocks c q = let h = in-ranges (for init test (unlessNone update) l f) for-ends in (h .4, rw q (at (eqb update 65535) refl), h .3)
-      where
-        at : (y : Bool) → eqb update 65535 ≡ y → continuesAt y test update < blockCount w
-        at true e = test-below
-        at false e = update-below (eqb-false update 65535 e)
-
-  module _ (c test l f : ℕ) (code : blockWord w (p .block) 2 ≡ 11) (ec : c ≡ blockWord w (p .block) 3) (et : test ≡ blockWord w (p .block) 4) (el : l ≡ blockWord w (p .block) 5) (ef : f ≡ blockWord w (p .block) 6) where
-    pub for-of-ends : terminalAt (tableOf w) (p .block) ≡ for-of c test l f
-    unfolding terminalOf
-    for-of-ends = rw (ec, et, el, ef) (end-by w (p .block) (en .block) 11 code)
-
-    pub for-of-blocks : (f < blockCount w) × (c < blockCount w) × (l < blockCount w)
-    for-of-blocks = let h = in-ranges (for-of c test l f) for-of-ends in (h .3, h .0, h .2)
-
-    pub for-of-test : test < blockCount w
-    for-of-test = in-ranges (for-of c test l f) for-of-ends .1
-
-  module _ (c l f : ℕ) (code : blockWord w (p .block) 2 ≡ 12) (ec : c ≡ blockWord w (p .block) 3) (el : l ≡ blockWord w (p .block) 4) (ef : f ≡ blockWord w (p .block) 5) where
-    pub for-in-ends : terminalAt (tableOf w) (p .block) ≡ for-in c l f
-    unfolding terminalOf
-    for-in-ends = rw (ec, el, ef) (end-by w (p .block) (en .block) 12 code)
-
-    pub for-in-blocks : (f < blockCount w) × (c < blockCount w) × (l < blockCount w)
-    for-in-blocks = let h = in-ranges (for-in c l f) for-in-ends in (h .2, h .0, h .1)
-
-pub continue-is : (test update : ℕ) → continueBlockOf (unlessNone update) test ≡ continuesAt (eqb update 65535) test update
+continue-is : (test update : ℕ) → continueBlockOf (unlessNone update) test ≡ continuesAt (eqb update 65535) test update
 unfolding unlessNone
 continue-is test update = at (eqb update 65535)
   where
@@ -457,10 +402,92 @@ continue-is test update = at (eqb update 65535)
     at true = refl
     at false = refl
 
-pub for-turns-at : (w : List ℕ) (S H : Flags) (p : Position) (en : Entered w p) (init test update l f c n : ℕ) → terminalAt (tableOf w) (p .block) ≡ for init test (unlessNone update) l f
+for-turns-at : (w : List ℕ) (S H : Flags) (p : Position) (en : Entered w p) (init test update l f c n : ℕ) → terminalAt (tableOf w) (p .block) ≡ for init test (unlessNone update) l f
     → c ≡ continuesAt (eqb update 65535) test update → f < blockCount w → n ≡ unlessTaken (has S f || has H f) f
     → Turns w S H p en f c l n (λ v. forMade (tableOf w) (visitValueBlock (tableOf w) (127 - p .depth)) init test (unlessNone update) (blockWord w (p .block) 9) (noneMade v))
 for-turns-at w S H p en init test update l f c n q o h z = rw (o ∙ sym (continue-is test update)) (for-turns w S H p en init test (unlessNone update) l f n q h z)
+
+module _ {w : List ℕ} {block init test : ℕ} (update : ℕ) {l f : ℕ} (ends : Ends w block (for init test (unlessNone update) l f)) where
+  pub update-below : (update ≡ 65535 → ⊥) → update < blockCount w
+  update-below z = subst (λ (o : Option ℕ). BelowUnlessNone (blockCount w) o) (some-number update z) (ends .named .2)
+
+  pub continues-below : {c : ℕ} → c ≡ continuesAt (eqb update 65535) test update → c < blockCount w
+  continues-below q = rw q (at (eqb update 65535) refl)
+    where
+      at : (y : Bool) → eqb update 65535 ≡ y → continuesAt y test update < blockCount w
+      at true e = ends .named .1
+      at false e = update-below (eqb-false update 65535 e)
+
+  pub continues-few : {c : ℕ} → c ≡ continuesAt (eqb update 65535) test update → c < 1024
+  continues-few q = omega (arith, continues-below q, ends .few)
+
+-- ---- what the loops' code returns. A premise is a contract's own words or a test's, so that `search` finds it among what the code has bound
+
+abbrev Enters : Flags → Flags → Position → Values → Plan → (f n c l : ℕ) → Type 0
+Enters S H p r plan f n c l = plan ≡ enteringLoop (eqb (r .code) 0) (loopTaken S H l f) p r (blocksOf f n c l)
+
+abbrev Label : Flags → Flags → (f n : ℕ) → Type 0
+Label S H f n = n ≡ unlessTaken (has S f || has H f) f
+
+module _ {w : List ℕ} {S H : Flags} {p : Position} {plan : Plan} (en : Entered w p) where
+  module _ {l c f : ℕ} (ends : Ends w (p .block) (do-while l c f)) {scheduled : Bool} (asked : scheduled ≡ continueScheduled S f c) where
+    pub do-while-refused : scheduled ≡ true → plan ≡ refusing p 15 c → PlannedBare w S H p plan
+    do-while-refused t q = loop-refused w S H p en f c l _ _ plan (do-while-turns w S H p en l c f _ (ends .is) (ends .named .2) refl) (ends .named .2) (sym asked ∙ t) q
+
+    pub do-while-entered : {n : ℕ} {r : Values} → scheduled ≡ false → Label S H f n → r ≡ noValues p → Enters S H p r plan f n c l → PlannedBare w S H p plan
+    do-while-entered {n} {r} t o start q buffer =
+        loop-entered w S H p en f c l n _ r plan
+        (do-while-turns w S H p en l c f n (ends .is) (ends .named .2) o)
+        (ends .named .2, ends .named .1, ends .named .0) (sym asked ∙ t) (no-values-made p buffer r start) q
+
+  module _ {c l f kind : ℕ} (ends : Ends w (p .block) (while c l f)) (reached : kind ≡ blockWord w f 2) where
+    pub while-missing : kind ≡ 0 → plan ≡ refusing p 10 f → PlannedBare w S H p plan
+    while-missing z q = while-unreached w S H p en c l f plan (ends .is) (ends .named .2) (sym reached ∙ z) q
+
+    pub while-refused : {scheduled : Bool} → (kind ≡ 0 → ⊥) → scheduled ≡ continueScheduled S f c → scheduled ≡ true → plan ≡ refusing p 15 c → PlannedBare w S H p plan
+    while-refused z asked t q = loop-refused w S H p en f c l _ _ plan (while-turns w S H p en c l f _ (ends .is) (ends .named .2) (λ y. z (reached ∙ y)) refl) (ends .named .2) (sym asked ∙ t) q
+
+    pub while-entered : {scheduled : Bool} {n : ℕ} {before r : Values} {b b′ : List ℕ} → (kind ≡ 0 → ⊥) → scheduled ≡ continueScheduled S f c → scheduled ≡ false
+        → n ≡ unlessTaken (eqb (blockWord w f 2) 1 || (has S f || has H f)) f
+        → before ≡ noValues p → MakesMore p (plainMade w p c) before b r b′ → Enters S H p r plan f n c l → PlannedRows w S H p b plan b′
+    while-entered {n = n} {r = r} z asked t o start made q =
+        loop-entered w S H p en f c l n _ r plan
+        (while-turns w S H p en c l f n (ends .is) (ends .named .2) (λ y. z (reached ∙ y)) o)
+        (ends .named .2, ends .named .0, ends .named .1) (sym asked ∙ t) (first-made _ start made) q
+
+  module _ {init test : ℕ} (update : ℕ) {l f c : ℕ} (ends : Ends w (p .block) (for init test (unlessNone update) l f))
+      (continues : c ≡ continuesAt (eqb update 65535) test update) {scheduled : Bool} (asked : scheduled ≡ continueScheduled S f c) where
+    pub for-refused : scheduled ≡ true → plan ≡ refusing p 15 c → PlannedBare w S H p plan
+    for-refused t q = loop-refused w S H p en f c l _ _ plan (for-turns-at w S H p en init test update l f c _ (ends .is) continues (ends .named .4) refl) (ends .named .4) (sym asked ∙ t) q
+
+    pub for-entered : {n : ℕ} {r : Values} {b b′ : List ℕ} → scheduled ≡ false → Label S H f n → Makes p (forValues w p init test update) b r b′ → Enters S H p r plan f n c l
+        → PlannedRows w S H p b plan b′
+    for-entered {n} {r} t o made q =
+        loop-entered w S H p en f c l n _ r plan
+        (for-turns-at w S H p en init test update l f c n (ends .is) continues (ends .named .4) o)
+        (ends .named .4, continues-below update ends continues, ends .named .3) (sym asked ∙ t) made q
+
+  module _ {c test l f : ℕ} (ends : Ends w (p .block) (for-of c test l f)) {scheduled : Bool} (asked : scheduled ≡ continueScheduled S f c) where
+    pub for-of-refused : scheduled ≡ true → plan ≡ refusing p 15 c → PlannedBare w S H p plan
+    for-of-refused t q = loop-refused w S H p en f c l _ _ plan (for-of-turns w S H p en c test l f _ (ends .is) (ends .named .3) refl) (ends .named .3) (sym asked ∙ t) q
+
+    pub for-of-entered : {n : ℕ} {r : Values} {b b′ : List ℕ} → scheduled ≡ false → Label S H f n → Makes p (forOfValues w p c test) b r b′ → Enters S H p r plan f n c l
+        → PlannedRows w S H p b plan b′
+    for-of-entered {n} {r} t o made q =
+        loop-entered w S H p en f c l n _ r plan
+        (for-of-turns w S H p en c test l f n (ends .is) (ends .named .3) o)
+        (ends .named .3, ends .named .0, ends .named .2) (sym asked ∙ t) made q
+
+  module _ {c l f : ℕ} (ends : Ends w (p .block) (for-in c l f)) {scheduled : Bool} (asked : scheduled ≡ continueScheduled S f c) where
+    pub for-in-refused : scheduled ≡ true → plan ≡ refusing p 15 c → PlannedBare w S H p plan
+    for-in-refused t q = loop-refused w S H p en f c l _ _ plan (for-in-turns w S H p en c l f _ (ends .is) (ends .named .2) refl) (ends .named .2) (sym asked ∙ t) q
+
+    pub for-in-entered : {n : ℕ} {before r : Values} {b b′ : List ℕ} → scheduled ≡ false → Label S H f n → before ≡ noValues p → MakesMore p (flatMade w p c) before b r b′
+        → Enters S H p r plan f n c l → PlannedRows w S H p b plan b′
+    for-in-entered {n} {r = r} t o start made q =
+        loop-entered w S H p en f c l n _ r plan
+        (for-in-turns w S H p en c l f n (ends .is) (ends .named .2) o)
+        (ends .named .2, ends .named .0, ends .named .1) (sym asked ∙ t) (first-made _ start made) q
 
 -- ---- value statements
 

@@ -6,7 +6,7 @@ use mathlib.Core.List.{List, [], _++_}
 use mathlib.Core.Option.{Option, none, some}
 use lib.Dec.{eqb}
 use Rattle.table.specs.Words.{blockWord}
-use Rattle.table.specs.Table.{Table, Terminal, absent, unreachable, throw, return, goto, if, branch, switch, do-while, while, for, for-of, for-in, logical, ternary, optional, label, sequence, maybe-throw, try, scope, tableOf}
+use Rattle.table.specs.Table.{Table, Terminal, absent, unreachable, throw, return, goto, if, branch, switch, do-while, while, for, for-of, for-in, logical, ternary, optional, label, sequence, maybe-throw, try, scope, tableOf, unlessNone}
 use Rattle.definition.specs.Context.{Flags, has}
 use Rattle.definition.specs.Context as definition
 use Rattle.definition.specs.Machine.{State, intoLoop, valueOut}
@@ -68,6 +68,23 @@ forMade t visit init test update span made = testedMade t visit init test span m
 abbrev pub forOfMade : Table → VisitValueBlock → (init test span : ℕ) → Made → Result Made
 forOfMade t visit init test span made = valueMade visit (flatForm t span) init span made >>= valueMade visit (flatForm t span) test span
 
+-- the same of a position's block: its depth and its span
+module _ (words : List ℕ) (p : Position) where
+  abbrev pub plainMade : (block : ℕ) → Made → Result Made
+  plainMade block = valueMade (visitValueBlock (tableOf words) (127 - p .depth)) plainForm block (blockWord words (p .block) 9)
+
+  abbrev pub flatMade : (block : ℕ) → Made → Result Made
+  flatMade block = valueMade (visitValueBlock (tableOf words) (127 - p .depth)) (flatForm (tableOf words) (blockWord words (p .block) 9)) block (blockWord words (p .block) 9)
+
+  abbrev pub testedValues : (init test : ℕ) → Result Made
+  testedValues init test = testedMade (tableOf words) (visitValueBlock (tableOf words) (127 - p .depth)) init test (blockWord words (p .block) 9) (noneMade (p .visits))
+
+  abbrev pub forValues : (init test update : ℕ) → Result Made
+  forValues init test update = forMade (tableOf words) (visitValueBlock (tableOf words) (127 - p .depth)) init test (unlessNone update) (blockWord words (p .block) 9) (noneMade (p .visits))
+
+  abbrev pub forOfValues : (init test : ℕ) → Result Made
+  forOfValues init test = forOfMade (tableOf words) (visitValueBlock (tableOf words) (127 - p .depth)) init test (blockWord words (p .block) 9) (noneMade (p .visits))
+
 -- ---- the code's values
 
 abbrev pub noValues : Position → Values
@@ -98,7 +115,7 @@ pub record MakesMore (p : Position) (step : Made → Result Made) (before : Valu
 
 -- a For's init and test
 pub record MakesTested (words : List ℕ) (p : Position) (init test : ℕ) (buffer : List ℕ) (values : Values) (buffer′ : List ℕ) : Type 0 where
-  pub made : Makes p (testedMade (tableOf words) (visitValueBlock (tableOf words) (127 - p .depth)) init test (blockWord words (p .block) 9) (noneMade (p .visits))) buffer values buffer′
+  pub made : Makes p (testedValues words p init test) buffer values buffer′
   pub spent : Spent (noValues p) 6 values
 
 -- ---- the turn that all loops share

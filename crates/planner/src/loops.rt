@@ -16,6 +16,11 @@ use crate::plan::traverse_block;
 use control::continue_block_is_scheduled;
 use rows::INSTR;
 use rows::put;
+use table::terminals::do_while_at;
+use table::terminals::for_at;
+use table::terminals::for_in_at;
+use table::terminals::for_of_at;
+use table::terminals::while_at;
 use table::words::block_word;
 use value::result::Tally;
 use value::result::ValueResult;
@@ -31,7 +36,7 @@ ghost use Rattle.table.specs.Table.{tableOf, terminalAt, unlessNone};
 ghost use Rattle.definition.specs.Value.{visitValueBlock};
 ghost use Rattle.control.specs.Contract.{continueScheduled};
 ghost use Rattle.planner.specs.Planned.{Entered, PlannedBare};
-ghost use Rattle.planner.specs.Loops.{PlannedRows, noneMade, valueMade, plainForm, flatForm, forMade, forOfMade, noValues, valuesOf, Makes, Spent, MakesMore, MakesTested, scheduleLoop, enteringLoop, loopTaken, continuesAt, valueFallthrough, takeIdIf};
+ghost use Rattle.planner.specs.Loops.{PlannedRows, plainMade, flatMade, forValues, forOfValues, noValues, valuesOf, Makes, Spent, MakesMore, MakesTested, scheduleLoop, enteringLoop, loopTaken, continuesAt, valueFallthrough, takeIdIf};
 
 // What a loop's values came to: a refusal, or the rows and visits then.
 pub struct Values {
@@ -77,7 +82,7 @@ fn plain_value(words: &[u32], tree: &mut [u32], p: Position, before: Values, blo
     requires { ⌜ Entered (now words) p ⌝ }
     requires { ⌜ block < blockCount (now words) ⌝ }
     requires { ⌜ Spent (noValues p) 6 before ⌝ }
-    ensures { λ r. ⌜ MakesMore p (valueMade (visitValueBlock (tableOf (now (words .entry))) (127 - p .depth)) plainForm block (blockWord (now (words .entry)) (p .block) 9)) before (now (tree .entry)) r (now (tree .exit)) ⌝ }
+    ensures { λ r. ⌜ MakesMore p (plainMade (now (words .entry)) p block) before (now (tree .entry)) r (now (tree .exit)) ⌝ }
 {
     if before.code != 0 {
         return before;
@@ -95,7 +100,7 @@ fn flat_value(words: &[u32], tree: &mut [u32], p: Position, before: Values, bloc
     requires { ⌜ Entered (now words) p ⌝ }
     requires { ⌜ block < blockCount (now words) ⌝ }
     requires { ⌜ Spent (noValues p) 6 before ⌝ }
-    ensures { λ r. ⌜ MakesMore p (valueMade (visitValueBlock (tableOf (now (words .entry))) (127 - p .depth)) (flatForm (tableOf (now (words .entry))) (blockWord (now (words .entry)) (p .block) 9)) block (blockWord (now (words .entry)) (p .block) 9)) before (now (tree .entry)) r (now (tree .exit)) ⌝ }
+    ensures { λ r. ⌜ MakesMore p (flatMade (now (words .entry)) p block) before (now (tree .entry)) r (now (tree .exit)) ⌝ }
 {
     if before.code != 0 {
         return before;
@@ -203,18 +208,16 @@ pub fn visit_do_while<'a>(
     requires { ⌜ blockWord (now words) (p .block) 2 ≡ 8 ⌝ }
     ensures { λ r. ⌜ PlannedBare (now (words .entry)) (now (scheduled .entry)) (now («catch_handlers» .entry)) p r ⌝ }
 {
-    let loop_block = block_word(words, p.block, 3);
-    let test = block_word(words, p.block, 4);
-    let fallthrough = block_word(words, p.block, 5);
-    if continues_scheduled(scheduled, fallthrough, test) {
-        return refuse(p, 15, test);
+    let terminal = do_while_at(words, p.block);
+    if continues_scheduled(scheduled, terminal.fallthrough, terminal.test) {
+        return refuse(p, 15, terminal.test);
     }
-    let label = unless_scheduled(scheduled, catch_handlers, fallthrough);
+    let label = unless_scheduled(scheduled, catch_handlers, terminal.fallthrough);
     let blocks = Loop {
-        fallthrough: fallthrough,
+        fallthrough: terminal.fallthrough,
         label: label,
-        continue_block: test,
-        loop_block: loop_block,
+        continue_block: terminal.test,
+        loop_block: terminal.loop_block,
     };
     enter_loop(scheduled, catch_handlers, p, no_values(p), blocks)
 }
@@ -230,22 +233,20 @@ pub fn visit_while<'a>(
     requires { ⌜ blockWord (now words) (p .block) 2 ≡ 9 ⌝ }
     ensures { λ r. ⌜ PlannedRows (now (words .entry)) (now (scheduled .entry)) (now («catch_handlers» .entry)) p (now (tree .entry)) r (now (tree .exit)) ⌝ }
 {
-    let test = block_word(words, p.block, 3);
-    let loop_block = block_word(words, p.block, 4);
-    let fallthrough = block_word(words, p.block, 5);
-    if block_word(words, fallthrough, 2) == 0 {
-        return refuse(p, 10, fallthrough);
+    let terminal = while_at(words, p.block);
+    if block_word(words, terminal.fallthrough, 2) == 0 {
+        return refuse(p, 10, terminal.fallthrough);
     }
-    if continues_scheduled(scheduled, fallthrough, test) {
-        return refuse(p, 15, test);
+    if continues_scheduled(scheduled, terminal.fallthrough, terminal.test) {
+        return refuse(p, 15, terminal.test);
     }
-    let label = unless_unreachable(words, scheduled, catch_handlers, fallthrough);
-    let values = plain_value(words, tree, p, no_values(p), test);
+    let label = unless_unreachable(words, scheduled, catch_handlers, terminal.fallthrough);
+    let values = plain_value(words, tree, p, no_values(p), terminal.test);
     let blocks = Loop {
-        fallthrough: fallthrough,
+        fallthrough: terminal.fallthrough,
         label: label,
-        continue_block: test,
-        loop_block: loop_block,
+        continue_block: terminal.test,
+        loop_block: terminal.loop_block,
     };
     enter_loop(scheduled, catch_handlers, p, values, blocks)
 }
@@ -282,7 +283,7 @@ fn for_values(
     requires { ⌜ init < blockCount (now words) ⌝ }
     requires { ⌜ test < blockCount (now words) ⌝ }
     requires { ⌜ ((update ≡ 65535 → ⊥) → update < blockCount (now words)) ⌝ }
-    ensures { λ r. ⌜ Makes p (forMade (tableOf (now (words .entry))) (visitValueBlock (tableOf (now (words .entry))) (127 - p .depth)) init test (unlessNone update) (blockWord (now (words .entry)) (p .block) 9) (noneMade (p .visits))) (now (tree .entry)) r (now (tree .exit)) ⌝ }
+    ensures { λ r. ⌜ Makes p (forValues (now (words .entry)) p init test update) (now (tree .entry)) r (now (tree .exit)) ⌝ }
 {
     let tested = init_and_test(words, tree, p, init, test);
     if update == NONE {
@@ -302,22 +303,25 @@ pub fn visit_for<'a>(
     requires { ⌜ blockWord (now words) (p .block) 2 ≡ 10 ⌝ }
     ensures { λ r. ⌜ PlannedRows (now (words .entry)) (now (scheduled .entry)) (now («catch_handlers» .entry)) p (now (tree .entry)) r (now (tree .exit)) ⌝ }
 {
-    let init = block_word(words, p.block, 3);
-    let test = block_word(words, p.block, 4);
-    let update = block_word(words, p.block, 5);
-    let loop_block = block_word(words, p.block, 6);
-    let fallthrough = block_word(words, p.block, 7);
-    let continue_block = for_continues_at(test, update);
-    if continues_scheduled(scheduled, fallthrough, continue_block) {
+    let terminal = for_at(words, p.block);
+    let continue_block = for_continues_at(terminal.test, terminal.update);
+    if continues_scheduled(scheduled, terminal.fallthrough, continue_block) {
         return refuse(p, 15, continue_block);
     }
-    let label = unless_scheduled(scheduled, catch_handlers, fallthrough);
-    let values = for_values(words, tree, p, init, test, update);
+    let label = unless_scheduled(scheduled, catch_handlers, terminal.fallthrough);
+    let values = for_values(
+        words,
+        tree,
+        p,
+        terminal.init,
+        terminal.test,
+        terminal.update,
+    );
     let blocks = Loop {
-        fallthrough: fallthrough,
+        fallthrough: terminal.fallthrough,
         label: label,
         continue_block: continue_block,
-        loop_block: loop_block,
+        loop_block: terminal.loop_block,
     };
     enter_loop(scheduled, catch_handlers, p, values, blocks)
 }
@@ -326,7 +330,7 @@ fn for_of_values(words: &[u32], tree: &mut [u32], p: Position, init: u32, test: 
     requires { ⌜ Entered (now words) p ⌝ }
     requires { ⌜ init < blockCount (now words) ⌝ }
     requires { ⌜ test < blockCount (now words) ⌝ }
-    ensures { λ r. ⌜ Makes p (forOfMade (tableOf (now (words .entry))) (visitValueBlock (tableOf (now (words .entry))) (127 - p .depth)) init test (blockWord (now (words .entry)) (p .block) 9) (noneMade (p .visits))) (now (tree .entry)) r (now (tree .exit)) ⌝ }
+    ensures { λ r. ⌜ Makes p (forOfValues (now (words .entry)) p init test) (now (tree .entry)) r (now (tree .exit)) ⌝ }
 {
     let first = flat_value(words, tree, p, no_values(p), init);
     flat_value(words, tree, p, first, test)
@@ -343,20 +347,17 @@ pub fn visit_for_of<'a>(
     requires { ⌜ blockWord (now words) (p .block) 2 ≡ 11 ⌝ }
     ensures { λ r. ⌜ PlannedRows (now (words .entry)) (now (scheduled .entry)) (now («catch_handlers» .entry)) p (now (tree .entry)) r (now (tree .exit)) ⌝ }
 {
-    let init = block_word(words, p.block, 3);
-    let test = block_word(words, p.block, 4);
-    let loop_block = block_word(words, p.block, 5);
-    let fallthrough = block_word(words, p.block, 6);
-    if continues_scheduled(scheduled, fallthrough, init) {
-        return refuse(p, 15, init);
+    let terminal = for_of_at(words, p.block);
+    if continues_scheduled(scheduled, terminal.fallthrough, terminal.init) {
+        return refuse(p, 15, terminal.init);
     }
-    let label = unless_scheduled(scheduled, catch_handlers, fallthrough);
-    let values = for_of_values(words, tree, p, init, test);
+    let label = unless_scheduled(scheduled, catch_handlers, terminal.fallthrough);
+    let values = for_of_values(words, tree, p, terminal.init, terminal.test);
     let blocks = Loop {
-        fallthrough: fallthrough,
+        fallthrough: terminal.fallthrough,
         label: label,
-        continue_block: init,
-        loop_block: loop_block,
+        continue_block: terminal.init,
+        loop_block: terminal.loop_block,
     };
     enter_loop(scheduled, catch_handlers, p, values, blocks)
 }
@@ -372,19 +373,17 @@ pub fn visit_for_in<'a>(
     requires { ⌜ blockWord (now words) (p .block) 2 ≡ 12 ⌝ }
     ensures { λ r. ⌜ PlannedRows (now (words .entry)) (now (scheduled .entry)) (now («catch_handlers» .entry)) p (now (tree .entry)) r (now (tree .exit)) ⌝ }
 {
-    let init = block_word(words, p.block, 3);
-    let loop_block = block_word(words, p.block, 4);
-    let fallthrough = block_word(words, p.block, 5);
-    if continues_scheduled(scheduled, fallthrough, init) {
-        return refuse(p, 15, init);
+    let terminal = for_in_at(words, p.block);
+    if continues_scheduled(scheduled, terminal.fallthrough, terminal.init) {
+        return refuse(p, 15, terminal.init);
     }
-    let label = unless_scheduled(scheduled, catch_handlers, fallthrough);
-    let values = flat_value(words, tree, p, no_values(p), init);
+    let label = unless_scheduled(scheduled, catch_handlers, terminal.fallthrough);
+    let values = flat_value(words, tree, p, no_values(p), terminal.init);
     let blocks = Loop {
-        fallthrough: fallthrough,
+        fallthrough: terminal.fallthrough,
         label: label,
-        continue_block: init,
-        loop_block: loop_block,
+        continue_block: terminal.init,
+        loop_block: terminal.loop_block,
     };
     enter_loop(scheduled, catch_handlers, p, values, blocks)
 }

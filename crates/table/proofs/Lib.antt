@@ -5,3 +5,4 @@ pub mod TableLaws
 pub mod PromiseLaws
 pub mod RangeLaws
 pub mod BlockLaws
+pub mod TerminalLaws

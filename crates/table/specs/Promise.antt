@@ -8,7 +8,7 @@ use mathlib.Core.Path.{_≡_}
 use lib.ListN.{getD, length}
 use Rattle.table.specs.Words.{entryWord, blockCount, instructionCount, caseCount, placeCount, identifierCount, wordsNeeded, blockWord, instructionWord, caseWord, placeWord, identifierWord, largest}
 use Rattle.table.specs.Check.{unused, fits, blockRules, instructionRules, caseRules}
-use Rattle.table.specs.Table.{Terminal, absent, unreachable, throw, return, goto, if, branch, switch, do-while, while, for, for-of, for-in, logical, ternary, optional, label, sequence, maybe-throw, try, scope, Operation, other, load-local, store-local}
+use Rattle.table.specs.Table.{Terminal, absent, unreachable, throw, return, goto, if, branch, switch, do-while, while, for, for-of, for-in, logical, ternary, optional, label, sequence, maybe-throw, try, scope, Operation, other, load-local, store-local, tableOf, terminalAt}
 
 -- there is a head, and no count is over its limit
 pub record Limited (ws : List ℕ) : Type 0 where
@@ -65,6 +65,12 @@ module _ (blocks places cases : ℕ) where
   InRange (maybe-throw continuation) = continuation < blocks
   InRange (try block handler fallthrough binding) = (block < blocks) × (handler < blocks) × (fallthrough < blocks) × BelowUnlessNone places binding
   InRange (scope pruned block fallthrough number) = (block < blocks) × (fallthrough < blocks) × (number ≤ largest)
+
+-- the block's terminal is `e`, and what it names is there, among the 1,024 blocks
+pub record Ends (ws : List ℕ) (block : ℕ) (e : Terminal) : Type 0 where
+  pub few : blockCount ws ≤ 1024
+  pub is : terminalAt (tableOf ws) block ≡ e
+  pub named : InRange (blockCount ws) (placeCount ws) (caseCount ws) e
 
 -- of a table with so many places
 module _ (places : ℕ) where

@@ -1,5 +1,6 @@
 // Refusals 1 to 4 of paper 01, and the accessors that index the words by what the check promises.
 mod rows;
+pub mod terminals;
 pub mod words;
 
 ghost use mathlib.Core.Path.{_≡_};

@@ -13,9 +13,9 @@ is-accepted-requires c κs = search needs
 
 walk-requires : tie.Need-walk-requires
 walk-requires c κs =
-    let at-if1 = c .before in
-    let at-is-accepted = at-if1 .before in
-    let at-check = at-is-accepted .before in
+    let at-if1 : tie.Then1 = search in
+    let at-is-accepted : tie.After-is-accepted = search in
+    let at-check : tie.After-check = search in
     promised _ (accepted-checked _ _ (at-check .check .ensures) (sym (at-is-accepted .is-accepted .ensures) ∙ at-if1 .if1 .taken))
 
 finish-requires : tie.Need-finish-requires
@@ -26,11 +26,11 @@ same-length c = search needs
 
 returns : tie.Need-returns
 returns c =
-    let at-finish = c .before .before in
-    let at-walk = at-finish .before .before .before .before in
-    let at-if1 = at-walk .before .before in
-    let at-is-accepted = at-if1 .before in
-    let at-check = at-is-accepted .before in
+    let at-finish : tie.After-finish = search in
+    let at-walk : tie.After-walk = search in
+    let at-if1 : tie.Then1 = search in
+    let at-is-accepted : tie.After-is-accepted = search in
+    let at-check : tie.After-check = search in
     checked-built _ _ _ _ _ (at-check .check .ensures) (sym (at-is-accepted .is-accepted .ensures) ∙ at-if1 .if1 .taken) (at-walk .walk .kept .1 .0) (at-finish .finish .ensures _ (at-walk .walk .ensures))
 
 code-requires : tie.Need-code-requires
@@ -47,12 +47,12 @@ same-length-2 c = search needs
 
 returns-2 : tie.Need-returns-2
 returns-2 c =
-    let at-refuse = c .before .before in
-    let at-place = at-refuse .before in
-    let at-code = at-place .before in
-    let at-if1 = at-code .before .before in
-    let at-is-accepted = at-if1 .before in
-    let at-check = at-is-accepted .before in
+    let at-refuse : tie.After-refuse = search in
+    let at-place : tie.After-place = search in
+    let at-code : tie.After-code = search in
+    let at-if1 : tie.Else1 = search in
+    let at-is-accepted : tie.After-is-accepted = search in
+    let at-check : tie.After-check = search in
     unchecked-built _ _ _ _ (at-check .check .ensures) (sym (at-is-accepted .is-accepted .ensures) ∙ at-if1 .if1 .left) (rw (at-place .place .ensures, at-code .code .ensures) at (at-refuse .refuse .ensures))
 
 pub build-reactive-function-spec : {M : Type 1} → statement M

@@ -11,8 +11,8 @@ same-length c = search needs
 
 returns : tie.Need-returns
 returns c a h =
-    let at-refuse = c .before .before in
-    let at-if1 = at-refuse .before .before in
+    let at-refuse : tie.After-refuse = search in
+    let at-if1 : tie.Then1 = search in
     rejected-outcome _ _ _ _ (at-if1 .if1 .taken) (at-refuse .refuse .ensures) a h
 
 cast-rows : tie.Need-cast-rows
@@ -26,9 +26,9 @@ same-length-2 c = search needs
 
 returns-2 : tie.Need-returns-2
 returns-2 c a h =
-    let at-refuse2 = c .before .before in
-    let at-if2 = at-refuse2 .before .before in
-    let at-if1 = at-if2 .before .before in
+    let at-refuse2 : tie.After-refuse2 = search in
+    let at-if2 : tie.Then2 = search in
+    let at-if1 : tie.Else1 = search in
     overfull-outcome _ _ _ (at-if1 .if1 .left) (at-if2 .if2 .taken) (at-refuse2 .refuse2 .ensures) a h
 
 mul-clear : tie.Need-mul-clear
@@ -42,9 +42,9 @@ same-length-3 c = search needs
 
 returns-3 : tie.Need-returns-3
 returns-3 c a h =
-    let at-clear = c .before .before in
-    let at-if2 = at-clear .before .before in
-    let at-if1 = at-if2 .before .before in
+    let at-clear : tie.After-clear = search in
+    let at-if2 : tie.Else2 = search in
+    let at-if1 : tie.Else1 = search in
     accepted-outcome _ _ _ (at-if1 .if1 .left) (at-if2 .if2 .left) (at-clear .clear .ensures) a h
 
 pub finish-spec : {M : Type 1} → statement M

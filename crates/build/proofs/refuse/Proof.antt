@@ -11,8 +11,8 @@ same-length c = search needs
 
 returns : tie.Need-returns
 returns c =
-    let at-clear = c .before .before in
-    let at-entry = at-clear .before .before .before in
+    let at-clear : tie.After-clear = search in
+    let at-entry : tie.Start = search in
     refused-outcome _ _ _ _ (at-entry .args .tree .now) _ (at-clear .clear .ensures)
 
 pub refuse-spec : {M : Type 1} → statement M

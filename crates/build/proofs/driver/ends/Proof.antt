@@ -14,13 +14,18 @@ accepted : (plan : Plan) (b : Bool) → plan .code ≡ 0 → b ≡ isHalt (plan 
 accepted plan b z e = rw (eq-eqb (plan .code) 0 z, planEnds) e
 
 returns : tie.Need-returns
-returns c = refused (c .before .before .args .plan) (c .if1 .taken)
+returns c =
+    let start : tie.Start = search in
+    refused (start .args .plan) (c .if1 .taken)
 
 halted-requires : tie.Need-halted-requires
 halted-requires c κs = search needs
 
 returns-2 : tie.Need-returns-2
-returns-2 c = accepted (c .before .before .before .before .args .plan) _ (c .before .before .if1 .left) (c .halted .ensures)
+returns-2 c =
+    let else1 : tie.Else1 = search in
+    let start : tie.Start = search in
+    accepted (start .args .plan) _ (else1 .if1 .left) (c .halted .ensures)
 
 pub ends-spec : {M : Type 1} → statement M
 ends-spec = tie.close (tie.spec returns halted-requires returns-2)

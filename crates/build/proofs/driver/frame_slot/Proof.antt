@@ -6,7 +6,9 @@ innermost-requires : tie.Need-innermost-requires
 innermost-requires c κs = search needs
 
 returns : tie.Need-returns
-returns c = rw (c .before .if1 .taken) (c .innermost .ensures)
+returns c =
+    let then1 : tie.Then1 = search in
+    rw (then1 .if1 .taken) (c .innermost .ensures)
 
 returns-2 : tie.Need-returns-2
 returns-2 c = search needs

@@ -52,28 +52,29 @@ start-requires c κs = search needs
 
 loop-holds : tie.Need-loop-holds Inv-loop2 μ-loop2 Inv-loop μ-loop
 loop-holds c =
-    let start = c .before .before .before .before .before in
-    record { walking = walking-start _ (start .pre) (checked-table _ (start .pre)) _ _ _ _ (c .before .before .new .ensures) refl (c .start .ensures); long = refl }
+    let at-new : tie.After-new Inv-loop2 μ-loop2 Inv-loop μ-loop = search in
+    let start : tie.Start Inv-loop2 μ-loop2 Inv-loop μ-loop = search in
+    record { walking = walking-start _ (start .pre) (checked-table _ (start .pre)) _ _ _ _ (at-new .new .ensures) refl (c .start .ensures); long = refl }
 
 innermost-requires : tie.Need-innermost-requires Inv-loop2 μ-loop2 Inv-loop μ-loop
 innermost-requires c κs = tt
 
 mul-frame : tie.Need-mul-frame Inv-loop2 μ-loop2 Inv-loop μ-loop
 mul-frame c =
-    let at-loop = c .before in
-    let start = at-loop .before .before .before .before .before .before in
+    let at-loop : tie.At-loop Inv-loop2 μ-loop2 Inv-loop μ-loop = search in
+    let start : tie.Start Inv-loop2 μ-loop2 Inv-loop μ-loop = search in
     omega (arith, c .innermost .ensures, shallow _ (start .pre) (checked-table _ (start .pre)) _ _ _ _ (at-loop .loop .inv .walking))
 
 array-copy-out-frame : tie.Need-array-copy-out-frame Inv-loop2 μ-loop2 Inv-loop μ-loop
 array-copy-out-frame c =
-    let at-loop = c .before in
-    let start = at-loop .before .before .before .before .before .before in
+    let at-loop : tie.At-loop Inv-loop2 μ-loop2 Inv-loop μ-loop = search in
+    let start : tie.Start Inv-loop2 μ-loop2 Inv-loop μ-loop = search in
     omega (arith, c .innermost .ensures, shallow _ (start .pre) (checked-table _ (start .pre)) _ _ _ _ (at-loop .loop .inv .walking))
 
 jump-at-requires : tie.Need-jump-at-requires Inv-loop2 μ-loop2 Inv-loop μ-loop
 jump-at-requires c κs =
-    let at-loop = c .before .before .before .before .before in
-    let start = at-loop .before .before .before .before .before .before in
+    let at-loop : tie.At-loop Inv-loop2 μ-loop2 Inv-loop μ-loop = search in
+    let start : tie.Start Inv-loop2 μ-loop2 Inv-loop μ-loop = search in
     ((start .pre), visit-below _ (start .pre) (checked-table _ (start .pre)) _ _ _ _ (at-loop .loop .inv .walking))
 
 search-from-requires : tie.Need-search-from-requires Inv-loop2 μ-loop2 Inv-loop μ-loop
@@ -86,10 +87,18 @@ sub-at : tie.Need-sub-at Inv-loop2 μ-loop2 Inv-loop μ-loop
 sub-at c = search needs
 
 mul-entry : tie.Need-mul-entry Inv-loop2 μ-loop2 Inv-loop μ-loop
-mul-entry c = omega (arith, c .before .loop2 .inv .within, c .before .before .before .before .before .before .before .before .before .loop .inv .walking .whole .bounded .most)
+mul-entry c =
+    let at-loop2 : tie.At-loop2 Inv-loop2 μ-loop2 Inv-loop μ-loop = search in
+    let at-frame : tie.After-frame Inv-loop2 μ-loop2 Inv-loop μ-loop = search in
+    let at-loop : tie.At-loop Inv-loop2 μ-loop2 Inv-loop μ-loop = search in
+    omega (arith, at-loop2 .loop2 .inv .within, at-loop .loop .inv .walking .whole .bounded .most)
 
 element-copy-out-entry : tie.Need-element-copy-out-entry Inv-loop2 μ-loop2 Inv-loop μ-loop
-element-copy-out-entry c = omega (arith, c .if1 .left, c .before .loop2 .inv .within, c .before .before .before .before .before .before .before .before .before .loop .inv .walking .whole .bounded .most)
+element-copy-out-entry c =
+    let at-loop2 : tie.At-loop2 Inv-loop2 μ-loop2 Inv-loop μ-loop = search in
+    let at-frame : tie.After-frame Inv-loop2 μ-loop2 Inv-loop μ-loop = search in
+    let at-loop : tie.At-loop Inv-loop2 μ-loop2 Inv-loop μ-loop = search in
+    omega (arith, c .if1 .left, at-loop2 .loop2 .inv .within, at-loop .loop .inv .walking .whole .bounded .most)
 
 meets-requires : tie.Need-meets-requires Inv-loop2 μ-loop2 Inv-loop μ-loop
 meets-requires c κs = tt
@@ -104,7 +113,12 @@ loop2-less : tie.Need-loop2-less Inv-loop2 μ-loop2 Inv-loop μ-loop
 loop2-less c = search needs
 
 loop2-again : tie.Need-loop2-again Inv-loop2 μ-loop2 Inv-loop μ-loop
-loop2-again c = rw (c .or-loop .ensures) (search-on _ _ _ _ _ (c .before .before .before .before .before .loop2 .inv) (c .before .before .before .before .if1 .left) (sym (c .before .before .meets .ensures) ∙ c .before .if2 .left))
+loop2-again c =
+    let else2 : tie.Else2 Inv-loop2 μ-loop2 Inv-loop μ-loop = search in
+    let at-meets : tie.After-meets Inv-loop2 μ-loop2 Inv-loop μ-loop = search in
+    let else1 : tie.Else1 Inv-loop2 μ-loop2 Inv-loop μ-loop = search in
+    let at-loop2 : tie.At-loop2 Inv-loop2 μ-loop2 Inv-loop μ-loop = search in
+    rw (c .or-loop .ensures) (search-on _ _ _ _ _ (at-loop2 .loop2 .inv) (else1 .if1 .left) (sym (at-meets .meets .ensures) ∙ else2 .if2 .left))
 
 -- where the search has ended
 module _ (c : tie.Joined1 Inv-loop2 μ-loop2 Inv-loop μ-loop) where
@@ -139,11 +153,11 @@ module _ (c : tie.After-plan-turn Inv-loop2 μ-loop2 Inv-loop μ-loop) where
 
 plan-turn-requires : tie.Need-plan-turn-requires Inv-loop2 μ-loop2 Inv-loop μ-loop
 plan-turn-requires c κs =
-    let at-if1 = c .before .before .before .before .before .before in
-    let at-jump-at = at-if1 .before .before .before in
-    let at-innermost = at-jump-at .before .before .before .before .before in
-    let at-loop = at-innermost .before in
-    let start = at-loop .before .before .before .before .before .before in
+    let at-if1 : tie.Joined1 Inv-loop2 μ-loop2 Inv-loop μ-loop = search in
+    let at-jump-at : tie.After-jump-at Inv-loop2 μ-loop2 Inv-loop μ-loop = search in
+    let at-innermost : tie.After-innermost Inv-loop2 μ-loop2 Inv-loop μ-loop = search in
+    let at-loop : tie.At-loop Inv-loop2 μ-loop2 Inv-loop μ-loop = search in
+    let start : tie.Start Inv-loop2 μ-loop2 Inv-loop μ-loop = search in
     (ready _ (start .pre) (checked-table _ (start .pre)) _ _ _ _ (at-loop .loop .inv .walking) _ (frame-read _ (start .pre) (checked-table _ (start .pre)) _ _ _ _ (at-loop .loop .inv .walking) _ (at-innermost .innermost .ensures)), found-below _ (at-jump-at .jump-at .result) (at-if1 .if1 .resolved) (at-loop .loop .inv .walking .whole) (found at-if1))
 
 ends-requires : tie.Need-ends-requires Inv-loop2 μ-loop2 Inv-loop μ-loop
@@ -153,22 +167,43 @@ answer-requires : tie.Need-answer-requires Inv-loop2 μ-loop2 Inv-loop μ-loop
 answer-requires c κs = tt
 
 same-length : tie.Need-same-length Inv-loop2 μ-loop2 Inv-loop μ-loop
-same-length c = omega (arith, c .before .before .before .before .before .plan-turn .kept .1 .0, c .before .before .before .before .before .before .before .before .before .before .before .before .before .before .before .before .before .before .before .before .before .loop .inv .long)
+same-length c =
+    let at-plan-turn : tie.After-plan-turn Inv-loop2 μ-loop2 Inv-loop μ-loop = search in
+    let at-plan-turn-arg : tie.After-plan-turn-arg Inv-loop2 μ-loop2 Inv-loop μ-loop = search in
+    let at-jump-at-arg : tie.After-jump-at-arg Inv-loop2 μ-loop2 Inv-loop μ-loop = search in
+    let at-loop : tie.At-loop Inv-loop2 μ-loop2 Inv-loop μ-loop = search in
+    omega (arith, at-plan-turn .plan-turn .kept .1 .0, at-loop .loop .inv .long)
 
 returns : tie.Need-returns Inv-loop2 μ-loop2 Inv-loop μ-loop
-returns c = rw (c .answer .ensures) (turn-ends (turn (c .before .before .before .before .before)) (sym (c .before .before .ends .ensures) ∙ c .before .if3 .taken))
+returns c =
+    let then3 : tie.Then3 Inv-loop2 μ-loop2 Inv-loop μ-loop = search in
+    let at-ends : tie.After-ends Inv-loop2 μ-loop2 Inv-loop μ-loop = search in
+    let at-plan-turn : tie.After-plan-turn Inv-loop2 μ-loop2 Inv-loop μ-loop = search in
+    rw (c .answer .ensures) (turn-ends (turn (at-plan-turn)) (sym (at-ends .ends .ensures) ∙ then3 .if3 .taken))
 
 visited-block-requires : tie.Need-visited-block-requires Inv-loop2 μ-loop2 Inv-loop μ-loop
 visited-block-requires c κs = tt
 
 mark-requires : tie.Need-mark-requires Inv-loop2 μ-loop2 Inv-loop μ-loop
-mark-requires c κs = rw (c .visited-block .ensures) (turn-applicable (turn (c .before .before .before .before .before .before)) (sym (c .before .before .before .ends .ensures) ∙ c .before .before .if3 .left) .block)
+mark-requires c κs =
+    let else3 : tie.Else3 Inv-loop2 μ-loop2 Inv-loop μ-loop = search in
+    let at-ends : tie.After-ends Inv-loop2 μ-loop2 Inv-loop μ-loop = search in
+    let at-plan-turn : tie.After-plan-turn Inv-loop2 μ-loop2 Inv-loop μ-loop = search in
+    rw (c .visited-block .ensures) (turn-applicable (turn (at-plan-turn)) (sym (at-ends .ends .ensures) ∙ else3 .if3 .left) .block)
 
 mark-requires-2 : tie.Need-mark-requires-2 Inv-loop2 μ-loop2 Inv-loop μ-loop
-mark-requires-2 c κs = turn-applicable (turn (c .before .before .before .before .before .before .before .before)) (sym (c .before .before .before .before .before .ends .ensures) ∙ c .before .before .before .before .if3 .left) .handler
+mark-requires-2 c κs =
+    let else3 : tie.Else3 Inv-loop2 μ-loop2 Inv-loop μ-loop = search in
+    let at-ends : tie.After-ends Inv-loop2 μ-loop2 Inv-loop μ-loop = search in
+    let at-plan-turn : tie.After-plan-turn Inv-loop2 μ-loop2 Inv-loop μ-loop = search in
+    turn-applicable (turn (at-plan-turn)) (sym (at-ends .ends .ensures) ∙ else3 .if3 .left) .handler
 
 mark-requires-3 : tie.Need-mark-requires-3 Inv-loop2 μ-loop2 Inv-loop μ-loop
-mark-requires-3 c κs = turn-applicable (turn (c .before .before .before .before .before .before .before .before .before .before)) (sym (c .before .before .before .before .before .before .before .ends .ensures) ∙ c .before .before .before .before .before .before .if3 .left) .scope
+mark-requires-3 c κs =
+    let else3 : tie.Else3 Inv-loop2 μ-loop2 Inv-loop μ-loop = search in
+    let at-ends : tie.After-ends Inv-loop2 μ-loop2 Inv-loop μ-loop = search in
+    let at-plan-turn : tie.After-plan-turn Inv-loop2 μ-loop2 Inv-loop μ-loop = search in
+    turn-applicable (turn (at-plan-turn)) (sym (at-ends .ends .ensures) ∙ else3 .if3 .left) .scope
 
 frame-slot-requires : tie.Need-frame-slot-requires Inv-loop2 μ-loop2 Inv-loop μ-loop
 frame-slot-requires c κs = tt
@@ -252,89 +287,144 @@ enum-told : tie.Need-enum-told Inv-loop2 μ-loop2 Inv-loop μ-loop
 enum-told c = search needs
 
 loop-less : tie.Need-loop-less Inv-loop2 μ-loop2 Inv-loop μ-loop
-loop-less c = lower (c .before .before) _ (c .enum-told .given .1) _ (nothing-changed _ (whole (c .before .before)))
+loop-less c =
+    let at-frame-slot : tie.After-frame-slot Inv-loop2 μ-loop2 Inv-loop μ-loop = search in
+    lower (at-frame-slot) _ (c .enum-told .given .1) _ (nothing-changed _ (whole (at-frame-slot)))
 
 loop-again : tie.Need-loop-again Inv-loop2 μ-loop2 Inv-loop μ-loop
-loop-again c = next (c .before .before) _ (c .enum-told .given .1) _ (nothing-changed _ (whole (c .before .before)))
+loop-again c =
+    let at-frame-slot : tie.After-frame-slot Inv-loop2 μ-loop2 Inv-loop μ-loop = search in
+    next (at-frame-slot) _ (c .enum-told .given .1) _ (nothing-changed _ (whole (at-frame-slot)))
 
 enum-known-change : tie.Need-enum-known-change Inv-loop2 μ-loop2 Inv-loop μ-loop
 enum-known-change c = search needs
 
 schedule-requires : tie.Need-schedule-requires Inv-loop2 μ-loop2 Inv-loop μ-loop
-schedule-requires c κs = changeable (c .before .before .before) _ (c .before .change .given .1)
+schedule-requires c κs =
+    let at-change : tie.After-change Inv-loop2 μ-loop2 Inv-loop μ-loop = search in
+    let at-frame-slot : tie.After-frame-slot Inv-loop2 μ-loop2 Inv-loop μ-loop = search in
+    changeable (at-frame-slot) _ (at-change .change .given .1)
 
 sub-entry : tie.Need-sub-entry Inv-loop2 μ-loop2 Inv-loop μ-loop
-sub-entry c = omega (arith, c .before .schedule .ensures .len)
+sub-entry c =
+    let at-schedule : tie.After-schedule Inv-loop2 μ-loop2 Inv-loop μ-loop = search in
+    omega (arith, at-schedule .schedule .ensures .len)
 
 mul-entry-2 : tie.Need-mul-entry-2 Inv-loop2 μ-loop2 Inv-loop μ-loop
-mul-entry-2 c = omega (arith, c .before .schedule .ensures .len, schedule-room c .len)
+mul-entry-2 c =
+    let at-schedule : tie.After-schedule Inv-loop2 μ-loop2 Inv-loop μ-loop = search in
+    omega (arith, at-schedule .schedule .ensures .len, schedule-room c .len)
 
 element-set-from-entry : tie.Need-element-set-from-entry Inv-loop2 μ-loop2 Inv-loop μ-loop
-element-set-from-entry c = omega (arith, c .before .schedule .ensures .len, schedule-room c .len)
+element-set-from-entry c =
+    let at-schedule : tie.After-schedule Inv-loop2 μ-loop2 Inv-loop μ-loop = search in
+    omega (arith, at-schedule .schedule .ensures .len, schedule-room c .len)
 
 loop-less-2 : tie.Need-loop-less-2 Inv-loop2 μ-loop2 Inv-loop μ-loop
 unfolding stored
-loop-less-2 c = lower (c .before .before .before .before .before) _ (c .before .before .before .change .given .1) _ (by-schedule c)
+loop-less-2 c =
+    let at-change : tie.After-change Inv-loop2 μ-loop2 Inv-loop μ-loop = search in
+    let at-frame-slot : tie.After-frame-slot Inv-loop2 μ-loop2 Inv-loop μ-loop = search in
+    lower (at-frame-slot) _ (at-change .change .given .1) _ (by-schedule c)
 
 loop-again-2 : tie.Need-loop-again-2 Inv-loop2 μ-loop2 Inv-loop μ-loop
 unfolding stored
-loop-again-2 c = next (c .before .before .before .before .before) _ (c .before .before .before .change .given .1) _ (by-schedule c)
+loop-again-2 c =
+    let at-change : tie.After-change Inv-loop2 μ-loop2 Inv-loop μ-loop = search in
+    let at-frame-slot : tie.After-frame-slot Inv-loop2 μ-loop2 Inv-loop μ-loop = search in
+    next (at-frame-slot) _ (at-change .change .given .1) _ (by-schedule c)
 
 enum-known-change-2 : tie.Need-enum-known-change-2 Inv-loop2 μ-loop2 Inv-loop μ-loop
 enum-known-change-2 c = search needs
 
 schedule-loop-requires : tie.Need-schedule-loop-requires Inv-loop2 μ-loop2 Inv-loop μ-loop
-schedule-loop-requires c κs = changeable (c .before .before .before) _ (c .before .change2 .given .1)
+schedule-loop-requires c κs =
+    let at-change2 : tie.After-change2 Inv-loop2 μ-loop2 Inv-loop μ-loop = search in
+    let at-frame-slot : tie.After-frame-slot Inv-loop2 μ-loop2 Inv-loop μ-loop = search in
+    changeable (at-frame-slot) _ (at-change2 .change2 .given .1)
 
 sub-entry-2 : tie.Need-sub-entry-2 Inv-loop2 μ-loop2 Inv-loop μ-loop
-sub-entry-2 c = omega (arith, c .before .schedule-loop .ensures .len)
+sub-entry-2 c =
+    let at-schedule-loop : tie.After-schedule-loop Inv-loop2 μ-loop2 Inv-loop μ-loop = search in
+    omega (arith, at-schedule-loop .schedule-loop .ensures .len)
 
 mul-entry-3 : tie.Need-mul-entry-3 Inv-loop2 μ-loop2 Inv-loop μ-loop
-mul-entry-3 c = omega (arith, c .before .schedule-loop .ensures .len, loop-room c .len)
+mul-entry-3 c =
+    let at-schedule-loop : tie.After-schedule-loop Inv-loop2 μ-loop2 Inv-loop μ-loop = search in
+    omega (arith, at-schedule-loop .schedule-loop .ensures .len, loop-room c .len)
 
 element-set-from-entry-2 : tie.Need-element-set-from-entry-2 Inv-loop2 μ-loop2 Inv-loop μ-loop
-element-set-from-entry-2 c = omega (arith, c .before .schedule-loop .ensures .len, loop-room c .len)
+element-set-from-entry-2 c =
+    let at-schedule-loop : tie.After-schedule-loop Inv-loop2 μ-loop2 Inv-loop μ-loop = search in
+    omega (arith, at-schedule-loop .schedule-loop .ensures .len, loop-room c .len)
 
 loop-less-3 : tie.Need-loop-less-3 Inv-loop2 μ-loop2 Inv-loop μ-loop
 unfolding stored
-loop-less-3 c = lower (c .before .before .before .before .before) _ (c .before .before .before .change2 .given .1) _ (by-schedule-loop c)
+loop-less-3 c =
+    let at-change2 : tie.After-change2 Inv-loop2 μ-loop2 Inv-loop μ-loop = search in
+    let at-frame-slot : tie.After-frame-slot Inv-loop2 μ-loop2 Inv-loop μ-loop = search in
+    lower (at-frame-slot) _ (at-change2 .change2 .given .1) _ (by-schedule-loop c)
 
 loop-again-3 : tie.Need-loop-again-3 Inv-loop2 μ-loop2 Inv-loop μ-loop
 unfolding stored
-loop-again-3 c = next (c .before .before .before .before .before) _ (c .before .before .before .change2 .given .1) _ (by-schedule-loop c)
+loop-again-3 c =
+    let at-change2 : tie.After-change2 Inv-loop2 μ-loop2 Inv-loop μ-loop = search in
+    let at-frame-slot : tie.After-frame-slot Inv-loop2 μ-loop2 Inv-loop μ-loop = search in
+    next (at-frame-slot) _ (at-change2 .change2 .given .1) _ (by-schedule-loop c)
 
 enum-told-2 : tie.Need-enum-told-2 Inv-loop2 μ-loop2 Inv-loop μ-loop
 enum-told-2 c = search needs
 
 add-cx : tie.Need-add-cx Inv-loop2 μ-loop2 Inv-loop μ-loop
-add-cx c = omega (arith, changeable (c .before .before) _ (c .enum-told2 .given .1))
+add-cx c =
+    let at-frame-slot : tie.After-frame-slot Inv-loop2 μ-loop2 Inv-loop μ-loop = search in
+    omega (arith, changeable (at-frame-slot) _ (c .enum-told2 .given .1))
 
 loop-less-4 : tie.Need-loop-less-4 Inv-loop2 μ-loop2 Inv-loop μ-loop
-loop-less-4 c = lower (c .before .before) _ (c .enum-told2 .given .1) _ (id-changed _ (whole (c .before .before)))
+loop-less-4 c =
+    let at-frame-slot : tie.After-frame-slot Inv-loop2 μ-loop2 Inv-loop μ-loop = search in
+    lower (at-frame-slot) _ (c .enum-told2 .given .1) _ (id-changed _ (whole (at-frame-slot)))
 
 loop-again-4 : tie.Need-loop-again-4 Inv-loop2 μ-loop2 Inv-loop μ-loop
-loop-again-4 c = next (c .before .before) _ (c .enum-told2 .given .1) _ (id-changed _ (whole (c .before .before)))
+loop-again-4 c =
+    let at-frame-slot : tie.After-frame-slot Inv-loop2 μ-loop2 Inv-loop μ-loop = search in
+    next (at-frame-slot) _ (c .enum-told2 .given .1) _ (id-changed _ (whole (at-frame-slot)))
 
 enum-told-3 : tie.Need-enum-told-3 Inv-loop2 μ-loop2 Inv-loop μ-loop
 enum-told-3 c = search needs
 
 sub-entry-3 : tie.Need-sub-entry-3 Inv-loop2 μ-loop2 Inv-loop μ-loop
-sub-entry-3 c = changeable (c .before .before) _ (c .enum-told3 .given .1)
+sub-entry-3 c =
+    let at-frame-slot : tie.After-frame-slot Inv-loop2 μ-loop2 Inv-loop μ-loop = search in
+    changeable (at-frame-slot) _ (c .enum-told3 .given .1)
 
 mul-entry-4 : tie.Need-mul-entry-4 Inv-loop2 μ-loop2 Inv-loop μ-loop
-mul-entry-4 c = omega (arith, whole (c .before .before) .bounded .most)
+mul-entry-4 c =
+    let at-frame-slot : tie.After-frame-slot Inv-loop2 μ-loop2 Inv-loop μ-loop = search in
+    omega (arith, whole (at-frame-slot) .bounded .most)
 
 element-copy-out-entry-2 : tie.Need-element-copy-out-entry-2 Inv-loop2 μ-loop2 Inv-loop μ-loop
-element-copy-out-entry-2 c = omega (arith, changeable (c .before .before) _ (c .enum-told3 .given .1), whole (c .before .before) .bounded .most)
+element-copy-out-entry-2 c =
+    let at-frame-slot : tie.After-frame-slot Inv-loop2 μ-loop2 Inv-loop μ-loop = search in
+    omega (arith, changeable (at-frame-slot) _ (c .enum-told3 .given .1), whole (at-frame-slot) .bounded .most)
 
 unschedule-requires : tie.Need-unschedule-requires Inv-loop2 μ-loop2 Inv-loop μ-loop
-unschedule-requires c κs = last-entry _ (changeable (c .before .before .before) _ (c .before .enum-told3 .given .1)) (whole (c .before .before .before))
+unschedule-requires c κs =
+    let at-enum-told3 : tie.After-enum-told3 Inv-loop2 μ-loop2 Inv-loop μ-loop = search in
+    let at-frame-slot : tie.After-frame-slot Inv-loop2 μ-loop2 Inv-loop μ-loop = search in
+    last-entry _ (changeable (at-frame-slot) _ (at-enum-told3 .enum-told3 .given .1)) (whole (at-frame-slot))
 
 loop-less-5 : tie.Need-loop-less-5 Inv-loop2 μ-loop2 Inv-loop μ-loop
-loop-less-5 c = lower (c .before .before .before .before) _ (c .before .before .enum-told3 .given .1) _ (by-unschedule c)
+loop-less-5 c =
+    let at-enum-told3 : tie.After-enum-told3 Inv-loop2 μ-loop2 Inv-loop μ-loop = search in
+    let at-frame-slot : tie.After-frame-slot Inv-loop2 μ-loop2 Inv-loop μ-loop = search in
+    lower (at-frame-slot) _ (at-enum-told3 .enum-told3 .given .1) _ (by-unschedule c)
 
 loop-again-5 : tie.Need-loop-again-5 Inv-loop2 μ-loop2 Inv-loop μ-loop
-loop-again-5 c = next (c .before .before .before .before) _ (c .before .before .enum-told3 .given .1) _ (by-unschedule c)
+loop-again-5 c =
+    let at-enum-told3 : tie.After-enum-told3 Inv-loop2 μ-loop2 Inv-loop μ-loop = search in
+    let at-frame-slot : tie.After-frame-slot Inv-loop2 μ-loop2 Inv-loop μ-loop = search in
+    next (at-frame-slot) _ (at-enum-told3 .enum-told3 .given .1) _ (by-unschedule c)
 
 pub walk-spec : {M : Type 1} → statement M
 walk-spec =

@@ -21,8 +21,10 @@ returns-2 c = search needs
 
 returns-3 : tie.Need-returns-3
 returns-3 c =
-    let pre = c .before .before .before .pre in
-    no-jump _ _ _ _ (pre .0) (pre .1) (λ e. c .match .rest .0 .1 (c .before .block-word .ensures ∙ e)) (λ e. c .match .rest .1 (c .before .block-word .ensures ∙ e))
+    let at-block-word : tie.After-block-word = search in
+    let start : tie.Start = search in
+    let pre = start .pre in
+    no-jump _ _ _ _ (pre .0) (pre .1) (λ e. c .match .rest .0 .1 (at-block-word .block-word .ensures ∙ e)) (λ e. c .match .rest .1 (at-block-word .block-word .ensures ∙ e))
 
 pub block-jump-spec : {M : Type 1} → statement M
 block-jump-spec =

@@ -10,23 +10,31 @@ block-word-requires c κs = search needs
 
 scheduled-at-requires : tie.Need-scheduled-at-requires
 scheduled-at-requires c κs =
-    let pre = c .before .before .pre in
+    let start : tie.Start = search in
+    let pre = start .pre in
     omega (arith, c .block-word .ensures, branch-consequent _ _ (pre .0) (pre .1 .0) (pre .1 .1))
 
 narrow-requires : tie.Need-narrow-requires
 narrow-requires c κs =
-    let pre = c .before .before .before .before .pre in
-    omega (arith, c .before .before .block-word .ensures, branch-consequent _ _ (pre .0) (pre .1 .0) (pre .1 .1))
+    let at-block-word : tie.After-block-word = search in
+    let start : tie.Start = search in
+    let pre = start .pre in
+    omega (arith, at-block-word .block-word .ensures, branch-consequent _ _ (pre .0) (pre .1 .0) (pre .1 .1))
 
 returns : tie.Need-returns
 returns c =
-    let pre = c .before .before .before .before .before .pre in
-    branch-breaks _ _ _ _ (pre .0) (pre .1 .0) (pre .1 .1) _ (c .narrow .ensures ∙ c .before .before .before .block-word .ensures)
+    let at-block-word : tie.After-block-word = search in
+    let start : tie.Start = search in
+    let pre = start .pre in
+    branch-breaks _ _ _ _ (pre .0) (pre .1 .0) (pre .1 .1) _ (c .narrow .ensures ∙ at-block-word .block-word .ensures)
 
 returns-2 : tie.Need-returns-2
 returns-2 c =
-    let pre = c .before .before .before .before .pre in
-    branch-goes _ _ _ _ (pre .0) (pre .1 .0) (pre .1 .1) (rw (← (c .before .before .block-word .ensures)) (sym (c .before .scheduled-at .ensures) ∙ c .if1 .left))
+    let at-scheduled-at : tie.After-scheduled-at = search in
+    let at-block-word : tie.After-block-word = search in
+    let start : tie.Start = search in
+    let pre = start .pre in
+    branch-goes _ _ _ _ (pre .0) (pre .1 .0) (pre .1 .1) (rw (← (at-block-word .block-word .ensures)) (sym (at-scheduled-at .scheduled-at .ensures) ∙ c .if1 .left))
 
 pub branch-jump-spec : {M : Type 1} → statement M
 branch-jump-spec =

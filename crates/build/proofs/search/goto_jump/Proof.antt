@@ -10,7 +10,8 @@ block-word-requires c κs = search needs
 
 narrow-requires : tie.Need-narrow-requires
 narrow-requires c κs =
-    let pre = c .before .before .pre in
+    let start : tie.Start = search in
+    let pre = start .pre in
     omega (arith, c .block-word .ensures, goto-target _ _ (pre .0) (pre .1 .0) (pre .1 .1))
 
 block-word-requires-2 : tie.Need-block-word-requires-2
@@ -18,18 +19,28 @@ block-word-requires-2 c κs = search needs
 
 returns : tie.Need-returns
 returns c scheduled handlers =
-    let pre = c .before .before .before .before .before .pre in
-    goto-breaks _ scheduled handlers _ (pre .0) (pre .1 .0) (pre .1 .1) _ (c .before .before .narrow .ensures ∙ c .before .before .before .block-word .ensures) (sym (c .before .block-word2 .ensures) ∙ c .match .keys1)
+    let at-block-word2 : tie.After-block-word2 = search in
+    let at-narrow : tie.After-narrow = search in
+    let at-block-word : tie.After-block-word = search in
+    let start : tie.Start = search in
+    let pre = start .pre in
+    goto-breaks _ scheduled handlers _ (pre .0) (pre .1 .0) (pre .1 .1) _ (at-narrow .narrow .ensures ∙ at-block-word .block-word .ensures) (sym (at-block-word2 .block-word2 .ensures) ∙ c .match .keys1)
 
 returns-2 : tie.Need-returns-2
 returns-2 c scheduled handlers =
-    let pre = c .before .before .before .before .before .pre in
-    goto-continues _ scheduled handlers _ (pre .0) (pre .1 .0) (pre .1 .1) _ (c .before .before .narrow .ensures ∙ c .before .before .before .block-word .ensures) (sym (c .before .block-word2 .ensures) ∙ c .match .keys2)
+    let at-block-word2 : tie.After-block-word2 = search in
+    let at-narrow : tie.After-narrow = search in
+    let at-block-word : tie.After-block-word = search in
+    let start : tie.Start = search in
+    let pre = start .pre in
+    goto-continues _ scheduled handlers _ (pre .0) (pre .1 .0) (pre .1 .1) _ (at-narrow .narrow .ensures ∙ at-block-word .block-word .ensures) (sym (at-block-word2 .block-word2 .ensures) ∙ c .match .keys2)
 
 returns-3 : tie.Need-returns-3
 returns-3 c scheduled handlers =
-    let pre = c .before .before .before .before .before .pre in
-    goto-tries _ scheduled handlers _ (pre .0) (pre .1 .0) (pre .1 .1) (λ e. c .match .rest .0 .1 (c .before .block-word2 .ensures ∙ e)) (λ e. c .match .rest .1 (c .before .block-word2 .ensures ∙ e))
+    let at-block-word2 : tie.After-block-word2 = search in
+    let start : tie.Start = search in
+    let pre = start .pre in
+    goto-tries _ scheduled handlers _ (pre .0) (pre .1 .0) (pre .1 .1) (λ e. c .match .rest .0 .1 (at-block-word2 .block-word2 .ensures ∙ e)) (λ e. c .match .rest .1 (at-block-word2 .block-word2 .ensures ∙ e))
 
 pub goto-jump-spec : {M : Type 1} → statement M
 goto-jump-spec =

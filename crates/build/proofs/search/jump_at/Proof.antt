@@ -22,7 +22,9 @@ enum-told : tie.Need-enum-told
 enum-told c = search needs
 
 block-jump-requires : tie.Need-block-jump-requires
-block-jump-requires c κs = (c .before .before .before .pre .0, c .before .before .before .pre .1 (c .enum-told .given .1))
+block-jump-requires c κs =
+    let start : tie.Start = search in
+    (start .pre .0, start .pre .1 (c .enum-told .given .1))
 
 enum-told-2 : tie.Need-enum-told-2
 enum-told-2 c = search needs

@@ -22,10 +22,14 @@ returns : tie.Need-returns
 returns c = search needs
 
 returns-2 : tie.Need-returns-2
-returns-2 c = rw (c .before .before .jump .given .1, ← (c .block .ensures)) refl
+returns-2 c =
+    let at-jump : tie.After-jump = search in
+    rw (at-jump .jump .given .1, ← (c .block .ensures)) refl
 
 returns-3 : tie.Need-returns-3
-returns-3 c = rw (c .before .before .jump2 .given .1) (c .continues-at .ensures)
+returns-3 c =
+    let at-jump2 : tie.After-jump2 = search in
+    rw (at-jump2 .jump2 .given .1) (c .continues-at .ensures)
 
 pub meets-spec : {M : Type 1} → statement M
 meets-spec =

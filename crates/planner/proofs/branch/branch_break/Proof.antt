@@ -29,13 +29,24 @@ same-length : tie.Need-same-length
 same-length c = search needs
 
 returns : tie.Need-returns
-returns c = branch-refused (c .before .before .before .before .before .before .before .before .before .before .before .before .args .words .now) (c .before .before .before .before .before .before .before .before .before .before .before .before .args .p) (c .before .before .before .before .before .before .before .before .before .before .before .before .pre .0) (c .before .before .before .before .before .before .before .before .before .before .before .before .pre .1 .0) (c .before .before .before .before .before .before .before .before .before .before .before .before .args .scheduled .now) (c .before .before .before .before .before .before .before .before .before .before .before .before .args .catch-handlers .now) (c .before .before .before .before .before .before .before .before .before .before .before .before .args .scopes .now) (c .before .before .before .before .before .before .before .before .before .before .before .before .args .resolved) (c .before .before .before .before .before .before .before .before .before .block-word .result) (c .before .before .before .before .before .before .before .before .block-word2 .result) (c .before .before .before .before .before .before .before .block-word3 .result) _ (c .before .before .before .before .before .visit-break .result) _ (c .before .before .before .before .before .before .before .before .before .block-word .ensures) (c .before .before .before .before .before .before .before .before .block-word2 .ensures) (c .before .before .before .before .before .before .before .block-word3 .ensures) (c .before .before .before .before .before .before .before .before .before .before .before .before .pre .1 .1 .1) (c .before .before .before .before .before .visit-break .ensures) _ _ (c .before .if1 .taken) (c .refuse .ensures)
+returns c =
+    let then1 : tie.Then1 = search in
+    let at-visit-break : tie.After-visit-break = search in
+    let at-block-word3 : tie.After-block-word3 = search in
+    let at-block-word2 : tie.After-block-word2 = search in
+    let at-block-word : tie.After-block-word = search in
+    let start : tie.Start = search in
+    branch-refused (start .args .words .now) (start .args .p) (start .pre .0) (start .pre .1 .0) (start .args .scheduled .now) (start .args .catch-handlers .now) (start .args .scopes .now) (start .args .resolved) (at-block-word .block-word .result) (at-block-word2 .block-word2 .result) (at-block-word3 .block-word3 .result) _ (at-visit-break .visit-break .result) _ (at-block-word .block-word .ensures) (at-block-word2 .block-word2 .ensures) (at-block-word3 .block-word3 .ensures) (start .pre .1 .1 .1) (at-visit-break .visit-break .ensures) _ _ (then1 .if1 .taken) (c .refuse .ensures)
 
 put-requires : tie.Need-put-requires
 put-requires c κs = search needs
 
 scheduled-at-requires : tie.Need-scheduled-at-requires
-scheduled-at-requires c κs = few-blocks (c .before .before .before .before .before .before .before .before .before .before .before .before .before .before .before .args .words .now) (c .before .before .before .before .before .before .before .before .before .before .before .before .before .before .before .pre .0 .promise) (c .before .before .before .before .before .before .before .before .before .before .before .block-word2 .result) (rw (c .before .before .before .before .before .before .before .before .before .before .before .block-word2 .ensures) (branch-below (c .before .before .before .before .before .before .before .before .before .before .before .before .before .before .before .args .words .now) (c .before .before .before .before .before .before .before .before .before .before .before .before .before .before .before .args .p) (c .before .before .before .before .before .before .before .before .before .before .before .before .before .before .before .pre .0) (c .before .before .before .before .before .before .before .before .before .before .before .before .before .before .before .pre .1 .0) .1))
+scheduled-at-requires c κs =
+    let at-slice-known2 : tie.After-slice-known2 = search in
+    let at-block-word2 : tie.After-block-word2 = search in
+    let start : tie.Start = search in
+    few-blocks (start .args .words .now) (start .pre .0 .promise) (at-block-word2 .block-word2 .result) (rw (at-block-word2 .block-word2 .ensures) (branch-below (start .args .words .now) (start .args .p) (start .pre .0) (start .pre .1 .0) .1))
 
 refuse-requires-2 : tie.Need-refuse-requires-2
 refuse-requires-2 c κs = search needs
@@ -44,7 +55,16 @@ same-length-2 : tie.Need-same-length-2
 same-length-2 c = search needs
 
 returns-2 : tie.Need-returns-2
-returns-2 c = branch-taken (c .before .before .before .before .before .before .before .before .before .before .before .before .before .before .before .before .before .before .args .words .now) (c .before .before .before .before .before .before .before .before .before .before .before .before .before .before .before .before .before .before .args .p) (c .before .before .before .before .before .before .before .before .before .before .before .before .before .before .before .before .before .before .pre .0) (c .before .before .before .before .before .before .before .before .before .before .before .before .before .before .before .before .before .before .pre .1 .0) (c .before .before .before .before .before .before .before .before .before .before .before .before .before .before .before .before .before .before .args .scheduled .now) (c .before .before .before .before .before .before .before .before .before .before .before .before .before .before .before .before .before .before .args .catch-handlers .now) (c .before .before .before .before .before .before .before .before .before .before .before .before .before .before .before .before .before .before .args .scopes .now) (c .before .before .before .before .before .before .before .before .before .before .before .before .before .before .before .before .before .before .args .resolved) (c .before .before .before .before .before .before .before .before .before .before .before .before .before .before .before .block-word .result) (c .before .before .before .before .before .before .before .before .before .before .before .before .before .before .block-word2 .result) (c .before .before .before .before .before .before .before .before .before .before .before .before .before .block-word3 .result) _ (c .before .before .before .before .before .before .before .before .before .before .before .visit-break .result) _ (c .before .before .before .before .before .before .before .before .before .before .before .before .before .before .before .block-word .ensures) (c .before .before .before .before .before .before .before .before .before .before .before .before .before .before .block-word2 .ensures) (c .before .before .before .before .before .before .before .before .before .before .before .before .before .block-word3 .ensures) (c .before .before .before .before .before .before .before .before .before .before .before .before .before .before .before .before .before .before .pre .1 .1 .1) (c .before .before .before .before .before .before .before .before .before .before .before .visit-break .ensures) _ _ (c .before .before .before .before .before .before .before .if1 .left) (sym (c .before .before .scheduled-at .ensures) ∙ c .before .if2 .taken) (c .refuse2 .ensures)
+returns-2 c =
+    let then2 : tie.Then2 = search in
+    let at-scheduled-at : tie.After-scheduled-at = search in
+    let else1 : tie.Else1 = search in
+    let at-visit-break : tie.After-visit-break = search in
+    let at-block-word3 : tie.After-block-word3 = search in
+    let at-block-word2 : tie.After-block-word2 = search in
+    let at-block-word : tie.After-block-word = search in
+    let start : tie.Start = search in
+    branch-taken (start .args .words .now) (start .args .p) (start .pre .0) (start .pre .1 .0) (start .args .scheduled .now) (start .args .catch-handlers .now) (start .args .scopes .now) (start .args .resolved) (at-block-word .block-word .result) (at-block-word2 .block-word2 .result) (at-block-word3 .block-word3 .result) _ (at-visit-break .visit-break .result) _ (at-block-word .block-word .ensures) (at-block-word2 .block-word2 .ensures) (at-block-word3 .block-word3 .ensures) (start .pre .1 .1 .1) (at-visit-break .visit-break .ensures) _ _ (else1 .if1 .left) (sym (at-scheduled-at .scheduled-at .ensures) ∙ then2 .if2 .taken) (c .refuse2 .ensures)
 
 frame-of-requires : tie.Need-frame-of-requires
 frame-of-requires c κs = search needs
@@ -53,16 +73,37 @@ second-part-requires : tie.Need-second-part-requires
 second-part-requires c κs = search needs
 
 add-traverse-block : tie.Need-add-traverse-block
-add-traverse-block c = omega (arith, c .before .before .before .before .before .before .before .before .before .before .before .before .before .before .before .before .before .before .before .before .pre .0 .depth)
+add-traverse-block c =
+    let at-tree2 : tie.After-tree2 = search in
+    let at-tree : tie.After-tree = search in
+    let at-slice-known : tie.After-slice-known = search in
+    let start : tie.Start = search in
+    omega (arith, start .pre .0 .depth)
 
 traverse-block-requires : tie.Need-traverse-block-requires
 traverse-block-requires c κs = search needs
 
 same-length-3 : tie.Need-same-length-3
-same-length-3 c = omega (arith, c .before .before .before .before .before .before .before .before .put .kept .0, c .before .before .before .before .before .before .before .before .before .before .before .before .before .before .visit-break .kept .0)
+same-length-3 c =
+    let at-slice-known3 : tie.After-slice-known3 = search in
+    let at-put : tie.After-put = search in
+    let at-visit-break : tie.After-visit-break = search in
+    omega (arith, at-put .put .kept .0, at-visit-break .visit-break .kept .0)
 
 returns-3 : tie.Need-returns-3
-returns-3 c = branch-other (c .before .before .before .before .before .before .before .before .before .before .before .before .before .before .before .before .before .before .before .before .before .args .words .now) (c .before .before .before .before .before .before .before .before .before .before .before .before .before .before .before .before .before .before .before .before .before .args .p) (c .before .before .before .before .before .before .before .before .before .before .before .before .before .before .before .before .before .before .before .before .before .pre .0) (c .before .before .before .before .before .before .before .before .before .before .before .before .before .before .before .before .before .before .before .before .before .pre .1 .0) (c .before .before .before .before .before .before .before .before .before .before .before .before .before .before .before .before .before .before .before .before .before .args .scheduled .now) (c .before .before .before .before .before .before .before .before .before .before .before .before .before .before .before .before .before .before .before .before .before .args .catch-handlers .now) (c .before .before .before .before .before .before .before .before .before .before .before .before .before .before .before .before .before .before .before .before .before .args .scopes .now) (c .before .before .before .before .before .before .before .before .before .before .before .before .before .before .before .before .before .before .before .before .before .args .resolved) (c .before .before .before .before .before .before .before .before .before .before .before .before .before .before .before .before .before .before .block-word .result) (c .before .before .before .before .before .before .before .before .before .before .before .before .before .before .before .before .before .block-word2 .result) (c .before .before .before .before .before .before .before .before .before .before .before .before .before .before .before .before .block-word3 .result) _ (c .before .before .before .before .before .before .before .before .before .before .before .before .before .before .visit-break .result) _ (c .before .before .before .before .before .before .before .before .before .before .before .before .before .before .before .before .before .before .block-word .ensures) (c .before .before .before .before .before .before .before .before .before .before .before .before .before .before .before .before .before .block-word2 .ensures) (c .before .before .before .before .before .before .before .before .before .before .before .before .before .before .before .before .block-word3 .ensures) (c .before .before .before .before .before .before .before .before .before .before .before .before .before .before .before .before .before .before .before .before .before .pre .1 .1 .1) (c .before .before .before .before .before .before .before .before .before .before .before .before .before .before .visit-break .ensures) 9 (c .before .before .before .before .before .before .before .before .before .before .before .before .before .before .visit-break .result .count) (c .before .before .before .before .before .before .before .before .put .result) _ _ (c .before .before .before .before .before .before .before .before .before .before .if1 .left) refl refl (c .before .before .before .before .before .before .before .before .put .ensures) (sym (c .before .before .before .before .before .scheduled-at .ensures) ∙ c .before .before .before .before .if2 .left) (c .traverse-block .ensures ∙ ap (λ (z : Frame). nesting (c .before .before .before .before .before .before .before .before .before .before .before .before .before .before .before .before .before .block-word2 .result) z (c .before .before .before .before .before .before .before .before .before .before .before .before .before .before .before .before .before .before .before .before .before .args .p .depth + 1) (c .before .before .before .before .before .before .before .before .put .result) (c .before .before .before .before .before .before .before .before .before .before .before .before .before .before .before .before .before .before .before .before .before .args .p .visits) 65535 65535 Nothing) (c .before .before .second-part .ensures ∙ ap second (c .before .before .before .frame-of .ensures)))
+returns-3 c =
+    let at-second-part : tie.After-second-part = search in
+    let at-frame-of : tie.After-frame-of = search in
+    let else2 : tie.Else2 = search in
+    let at-scheduled-at : tie.After-scheduled-at = search in
+    let at-put : tie.After-put = search in
+    let else1 : tie.Else1 = search in
+    let at-visit-break : tie.After-visit-break = search in
+    let at-block-word3 : tie.After-block-word3 = search in
+    let at-block-word2 : tie.After-block-word2 = search in
+    let at-block-word : tie.After-block-word = search in
+    let start : tie.Start = search in
+    branch-other (start .args .words .now) (start .args .p) (start .pre .0) (start .pre .1 .0) (start .args .scheduled .now) (start .args .catch-handlers .now) (start .args .scopes .now) (start .args .resolved) (at-block-word .block-word .result) (at-block-word2 .block-word2 .result) (at-block-word3 .block-word3 .result) _ (at-visit-break .visit-break .result) _ (at-block-word .block-word .ensures) (at-block-word2 .block-word2 .ensures) (at-block-word3 .block-word3 .ensures) (start .pre .1 .1 .1) (at-visit-break .visit-break .ensures) 9 (at-visit-break .visit-break .result .count) (at-put .put .result) _ _ (else1 .if1 .left) refl refl (at-put .put .ensures) (sym (at-scheduled-at .scheduled-at .ensures) ∙ else2 .if2 .left) (c .traverse-block .ensures ∙ ap (λ (z : Frame). nesting (at-block-word2 .block-word2 .result) z (start .args .p .depth + 1) (at-put .put .result) (start .args .p .visits) 65535 65535 Nothing) (at-second-part .second-part .ensures ∙ ap second (at-frame-of .frame-of .ensures)))
 
 pub branch-break-spec : {M : Type 1} → statement M
 branch-break-spec =

@@ -12,10 +12,17 @@ block-word-requires : tie.Need-block-word-requires
 block-word-requires c κs = search needs
 
 scheduled-at-requires : tie.Need-scheduled-at-requires
-scheduled-at-requires c κs = few-blocks (c .before .before .before .args .words .now) (c .before .before .before .pre .0 .promise) (c .block-word .result) (rw (c .block-word .ensures) (branch-below (c .before .before .before .args .words .now) (c .before .before .before .args .p) (c .before .before .before .pre .0) (c .before .before .before .pre .1 .0) .0))
+scheduled-at-requires c κs =
+    let start : tie.Start = search in
+    few-blocks (start .args .words .now) (start .pre .0 .promise) (c .block-word .result) (rw (c .block-word .ensures) (branch-below (start .args .words .now) (start .args .p) (start .pre .0) (start .pre .1 .0) .0))
 
 branch-break-requires : tie.Need-branch-break-requires
-branch-break-requires c κs = (c .before .before .before .before .before .before .pre .0, (c .before .before .before .before .before .before .pre .1 .0, (c .before .before .before .before .before .before .pre .1 .1, ap (λ (k : ℕ). has (c .before .before .before .before .before .before .args .scheduled .now) k || has (c .before .before .before .before .before .before .args .catch-handlers .now) k) (sym (c .before .before .before .block-word .ensures)) ∙ sym (c .before .before .scheduled-at .ensures) ∙ c .before .if1 .taken)))
+branch-break-requires c κs =
+    let then1 : tie.Then1 = search in
+    let at-scheduled-at : tie.After-scheduled-at = search in
+    let at-block-word : tie.After-block-word = search in
+    let start : tie.Start = search in
+    (start .pre .0, (start .pre .1 .0, (start .pre .1 .1, ap (λ (k : ℕ). has (start .args .scheduled .now) k || has (start .args .catch-handlers .now) k) (sym (at-block-word .block-word .ensures)) ∙ sym (at-scheduled-at .scheduled-at .ensures) ∙ then1 .if1 .taken)))
 
 same-length : tie.Need-same-length
 same-length c = search needs
@@ -33,7 +40,13 @@ traverse-block-requires : tie.Need-traverse-block-requires
 traverse-block-requires c κs = search needs
 
 returns-2 : tie.Need-returns-2
-returns-2 c = branch-nested (c .before .before .before .before .before .before .before .before .args .words .now) (c .before .before .before .before .before .before .before .before .args .p) (c .before .before .before .before .before .before .before .before .pre .0) (c .before .before .before .before .before .before .before .before .pre .1 .0) (c .before .before .before .before .before .before .before .before .args .scheduled .now) (c .before .before .before .before .before .before .before .before .args .catch-handlers .now) (c .before .before .before .before .before .before .before .before .args .scopes .now) (c .before .before .before .before .before .before .before .before .args .resolved) (c .before .before .before .before .before .block-word .result) _ _ (c .before .before .before .before .before .block-word .ensures) (sym (c .before .before .before .before .scheduled-at .ensures) ∙ c .before .before .before .if1 .left) (rw (← (c .before .before .frame-of .ensures)) (c .traverse-block .ensures))
+returns-2 c =
+    let at-frame-of : tie.After-frame-of = search in
+    let else1 : tie.Else1 = search in
+    let at-scheduled-at : tie.After-scheduled-at = search in
+    let at-block-word : tie.After-block-word = search in
+    let start : tie.Start = search in
+    branch-nested (start .args .words .now) (start .args .p) (start .pre .0) (start .pre .1 .0) (start .args .scheduled .now) (start .args .catch-handlers .now) (start .args .scopes .now) (start .args .resolved) (at-block-word .block-word .result) _ _ (at-block-word .block-word .ensures) (sym (at-scheduled-at .scheduled-at .ensures) ∙ else1 .if1 .left) (rw (← (at-frame-of .frame-of .ensures)) (c .traverse-block .ensures))
 
 pub visit-branch-spec : {M : Type 1} → statement M
 visit-branch-spec =

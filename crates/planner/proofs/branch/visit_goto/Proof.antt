@@ -18,31 +18,58 @@ visit-break-requires : tie.Need-visit-break-requires
 visit-break-requires c κs = search needs
 
 after-jump-requires : tie.Need-after-jump-requires
-after-jump-requires c κs = (omega (arith, c .before .before .before .before .before .before .before .before .before .before .pre .0), jump-count _ _ _ _ _ (c .before .before .visit-break .result) _ (c .before .before .visit-break .ensures))
+after-jump-requires c κs =
+    let at-visit-break : tie.After-visit-break = search in
+    let at-slice-known : tie.After-slice-known = search in
+    let start : tie.Start = search in
+    (omega (arith, start .pre .0), jump-count _ _ _ _ _ (at-visit-break .visit-break .result) _ (at-visit-break .visit-break .ensures))
 
 same-length : tie.Need-same-length
 same-length c = search needs
 
 returns : tie.Need-returns
-returns c = goto-break (c .before .before .before .before .before .before .before .before .before .before .before .args .words .now) (c .before .before .before .before .before .before .before .before .before .before .before .args .p) (c .before .before .before .before .before .before .before .before .before .before .before .pre .0) (c .before .before .before .before .before .before .before .before .before .before .before .pre .1 .0) (c .before .before .before .before .before .before .before .before .before .before .before .args .scopes .now) (c .before .before .before .before .before .before .before .before .before .before .before .args .resolved) (c .before .before .before .before .before .before .before .before .block-word .result) (c .before .before .before .before .before .before .block-word3 .result) _ (c .before .before .before .visit-break .result) _ _ (sym (c .before .before .before .before .before .before .before .block-word2 .ensures) ∙ c .before .before .before .before .before .if1 .taken) (c .before .before .before .before .before .before .before .before .block-word .ensures) (c .before .before .before .before .before .before .block-word3 .ensures) (c .before .before .before .visit-break .ensures) (c .after-jump .ensures)
+returns c =
+    let at-visit-break : tie.After-visit-break = search in
+    let then1 : tie.Then1 = search in
+    let at-block-word3 : tie.After-block-word3 = search in
+    let at-block-word2 : tie.After-block-word2 = search in
+    let at-block-word : tie.After-block-word = search in
+    let start : tie.Start = search in
+    goto-break (start .args .words .now) (start .args .p) (start .pre .0) (start .pre .1 .0) (start .args .scopes .now) (start .args .resolved) (at-block-word .block-word .result) (at-block-word3 .block-word3 .result) _ (at-visit-break .visit-break .result) _ _ (sym (at-block-word2 .block-word2 .ensures) ∙ then1 .if1 .taken) (at-block-word .block-word .ensures) (at-block-word3 .block-word3 .ensures) (at-visit-break .visit-break .ensures) (c .after-jump .ensures)
 
 visit-continue-requires : tie.Need-visit-continue-requires
 visit-continue-requires c κs = search needs
 
 after-jump-requires-2 : tie.Need-after-jump-requires-2
-after-jump-requires-2 c κs = (omega (arith, c .before .before .before .before .before .before .before .before .before .before .before .pre .0), jump-count _ _ _ _ _ (c .before .before .visit-continue .result) _ (c .before .before .visit-continue .ensures (c .before .before .before .before .before .before .before .before .before .before .before .args .p .visits) (c .before .before .before .before .before .before .before .before .before .before .before .args .scopes .now)))
+after-jump-requires-2 c κs =
+    let at-visit-continue : tie.After-visit-continue = search in
+    let at-block-word : tie.After-block-word = search in
+    let start : tie.Start = search in
+    (omega (arith, start .pre .0), jump-count _ _ _ _ _ (at-visit-continue .visit-continue .result) _ (at-visit-continue .visit-continue .ensures (start .args .p .visits) (start .args .scopes .now)))
 
 same-length-2 : tie.Need-same-length-2
 same-length-2 c = search needs
 
 returns-2 : tie.Need-returns-2
-returns-2 c = goto-continue (c .before .before .before .before .before .before .before .before .before .before .before .before .args .words .now) (c .before .before .before .before .before .before .before .before .before .before .before .before .args .p) (c .before .before .before .before .before .before .before .before .before .before .before .before .pre .0) (c .before .before .before .before .before .before .before .before .before .before .before .before .pre .1 .0) (c .before .before .before .before .before .before .before .before .before .before .before .before .args .scopes .now) (c .before .before .before .before .before .before .before .before .before .before .before .before .args .resolved) (c .before .before .before .before .before .before .before .before .before .block-word .result) (c .before .before .before .before .before .before .before .block-word3 .result) _ (c .before .before .before .visit-continue .result) _ _ (sym (c .before .before .before .before .before .before .before .before .block-word2 .ensures) ∙ c .before .before .before .before .before .if2 .taken) (c .before .before .before .before .before .before .before .before .before .block-word .ensures) (c .before .before .before .before .before .before .before .block-word3 .ensures) (c .before .before .before .visit-continue .ensures (c .before .before .before .before .before .before .before .before .before .before .before .before .args .p .visits) (c .before .before .before .before .before .before .before .before .before .before .before .before .args .scopes .now)) (c .after-jump2 .ensures)
+returns-2 c =
+    let at-visit-continue : tie.After-visit-continue = search in
+    let then2 : tie.Then2 = search in
+    let at-block-word3 : tie.After-block-word3 = search in
+    let at-block-word2 : tie.After-block-word2 = search in
+    let at-block-word : tie.After-block-word = search in
+    let start : tie.Start = search in
+    goto-continue (start .args .words .now) (start .args .p) (start .pre .0) (start .pre .1 .0) (start .args .scopes .now) (start .args .resolved) (at-block-word .block-word .result) (at-block-word3 .block-word3 .result) _ (at-visit-continue .visit-continue .result) _ _ (sym (at-block-word2 .block-word2 .ensures) ∙ then2 .if2 .taken) (at-block-word .block-word .ensures) (at-block-word3 .block-word3 .ensures) (at-visit-continue .visit-continue .ensures (start .args .p .visits) (start .args .scopes .now)) (c .after-jump2 .ensures)
 
 leave-requires : tie.Need-leave-requires
 leave-requires c κs = search needs
 
 returns-3 : tie.Need-returns-3
-returns-3 c = goto-try (c .before .before .before .before .before .before .before .before .args .words .now) (c .before .before .before .before .before .before .before .before .args .p) (c .before .before .before .before .before .before .before .before .pre .0) (c .before .before .before .before .before .before .before .before .pre .1 .0) (c .before .before .before .before .before .before .before .before .args .scopes .now) (c .before .before .before .before .before .before .before .before .args .resolved) _ _ (λ z. c .before .before .if1 .left (c .before .before .before .before .block-word2 .ensures ∙ z)) (λ z. c .before .if2 .left (c .before .before .before .before .block-word2 .ensures ∙ z)) (c .leave .ensures)
+returns-3 c =
+    let else2 : tie.Else2 = search in
+    let else1 : tie.Else1 = search in
+    let at-block-word2 : tie.After-block-word2 = search in
+    let start : tie.Start = search in
+    goto-try (start .args .words .now) (start .args .p) (start .pre .0) (start .pre .1 .0) (start .args .scopes .now) (start .args .resolved) _ _ (λ z. else1 .if1 .left (at-block-word2 .block-word2 .ensures ∙ z)) (λ z. else2 .if2 .left (at-block-word2 .block-word2 .ensures ∙ z)) (c .leave .ensures)
 
 pub visit-goto-spec : {M : Type 1} → statement M
 visit-goto-spec =

@@ -10,7 +10,10 @@ refuse-requires : tie.Need-refuse-requires
 refuse-requires c κs = search needs
 
 returns : tie.Need-returns
-returns c = rw (sym (c .before .before .either .ensures) ∙ c .before .if1 .taken) (c .refuse .ensures)
+returns c =
+    let then1 : tie.Then1 = search in
+    let at-either : tie.After-either = search in
+    rw (sym (at-either .either .ensures) ∙ then1 .if1 .taken) (c .refuse .ensures)
 
 entries-of-requires : tie.Need-entries-of-requires
 entries-of-requires c κs = search needs
@@ -28,7 +31,10 @@ traverse-block-requires : tie.Need-traverse-block-requires
 traverse-block-requires c κs = search needs
 
 returns-2 : tie.Need-returns-2
-returns-2 c = rw (sym (c .before .before .before .before .before .before .either .ensures) ∙ c .before .before .before .before .before .if1 .left) (cc)
+returns-2 c =
+    let else1 : tie.Else1 = search in
+    let at-either : tie.After-either = search in
+    rw (sym (at-either .either .ensures) ∙ else1 .if1 .left) (cc)
 
 pub enclose-spec : {M : Type 1} → statement M
 enclose-spec =

@@ -10,7 +10,9 @@ narrow-requires : tie.Need-narrow-requires
 narrow-requires c κs = search needs
 
 returns-2 : tie.Need-returns-2
-returns-2 c = rw (ne-eqb _ _ (c .before .if1 .left), c .narrow .ensures)
+returns-2 c =
+    let else1 : tie.Else1 = search in
+    rw (ne-eqb _ _ (else1 .if1 .left), c .narrow .ensures)
 
 pub schedule-if-spec : {M : Type 1} → statement M
 schedule-if-spec = tie.close (tie.spec returns narrow-requires returns-2)

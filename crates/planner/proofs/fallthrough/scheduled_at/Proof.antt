@@ -9,7 +9,9 @@ is-scheduled-requires : tie.Need-is-scheduled-requires
 is-scheduled-requires c κs = search needs
 
 returns : tie.Need-returns
-returns c = rw (c .is-scheduled .ensures, c .before .narrow .ensures)
+returns c =
+    let at-narrow : tie.After-narrow = search in
+    rw (c .is-scheduled .ensures, at-narrow .narrow .ensures)
 
 pub scheduled-at-spec : {M : Type 1} → statement M
 scheduled-at-spec = tie.close (tie.spec narrow-requires is-scheduled-requires returns)

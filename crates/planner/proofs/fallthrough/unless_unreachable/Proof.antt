@@ -15,7 +15,11 @@ unless-taken-requires : tie.Need-unless-taken-requires
 unless-taken-requires c κs = search needs
 
 returns : tie.Need-returns
-returns c = rw (c .unless-taken .ensures, c .before .either .ensures, c .before .before .scheduled-at .ensures, c .before .before .before .block-word .ensures)
+returns c =
+    let at-either : tie.After-either = search in
+    let at-scheduled-at : tie.After-scheduled-at = search in
+    let at-block-word : tie.After-block-word = search in
+    rw (c .unless-taken .ensures, at-either .either .ensures, at-scheduled-at .scheduled-at .ensures, at-block-word .block-word .ensures)
 
 pub unless-unreachable-spec : {M : Type 1} → statement M
 unless-unreachable-spec =

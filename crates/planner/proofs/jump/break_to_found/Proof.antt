@@ -15,9 +15,9 @@ element-copy-out-if1 c = search needs
 
 returns : tie.Need-returns
 returns c =
-    let at-if1 = c .before in
-    let at-number = at-if1 .before .before in
-    let at-entry = at-number .before .before in
+    let at-if1 : tie.Then1 = search in
+    let at-number : tie.After-number = search in
+    let at-entry : tie.Start = search in
     break-scope (at-entry .args .p .block) (at-entry .args .id) (at-entry .args .scopes .now) (at-entry .args .p .visits) (at-entry .args .p .rows) (at-entry .args .found) _ _ (at-if1 .if1 .taken) (sym (at-number .number .ensures) ∙ c .if2 .taken) refl
 
 refuse-jump-requires : tie.Need-refuse-jump-requires
@@ -25,10 +25,10 @@ refuse-jump-requires c κs = search needs
 
 returns-2 : tie.Need-returns-2
 returns-2 c =
-    let at-if2 = c .before in
-    let at-if1 = at-if2 .before in
-    let at-number = at-if1 .before .before in
-    let at-entry = at-number .before .before in
+    let at-if2 : tie.Else2 = search in
+    let at-if1 : tie.Then1 = search in
+    let at-number : tie.After-number = search in
+    let at-entry : tie.Start = search in
     break-out (at-entry .args .p .block) (at-entry .args .id) (at-entry .args .scopes .now) (at-entry .args .p .visits) (at-entry .args .p .rows) (at-entry .args .found) _ _ (at-if1 .if1 .taken) (λ z. at-if2 .if2 .left (at-number .number .ensures ∙ z)) (c .refuse-jump .ensures)
 
 cast-put : tie.Need-cast-put
@@ -42,10 +42,10 @@ same-length c = search needs
 
 returns-3 : tie.Need-returns-3
 returns-3 c =
-    let at-put = c .before .before in
-    let at-if1 = at-put .before .before in
-    let at-number = at-if1 .before .before in
-    let at-entry = at-number .before .before in
+    let at-put : tie.After-put = search in
+    let at-if1 : tie.Else1 = search in
+    let at-number : tie.After-number = search in
+    let at-entry : tie.Start = search in
     break-row (at-entry .args .p .block) (at-entry .args .id) (at-entry .args .scopes .now) (at-entry .args .p .visits) (at-entry .args .p .rows) (at-put .put .result) (at-entry .args .found) 24 (at-entry .args .found .target) (at-number .number .result) _ _ _ (at-if1 .if1 .left) refl refl (at-number .number .ensures) (at-put .put .ensures) refl
 
 pub break-to-found-spec : {M : Type 1} → statement M

@@ -17,7 +17,11 @@ same-length : tie.Need-same-length
 same-length c = search needs
 
 returns : tie.Need-returns
-returns c = continue-row (c .before .before .before .before .before .before .args .id) (c .before .before .before .before .before .before .args .rows) (c .before .before .put .result) (c .before .before .before .before .before .before .args .found) 25 (c .before .before .before .before .before .before .args .found .target) (c .before .before .before .before .number .result) _ _ _ refl refl (c .before .before .before .before .number .ensures) (c .before .before .put .ensures) refl
+returns c =
+    let at-put : tie.After-put = search in
+    let at-number : tie.After-number = search in
+    let start : tie.Start = search in
+    continue-row (start .args .id) (start .args .rows) (at-put .put .result) (start .args .found) 25 (start .args .found .target) (at-number .number .result) _ _ _ refl refl (at-number .number .ensures) (at-put .put .ensures) refl
 
 pub continue-to-found-spec : {M : Type 1} → statement M
 continue-to-found-spec =

@@ -14,13 +14,13 @@ enum-known-resolved c = search needs
 
 break-to-found-requires : tie.Need-break-to-found-requires
 break-to-found-requires c κs =
-    let at-resolved = c .before .before in
-    let at-entry = at-resolved .before .before .before in
+    let at-resolved : tie.After-resolved = search in
+    let at-entry : tie.Start = search in
     (rw (at-resolved .resolved .given .1) at (at-entry .pre .0), at-entry .pre .1)
 
 returns : tie.Need-returns
 returns c =
-    let at-enum-told = c .before in
+    let at-enum-told : tie.After-enum-told = search in
     rw (at-enum-told .enum-told .given .1) (break-none _ _ _ _ _ _ _ _ (c .refuse-jump .ensures))
 
 same-length : tie.Need-same-length
@@ -28,9 +28,9 @@ same-length c = search needs
 
 returns-2 : tie.Need-returns-2
 returns-2 c =
-    let at-break-to-found = c .before .before in
-    let at-resolved = at-break-to-found .before .before .before in
-    let at-entry = at-resolved .before .before .before in
+    let at-break-to-found : tie.After-break-to-found = search in
+    let at-resolved : tie.After-resolved = search in
+    let at-entry : tie.Start = search in
     rw (at-resolved .resolved .given .1) (at-break-to-found .break-to-found .ensures (at-entry .args .target))
 
 pub visit-break-spec : {M : Type 1} → statement M

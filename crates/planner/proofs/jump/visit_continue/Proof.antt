@@ -17,7 +17,7 @@ continue-to-found-requires c κs = search needs
 
 returns : tie.Need-returns
 returns c =
-    let at-enum-told = c .before in
+    let at-enum-told : tie.After-enum-told = search in
     rw (at-enum-told .enum-told .given .1) (continue-none _ _ _ _ _ (c .refuse-jump .ensures))
 
 same-length : tie.Need-same-length
@@ -25,9 +25,9 @@ same-length c = search needs
 
 returns-2 : tie.Need-returns-2
 returns-2 c =
-    let at-continue-to-found = c .before .before in
-    let at-resolved = at-continue-to-found .before .before .before in
-    let at-entry = at-resolved .before .before .before in
+    let at-continue-to-found : tie.After-continue-to-found = search in
+    let at-resolved : tie.After-resolved = search in
+    let at-entry : tie.Start = search in
     λ v O. rw (at-resolved .resolved .given .1) (at-continue-to-found .continue-to-found .ensures (at-entry .args .target) v O)
 
 pub visit-continue-spec : {M : Type 1} → statement M

@@ -23,7 +23,12 @@ same-length : tie.Need-same-length
 same-length c = search needs
 
 returns : tie.Need-returns
-returns c = throw-left (c .before .before .before .before .before .before .before .before .before .before .args .words .now) (c .before .before .before .before .before .before .before .before .before .before .args .p) (c .before .before .before .before .before .before .before .before .before .before .pre .0) _ _ (c .before .before .before .before .put .result) _ _ (c .before .before .before .before .before .before .before .block-word .result) (c .before .before .before .before .before .before .block-word2 .result) (c .before .before .before .before .before .before .before .before .before .before .pre .1) refl (c .before .before .before .before .before .before .before .block-word .ensures) (c .before .before .before .before .before .before .block-word2 .ensures) (c .before .before .before .before .put .ensures) (c .leave .ensures)
+returns c =
+    let at-put : tie.After-put = search in
+    let at-block-word2 : tie.After-block-word2 = search in
+    let at-block-word : tie.After-block-word = search in
+    let start : tie.Start = search in
+    throw-left (start .args .words .now) (start .args .p) (start .pre .0) _ _ (at-put .put .result) _ _ (at-block-word .block-word .result) (at-block-word2 .block-word2 .result) (start .pre .1) refl (at-block-word .block-word .ensures) (at-block-word2 .block-word2 .ensures) (at-put .put .ensures) (c .leave .ensures)
 
 pub visit-throw-spec : {M : Type 1} → statement M
 visit-throw-spec =

@@ -12,7 +12,10 @@ continue-block-is-scheduled-requires : tie.Need-continue-block-is-scheduled-requ
 continue-block-is-scheduled-requires c κs = search needs
 
 returns : tie.Need-returns
-returns c = rw (c .continue-block-is-scheduled .ensures, c .before .before .narrow .ensures, c .before .narrow2 .ensures)
+returns c =
+    let at-narrow2 : tie.After-narrow2 = search in
+    let at-narrow : tie.After-narrow = search in
+    rw (c .continue-block-is-scheduled .ensures, at-narrow .narrow .ensures, at-narrow2 .narrow2 .ensures)
 
 pub continues-scheduled-spec : {M : Type 1} → statement M
 continues-scheduled-spec =

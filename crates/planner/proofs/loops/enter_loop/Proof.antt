@@ -12,8 +12,8 @@ refuse-requires c κs = search needs
 
 returns : tie.Need-returns
 returns c =
-    let at-if1 = c .before in
-    let at-advance = at-if1 .before .before in
+    let at-if1 : tie.Then1 = search in
+    let at-advance : tie.After-advance = search in
     rw (ne-eqb _ _ (at-if1 .if1 .taken)) (rw (at-advance .advance .ensures) at (c .refuse .ensures))
 
 loop-is-taken-requires : tie.Need-loop-is-taken-requires
@@ -24,10 +24,10 @@ refuse-requires-2 c κs = search needs
 
 returns-2 : tie.Need-returns-2
 returns-2 c =
-    let at-if2 = c .before in
-    let at-loop-is-taken = at-if2 .before in
-    let at-if1 = at-loop-is-taken .before in
-    let at-advance = at-if1 .before .before in
+    let at-if2 : tie.Then2 = search in
+    let at-loop-is-taken : tie.After-loop-is-taken = search in
+    let at-if1 : tie.Else1 = search in
+    let at-advance : tie.After-advance = search in
     rw (eq-eqb _ _ (at-if1 .if1 .left), sym (at-loop-is-taken .loop-is-taken .ensures) ∙ at-if2 .if2 .taken) (rw (at-advance .advance .ensures) at (c .refuse2 .ensures))
 
 frame-of-requires : tie.Need-frame-of-requires
@@ -44,11 +44,11 @@ traverse-block-requires c κs = search needs
 
 returns-3 : tie.Need-returns-3
 returns-3 c =
-    let at-schedule-loop = c .before in
-    let at-frame-of = at-schedule-loop .before .before in
-    let at-if2 = at-frame-of .before in
-    let at-loop-is-taken = at-if2 .before in
-    let at-if1 = at-loop-is-taken .before in
+    let at-schedule-loop : tie.After-schedule-loop = search in
+    let at-frame-of : tie.After-frame-of = search in
+    let at-if2 : tie.Else2 = search in
+    let at-loop-is-taken : tie.After-loop-is-taken = search in
+    let at-if1 : tie.Else1 = search in
     rw (eq-eqb _ _ (at-if1 .if1 .left), sym (at-loop-is-taken .loop-is-taken .ensures) ∙ at-if2 .if2 .left) (rw (at-frame-of .frame-of .ensures, at-schedule-loop .schedule-loop .ensures) at (c .traverse-block .ensures))
 
 pub enter-loop-spec : {M : Type 1} → statement M

@@ -10,7 +10,9 @@ use Rattle.planner.proofs.loops.flat_value.Statement.{statement}
 use Rattle.planner.proofs.loops.flat_value.Tie as tie
 
 returns : tie.Need-returns
-returns c = more-refused (c .before .before .before .before .args .before) _ (c .if1 .taken) (c .before .before .before .before .pre .1 .1)
+returns c =
+    let start : tie.Start = search in
+    more-refused (start .args .before) _ (c .if1 .taken) (start .pre .1 .1)
 
 block-word-requires : tie.Need-block-word-requires
 block-word-requires c κs = search needs
@@ -28,16 +30,34 @@ same-length : tie.Need-same-length
 same-length c = search needs
 
 returns-2 : tie.Need-returns-2
-returns-2 c = rw (← (c .before .before .before .before .before .before .before .before .block-word .ensures)) (value-more (c .before .before .before .before .before .before .before .before .before .before .before .before .before .args .before) (visitValueBlock (tableOf (c .before .before .before .before .before .before .before .before .before .before .before .before .before .args .words .now)) (127 - c .before .before .before .before .before .before .before .before .before .before .before .before .before .args .p .depth)) (flatForm (tableOf (c .before .before .before .before .before .before .before .before .before .before .before .before .before .args .words .now)) (c .before .before .before .before .before .before .before .before .block-word .result)) (c .before .before .before .before .before .before .before .before .before .before .before .before .before .args .block) (c .before .before .before .before .before .before .before .before .block-word .result) (c .before .before .before .before .before .before .before .before .before .if1 .left) (c .before .before .before .before .before .visit-value-block .ensures) _ (c .values-of .ensures) (c .before .if2 .taken))
+returns-2 c =
+    let then2 : tie.Then2 = search in
+    let at-visit-value-block : tie.After-visit-value-block = search in
+    let at-block-word : tie.After-block-word = search in
+    let else1 : tie.Else1 = search in
+    let start : tie.Start = search in
+    rw (← (at-block-word .block-word .ensures)) (value-more (start .args .before) (visitValueBlock (tableOf (start .args .words .now)) (127 - start .args .p .depth)) (flatForm (tableOf (start .args .words .now)) (at-block-word .block-word .result)) (start .args .block) (at-block-word .block-word .result) (else1 .if1 .left) (at-visit-value-block .visit-value-block .ensures) _ (c .values-of .ensures) (then2 .if2 .taken))
 
 value-block-result-to-sequence-requires : tie.Need-value-block-result-to-sequence-requires
-value-block-result-to-sequence-requires c κs = record { promise = c .before .before .before .before .before .before .before .before .before .before .before .before .before .pre .0 .promise; place = c .before .before .before .before .before .visit-value-block .ensures .found (c .before .if2 .left) .place; there = c .before .before .before .before .before .visit-value-block .ensures .found (c .before .if2 .left) .ends .there; more = omega (arith, c .before .before .before .before .before .visit-value-block .ensures .found (c .before .if2 .left) .more); room = omega (arith, c .before .before .before .before .before .visit-value-block .ensures .numbers .paid, c .before .before .before .before .before .visit-value-block .ensures .numbers .visits, c .before .before .before .before .before .before .before .before .before .before .before .before .before .pre .1 .1 .paid, c .before .before .before .before .before .before .before .before .before .before .before .before .before .pre .1 .1 .visits, c .before .before .before .before .before .before .before .before .before .before .before .before .before .pre .0 .rows, c .before .before .before .before .before .before .before .before .before .before .before .before .before .pre .0 .visits) }
+value-block-result-to-sequence-requires c κs =
+    let else2 : tie.Else2 = search in
+    let at-visit-value-block : tie.After-visit-value-block = search in
+    let at-slice-known : tie.After-slice-known = search in
+    let start : tie.Start = search in
+    record { promise = start .pre .0 .promise; place = at-visit-value-block .visit-value-block .ensures .found (else2 .if2 .left) .place; there = at-visit-value-block .visit-value-block .ensures .found (else2 .if2 .left) .ends .there; more = omega (arith, at-visit-value-block .visit-value-block .ensures .found (else2 .if2 .left) .more); room = omega (arith, at-visit-value-block .visit-value-block .ensures .numbers .paid, at-visit-value-block .visit-value-block .ensures .numbers .visits, start .pre .1 .1 .paid, start .pre .1 .1 .visits, start .pre .0 .rows, start .pre .0 .visits) }
 
 same-length-2 : tie.Need-same-length-2
 same-length-2 c = search needs
 
 returns-3 : tie.Need-returns-3
-returns-3 c = rw (← (c .before .before .before .before .before .before .before .before .before .before .before .before .block-word .ensures)) (flat-more (c .before .before .before .before .before .before .before .before .before .before .before .before .before .before .before .before .before .args .before) (visitValueBlock (tableOf (c .before .before .before .before .before .before .before .before .before .before .before .before .before .before .before .before .before .args .words .now)) (127 - c .before .before .before .before .before .before .before .before .before .before .before .before .before .before .before .before .before .args .p .depth)) (flatForm (tableOf (c .before .before .before .before .before .before .before .before .before .before .before .before .before .before .before .before .before .args .words .now)) (c .before .before .before .before .before .before .before .before .before .before .before .before .block-word .result)) (c .before .before .before .before .before .before .before .before .before .before .before .before .before .before .before .before .before .args .block) (c .before .before .before .before .before .before .before .before .before .before .before .before .block-word .result) (c .before .before .before .before .before .before .before .before .before .before .before .before .before .if1 .left) (c .before .before .before .before .before .before .before .before .before .visit-value-block .ensures) _ _ (c .before .before .before .before .before .if2 .left) refl refl (c .before .before .before .value-block-result-to-sequence .ensures .most) (λ below h. c .before .before .before .value-block-result-to-sequence .ensures .held (c .before .before .before .before .before .before .before .before .before .visit-value-block .ensures .value) (c .before .before .before .before .before .before .before .before .before .visit-value-block .ensures .found (c .before .before .before .before .before .if2 .left) .ends) below h))
+returns-3 c =
+    let at-value-block-result-to-sequence : tie.After-value-block-result-to-sequence = search in
+    let else2 : tie.Else2 = search in
+    let at-visit-value-block : tie.After-visit-value-block = search in
+    let at-block-word : tie.After-block-word = search in
+    let else1 : tie.Else1 = search in
+    let start : tie.Start = search in
+    rw (← (at-block-word .block-word .ensures)) (flat-more (start .args .before) (visitValueBlock (tableOf (start .args .words .now)) (127 - start .args .p .depth)) (flatForm (tableOf (start .args .words .now)) (at-block-word .block-word .result)) (start .args .block) (at-block-word .block-word .result) (else1 .if1 .left) (at-visit-value-block .visit-value-block .ensures) _ _ (else2 .if2 .left) refl refl (at-value-block-result-to-sequence .value-block-result-to-sequence .ensures .most) (λ below h. at-value-block-result-to-sequence .value-block-result-to-sequence .ensures .held (at-visit-value-block .visit-value-block .ensures .value) (at-visit-value-block .visit-value-block .ensures .found (else2 .if2 .left) .ends) below h))
 
 pub flat-value-spec : {M : Type 1} → statement M
 flat-value-spec =

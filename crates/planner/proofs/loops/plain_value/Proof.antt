@@ -7,7 +7,9 @@ use Rattle.planner.proofs.loops.plain_value.Statement.{statement}
 use Rattle.planner.proofs.loops.plain_value.Tie as tie
 
 returns : tie.Need-returns
-returns c = more-refused (c .before .before .before .before .args .before) _ (c .if1 .taken) (c .before .before .before .before .pre .1 .1)
+returns c =
+    let start : tie.Start = search in
+    more-refused (start .args .before) _ (c .if1 .taken) (start .pre .1 .1)
 
 block-word-requires : tie.Need-block-word-requires
 block-word-requires c κs = search needs
@@ -25,7 +27,12 @@ same-length : tie.Need-same-length
 same-length c = search needs
 
 returns-2 : tie.Need-returns-2
-returns-2 c = rw (← (c .before .before .before .before .before .before .block-word .ensures)) (plain-more (c .before .before .before .before .before .before .before .before .before .before .before .args .before) (visitValueBlock (tableOf (c .before .before .before .before .before .before .before .before .before .before .before .args .words .now)) (127 - c .before .before .before .before .before .before .before .before .before .before .before .args .p .depth)) (c .before .before .before .before .before .before .before .before .before .before .before .args .block) (c .before .before .before .before .before .before .block-word .result) (c .before .before .before .before .before .before .before .if1 .left) (c .before .before .before .visit-value-block .ensures) _ (c .values-of .ensures))
+returns-2 c =
+    let at-visit-value-block : tie.After-visit-value-block = search in
+    let at-block-word : tie.After-block-word = search in
+    let else1 : tie.Else1 = search in
+    let start : tie.Start = search in
+    rw (← (at-block-word .block-word .ensures)) (plain-more (start .args .before) (visitValueBlock (tableOf (start .args .words .now)) (127 - start .args .p .depth)) (start .args .block) (at-block-word .block-word .result) (else1 .if1 .left) (at-visit-value-block .visit-value-block .ensures) _ (c .values-of .ensures))
 
 pub plain-value-spec : {M : Type 1} → statement M
 plain-value-spec =

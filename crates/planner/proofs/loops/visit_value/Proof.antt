@@ -10,7 +10,7 @@ block-word-requires c κs = search needs
 
 unless-scheduled-requires : tie.Need-unless-scheduled-requires
 unless-scheduled-requires c κs =
-    let at-entry = c .before .before .before in
+    let at-entry : tie.Start = search in
     few-blocks (at-entry .args .words .now) (at-entry .pre .0 .promise) (c .block-word .result) (rw (c .block-word .ensures) (fallthrough-below (at-entry .args .words .now) (at-entry .args .scheduled .now) (at-entry .args .catch-handlers .now) (at-entry .args .p) (at-entry .pre .0) _ (at-entry .pre .1 .1)))
 
 block-word-requires-2 : tie.Need-block-word-requires-2
@@ -33,20 +33,26 @@ same-length c = search needs
 
 returns : tie.Need-returns
 returns c =
-    let at-advance = c .before in
-    let at-if1 = at-advance .before in
-    let at-visit-value-block-terminal = at-if1 .before .before .before .before .before in
-    let at-entry = at-visit-value-block-terminal .before .before .before .before .before .before .before .before in
+    let at-advance : tie.After-advance = search in
+    let at-if1 : tie.Then1 = search in
+    let at-visit-value-block-terminal : tie.After-visit-value-block-terminal = search in
+    let at-slice-known : tie.After-slice-known = search in
+    let at-entry : tie.Start = search in
     value-statement-refused (at-entry .args .words .now) (at-entry .args .scheduled .now) (at-entry .args .catch-handlers .now) (at-entry .args .p) (at-entry .pre .0) _ (at-entry .pre .1 .1) (at-visit-value-block-terminal .visit-value-block-terminal .ensures) _ _ (at-if1 .if1 .taken) (rw (at-advance .advance .ensures) at (c .refuse .ensures))
 
 put-requires : tie.Need-put-requires
 put-requires c κs =
-    let at-visit-value-block-terminal = c .before .before .before .before .before .before in
-    let at-entry = at-visit-value-block-terminal .before .before .before .before .before .before .before .before in
+    let at-visit-value-block-terminal : tie.After-visit-value-block-terminal = search in
+    let at-slice-known : tie.After-slice-known = search in
+    let at-entry : tie.Start = search in
     omega (arith, at-visit-value-block-terminal .visit-value-block-terminal .ensures .numbers, at-entry .pre .0)
 
 add-leave : tie.Need-add-leave
-add-leave c = omega (arith, c .before .before .before .before .before .before .before .before .before .before .before .before .before .before .before .before .before .before .pre .0 .count, c .before .before .before .before .before .before .before .before .before .before .before .before .before .before .before .before .before .before .pre .0 .rows)
+add-leave c =
+    let at-struct-known2 : tie.After-struct-known2 = search in
+    let at-visit-value-block-terminal-arg : tie.After-visit-value-block-terminal-arg = search in
+    let start : tie.Start = search in
+    omega (arith, start .pre .0 .count, start .pre .0 .rows)
 
 take-id-requires : tie.Need-take-id-requires
 take-id-requires c κs = search needs
@@ -59,14 +65,14 @@ same-length-2 c = search needs
 
 returns-2 : tie.Need-returns-2
 returns-2 c =
-    let at-take-id = c .before in
-    let at-put = at-take-id .before .before .before .before in
-    let at-if1 = at-put .before .before in
-    let at-visit-value-block-terminal = at-if1 .before .before .before .before .before in
-    let at-block-word2 = at-visit-value-block-terminal .before .before .before in
-    let at-unless-scheduled = at-block-word2 .before in
-    let at-block-word = at-unless-scheduled .before in
-    let at-entry = at-block-word .before .before .before in
+    let at-take-id : tie.After-take-id = search in
+    let at-put : tie.After-put = search in
+    let at-if1 : tie.Else1 = search in
+    let at-visit-value-block-terminal : tie.After-visit-value-block-terminal = search in
+    let at-block-word2 : tie.After-block-word2 = search in
+    let at-unless-scheduled : tie.After-unless-scheduled = search in
+    let at-block-word : tie.After-block-word = search in
+    let at-entry : tie.Start = search in
     value-statement-left (at-entry .args .words .now) (at-entry .args .scheduled .now) (at-entry .args .catch-handlers .now) (at-entry .args .p) (at-entry .pre .0) _ (at-entry .pre .1 .1) (at-visit-value-block-terminal .visit-value-block-terminal .ensures) (at-unless-scheduled .unless-scheduled .result) _ _ _ (at-if1 .if1 .left) (rw (at-block-word .block-word .ensures) at (at-unless-scheduled .unless-scheduled .ensures)) (rw (at-block-word2 .block-word2 .ensures) at (at-put .put .ensures)) (rw (← (at-take-id .take-id .ensures)) (c .leave .ensures))
 
 pub visit-value-spec : {M : Type 1} → statement M

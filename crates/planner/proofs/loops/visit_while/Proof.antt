@@ -1,63 +1,67 @@
-use native.Mathlib.Omega.{arith}
-use Rattle.planner.proofs.LoopLaws.{loop-refused, loop-entered, while-turns, while-missing, while-ends, while-blocks, few-loop-blocks, first-made, nothing-spent}
-use mathlib.Core.Path.{refl, sym, _∙_}
 use borrow.Author.Needs.{needs}
+use Rattle.planner.proofs.LoopLaws.{while-missing, while-refused, nothing-spent, while-entered}
 use Rattle.planner.proofs.loops.visit_while.Statement.{statement}
 use Rattle.planner.proofs.loops.visit_while.Tie as tie
 
+while-at-requires : tie.Need-while-at-requires
+while-at-requires c κs = search needs
+
 block-word-requires : tie.Need-block-word-requires
 block-word-requires c κs = search needs
-
-block-word-requires-2 : tie.Need-block-word-requires-2
-block-word-requires-2 c κs = search needs
-
-block-word-requires-3 : tie.Need-block-word-requires-3
-block-word-requires-3 c κs = search needs
-
-block-word-requires-4 : tie.Need-block-word-requires-4
-block-word-requires-4 c κs = (c .before .before .before .before .before .pre .0 .promise .sized, ((while-blocks (c .before .before .before .before .before .args .words .now) (c .before .before .before .before .before .args .p) (c .before .before .before .before .before .pre .0) (c .before .before .block-word .result) (c .before .block-word2 .result) (c .block-word3 .result) (c .before .before .before .before .before .pre .1) (c .before .before .block-word .ensures) (c .before .block-word2 .ensures) (c .block-word3 .ensures)) .0, omega arith))
 
 refuse-requires : tie.Need-refuse-requires
 refuse-requires c κs = search needs
 
 returns : tie.Need-returns
-returns c = while-missing (c .before .before .before .before .before .before .before .before .args .words .now) (c .before .before .before .before .before .before .before .before .args .scheduled .now) (c .before .before .before .before .before .before .before .before .args .catch-handlers .now) (c .before .before .before .before .before .before .before .before .args .p) (c .before .before .before .before .before .before .before .before .pre .0) (c .before .before .before .before .before .block-word .result) (c .before .before .before .before .block-word2 .result) (c .before .before .before .block-word3 .result) _ (while-ends (c .before .before .before .before .before .before .before .before .args .words .now) (c .before .before .before .before .before .before .before .before .args .p) (c .before .before .before .before .before .before .before .before .pre .0) (c .before .before .before .before .before .block-word .result) (c .before .before .before .before .block-word2 .result) (c .before .before .before .block-word3 .result) (c .before .before .before .before .before .before .before .before .pre .1) (c .before .before .before .before .before .block-word .ensures) (c .before .before .before .before .block-word2 .ensures) (c .before .before .before .block-word3 .ensures)) ((while-blocks (c .before .before .before .before .before .before .before .before .args .words .now) (c .before .before .before .before .before .before .before .before .args .p) (c .before .before .before .before .before .before .before .before .pre .0) (c .before .before .before .before .before .block-word .result) (c .before .before .before .before .block-word2 .result) (c .before .before .before .block-word3 .result) (c .before .before .before .before .before .before .before .before .pre .1) (c .before .before .before .before .before .block-word .ensures) (c .before .before .before .before .block-word2 .ensures) (c .before .before .before .block-word3 .ensures)) .0) (sym (c .before .before .block-word4 .ensures) ∙ c .before .if1 .taken) (c .refuse .ensures) _
+returns c = search while-missing
 
 continues-scheduled-requires : tie.Need-continues-scheduled-requires
-continues-scheduled-requires c κs = let h = few-loop-blocks (c .before .before .before .before .before .before .before .args .words .now) (c .before .before .before .before .before .before .before .args .p) (c .before .before .before .before .before .before .before .pre .0) (while-blocks (c .before .before .before .before .before .before .before .args .words .now) (c .before .before .before .before .before .before .before .args .p) (c .before .before .before .before .before .before .before .pre .0) (c .before .before .before .before .block-word .result) (c .before .before .before .block-word2 .result) (c .before .before .block-word3 .result) (c .before .before .before .before .before .before .before .pre .1) (c .before .before .before .before .block-word .ensures) (c .before .before .before .block-word2 .ensures) (c .before .before .block-word3 .ensures)) in (h .0, h .1)
+continues-scheduled-requires c κs = search needs
 
 refuse-requires-2 : tie.Need-refuse-requires-2
 refuse-requires-2 c κs = search needs
 
 returns-2 : tie.Need-returns-2
-returns-2 c = loop-refused (c .before .before .before .before .before .before .before .before .before .before .args .words .now) (c .before .before .before .before .before .before .before .before .before .before .args .scheduled .now) (c .before .before .before .before .before .before .before .before .before .before .args .catch-handlers .now) (c .before .before .before .before .before .before .before .before .before .before .args .p) (c .before .before .before .before .before .before .before .before .before .before .pre .0) (c .before .before .before .before .before .block-word3 .result) (c .before .before .before .before .before .before .before .block-word .result) (c .before .before .before .before .before .before .block-word2 .result) _ _ _ (while-turns (c .before .before .before .before .before .before .before .before .before .before .args .words .now) (c .before .before .before .before .before .before .before .before .before .before .args .scheduled .now) (c .before .before .before .before .before .before .before .before .before .before .args .catch-handlers .now) (c .before .before .before .before .before .before .before .before .before .before .args .p) (c .before .before .before .before .before .before .before .before .before .before .pre .0) (c .before .before .before .before .before .before .before .block-word .result) (c .before .before .before .before .before .before .block-word2 .result) (c .before .before .before .before .before .block-word3 .result) _ (while-ends (c .before .before .before .before .before .before .before .before .before .before .args .words .now) (c .before .before .before .before .before .before .before .before .before .before .args .p) (c .before .before .before .before .before .before .before .before .before .before .pre .0) (c .before .before .before .before .before .before .before .block-word .result) (c .before .before .before .before .before .before .block-word2 .result) (c .before .before .before .before .before .block-word3 .result) (c .before .before .before .before .before .before .before .before .before .before .pre .1) (c .before .before .before .before .before .before .before .block-word .ensures) (c .before .before .before .before .before .before .block-word2 .ensures) (c .before .before .before .before .before .block-word3 .ensures)) ((while-blocks (c .before .before .before .before .before .before .before .before .before .before .args .words .now) (c .before .before .before .before .before .before .before .before .before .before .args .p) (c .before .before .before .before .before .before .before .before .before .before .pre .0) (c .before .before .before .before .before .before .before .block-word .result) (c .before .before .before .before .before .before .block-word2 .result) (c .before .before .before .before .before .block-word3 .result) (c .before .before .before .before .before .before .before .before .before .before .pre .1) (c .before .before .before .before .before .before .before .block-word .ensures) (c .before .before .before .before .before .before .block-word2 .ensures) (c .before .before .before .before .before .block-word3 .ensures)) .0) (λ z. c .before .before .before .if1 .left (c .before .before .before .before .block-word4 .ensures ∙ z)) refl) ((while-blocks (c .before .before .before .before .before .before .before .before .before .before .args .words .now) (c .before .before .before .before .before .before .before .before .before .before .args .p) (c .before .before .before .before .before .before .before .before .before .before .pre .0) (c .before .before .before .before .before .before .before .block-word .result) (c .before .before .before .before .before .before .block-word2 .result) (c .before .before .before .before .before .block-word3 .result) (c .before .before .before .before .before .before .before .before .before .before .pre .1) (c .before .before .before .before .before .before .before .block-word .ensures) (c .before .before .before .before .before .before .block-word2 .ensures) (c .before .before .before .before .before .block-word3 .ensures)) .0) (sym (c .before .before .continues-scheduled .ensures) ∙ c .before .if2 .taken) (c .refuse2 .ensures) _
+returns-2 c = search while-refused
 
 unless-unreachable-requires : tie.Need-unless-unreachable-requires
-unless-unreachable-requires c κs = (c .before .before .before .before .before .before .before .before .before .pre .0 .promise, (while-blocks (c .before .before .before .before .before .before .before .before .before .args .words .now) (c .before .before .before .before .before .before .before .before .before .args .p) (c .before .before .before .before .before .before .before .before .before .pre .0) (c .before .before .before .before .before .before .block-word .result) (c .before .before .before .before .before .block-word2 .result) (c .before .before .before .before .block-word3 .result) (c .before .before .before .before .before .before .before .before .before .pre .1) (c .before .before .before .before .before .before .block-word .ensures) (c .before .before .before .before .before .block-word2 .ensures) (c .before .before .before .before .block-word3 .ensures)) .0)
+unless-unreachable-requires c κs = search needs
 
 no-values-requires : tie.Need-no-values-requires
 no-values-requires c κs = search needs
 
 plain-value-requires : tie.Need-plain-value-requires
-plain-value-requires c κs = (c .before .before .before .before .before .before .before .before .before .before .before .before .pre .0, ((while-blocks (c .before .before .before .before .before .before .before .before .before .before .before .before .args .words .now) (c .before .before .before .before .before .before .before .before .before .before .before .before .args .p) (c .before .before .before .before .before .before .before .before .before .before .before .before .pre .0) (c .before .before .before .before .before .before .before .before .before .block-word .result) (c .before .before .before .before .before .before .before .before .block-word2 .result) (c .before .before .before .before .before .before .before .block-word3 .result) (c .before .before .before .before .before .before .before .before .before .before .before .before .pre .1) (c .before .before .before .before .before .before .before .before .before .block-word .ensures) (c .before .before .before .before .before .before .before .before .block-word2 .ensures) (c .before .before .before .before .before .before .before .block-word3 .ensures)) .1, nothing-spent (c .before .before .before .before .before .before .before .before .before .before .before .before .args .words .now) (c .before .before .before .before .before .before .before .before .before .before .before .before .args .p) _ (c .before .before .before .before .before .before .before .before .before .before .before .before .pre .0) (c .no-values .ensures)))
+plain-value-requires c κs = search (nothing-spent, needs)
 
 enter-loop-requires : tie.Need-enter-loop-requires
-enter-loop-requires c κs = let h = few-loop-blocks (c .before .before .before .before .before .before .before .before .before .before .before .before .before .before .before .args .words .now) (c .before .before .before .before .before .before .before .before .before .before .before .before .before .before .before .args .p) (c .before .before .before .before .before .before .before .before .before .before .before .before .before .before .before .pre .0) (while-blocks (c .before .before .before .before .before .before .before .before .before .before .before .before .before .before .before .args .words .now) (c .before .before .before .before .before .before .before .before .before .before .before .before .before .before .before .args .p) (c .before .before .before .before .before .before .before .before .before .before .before .before .before .before .before .pre .0) (c .before .before .before .before .before .before .before .before .before .before .before .before .block-word .result) (c .before .before .before .before .before .before .before .before .before .before .before .block-word2 .result) (c .before .before .before .before .before .before .before .before .before .before .block-word3 .result) (c .before .before .before .before .before .before .before .before .before .before .before .before .before .before .before .pre .1) (c .before .before .before .before .before .before .before .before .before .before .before .before .block-word .ensures) (c .before .before .before .before .before .before .before .before .before .before .before .block-word2 .ensures) (c .before .before .before .before .before .before .before .before .before .before .block-word3 .ensures)) in (c .before .before .before .before .before .before .before .before .before .before .before .before .before .before .before .pre .0 .depth, (h .0, (h .1, h .2)))
+enter-loop-requires c κs =
+    let left : tie.Else2 = search in
+    let start : tie.Start = search in
+    search needs
 
 same-length : tie.Need-same-length
 same-length c = search needs
 
 returns-3 : tie.Need-returns-3
-returns-3 c = loop-entered (c .before .before .before .before .before .before .before .before .before .before .before .before .before .before .before .before .args .words .now) (c .before .before .before .before .before .before .before .before .before .before .before .before .before .before .before .before .args .scheduled .now) (c .before .before .before .before .before .before .before .before .before .before .before .before .before .before .before .before .args .catch-handlers .now) (c .before .before .before .before .before .before .before .before .before .before .before .before .before .before .before .before .args .p) (c .before .before .before .before .before .before .before .before .before .before .before .before .before .before .before .before .pre .0) (c .before .before .before .before .before .before .before .before .before .before .before .block-word3 .result) (c .before .before .before .before .before .before .before .before .before .before .before .before .before .block-word .result) (c .before .before .before .before .before .before .before .before .before .before .before .before .block-word2 .result) (c .before .before .before .before .before .before .unless-unreachable .result) _ _ _ (while-turns (c .before .before .before .before .before .before .before .before .before .before .before .before .before .before .before .before .args .words .now) (c .before .before .before .before .before .before .before .before .before .before .before .before .before .before .before .before .args .scheduled .now) (c .before .before .before .before .before .before .before .before .before .before .before .before .before .before .before .before .args .catch-handlers .now) (c .before .before .before .before .before .before .before .before .before .before .before .before .before .before .before .before .args .p) (c .before .before .before .before .before .before .before .before .before .before .before .before .before .before .before .before .pre .0) (c .before .before .before .before .before .before .before .before .before .before .before .before .before .block-word .result) (c .before .before .before .before .before .before .before .before .before .before .before .before .block-word2 .result) (c .before .before .before .before .before .before .before .before .before .before .before .block-word3 .result) _ (while-ends (c .before .before .before .before .before .before .before .before .before .before .before .before .before .before .before .before .args .words .now) (c .before .before .before .before .before .before .before .before .before .before .before .before .before .before .before .before .args .p) (c .before .before .before .before .before .before .before .before .before .before .before .before .before .before .before .before .pre .0) (c .before .before .before .before .before .before .before .before .before .before .before .before .before .block-word .result) (c .before .before .before .before .before .before .before .before .before .before .before .before .block-word2 .result) (c .before .before .before .before .before .before .before .before .before .before .before .block-word3 .result) (c .before .before .before .before .before .before .before .before .before .before .before .before .before .before .before .before .pre .1) (c .before .before .before .before .before .before .before .before .before .before .before .before .before .block-word .ensures) (c .before .before .before .before .before .before .before .before .before .before .before .before .block-word2 .ensures) (c .before .before .before .before .before .before .before .before .before .before .before .block-word3 .ensures)) ((while-blocks (c .before .before .before .before .before .before .before .before .before .before .before .before .before .before .before .before .args .words .now) (c .before .before .before .before .before .before .before .before .before .before .before .before .before .before .before .before .args .p) (c .before .before .before .before .before .before .before .before .before .before .before .before .before .before .before .before .pre .0) (c .before .before .before .before .before .before .before .before .before .before .before .before .before .block-word .result) (c .before .before .before .before .before .before .before .before .before .before .before .before .block-word2 .result) (c .before .before .before .before .before .before .before .before .before .before .before .block-word3 .result) (c .before .before .before .before .before .before .before .before .before .before .before .before .before .before .before .before .pre .1) (c .before .before .before .before .before .before .before .before .before .before .before .before .before .block-word .ensures) (c .before .before .before .before .before .before .before .before .before .before .before .before .block-word2 .ensures) (c .before .before .before .before .before .before .before .before .before .before .before .block-word3 .ensures)) .0) (λ z. c .before .before .before .before .before .before .before .before .before .if1 .left (c .before .before .before .before .before .before .before .before .before .before .block-word4 .ensures ∙ z)) (c .before .before .before .before .before .before .unless-unreachable .ensures)) (while-blocks (c .before .before .before .before .before .before .before .before .before .before .before .before .before .before .before .before .args .words .now) (c .before .before .before .before .before .before .before .before .before .before .before .before .before .before .before .before .args .p) (c .before .before .before .before .before .before .before .before .before .before .before .before .before .before .before .before .pre .0) (c .before .before .before .before .before .before .before .before .before .before .before .before .before .block-word .result) (c .before .before .before .before .before .before .before .before .before .before .before .before .block-word2 .result) (c .before .before .before .before .before .before .before .before .before .before .before .block-word3 .result) (c .before .before .before .before .before .before .before .before .before .before .before .before .before .before .before .before .pre .1) (c .before .before .before .before .before .before .before .before .before .before .before .before .before .block-word .ensures) (c .before .before .before .before .before .before .before .before .before .before .before .before .block-word2 .ensures) (c .before .before .before .before .before .before .before .before .before .before .before .block-word3 .ensures)) (sym (c .before .before .before .before .before .before .before .before .continues-scheduled .ensures) ∙ c .before .before .before .before .before .before .before .if2 .left) (first-made _ (c .before .before .before .before .no-values .ensures) (c .before .before .before .plain-value .ensures)) (c .enter-loop .ensures)
+returns-3 c =
+    let made : tie.After-plain-value = search in
+    let none : tie.After-no-values = search in
+    let named : tie.After-unless-unreachable = search in
+    let left : tie.Else2 = search in
+    let asked : tie.After-continues-scheduled = search in
+    let there : tie.Else1 = search in
+    let reached : tie.After-block-word = search in
+    let read : tie.After-while-at = search in
+    let start : tie.Start = search in
+    while-entered (start .pre .0) (read .while-at .ensures) (reached .block-word .ensures) (there .if1 .left) (asked .continues-scheduled .ensures) (left .if2 .left)
+    (named .unless-unreachable .ensures) (none .no-values .ensures) (made .plain-value .ensures) (c .enter-loop .ensures)
 
 pub visit-while-spec : {M : Type 1} → statement M
 visit-while-spec =
     tie.close
     (tie.spec
+    while-at-requires
     block-word-requires
-    block-word-requires-2
-    block-word-requires-3
-    block-word-requires-4
     refuse-requires
     returns
     continues-scheduled-requires

@@ -7,13 +7,19 @@ block-word-requires : tie.Need-block-word-requires
 block-word-requires c κs = search needs
 
 unless-scheduled-requires : tie.Need-unless-scheduled-requires
-unless-scheduled-requires c κs = few-blocks (c .before .before .args .words .now) (c .before .before .pre .0 .promise) (c .block-word .result) (rw (c .block-word .ensures) (continuation-below (c .before .before .args .words .now) (c .before .before .args .p) (c .before .before .pre .0) (c .before .before .pre .1)))
+unless-scheduled-requires c κs =
+    let start : tie.Start = search in
+    few-blocks (start .args .words .now) (start .pre .0 .promise) (c .block-word .result) (rw (c .block-word .ensures) (continuation-below (start .args .words .now) (start .args .p) (start .pre .0) (start .pre .1)))
 
 leave-requires : tie.Need-leave-requires
 leave-requires c κs = search needs
 
 returns : tie.Need-returns
-returns c = maybe-throw-left (c .before .before .before .before .args .words .now) (c .before .before .before .before .args .scheduled .now) (c .before .before .before .before .args .catch-handlers .now) (c .before .before .before .before .args .p) (c .before .before .before .before .pre .0) (c .before .before .block-word .result) (c .before .unless-scheduled .result) _ (c .before .before .before .before .pre .1) (c .before .before .block-word .ensures) (c .before .unless-scheduled .ensures) (c .leave .ensures)
+returns c =
+    let at-unless-scheduled : tie.After-unless-scheduled = search in
+    let at-block-word : tie.After-block-word = search in
+    let start : tie.Start = search in
+    maybe-throw-left (start .args .words .now) (start .args .scheduled .now) (start .args .catch-handlers .now) (start .args .p) (start .pre .0) (at-block-word .block-word .result) (at-unless-scheduled .unless-scheduled .result) _ (start .pre .1) (at-block-word .block-word .ensures) (at-unless-scheduled .unless-scheduled .ensures) (c .leave .ensures)
 
 pub visit-maybe-throw-spec : {M : Type 1} → statement M
 visit-maybe-throw-spec =

@@ -10,16 +10,26 @@ block-word-requires : tie.Need-block-word-requires
 block-word-requires c κs = search needs
 
 block-word-requires-2 : tie.Need-block-word-requires-2
-block-word-requires-2 c κs = (c .before .before .pre .0 .promise .sized, ((rw (c .block-word .ensures) (switch-ranges (c .before .before .args .words .now) (c .before .before .args .scheduled .now) (c .before .before .args .catch-handlers .now) (c .before .before .args .p) (c .before .before .pre .0) (c .before .before .pre .1) .2)), omega arith))
+block-word-requires-2 c κs =
+    let start : tie.Start = search in
+    (start .pre .0 .promise .sized, ((rw (c .block-word .ensures) (switch-ranges (start .args .words .now) (start .args .scheduled .now) (start .args .catch-handlers .now) (start .args .p) (start .pre .0) (start .pre .1) .2)), omega arith))
 
 refuse-requires : tie.Need-refuse-requires
 refuse-requires c κs = search needs
 
 returns : tie.Need-returns
-returns c = switch-missing (c .before .before .before .before .before .args .words .now) (c .before .before .before .before .before .args .scheduled .now) (c .before .before .before .before .before .args .catch-handlers .now) (c .before .before .before .before .before .args .p) (c .before .before .before .before .before .pre .0) (c .before .before .before .before .before .pre .1) (c .before .before .before .block-word .result) _ (c .before .before .before .block-word .ensures) (sym (c .before .before .block-word2 .ensures) ∙ c .before .if1 .taken) (c .refuse .ensures)
+returns c =
+    let then1 : tie.Then1 = search in
+    let at-block-word2 : tie.After-block-word2 = search in
+    let at-block-word : tie.After-block-word = search in
+    let start : tie.Start = search in
+    switch-missing (start .args .words .now) (start .args .scheduled .now) (start .args .catch-handlers .now) (start .args .p) (start .pre .0) (start .pre .1) (at-block-word .block-word .result) _ (at-block-word .block-word .ensures) (sym (at-block-word2 .block-word2 .ensures) ∙ then1 .if1 .taken) (c .refuse .ensures)
 
 unless-unreachable-requires : tie.Need-unless-unreachable-requires
-unless-unreachable-requires c κs = (c .before .before .before .before .pre .0 .promise, (rw (c .before .before .block-word .ensures) (switch-ranges (c .before .before .before .before .args .words .now) (c .before .before .before .before .args .scheduled .now) (c .before .before .before .before .args .catch-handlers .now) (c .before .before .before .before .args .p) (c .before .before .before .before .pre .0) (c .before .before .before .before .pre .1) .2)))
+unless-unreachable-requires c κs =
+    let at-block-word : tie.After-block-word = search in
+    let start : tie.Start = search in
+    (start .pre .0 .promise, (rw (at-block-word .block-word .ensures) (switch-ranges (start .args .words .now) (start .args .scheduled .now) (start .args .catch-handlers .now) (start .args .p) (start .pre .0) (start .pre .1) .2)))
 
 block-word-requires-3 : tie.Need-block-word-requires-3
 block-word-requires-3 c κs = search needs
@@ -31,13 +41,26 @@ add-choose : tie.Need-add-choose
 add-choose c = search needs
 
 schedule-switch-requires : tie.Need-schedule-switch-requires
-schedule-switch-requires c κs = (label-most (c .before .before .before .unless-unreachable .result) (reached-label (c .before .before .before .before .before .before .before .before .args .words .now) (c .before .before .before .before .before .before .before .before .args .scheduled .now) (c .before .before .before .before .before .before .before .before .args .catch-handlers .now) (c .before .before .before .before .before .before .before .before .args .p) (c .before .before .before .before .before .before .before .before .pre .0) (c .before .before .before .before .before .before .block-word .result) (c .before .before .before .before .before .before .block-word .result) (c .before .before .before .unless-unreachable .result) (rw (c .before .before .before .before .before .before .block-word .ensures) (switch-ranges (c .before .before .before .before .before .before .before .before .args .words .now) (c .before .before .before .before .before .before .before .before .args .scheduled .now) (c .before .before .before .before .before .before .before .before .args .catch-handlers .now) (c .before .before .before .before .before .before .before .before .args .p) (c .before .before .before .before .before .before .before .before .pre .0) (c .before .before .before .before .before .before .before .before .pre .1) .2)) refl (c .before .before .before .unless-unreachable .ensures)))
+schedule-switch-requires c κs =
+    let at-unless-unreachable : tie.After-unless-unreachable = search in
+    let at-block-word : tie.After-block-word = search in
+    let start : tie.Start = search in
+    (label-most (at-unless-unreachable .unless-unreachable .result) (reached-label (start .args .words .now) (start .args .scheduled .now) (start .args .catch-handlers .now) (start .args .p) (start .pre .0) (at-block-word .block-word .result) (at-block-word .block-word .result) (at-unless-unreachable .unless-unreachable .result) (rw (at-block-word .block-word .ensures) (switch-ranges (start .args .words .now) (start .args .scheduled .now) (start .args .catch-handlers .now) (start .args .p) (start .pre .0) (start .pre .1) .2)) refl (at-unless-unreachable .unless-unreachable .ensures)))
 
 choose-requires : tie.Need-choose-requires
 choose-requires c κs = search needs
 
 returns-2 : tie.Need-returns-2
-returns-2 c = switch-begins (c .before .before .before .before .before .before .before .before .before .before .args .words .now) (c .before .before .before .before .before .before .before .before .before .before .args .scheduled .now) (c .before .before .before .before .before .before .before .before .before .before .args .catch-handlers .now) (c .before .before .before .before .before .before .before .before .before .before .args .p) (c .before .before .before .before .before .before .before .before .before .before .pre .0) (c .before .before .before .before .before .before .before .before .before .before .pre .1) (c .before .before .before .before .before .before .before .before .block-word .result) (c .before .before .before .before .before .unless-unreachable .result) (c .before .before .before .before .block-word3 .result) _ (c .before .before .before .before .before .before .before .before .block-word .ensures) (λ z. c .before .before .before .before .before .before .if1 .left (c .before .before .before .before .before .before .before .block-word2 .ensures ∙ z)) (c .before .before .before .before .before .unless-unreachable .ensures) (c .before .before .before .before .block-word3 .ensures) (rw (← (c .before .schedule-switch .ensures), ← (c .before .before .before .entries-of .ensures)) (c .choose .ensures))
+returns-2 c =
+    let at-schedule-switch : tie.After-schedule-switch = search in
+    let at-entries-of : tie.After-entries-of = search in
+    let at-block-word3 : tie.After-block-word3 = search in
+    let at-unless-unreachable : tie.After-unless-unreachable = search in
+    let else1 : tie.Else1 = search in
+    let at-block-word2 : tie.After-block-word2 = search in
+    let at-block-word : tie.After-block-word = search in
+    let start : tie.Start = search in
+    switch-begins (start .args .words .now) (start .args .scheduled .now) (start .args .catch-handlers .now) (start .args .p) (start .pre .0) (start .pre .1) (at-block-word .block-word .result) (at-unless-unreachable .unless-unreachable .result) (at-block-word3 .block-word3 .result) _ (at-block-word .block-word .ensures) (λ z. else1 .if1 .left (at-block-word2 .block-word2 .ensures ∙ z)) (at-unless-unreachable .unless-unreachable .ensures) (at-block-word3 .block-word3 .ensures) (rw (← (at-schedule-switch .schedule-switch .ensures), ← (at-entries-of .entries-of .ensures)) (c .choose .ensures))
 
 pub visit-switch-spec : {M : Type 1} → statement M
 visit-switch-spec =

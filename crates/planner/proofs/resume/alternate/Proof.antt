@@ -10,7 +10,10 @@ refuse-requires : tie.Need-refuse-requires
 refuse-requires c κs = search needs
 
 returns : tie.Need-returns
-returns c = rw (sym (c .before .before .scheduled-at .ensures) ∙ c .before .if1 .taken) (c .refuse .ensures)
+returns c =
+    let then1 : tie.Then1 = search in
+    let at-scheduled-at : tie.After-scheduled-at = search in
+    rw (sym (at-scheduled-at .scheduled-at .ensures) ∙ then1 .if1 .taken) (c .refuse .ensures)
 
 second-part-requires : tie.Need-second-part-requires
 second-part-requires c κs = search needs
@@ -19,7 +22,10 @@ traverse-block-requires : tie.Need-traverse-block-requires
 traverse-block-requires c κs = search needs
 
 returns-2 : tie.Need-returns-2
-returns-2 c = rw (sym (c .before .before .before .scheduled-at .ensures) ∙ c .before .before .if1 .left) (cc)
+returns-2 c =
+    let else1 : tie.Else1 = search in
+    let at-scheduled-at : tie.After-scheduled-at = search in
+    rw (sym (at-scheduled-at .scheduled-at .ensures) ∙ else1 .if1 .left) (cc)
 
 pub alternate-spec : {M : Type 1} → statement M
 alternate-spec =

@@ -14,9 +14,9 @@ pop-requires c κs = search needs
 
 returns : tie.Need-returns
 returns c =
-    let at-with-counts = c .before in
-    let at-if1 = at-with-counts .before .before in
-    let at-entry = at-if1 .before .before .before .before in
+    let at-with-counts : tie.After-with-counts = search in
+    let at-if1 : tie.Then1 = search in
+    let at-entry : tie.Start = search in
     closed-popping (at-entry .args .words .now) (at-entry .args .p) (at-entry .args .frame) (at-entry .pre) _ (at-entry .args .tree .now) (at-if1 .if1 .taken) (rw (at-with-counts .with-counts .ensures) at (c .pop .ensures))
 
 closing-row-requires : tie.Need-closing-row-requires
@@ -42,11 +42,11 @@ same-length c = search needs
 
 returns-2 : tie.Need-returns-2
 returns-2 c =
-    let at-unschedule-if = c .before in
-    let at-put = at-unschedule-if .before .before .before .before .before in
-    let at-closing-row = at-put .before .before in
-    let at-if1 = at-closing-row .before in
-    let at-entry = at-if1 .before .before .before .before in
+    let at-unschedule-if : tie.After-unschedule-if = search in
+    let at-put : tie.After-put = search in
+    let at-closing-row : tie.After-closing-row = search in
+    let at-if1 : tie.Else1 = search in
+    let at-entry : tie.Start = search in
     closed-complete (at-entry .args .words .now) (at-entry .args .p) (at-entry .args .frame) (at-entry .pre) _ (at-entry .args .tree .now) (at-put .put .last .0) _ (at-put .put .result) (at-if1 .if1 .left) (at-closing-row .closing-row .ensures) (at-put .put .ensures) (rw (← (at-unschedule-if .unschedule-if .ensures)) (c .leave .ensures))
 
 pub close-statement-spec : {M : Type 1} → statement M

@@ -23,7 +23,9 @@ resume-try-requires : tie.Need-resume-try-requires
 resume-try-requires c κs = search needs
 
 close-statement-requires : tie.Need-close-statement-requires
-close-statement-requires c κs = closing-of (c .before .before .before .before .before .args .words .now) (c .before .before .before .before .before .args .p) (c .before .before .before .before .before .args .frame) (c .before .before .before .before .before .pre)
+close-statement-requires c κs =
+    let start : tie.Start = search in
+    closing-of (start .args .words .now) (start .args .p) (start .args .frame) (start .pre)
 
 same-length : tie.Need-same-length
 same-length c = search needs
@@ -41,25 +43,39 @@ same-length-3 : tie.Need-same-length-3
 same-length-3 c = search needs
 
 returns-3 : tie.Need-returns-3
-returns-3 c = resumed-seen (c .before .before .before .before .before .before .before .before .args .words .now) (c .before .before .before .before .before .before .before .before .args .p) (c .before .before .before .before .before .before .before .before .args .frame) (c .before .before .resume-switch .ensures)
+returns-3 c =
+    let at-resume-switch : tie.After-resume-switch = search in
+    let start : tie.Start = search in
+    resumed-seen (start .args .words .now) (start .args .p) (start .args .frame) (at-resume-switch .resume-switch .ensures)
 
 same-length-4 : tie.Need-same-length-4
 same-length-4 c = search needs
 
 returns-4 : tie.Need-returns-4
-returns-4 c = resumed-seen (c .before .before .before .before .before .before .before .before .args .words .now) (c .before .before .before .before .before .before .before .before .args .p) (c .before .before .before .before .before .before .before .before .args .frame) (c .before .before .resume-do-while .ensures)
+returns-4 c =
+    let at-resume-do-while : tie.After-resume-do-while = search in
+    let start : tie.Start = search in
+    resumed-seen (start .args .words .now) (start .args .p) (start .args .frame) (at-resume-do-while .resume-do-while .ensures)
 
 same-length-5 : tie.Need-same-length-5
 same-length-5 c = search needs
 
 returns-5 : tie.Need-returns-5
-returns-5 c = resumed-seen (c .before .before .before .before .before .before .before .before .args .words .now) (c .before .before .before .before .before .before .before .before .args .p) (c .before .before .before .before .before .before .before .before .args .frame) (c .before .before .resume-try .ensures)
+returns-5 c =
+    let at-resume-try : tie.After-resume-try = search in
+    let start : tie.Start = search in
+    resumed-seen (start .args .words .now) (start .args .p) (start .args .frame) (at-resume-try .resume-try .ensures)
 
 same-length-6 : tie.Need-same-length-6
 same-length-6 c = search needs
 
 returns-6 : tie.Need-returns-6
-returns-6 c = resumed-seen (c .before .before .before .before .before .before .before .before .args .words .now) (c .before .before .before .before .before .before .before .before .args .p) (c .before .before .before .before .before .before .before .before .args .frame) (resumed-closed (c .before .before .before .before .before .before .before .before .args .words .now) (c .before .before .before .before .before .before .before .before .args .p) (c .before .before .before .before .before .before .before .before .args .frame) (other-closed (c .before .before .before .before .before .before .before .before .args .words .now) (c .before .before .before .before .before .before .before .before .args .p) (c .before .before .before .before .before .before .before .before .args .frame) (c .before .before .before .before .before .before .before .before .pre) (subst (Other (c .before .before .before .before .before .before .before .before .args .words .now) (c .before .before .before .before .before .before .before .before .args .p) (c .before .before .before .before .before .before .before .before .args .frame) (c .before .before .before .before .before .before .before .before .pre)) (c .before .before .before .before .before .block-word .ensures) (c .before .before .before .before .match .rest .0 .0 .0 .0 .1, c .before .before .before .before .match .rest .0 .0 .0 .1, c .before .before .before .before .match .rest .0 .0 .1, c .before .before .before .before .match .rest .0 .1, c .before .before .before .before .match .rest .1))) (c .before .before .close-statement .ensures))
+returns-6 c =
+    let at-close-statement : tie.After-close-statement = search in
+    let at-match-rest : tie.At-match-rest = search in
+    let at-block-word : tie.After-block-word = search in
+    let start : tie.Start = search in
+    resumed-seen (start .args .words .now) (start .args .p) (start .args .frame) (resumed-closed (start .args .words .now) (start .args .p) (start .args .frame) (other-closed (start .args .words .now) (start .args .p) (start .args .frame) (start .pre) (subst (Other (start .args .words .now) (start .args .p) (start .args .frame) (start .pre)) (at-block-word .block-word .ensures) (at-match-rest .match .rest .0 .0 .0 .0 .1, at-match-rest .match .rest .0 .0 .0 .1, at-match-rest .match .rest .0 .0 .1, at-match-rest .match .rest .0 .1, at-match-rest .match .rest .1))) (at-close-statement .close-statement .ensures))
 
 pub resume-statement-spec : {M : Type 1} → statement M
 resume-statement-spec =

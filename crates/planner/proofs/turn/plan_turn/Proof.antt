@@ -9,8 +9,8 @@ enum-told c = search needs
 
 visit-block-requires : tie.Need-visit-block-requires
 visit-block-requires c κs =
-    let at-enum-told = c .before in
-    let at-entry = at-enum-told .before .before .before .before in
+    let at-enum-told : tie.After-enum-told = search in
+    let at-entry : tie.Start = search in
     (visits-ready _ _ _ (at-entry .pre .0) (at-enum-told .enum-told .given .1), at-entry .pre .1)
 
 enum-told-2 : tie.Need-enum-told-2
@@ -30,8 +30,8 @@ enum-told-4 c = search needs
 
 close-statement-requires : tie.Need-close-statement-requires
 close-statement-requires c κs =
-    let at-enum-told4 = c .before in
-    let at-entry = at-enum-told4 .before .before .before .before in
+    let at-enum-told4 : tie.After-enum-told4 = search in
+    let at-entry : tie.Start = search in
     closing-at-pop _ _ _ (at-entry .pre .0) (at-enum-told4 .enum-told4 .given .1)
 
 enum-told-5 : tie.Need-enum-told-5
@@ -44,34 +44,40 @@ same-length : tie.Need-same-length
 same-length c = search needs
 
 returns : tie.Need-returns
-returns c = c .before .before .visit-block .ensures _
+returns c =
+    let at-visit-block : tie.After-visit-block = search in
+    at-visit-block .visit-block .ensures _
 
 same-length-2 : tie.Need-same-length-2
 same-length-2 c = search needs
 
 returns-2 : tie.Need-returns-2
-returns-2 c = turn-on _ _ _ (λ C o. shown-seen o) (c .before .before .resume .ensures)
+returns-2 c =
+    let at-resume : tie.After-resume = search in
+    turn-on _ _ _ (λ C o. shown-seen o) (at-resume .resume .ensures)
 
 same-length-3 : tie.Need-same-length-3
 same-length-3 c = search needs
 
 returns-3 : tie.Need-returns-3
-returns-3 c = turn-on _ _ _ (λ C o. shown-seen o) (c .before .before .choose-case .ensures)
+returns-3 c =
+    let at-choose-case : tie.After-choose-case = search in
+    turn-on _ _ _ (λ C o. shown-seen o) (at-choose-case .choose-case .ensures)
 
 same-length-4 : tie.Need-same-length-4
 same-length-4 c = search needs
 
 returns-4 : tie.Need-returns-4
 returns-4 c =
-    let at-close-statement = c .before .before in
-    let at-enum-told4 = at-close-statement .before .before in
-    let at-entry = at-enum-told4 .before .before .before .before in
+    let at-close-statement : tie.After-close-statement = search in
+    let at-enum-told4 : tie.After-enum-told4 = search in
+    let at-entry : tie.Start = search in
     turn-on _ _ _ (λ C o. o .visits) (popped _ _ _ (at-entry .pre .0) (at-enum-told4 .enum-told4 .given .1) (at-close-statement .close-statement .ensures))
 
 returns-5 : tie.Need-returns-5
 returns-5 c =
-    let at-enum-told5 = c .before in
-    let at-entry = at-enum-told5 .before .before .before .before in
+    let at-enum-told5 : tie.After-enum-told5 = search in
+    let at-entry : tie.Start = search in
     absurd (not-halted _ _ _ (at-entry .pre .0) (at-enum-told5 .enum-told5 .given .1))
 
 pub plan-turn-spec : {M : Type 1} → statement M

@@ -12,8 +12,8 @@ refuse-requires c κs = search needs
 
 returns : tie.Need-returns
 returns c frame =
-    let at-if1 = c .before in
-    let at-entry = at-if1 .before .before .before .before in
+    let at-if1 : tie.Then1 = search in
+    let at-entry : tie.Start = search in
     deep-planned _ _ _ _ _ _ _ (at-entry .pre .0) frame _ _ (at-if1 .if1 .taken) (c .refuse .ensures)
 
 refuse-requires-2 : tie.Need-refuse-requires-2
@@ -21,9 +21,9 @@ refuse-requires-2 c κs = search needs
 
 returns-2 : tie.Need-returns-2
 returns-2 c frame =
-    let at-if2 = c .before in
-    let at-if1 = at-if2 .before .before in
-    let at-entry = at-if1 .before .before .before .before in
+    let at-if2 : tie.Then2 = search in
+    let at-if1 : tie.Else1 = search in
+    let at-entry : tie.Start = search in
     visits-planned _ _ _ _ _ _ _ (at-entry .pre .0) frame (at-if1 .if1 .left) _ _ (at-if2 .if2 .taken) (c .refuse2 .ensures)
 
 add-visits : tie.Need-add-visits
@@ -40,12 +40,12 @@ refuse-requires-3 c κs = search needs
 
 returns-3 : tie.Need-returns-3
 returns-3 c frame =
-    let at-if3 = c .before in
-    let at-block-word = at-if3 .before in
-    let at-advance = at-block-word .before in
-    let at-if2 = at-advance .before .before in
-    let at-if1 = at-if2 .before .before in
-    let at-entry = at-if1 .before .before .before .before in
+    let at-if3 : tie.Then3 = search in
+    let at-block-word : tie.After-block-word = search in
+    let at-advance : tie.After-advance = search in
+    let at-if2 : tie.Else2 = search in
+    let at-if1 : tie.Else1 = search in
+    let at-entry : tie.Start = search in
     absent-planned _ _ _ _ _ _ _ (at-entry .pre .0) frame (at-if1 .if1 .left) (at-if2 .if2 .left) _ _ _ refl (sym (at-block-word .block-word .ensures) ∙ at-if3 .if3 .taken) (rw (at-advance .advance .ensures) at (c .refuse3 .ensures))
 
 cast-if4 : tie.Need-cast-if4
@@ -60,31 +60,39 @@ refuse-requires-4 c κs = search needs
 returns-4 : tie.Need-returns-4
 unfolding has
 returns-4 c frame =
-    let at-if4 = c .before in
-    let at-if3 = at-if4 .before .before in
-    let at-block-word = at-if3 .before in
-    let at-advance = at-block-word .before in
-    let at-if2 = at-advance .before .before in
-    let at-if1 = at-if2 .before .before in
-    let at-entry = at-if1 .before .before .before .before in
+    let at-if4 : tie.Then4 = search in
+    let at-if3 : tie.Else3 = search in
+    let at-block-word : tie.After-block-word = search in
+    let at-advance : tie.After-advance = search in
+    let at-if2 : tie.Else2 = search in
+    let at-if1 : tie.Else1 = search in
+    let at-entry : tie.Start = search in
     emitted-planned _ _ _ _ _ _ _ (at-entry .pre .0) frame (at-if1 .if1 .left) (at-if2 .if2 .left) (λ e. at-if3 .if3 .left (at-block-word .block-word .ensures ∙ e)) _ _ _ refl (at-if4 .if4 .taken) (rw (at-advance .advance .ensures) at (c .refuse4 .ensures))
 
 block-word-requires-2 : tie.Need-block-word-requires-2
 block-word-requires-2 c κs = search needs
 
 block-word-requires-3 : tie.Need-block-word-requires-3
-block-word-requires-3 c κs = (c .before .before .before .before .before .before .before .before .before .before .before .before .before .before .pre .0 .promise .sized, (c .before .before .before .before .before .before .before .before .before .before .before .before .before .before .pre .0 .block, omega arith))
+block-word-requires-3 c κs =
+    let at-advance : tie.After-advance = search in
+    let at-slice-known : tie.After-slice-known = search in
+    let start : tie.Start = search in
+    (start .pre .0 .promise .sized, (start .pre .0 .block, omega arith))
 
 put-instructions-requires : tie.Need-put-instructions-requires
 put-instructions-requires c κs =
-    let at-block-word2 = c .before .before in
-    let at-entry = at-block-word2 .before .before .before .before .before .before .before .before .before .before .before .before .before in
+    let at-block-word2 : tie.After-block-word2 = search in
+    let at-struct-known3 : tie.After-struct-known3 = search in
+    let at-shared-slice-known : tie.After-shared-slice-known = search in
+    let at-entry : tie.Start = search in
     (at-entry .pre .0 .promise, (rw (at-block-word2 .block-word2 .ensures, c .block-word3 .ensures) (run-within _ (at-entry .pre .0 .promise) _ (at-entry .pre .0 .block)), omega (arith, at-entry .pre .0 .rows)))
 
 add-advance : tie.Need-add-advance
 add-advance c =
-    let at-block-word2 = c .before .before .before .before .before .before in
-    let at-entry = at-block-word2 .before .before .before .before .before .before .before .before .before .before .before .before .before in
+    let at-block-word2 : tie.After-block-word2 = search in
+    let at-struct-known3 : tie.After-struct-known3 = search in
+    let at-shared-slice-known : tie.After-shared-slice-known = search in
+    let at-entry : tie.Start = search in
     omega (arith, at-block-word2 .block-word2 .ensures, at-entry .pre .0 .rows, at-entry .pre .0 .count, run-within _ (at-entry .pre .0 .promise) _ (at-entry .pre .0 .block), at-entry .pre .0 .promise .sized .limited .instructions)
 
 advance-requires-2 : tie.Need-advance-requires-2
@@ -92,14 +100,14 @@ advance-requires-2 c κs = search needs
 
 visit-terminal-requires : tie.Need-visit-terminal-requires
 visit-terminal-requires c κs =
-    let at-advance2 = c .before in
-    let at-put-instructions = at-advance2 .before .before .before .before in
-    let at-block-word2 = at-put-instructions .before .before .before in
-    let at-if3 = at-block-word2 .before .before .before in
-    let at-block-word = at-if3 .before in
-    let at-if2 = at-block-word .before .before .before in
-    let at-if1 = at-if2 .before .before in
-    let at-entry = at-if1 .before .before .before .before in
+    let at-advance2 : tie.After-advance2 = search in
+    let at-put-instructions : tie.After-put-instructions = search in
+    let at-block-word2 : tie.After-block-word2 = search in
+    let at-if3 : tie.Else3 = search in
+    let at-block-word : tie.After-block-word = search in
+    let at-if2 : tie.Else2 = search in
+    let at-if1 : tie.Else1 = search in
+    let at-entry : tie.Start = search in
     rw (at-advance2 .advance2 .ensures) (record { promise = at-entry .pre .0 .promise; block = at-entry .pre .0 .block; depth = at-if1 .if1 .left; visits = omega (arith, at-if2 .if2 .left); rows = omega (arith, at-put-instructions .put-instructions .ensures .more, at-block-word2 .block-word2 .ensures, at-entry .pre .0 .rows, run-within _ (at-entry .pre .0 .promise) _ (at-entry .pre .0 .block), at-entry .pre .0 .promise .sized .limited .instructions); count = omega (arith, at-put-instructions .put-instructions .ensures .more, at-entry .pre .0 .count) }, (at-entry .pre .1, λ e. at-if3 .if3 .left (at-block-word .block-word .ensures ∙ e)))
 
 same-length : tie.Need-same-length
@@ -108,17 +116,17 @@ same-length c = search needs
 returns-5 : tie.Need-returns-5
 unfolding has
 returns-5 c frame =
-    let at-visit-terminal = c .before .before in
-    let at-advance2 = at-visit-terminal .before .before in
-    let at-put-instructions = at-advance2 .before .before .before .before in
-    let at-block-word3 = at-put-instructions .before in
-    let at-block-word2 = at-block-word3 .before .before in
-    let at-if4 = at-block-word2 .before in
-    let at-if3 = at-if4 .before .before in
-    let at-block-word = at-if3 .before in
-    let at-if2 = at-block-word .before .before .before in
-    let at-if1 = at-if2 .before .before in
-    let at-entry = at-if1 .before .before .before .before in
+    let at-visit-terminal : tie.After-visit-terminal = search in
+    let at-advance2 : tie.After-advance2 = search in
+    let at-put-instructions : tie.After-put-instructions = search in
+    let at-block-word3 : tie.After-block-word3 = search in
+    let at-block-word2 : tie.After-block-word2 = search in
+    let at-if4 : tie.Else4 = search in
+    let at-if3 : tie.Else3 = search in
+    let at-block-word : tie.After-block-word = search in
+    let at-if2 : tie.Else2 = search in
+    let at-if1 : tie.Else1 = search in
+    let at-entry : tie.Start = search in
     entered-planned _ _ _ _ _ _ _ (at-entry .pre .0) frame (at-if1 .if1 .left) (at-if2 .if2 .left) (λ e. at-if3 .if3 .left (at-block-word .block-word .ensures ∙ e)) _ _ _ _ _ (at-if4 .if4 .left) refl refl (omega (arith, at-block-word2 .block-word2 .ensures)) refl (rw (at-block-word2 .block-word2 .ensures, at-block-word3 .block-word3 .ensures) at (at-put-instructions .put-instructions .ensures)) (rw (at-advance2 .advance2 .ensures) at (at-visit-terminal .visit-terminal .ensures))
 
 pub visit-block-spec : {M : Type 1} → statement M

@@ -50,25 +50,25 @@ visit-for-in-requires c κs = search needs
 visit-value-requires : tie.Need-visit-value-requires
 unfolding terminalOf
 visit-value-requires c κs =
-    let at-match = c .before in
-    let at-block-word = at-match .before in
-    let at-entry = at-block-word .before .before .before in
+    let at-match : tie.At-match-keys13 = search in
+    let at-block-word : tie.After-block-word = search in
+    let at-entry : tie.Start = search in
     (at-entry .pre .0, (omega arith, fallthrough-by _ _ (at-entry .pre .0 .block) 13 5 (sym (at-block-word .block-word .ensures) ∙ at-match .match .keys13) refl))
 
 visit-value-requires-2 : tie.Need-visit-value-requires-2
 unfolding terminalOf
 visit-value-requires-2 c κs =
-    let at-match = c .before in
-    let at-block-word = at-match .before in
-    let at-entry = at-block-word .before .before .before in
+    let at-match : tie.At-match-keys14 = search in
+    let at-block-word : tie.After-block-word = search in
+    let at-entry : tie.Start = search in
     (at-entry .pre .0, (omega arith, fallthrough-by _ _ (at-entry .pre .0 .block) 14 4 (sym (at-block-word .block-word .ensures) ∙ at-match .match .keys14) refl))
 
 visit-value-requires-3 : tie.Need-visit-value-requires-3
 unfolding terminalOf
 visit-value-requires-3 c κs =
-    let at-match = c .before in
-    let at-block-word = at-match .before in
-    let at-entry = at-block-word .before .before .before in
+    let at-match : tie.At-match-keys15 = search in
+    let at-block-word : tie.After-block-word = search in
+    let at-entry : tie.Start = search in
     (at-entry .pre .0, (omega arith, fallthrough-by _ _ (at-entry .pre .0 .block) 15 5 (sym (at-block-word .block-word .ensures) ∙ at-match .match .keys15) refl))
 
 visit-label-requires : tie.Need-visit-label-requires
@@ -77,9 +77,9 @@ visit-label-requires c κs = search needs
 visit-value-requires-4 : tie.Need-visit-value-requires-4
 unfolding terminalOf
 visit-value-requires-4 c κs =
-    let at-match = c .before in
-    let at-block-word = at-match .before in
-    let at-entry = at-block-word .before .before .before in
+    let at-match : tie.At-match-keys17 = search in
+    let at-block-word : tie.After-block-word = search in
+    let at-entry : tie.Start = search in
     (at-entry .pre .0, (omega arith, fallthrough-by _ _ (at-entry .pre .0 .block) 17 4 (sym (at-block-word .block-word .ensures) ∙ at-match .match .keys17) refl))
 
 visit-maybe-throw-requires : tie.Need-visit-maybe-throw-requires
@@ -90,38 +90,42 @@ visit-try-requires c κs = search needs
 
 visit-scope-requires : tie.Need-visit-scope-requires
 visit-scope-requires c κs =
-    let at-block-word = c .before in
-    let at-entry = at-block-word .before .before .before in
+    let at-block-word : tie.After-block-word = search in
+    let at-entry : tie.Start = search in
     (at-entry .pre .0, twenty _ (λ e. at-entry .pre .1 .1 e) (λ e. c .match .rest .0 .0 .0 .0 .0 .0 .0 .0 .0 .0 .0 .0 .0 .0 .0 .0 .0 .0 .1 (at-block-word .block-word .ensures ∙ e)) (λ e. c .match .rest .0 .0 .0 .0 .0 .0 .0 .0 .0 .0 .0 .0 .0 .0 .0 .0 .0 .1 (at-block-word .block-word .ensures ∙ e)) (λ e. c .match .rest .0 .0 .0 .0 .0 .0 .0 .0 .0 .0 .0 .0 .0 .0 .0 .0 .1 (at-block-word .block-word .ensures ∙ e)) (λ e. c .match .rest .0 .0 .0 .0 .0 .0 .0 .0 .0 .0 .0 .0 .0 .0 .0 .1 (at-block-word .block-word .ensures ∙ e)) (λ e. c .match .rest .0 .0 .0 .0 .0 .0 .0 .0 .0 .0 .0 .0 .0 .0 .1 (at-block-word .block-word .ensures ∙ e)) (λ e. c .match .rest .0 .0 .0 .0 .0 .0 .0 .0 .0 .0 .0 .0 .0 .1 (at-block-word .block-word .ensures ∙ e)) (λ e. c .match .rest .0 .0 .0 .0 .0 .0 .0 .0 .0 .0 .0 .0 .1 (at-block-word .block-word .ensures ∙ e)) (λ e. c .match .rest .0 .0 .0 .0 .0 .0 .0 .0 .0 .0 .0 .1 (at-block-word .block-word .ensures ∙ e)) (λ e. c .match .rest .0 .0 .0 .0 .0 .0 .0 .0 .0 .0 .1 (at-block-word .block-word .ensures ∙ e)) (λ e. c .match .rest .0 .0 .0 .0 .0 .0 .0 .0 .0 .1 (at-block-word .block-word .ensures ∙ e)) (λ e. c .match .rest .0 .0 .0 .0 .0 .0 .0 .0 .1 (at-block-word .block-word .ensures ∙ e)) (λ e. c .match .rest .0 .0 .0 .0 .0 .0 .0 .1 (at-block-word .block-word .ensures ∙ e)) (λ e. c .match .rest .0 .0 .0 .0 .0 .0 .1 (at-block-word .block-word .ensures ∙ e)) (λ e. c .match .rest .0 .0 .0 .0 .0 .1 (at-block-word .block-word .ensures ∙ e)) (λ e. c .match .rest .0 .0 .0 .0 .1 (at-block-word .block-word .ensures ∙ e)) (λ e. c .match .rest .0 .0 .0 .1 (at-block-word .block-word .ensures ∙ e)) (λ e. c .match .rest .0 .0 .1 (at-block-word .block-word .ensures ∙ e)) (λ e. c .match .rest .0 .1 (at-block-word .block-word .ensures ∙ e)) (λ e. c .match .rest .1 (at-block-word .block-word .ensures ∙ e)))
 
 returns : tie.Need-returns
 returns c =
-    let at-match = c .before in
-    let at-block-word = at-match .before in
-    let at-entry = at-block-word .before .before .before in
+    let at-match : tie.At-match-keys1 = search in
+    let at-block-word : tie.After-block-word = search in
+    let at-entry : tie.Start = search in
     planned-as (λ F R C. refl) (λ C o. o .seen) (unreachable-left _ _ _ _ (at-entry .pre .0) _ (sym (at-block-word .block-word .ensures) ∙ at-match .match .keys1) (c .leave .ensures) _)
 
 same-length : tie.Need-same-length
 same-length c = search needs
 
 returns-2 : tie.Need-returns-2
-returns-2 c = planned-as (λ F R C. refl) (λ C o. o .seen .visits) (c .before .before .visit-throw .ensures)
+returns-2 c =
+    let at-visit-throw : tie.After-visit-throw = search in
+    planned-as (λ F R C. refl) (λ C o. o .seen .visits) (at-visit-throw .visit-throw .ensures)
 
 same-length-2 : tie.Need-same-length-2
 same-length-2 c = search needs
 
 returns-3 : tie.Need-returns-3
-returns-3 c = planned-as (λ F R C. refl) (λ C o. o .seen .visits) (c .before .before .visit-return .ensures)
+returns-3 c =
+    let at-visit-return : tie.After-visit-return = search in
+    planned-as (λ F R C. refl) (λ C o. o .seen .visits) (at-visit-return .visit-return .ensures)
 
 same-length-3 : tie.Need-same-length-3
 same-length-3 c = search needs
 
 returns-4 : tie.Need-returns-4
 returns-4 c =
-    let at-visit-goto = c .before .before in
-    let at-match = at-visit-goto .before .before in
-    let at-block-word = at-match .before in
-    let at-entry = at-block-word .before .before .before in
+    let at-visit-goto : tie.After-visit-goto = search in
+    let at-match : tie.At-match-keys4 = search in
+    let at-block-word : tie.After-block-word = search in
+    let at-entry : tie.Start = search in
     planned-as (λ F R C. refl) (λ C o. goto-seen _ _ _ _ _ _ (at-entry .pre .0 .promise) (at-entry .pre .0 .block) C o (sym (at-block-word .block-word .ensures) ∙ at-match .match .keys4)) (at-visit-goto .visit-goto .ensures)
 
 returns-5 : tie.Need-returns-5
@@ -132,10 +136,10 @@ same-length-4 c = search needs
 
 returns-6 : tie.Need-returns-6
 returns-6 c =
-    let at-visit-branch = c .before .before in
-    let at-match = at-visit-branch .before .before in
-    let at-block-word = at-match .before in
-    let at-entry = at-block-word .before .before .before in
+    let at-visit-branch : tie.After-visit-branch = search in
+    let at-match : tie.At-match-keys6 = search in
+    let at-block-word : tie.After-block-word = search in
+    let at-entry : tie.Start = search in
     planned-as (λ F R C. refl) (λ C o. branch-seen _ _ _ _ _ _ (at-entry .pre .0 .promise) (at-entry .pre .0 .block) C o (sym (at-block-word .block-word .ensures) ∙ at-match .match .keys6)) (at-visit-branch .visit-branch .ensures)
 
 returns-7 : tie.Need-returns-7
@@ -148,43 +152,57 @@ same-length-5 : tie.Need-same-length-5
 same-length-5 c = search needs
 
 returns-9 : tie.Need-returns-9
-returns-9 c = planned-as (λ F R C. refl) (λ C o. o .seen) (c .before .before .visit-while .ensures)
+returns-9 c =
+    let at-visit-while : tie.After-visit-while = search in
+    planned-as (λ F R C. refl) (λ C o. o .seen) (at-visit-while .visit-while .ensures)
 
 same-length-6 : tie.Need-same-length-6
 same-length-6 c = search needs
 
 returns-10 : tie.Need-returns-10
-returns-10 c = planned-as (λ F R C. refl) (λ C o. o .seen) (c .before .before .visit-for .ensures)
+returns-10 c =
+    let at-visit-for : tie.After-visit-for = search in
+    planned-as (λ F R C. refl) (λ C o. o .seen) (at-visit-for .visit-for .ensures)
 
 same-length-7 : tie.Need-same-length-7
 same-length-7 c = search needs
 
 returns-11 : tie.Need-returns-11
-returns-11 c = planned-as (λ F R C. refl) (λ C o. o .seen) (c .before .before .visit-for-of .ensures)
+returns-11 c =
+    let at-visit-for-of : tie.After-visit-for-of = search in
+    planned-as (λ F R C. refl) (λ C o. o .seen) (at-visit-for-of .visit-for-of .ensures)
 
 same-length-8 : tie.Need-same-length-8
 same-length-8 c = search needs
 
 returns-12 : tie.Need-returns-12
-returns-12 c = planned-as (λ F R C. refl) (λ C o. o .seen) (c .before .before .visit-for-in .ensures)
+returns-12 c =
+    let at-visit-for-in : tie.After-visit-for-in = search in
+    planned-as (λ F R C. refl) (λ C o. o .seen) (at-visit-for-in .visit-for-in .ensures)
 
 same-length-9 : tie.Need-same-length-9
 same-length-9 c = search needs
 
 returns-13 : tie.Need-returns-13
-returns-13 c = planned-as (λ F R C. refl) (λ C o. o .seen) (c .before .before .visit-value .ensures)
+returns-13 c =
+    let at-visit-value : tie.After-visit-value = search in
+    planned-as (λ F R C. refl) (λ C o. o .seen) (at-visit-value .visit-value .ensures)
 
 same-length-10 : tie.Need-same-length-10
 same-length-10 c = search needs
 
 returns-14 : tie.Need-returns-14
-returns-14 c = planned-as (λ F R C. refl) (λ C o. o .seen) (c .before .before .visit-value2 .ensures)
+returns-14 c =
+    let at-visit-value2 : tie.After-visit-value2 = search in
+    planned-as (λ F R C. refl) (λ C o. o .seen) (at-visit-value2 .visit-value2 .ensures)
 
 same-length-11 : tie.Need-same-length-11
 same-length-11 c = search needs
 
 returns-15 : tie.Need-returns-15
-returns-15 c = planned-as (λ F R C. refl) (λ C o. o .seen) (c .before .before .visit-value3 .ensures)
+returns-15 c =
+    let at-visit-value3 : tie.After-visit-value3 = search in
+    planned-as (λ F R C. refl) (λ C o. o .seen) (at-visit-value3 .visit-value3 .ensures)
 
 returns-16 : tie.Need-returns-16
 returns-16 c = planned-as (λ F R C. refl) (λ C o. o .seen) (c .visit-label .ensures _)
@@ -193,7 +211,9 @@ same-length-12 : tie.Need-same-length-12
 same-length-12 c = search needs
 
 returns-17 : tie.Need-returns-17
-returns-17 c = planned-as (λ F R C. refl) (λ C o. o .seen) (c .before .before .visit-value4 .ensures)
+returns-17 c =
+    let at-visit-value4 : tie.After-visit-value4 = search in
+    planned-as (λ F R C. refl) (λ C o. o .seen) (at-visit-value4 .visit-value4 .ensures)
 
 returns-18 : tie.Need-returns-18
 returns-18 c = planned-as (λ F R C. refl) (λ C o. o .seen) (c .visit-maybe-throw .ensures _)
