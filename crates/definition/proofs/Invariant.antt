@@ -13,8 +13,8 @@ use borrow.Author.Tests.{leb-false}
 use Rattle.table.specs.Table.{Table, Terminal, absent, unreachable, throw, return, goto, if, branch, switch, do-while, while, for, for-of, for-in, logical, ternary, optional, sequence, maybe-throw, try, scope, Variant, Break, Continue, Try, blockAt, terminalAt, instructionRowsAt, isUnreachable, label}
 use Rattle.definition.specs.Build.{Report, report}
 use Rattle.definition.specs.Framed.{Below, isSwitch, Framed}
-use Rattle.definition.specs.Context.{getBreakTarget, getContinueTarget, Resolution, Flags, has, add, ControlFlowTarget, target-if, target-switch, target-case, Entry, Context, start, isScheduled, emit, withVisits, scheduleCatchHandler, markScopeFallthrough, pushed, scheduleLoop, popped}
-use Rattle.definition.specs.Machine.{Frame, State, visiting, ended, choosing, popping, Turn, going, halt, turn, leave, blockRow, valueOut, updateOut, statementOut, jumpOut, added, instructionsOut, closingRow, scheduled, scheduledIf, scheduledSwitch, unscheduledTop, unscheduled, unscheduledIf, opens, frameOf, secondPart, withLeft, caseBuilt, into, intoLoop, closeBy, close, caseAt, numberOfCases, chooseCase, switchColumns, resumeAt, resume, branchTurn, valueTurn, terminalTurn, depthLeft, visitTurn, step, begin, Gives, run}
+use Rattle.definition.specs.Context.{getBreakTarget, getContinueTarget, Resolution, Flags, has, add, ControlFlowTarget, target-if, target-switch, target-case, Entry, Context, start, isScheduled, emit, withVisits, scheduleCatchHandler, markScopeFallthrough, pushed, schedule, target-loop, popped}
+use Rattle.definition.specs.Machine.{Frame, State, visiting, ended, choosing, popping, Turn, going, halt, turn, leave, blockRow, valueOut, updateOut, statementOut, jumpOut, added, instructionsOut, closingRow, scheduledIf, scheduledSwitch, unscheduledTop, unscheduled, unscheduledIf, opens, frameOf, secondPart, withLeft, caseBuilt, into, intoLoop, closeBy, close, caseAt, numberOfCases, chooseCase, switchColumns, resumeAt, resume, branchTurn, valueTurn, terminalTurn, depthLeft, visitTurn, step, begin, Gives, run}
 use Rattle.definition.specs.Result.{refused, Result, ok, refuseIf}
 use Rattle.definition.specs.Statement.{breakToScope, visitBreak, visitContinue, breakResolved, continueResolved, visitUpdate, OptionalValue, continueBlockOf, TerminalResult, enterBlock, unlessScheduled, unlessUnreachable, markScopeFallthroughIf, visitGoto, loopIsTaken}
 use Rattle.definition.specs.Tree.{Kind, implicit, labeled, unlabeled, Statement, Row, row, BREAK, CONTINUE}
@@ -144,22 +144,22 @@ record Held (c : Context) (up n : ℕ) (d : Context) : Type 0 where
 held : (c : Context) → Held c 0 (length (c .stack)) c
 held c = record { ids = omega arith; seen = refl; marked = refl; flags = refl; stack = refl }
 
-scheduled-held : (g : ControlFlowTarget) (c : Context) → Held c 1 (suc (length (c .stack))) (scheduled g c)
-unfolding scheduled pushed
+scheduled-held : (g : ControlFlowTarget) (c : Context) → Held c 1 (suc (length (c .stack))) (pushed g c)
+unfolding pushed
 scheduled-held g c = record { ids = omega arith; seen = refl; marked = refl; flags = refl; stack = refl }
 
-loop-held : (f k l : ℕ) (c : Context) → Good (Held c 1 (suc (length (c .stack)))) (scheduleLoop f k (some l) c)
-unfolding scheduleLoop pushed
+loop-held : (f k l : ℕ) (c : Context) → Good (Held c 1 (suc (length (c .stack)))) (schedule (target-loop f k l) c)
+unfolding schedule pushed
 loop-held f k l c = good-unless (Held c 1 (suc (length (c .stack)))) _ 15 k (c .visits) _ (λ h. record { ids = omega arith; seen = refl; marked = refl; flags = refl; stack = refl })
 
 if-held : (g : Option ℕ) (c : Context) → Held c 1 (opens g + length (c .stack)) (scheduledIf g c)
 if-held none c = record { ids = omega arith; seen = refl; marked = refl; flags = refl; stack = omega arith }
-if-held (some f) c = let h : Held c 1 (suc (length (c .stack))) (scheduled (target-if f) c) = scheduled-held (target-if f) c in
+if-held (some f) c = let h : Held c 1 (suc (length (c .stack))) (pushed (target-if f) c) = scheduled-held (target-if f) c in
     record { ids = h .ids; seen = h .seen; marked = h .marked; flags = h .flags; stack = omega arith }
 
 switch-held : (g : Option ℕ) (c : Context) → Held c 1 (opens g + length (c .stack)) (scheduledSwitch g c)
 switch-held none c = record { ids = omega arith; seen = refl; marked = refl; flags = refl; stack = omega arith }
-switch-held (some f) c = let h : Held c 1 (suc (length (c .stack))) (scheduled (target-switch f) c) = scheduled-held (target-switch f) c in
+switch-held (some f) c = let h : Held c 1 (suc (length (c .stack))) (pushed (target-switch f) c) = scheduled-held (target-switch f) c in
     record { ids = h .ids; seen = h .seen; marked = h .marked; flags = h .flags; stack = omega arith }
 
 unscheduled-held : (c : Context) (n : ℕ) → length (c .stack) ≡ suc n → Held c 0 n (unscheduled c)
@@ -504,11 +504,11 @@ module _ (t : Table) (ck : Checked t) (d : ℕ) where
             → Fit t p (leave g F ((R ++ valueOut (w .value)) ++ (row 4 (w .id) (w .place) (blockAt t b .span) 0 0 ∷ [])) (suc m) (unscheduledIf g (withVisits (w .visits) (scheduledIf g c))))
         at none k w q = leaving none w (withVisits (w .visits) c) q k (inside-visited t (valueOut (w .value)) (w .visits) 5 (inside-held t c 1 h (held c) (omega arith) (omega (arith, h .stack))) (q .0) (q .1) (omega (arith, value-out-size (w .value), q .0, q .2)))
         at (some x) k w q =
-            let s : Held c 1 (suc (length (c .stack))) (scheduled (target-if x) c) = scheduled-held (target-if x) c in
-            let y : Inside p 2052 1 1 0 5 F (R ++ valueOut (w .value)) m (withVisits (w .visits) (scheduled (target-if x) c)) =
+            let s : Held c 1 (suc (length (c .stack))) (pushed (target-if x) c) = scheduled-held (target-if x) c in
+            let y : Inside p 2052 1 1 0 5 F (R ++ valueOut (w .value)) m (withVisits (w .visits) (pushed (target-if x) c)) =
             inside-visited t (valueOut (w .value)) (w .visits) 5 (inside-held t c {e₁ = 1} 1 h s (omega arith) (omega (arith, h .stack))) (omega (arith, q .0, s .seen)) (q .1) (omega (arith, value-out-size (w .value), q .0, q .2, s .seen)) in
-            leaving (some x) w (unscheduled (withVisits (w .visits) (scheduled (target-if x) c))) q k
-            (inside-held t (withVisits (w .visits) (scheduled (target-if x) c)) {e₁ = 0} 1 y (unscheduled-held (withVisits (w .visits) (scheduled (target-if x) c)) (entriesOf F) (omega (arith, y .stack))) (omega arith) (omega arith))
+            leaving (some x) w (unscheduled (withVisits (w .visits) (pushed (target-if x) c))) q k
+            (inside-held t (withVisits (w .visits) (pushed (target-if x) c)) {e₁ = 0} 1 y (unscheduled-held (withVisits (w .visits) (pushed (target-if x) c)) (entriesOf F) (omega (arith, y .stack))) (omega arith) (omega arith))
 
     branch-fit : (x y a : ℕ) → isSwitch (terminalAt t b) ≡ false → y < length (t .blocks) → a < length (t .blocks) → Good (Fit t p) (branchTurn b y a (blockAt t b .id) F R m c)
     unfolding branchTurn

@@ -12,8 +12,8 @@ use lib.Dec.{eqb, T}
 use borrow.Author.Tests.{lt-leb, le-leb, eq-eqb}
 use Rattle.table.specs.Table.{Table, Block, Case, Terminal, absent, unreachable, throw, return, goto, if, branch, switch, do-while, while, for, for-of, for-in, logical, ternary, optional, sequence, maybe-throw, try, scope, Variant, Break, Continue, Try, blockAt, terminalAt, instructionRowsAt, isAbsent, label}
 use Rattle.definition.specs.Build.{accepted, Report, rejected, reported, report}
-use Rattle.definition.specs.Context.{has, add, target-case, Entry, Context, start, isScheduled, emit, withVisits, scheduleCatchHandler, markScopeFallthrough, pushed, schedule, scheduleLoop, unscheduledBy, popped, unscheduleTop, unschedule}
-use Rattle.definition.specs.Machine.{Frame, State, visiting, ended, choosing, going, halt, turn, leave, blockRow, valueOut, updateOut, statementOut, jumpOut, added, instructionsOut, closingRowOf, closingRow, scheduled, scheduledIf, scheduledSwitch, unscheduledTop, unscheduled, unscheduledIf, opens, frameOf, secondPart, withEntries, into, intoLoop, complete, closeBy, close, noCase, caseAt, numberOfCases, chooseCase, switchColumns, resumeAt, resume, branchTurn, valueTurn, terminalTurn, depthLeft, visitTurn, step, begin, Gives, halts, goes}
+use Rattle.definition.specs.Context.{has, add, target-case, target-loop, Entry, Context, start, isScheduled, emit, withVisits, scheduleCatchHandler, markScopeFallthrough, pushed, schedule, unscheduledBy, popped, unscheduleTop, unschedule}
+use Rattle.definition.specs.Machine.{Frame, State, visiting, ended, choosing, going, halt, turn, leave, blockRow, valueOut, updateOut, statementOut, jumpOut, added, instructionsOut, closingRowOf, closingRow, scheduledIf, scheduledSwitch, unscheduledTop, unscheduled, unscheduledIf, opens, frameOf, secondPart, withEntries, into, intoLoop, complete, closeBy, close, noCase, caseAt, numberOfCases, chooseCase, switchColumns, resumeAt, resume, branchTurn, valueTurn, terminalTurn, depthLeft, visitTurn, step, begin, Gives, halts, goes}
 use Rattle.definition.specs.Result.{refused, Result, ok, _>>=_, refuseIf}
 use Rattle.definition.specs.Statement.{visitBreak, visitContinue, OptionalValue, visitUpdate, continueBlockOf, TerminalResult, BlockResult, TraverseBlock, enterBlock, unlessScheduled, unlessUnreachable, scheduleIf, unscheduleIf, markScopeFallthroughIf, traverseUnscheduled, AlternateResult, traverseAlternate, visitGoto, traverseEnclosed, loopIsTaken, traverseLoop, CasesResult, traverseCases, unscheduleAll, scheduleSwitch, scheduleIds, casesLastFirst, traverseConsequent, visitValueStatement, visitTerminal, instructionStatements, followedBy, thenNext, visitBlock, traverseBlock, buildTree}
 use Rattle.definition.specs.Tree.{Statement, Statements, done, Cases, no-cases, CASE, Row, row, orNone, countStatements, countCases, IF, INSTR, SWITCH, rows, updatePresent}
@@ -133,8 +133,8 @@ pop-all (i ∷ is) c h = at (c .stack) refl h (λ e q. pop-all is e q)
     at (e ∷ S) s (q, u) again =
         unfold unschedule unscheduled _>>=_ unscheduleTop unscheduledTop popped in
         (ap (λ (z : List Entry). unscheduleTop z i c >>= λ c1. unscheduleAll is c1) s
-        ∙ ap (λ (y : Bool). elim y [ true ↦ ok (popped S (unscheduledBy (e .target) (c .scheduled)) c) | false ↦ refused 91 0 (c .visits) ] >>= λ c1. unscheduleAll is c1) (eq-eqb (e .id) i q)
-        ∙ again (popped S (unscheduledBy (e .target) (c .scheduled)) c) u
+        ∙ ap (λ (y : Bool). elim y [ true ↦ ok (popped S (unscheduledBy (e .target) (e .ownsLoop) (c .scheduled)) c) | false ↦ refused 91 0 (c .visits) ] >>= λ c1. unscheduleAll is c1) (eq-eqb (e .id) i q)
+        ∙ again (popped S (unscheduledBy (e .target) (e .ownsLoop) (c .scheduled)) c) u
         ∙ ap (λ (z : List Entry). ok (popAll (length is) (unscheduledTop z c))) (sym s))
 
 off-if : (g : Option ℕ) (i : ℕ) (c : Context) → unscheduleIf g i c ≡ unscheduleAll (scheduleIds g i) c
@@ -154,32 +154,32 @@ ids-if none i = refl
 ids-if (some f) i = refl
 
 tops-if : (g : Option ℕ) (c : Context) → Tops (scheduleIds g (c .nextId)) (scheduledIf g c .stack)
-unfolding scheduled pushed
+unfolding pushed
 tops-if none c = tt
 tops-if (some f) c = (refl, tt)
 
 tops-switch : (g : Option ℕ) (c : Context) → Tops (scheduleIds g (c .nextId)) (scheduledSwitch g c .stack)
-unfolding scheduled pushed
+unfolding pushed
 tops-switch none c = tt
 tops-switch (some f) c = (refl, tt)
 
 kept-if : (g : Option ℕ) (c : Context) → scheduledIf g c .visits ≡ c .visits
-unfolding scheduled pushed
+unfolding pushed
 kept-if none c = refl
 kept-if (some f) c = refl
 
 kept-switch : (g : Option ℕ) (c : Context) → scheduledSwitch g c .visits ≡ c .visits
-unfolding scheduled pushed
+unfolding pushed
 kept-switch none c = refl
 kept-switch (some f) c = refl
 
 opened-if : (g : Option ℕ) (c : Context) → Free g c → scheduleIf g c ≡ ok (scheduledIf g c)
-unfolding scheduleIf scheduled Free
+unfolding scheduleIf Free
 opened-if none c h = refl
 opened-if (some f) c h = schedule-free _ c (h f refl)
 
 opened-switch : (g : Option ℕ) (c : Context) → Free g c → scheduleSwitch g c ≡ ok (scheduledSwitch g c)
-unfolding scheduleSwitch scheduled Free
+unfolding scheduleSwitch Free
 opened-switch none c h = refl
 opened-switch (some f) c h = schedule-free _ c (h f refl)
 
@@ -204,8 +204,8 @@ enter-counts t b c =
 abbrev InLoop : Context → Context → Type 0
 InLoop c d = Kept c d × Tops (c .nextId ∷ []) (d .stack)
 
-loop-pushed : (f k l : ℕ) (c : Context) → Good (InLoop c) (scheduleLoop f k (some l) c)
-unfolding scheduleLoop pushed
+loop-pushed : (f k l : ℕ) (c : Context) → Good (InLoop c) (schedule (target-loop f k l) c)
+unfolding schedule pushed
 loop-pushed f k l c = good-bind Any (InLoop c) _ _ (good-any (refuseIf (has (add (c .scheduled) f) k) 15 k (c .visits))) (λ _ _. (refl, (refl, tt)))
 
 -- ---- closing a statement
@@ -464,7 +464,7 @@ module _ (t : Table) (d : ℕ) (inner : TraverseBlock) (ws : Walks t d inner) (w
           sim-assoc (inner blk c) _ (K make) (sim-inner (switched b g entries j made n) _ blk R₁ c _ q size (λ r p.
           sim-assoc (schedule (target-case blk) (r .context)) _ (K make) (sim-by _ (schedule-free (target-case blk) (r .context) (free r o p))
           (sim-map (traverseCases inner b f (casesLastFirst t i j) (r .context .nextId ∷ ids) _) _ (K make)
-          (unfold scheduled pushed in again (r .context .nextId ∷ ids) (suc entries) (suc made) _ _ (λ z. make (CASE tst (r .statements) z)) (omega arith) (omega arith)
+          (unfold pushed in again (r .context .nextId ∷ ids) (suc entries) (suc made) _ _ (λ z. make (CASE tst (r .statements) z)) (omega arith) (omega arith)
           (refl, tops-same ids c (r .context) (p .1 .same) u) (rows-on r))))))
 
   -- ---- terminals with no nested list
