@@ -29,6 +29,7 @@ use Rattle.control.specs.declared.Context.{Context}
 use Rattle.control.specs.declared.Resolved.{Resolved}
 use Rattle.control.specs.declared.Entry.{Entry}
 use Rattle.control.specs.declared.Resolved.the-variants as resolved
+use Rattle.control.specs.Abstraction as control
 use Rattle.control.specs.Abstraction.{contextOf, resolvedOf, resolutionOf, targetOf, stackOf, noEntry}
 use Rattle.control.specs.Contract.{Named, Created}
 use Rattle.definition.proofs.Flags.{length-none}
@@ -41,11 +42,11 @@ use Rattle.planner.specs.declared.plan.Stage.the-variants.{Visit, Ended, Choose
 use Rattle.planner.specs.declared.plan.Position.{Position}
 use Rattle.planner.specs.declared.plan.Frame.{Frame}
 use Rattle.planner.specs.declared.plan.Change.{Change}
-use Rattle.planner.specs.declared.plan.Change.the-variants.{Nothing, Schedule, ScheduleLoop, TakeId, Unschedule}
+use Rattle.planner.specs.declared.plan.Change.the-variants.{Nothing, Schedule, TakeId, Unschedule}
 use Rattle.planner.specs.declared.plan.Plan.{Plan}
 use Rattle.build.specs.declared.search.Jump.{Jump}
 use Rattle.build.specs.declared.search.Jump.the-variants as search
-use Rattle.planner.specs.Plans.{frameOf, noFrame, framesOf, stateAt, scheduledLoop, idTaken, changed, handled, scoped, within, kept, contextAfter, onward, applied}
+use Rattle.planner.specs.Plans.{frameOf, noFrame, framesOf, stateAt, idTaken, changed, handled, scoped, within, kept, contextAfter, onward, applied}
 use Rattle.planner.specs.Planned.{NamedChange, entriesOnTop, deepest, Nested, Fitting}
 use Rattle.planner.specs.Jumps.{FoundBelow}
 use Rattle.planner.specs.Turn.{Resolves, Shown, inHand, FrameFits, StageFits, Ready, emitting, PlannedTurn}
@@ -235,8 +236,8 @@ pub found-below : (cx : Context) (jump : Jump) (found : Resolved) → Whole cx �
 unfolding contextOf definition.getBreakTarget definition.getContinueTarget
 found-below cx jump resolved.Nothing h e = tt
 found-below cx search.Nothing (resolved.Found r) h e = absurd (none-some (sym (e 0)))
-found-below cx (search.Break b) (resolved.Found r) h e = break-below (cx .stack) (cx .len) b true false (h .bounded .named) (resolutionOf r) (sym (e 0))
-found-below cx (search.Continue b) (resolved.Found r) h e = continue-below (cx .stack) (cx .len) b true false (h .bounded .named) (resolutionOf r) (sym (e 0))
+found-below cx (search.Break b) (resolved.Found r) h e = break-below (cx .stack) (cx .len) b true false (h .bounded .named) (resolutionOf r) (sym (rw (h .settled) at (e 0)))
+found-below cx (search.Continue b) (resolved.Found r) h e = continue-below (cx .stack) (cx .len) b true false (h .bounded .named) (resolutionOf r) (sym (rw (h .settled) at (e 0)))
 
 module _ (w : List ℕ) (pr : Promise w) (ck : Checked (tableOf w)) where
   -- where the loop begins
@@ -247,7 +248,7 @@ module _ (w : List ℕ) (pr : Promise w) (ck : Checked (tableOf w)) where
     going = subst (λ (C : definition.Context). Going (tableOf w) (visiting (entryWord w) [] [] 0 C)) (sym (new .context)) (subst (λ (b : ℕ). Going (tableOf w) (visiting b [] [] 0 definition.start)) entry-word (going-start (tableOf w) ck));
     held = record { count = refl; rows = tt };
     live = tt;
-    whole = record { bounded = new .bounded; wide = flags; tall = ap length (new .stack) ∙ length-replicate 1152 noEntry };
+    whole = record { settled = new .settled; bounded = new .bounded; wide = flags; tall = ap length (new .stack) ∙ length-replicate 1152 noEntry };
     frames = l;
   })
     where
@@ -451,23 +452,22 @@ module _ (w : List ℕ) (pr : Promise w) (ck : Checked (tableOf w)) where
           -- ---- what applying the plan asks
 
           changeable : Changeable (plan .change) cx
-          unfolding contextOf machine.scheduled definition.pushed scheduledLoop idTaken
+          unfolding contextOf definition.pushed idTaken
           changeable = at (plan .change) (subst (λ (D : definition.Context). length (D .stack) ≤ 1024) marked-context (next-numbers .stack)) (subst (λ (D : definition.Context). D .nextId ≤ 16384) marked-context (next-numbers .ids)) (fit .change)
             where
               D : definition.Context
               D = contextOf (plan .position .visits) (withMarks visited (plan .handler) (plan .scope) cx)
 
-              len : length (stackOf (cx .stack) (cx .len)) ≡ cx .len
-              len = stack-length (cx .stack) (cx .len)
+              len : length (control.entriesOf (cx .pending) (cx .pushed) (cx .stack) (cx .len)) ≡ cx .len
+              len = rw (I .whole .settled) (stack-length (cx .stack) (cx .len))
 
               filled : entriesOnTop (inHand (p .stage) (p .depth) f) ≤ cx .len
-              filled = let z : length (stackOf (cx .stack) (cx .len)) ≡ entriesOf (inHand (p .stage) (p .depth) f ++ restOf A (p .stage) (p .depth)) = numbered .entries ∙ ap entriesOf (sym together) in
+              filled = let z : length (control.entriesOf (cx .pending) (cx .pushed) (cx .stack) (cx .len)) ≡ entriesOf (inHand (p .stage) (p .depth) f ++ restOf A (p .stage) (p .depth)) = numbered .entries ∙ ap entriesOf (sym together) in
                   omega (arith, entries-top (p .stage) (p .depth) f (restOf A (p .stage) (p .depth)), len, z)
 
               at : (ch : Change) → length (changed ch D .stack) ≤ 1024 → changed ch D .nextId ≤ 16384 → NamedChange (entriesOnTop (inHand (p .stage) (p .depth) f)) ch → Changeable ch cx
               at Nothing s i n = tt
-              at (Schedule target) s i n = (n, record { len = omega (arith, len, s); id = omega arith })
-              at (ScheduleLoop g k l) s i n = (n, record { len = omega (arith, len, s); id = omega arith })
+              at (Schedule target) s i n = (n, record { len = omega (arith, len, s); id = omega arith; settled = I .whole .settled })
               at TakeId s i n = omega arith
               at Unschedule s i n = omega (arith, n, filled)
 

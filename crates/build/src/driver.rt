@@ -182,15 +182,7 @@ pub fn walk(words: &[u32], tree: &mut [u32]) -> Walked
                 cx = cx.schedule(target);
                 let entry = cx.pushed;
                 cx.stack[cx.len - 1] = entry;
-            }
-            Change::ScheduleLoop {
-                fallthrough,
-                continue_block,
-                loop_block,
-            } => {
-                cx = cx.schedule_loop(fallthrough, continue_block, loop_block);
-                let entry = cx.pushed;
-                cx.stack[cx.len - 1] = entry;
+                cx.pending = false;
             }
             Change::TakeId => cx.next_schedule_id += 1,
             Change::Unschedule => {

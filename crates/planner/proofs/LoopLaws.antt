@@ -18,9 +18,9 @@ use Rattle.table.proofs.RangeLaws.{in-range}
 use Rattle.table.proofs.BlockLaws.{no-number, some-number, end-by, span-at}
 use Rattle.definition.proofs.Never.{or-false}
 use Rattle.definition.proofs.Simulation.{bind-assoc}
-use Rattle.definition.specs.Context.{Flags, has, add, remove, pushed, popped, target-if, withVisits, scheduleLoop, unscheduledBy}
+use Rattle.definition.specs.Context.{Flags, has, add, remove, pushed, popped, target-if, target-loop, withVisits, schedule, unscheduledBy}
 use Rattle.definition.specs.Context as definition
-use Rattle.definition.specs.Machine.{State, visiting, turn, leave, intoLoop, scheduled, scheduledIf, unscheduled, unscheduledTop, unscheduledIf, valueOut, updateOut, valueTurn, terminalTurn}
+use Rattle.definition.specs.Machine.{State, visiting, turn, leave, intoLoop, scheduledIf, unscheduled, unscheduledTop, unscheduledIf, valueOut, updateOut, valueTurn, terminalTurn}
 use Rattle.definition.specs.Machine as machine
 use Rattle.definition.specs.Result.{Result, ok, refused, _>>=_, refuseIf}
 use Rattle.definition.specs.Statement.{unlessScheduled, unlessUnreachable, loopIsTaken, continueBlockOf, visitUpdate}
@@ -36,11 +36,12 @@ use Rattle.value.specs.declared.result.ValueResult.{ValueResult}
 use Rattle.value.specs.Met.{blockResult, terminalResult, Met}
 use Rattle.value.proofs.MetLaws.{then-on, then-off}
 use Rattle.planner.specs.declared.plan.Position.{Position}
-use Rattle.planner.specs.declared.plan.Change.the-variants.{ScheduleLoop}
+use Rattle.planner.specs.declared.plan.Change.the-variants.{Schedule}
 use Rattle.planner.specs.declared.plan.Plan.{Plan}
 use Rattle.planner.specs.declared.loops.Values.{Values}
-use Rattle.planner.specs.declared.loops.Loop.{Loop}
-use Rattle.planner.specs.Plans.{frameOf, changed, applied, openFrame, refusing, leaving, scheduledLoop, idTaken, unlessTaken}
+use Rattle.planner.specs.declared.loops.Loop as loops
+use Rattle.control.specs.declared.ControlFlowTarget.the-variants.{Loop}
+use Rattle.planner.specs.Plans.{frameOf, changed, applied, openFrame, refusing, leaving, idTaken, unlessTaken}
 use Rattle.planner.specs.Planned.{Seen, NamedChange, Fitting, PlannedBare, Entered, terminalStep}
 use Rattle.planner.specs.Loops.{PlannedRows, Made, plainMade, flatMade, testedValues, forValues, forOfValues, noneMade, valueMade, plainForm, flatForm, updateMade, testedMade, forMade, forOfMade, noValues, valuesOf, Makes, Spent, MakesMore, MakesTested, loopTurn, afterValues, enteringBody, enteringLoop, loopTaken, continuesAt, valueFallthrough, takeIdIf}
 use Rattle.planner.proofs.PlanLaws.{within-all, refuse-applied, leave-applied, leave-nested, nest-applied}
@@ -156,24 +157,24 @@ module _ (S H : Flags) (v : ℕ) (C : definition.Context) (seen : Seen S H v C) 
   asked : has (add (C .scheduled) f) c ≡ continueScheduled S f c
   asked = ap (λ (z : Flags). has (add z f) c) (seen .scheduled) ∙ inserted-has S f c (omega (arith, seen .wide))
 
-  loop-not-scheduled : continueScheduled S f c ≡ true → scheduleLoop f c (some l) C ≡ refused 15 c v
-  unfolding scheduleLoop refuseIf _>>=_
+  loop-not-scheduled : continueScheduled S f c ≡ true → schedule (target-loop f c l) C ≡ refused 15 c v
+  unfolding schedule refuseIf _>>=_
   loop-not-scheduled e = rw (asked ∙ e, seen .visits)
 
-  loop-scheduled : continueScheduled S f c ≡ false → scheduleLoop f c (some l) C ≡ ok (scheduledLoop f c l C)
-  unfolding scheduleLoop scheduledLoop refuseIf _>>=_
+  loop-scheduled : continueScheduled S f c ≡ false → schedule (target-loop f c l) C ≡ ok (pushed (target-loop f c l) C)
+  unfolding schedule refuseIf _>>=_
   loop-scheduled e = rw (asked ∙ e)
 
-  loop-visits : scheduledLoop f c l C .visits ≡ v
-  unfolding scheduledLoop pushed
+  loop-visits : pushed (target-loop f c l) C .visits ≡ v
+  unfolding pushed
   loop-visits = seen .visits
 
   loop-taken : loopIsTaken C l f ≡ loopTaken S H l f
   unfolding loopIsTaken
   loop-taken = ap (λ (z : Bool). z || eqb l f) (seen-scheduled S H v C seen l) ∙ or-swap (has S l || has H l) (eqb l f)
 
-visits-inside : (f c l v : ℕ) (C : definition.Context) → withVisits v (scheduledLoop f c l C) ≡ scheduledLoop f c l (withVisits v C)
-unfolding withVisits scheduledLoop pushed
+visits-inside : (f c l v : ℕ) (C : definition.Context) → withVisits v (pushed (target-loop f c l) C) ≡ pushed (target-loop f c l) (withVisits v C)
+unfolding withVisits pushed
 visits-inside f c l v C = refl
 
 -- ---- the turn that all loops share is its plan
@@ -186,7 +187,7 @@ into-body : (at l v : ℕ) (taken : Bool) (fr : machine.Frame) (F : List machine
 unfolding intoLoop refuseIf _>>=_
 into-body at l v taken fr F R C e = rw e
 
-abbrev blocksOf : (f n c l : ℕ) → Loop
+abbrev blocksOf : (f n c l : ℕ) → loops.Loop
 blocksOf f n c l = record { fallthrough = f; label = n; «continue_block» = c; «loop_block» = l }
 
 module _ (S H : Flags) (p : Position) (f c l n : ℕ) (values : ℕ → Result Made) (F : List machine.Frame) (R : List Row) (C : definition.Context) (seen : Seen S H (p .visits) C) (h : f < 1024) where
@@ -197,13 +198,13 @@ module _ (S H : Flags) (p : Position) (f c l n : ℕ) (values : ℕ → Result M
       ∙ turn-refused 15 c (p .visits) ∙ sym (refuse-applied p 15 c F R C (λ z. omega arith))
 
   body-same : (r : Values) (out : List Row) → length F ≡ p .depth
-      → turn (intoLoop (p .block) l (loopIsTaken C l f) (r .visits) (machine.frameOf (p .block) (unlessNone n) 1 (p .count)) F out (scheduledLoop f c l C)) ≡ applied (enteringBody (loopTaken S H l f) p r (blocksOf f n c l)) F out C
-  body-same r out d = ap (λ (z : Bool). turn (intoLoop (p .block) l z (r .visits) (machine.frameOf (p .block) (unlessNone n) 1 (p .count)) F out (scheduledLoop f c l C))) (loop-taken S H (p .visits) C seen f c l h) ∙ by (loopTaken S H l f)
+      → turn (intoLoop (p .block) l (loopIsTaken C l f) (r .visits) (machine.frameOf (p .block) (unlessNone n) 1 (p .count)) F out (pushed (target-loop f c l) C)) ≡ applied (enteringBody (loopTaken S H l f) p r (blocksOf f n c l)) F out C
+  body-same r out d = ap (λ (z : Bool). turn (intoLoop (p .block) l z (r .visits) (machine.frameOf (p .block) (unlessNone n) 1 (p .count)) F out (pushed (target-loop f c l) C))) (loop-taken S H (p .visits) C seen f c l h) ∙ by (loopTaken S H l f)
     where
-      by : (y : Bool) → turn (intoLoop (p .block) l y (r .visits) (machine.frameOf (p .block) (unlessNone n) 1 (p .count)) F out (scheduledLoop f c l C)) ≡ applied (enteringBody y p r (blocksOf f n c l)) F out C
+      by : (y : Bool) → turn (intoLoop (p .block) l y (r .visits) (machine.frameOf (p .block) (unlessNone n) 1 (p .count)) F out (pushed (target-loop f c l) C)) ≡ applied (enteringBody y p r (blocksOf f n c l)) F out C
       by true = ap turn (into-taken (p .block) l (r .visits) true _ F out _ refl) ∙ turn-refused 16 (p .block) (r .visits) ∙ sym (refuse-applied (afterValues p r) 16 (p .block) F out C (λ z. omega arith))
       by false = ap turn (into-body (p .block) l (r .visits) false _ F out _ refl) ∙ turn-ok _
-          ∙ sym (nest-applied l (openFrame p n 1) (p .depth + 1) (r .rows) (r .visits) 65535 65535 (ScheduleLoop f c l) F out C ∙ rw (no-number, within-all (p .depth + 1 - 1) F (omega (arith, d)), ← (visits-inside f c l (r .visits) C)))
+          ∙ sym (nest-applied l (openFrame p n 1) (p .depth + 1) (r .rows) (r .visits) 65535 65535 (Schedule (Loop f c l)) F out C ∙ rw (no-number, within-all (p .depth + 1 - 1) F (omega (arith, d)), ← (visits-inside f c l (r .visits) C)))
 
   entered-same : {b b′ : List ℕ} (r : Values) (m : Makes p (values (p .visits)) b r b′) → length F ≡ p .depth → continueScheduled S f c ≡ false
       → turn (loopTurn (p .block) f c l (unlessNone n) (p .count) values F R C) ≡ applied (enteringLoop (eqb (r .code) 0) (loopTaken S H l f) p r (blocksOf f n c l)) F (R ++ m .out) C
@@ -212,12 +213,12 @@ module _ (S H : Flags) (p : Position) (f c l n : ℕ) (values : ℕ → Result M
       ap (λ (z : Result definition.Context). turn (z >>= rest)) (loop-scheduled S H (p .visits) C seen f c l h e) ∙ started ∙ by (eqb (r .code) 0) refl
     where
       k : Made → Result State
-      k made = intoLoop (p .block) l (loopIsTaken C l f) (made .visits) (machine.frameOf (p .block) (unlessNone n) 1 (p .count)) F (R ++ made .out) (scheduledLoop f c l C)
+      k made = intoLoop (p .block) l (loopIsTaken C l f) (made .visits) (machine.frameOf (p .block) (unlessNone n) 1 (p .count)) F (R ++ made .out) (pushed (target-loop f c l) C)
 
       rest : definition.Context → Result State
       rest inside = values (inside .visits) >>= λ made. intoLoop (p .block) l (loopIsTaken C l f) (made .visits) (machine.frameOf (p .block) (unlessNone n) 1 (p .count)) F (R ++ made .out) inside
 
-      started : turn (ok (scheduledLoop f c l C) >>= rest) ≡ turn (values (p .visits) >>= k)
+      started : turn (ok (pushed (target-loop f c l) C) >>= rest) ≡ turn (values (p .visits) >>= k)
       started = unfold _>>=_ in ap (λ (v : ℕ). turn (values v >>= k)) (loop-visits S H (p .visits) C seen f c l h)
 
       by : (y : Bool) → eqb (r .code) 0 ≡ y → turn (values (p .visits) >>= k) ≡ applied (enteringLoop y (loopTaken S H l f) p r (blocksOf f n c l)) F (R ++ m .out) C
@@ -335,7 +336,7 @@ module _ (w : List ℕ) (S H : Flags) (p : Position) (en : Entered w p) where
 
   do-while-turns : (l c f n : ℕ) → Is (do-while l c f) → f < blockCount w → n ≡ unlessTaken (has S f || has H f) f → Turns f c l n (λ v. ok (noneMade v))
   unfolding terminalTurn loopTurn _>>=_
-  do-while-turns l c f n q h o = turns (do-while l c f) f c l n (λ v. ok (noneMade v)) q (λ F R C. then-same (scheduleLoop f c (some l) C) _ _ (λ inside. rw (append-nil R))) h o
+  do-while-turns l c f n q h o = turns (do-while l c f) f c l n (λ v. ok (noneMade v)) q (λ F R C. then-same (schedule (target-loop f c l) C) _ _ (λ inside. rw (append-nil R))) h o
 
   module _ (f l : ℕ) (F : List machine.Frame) (R : List Row) (C inside : definition.Context) (taken : Option ℕ) where
     -- the loop's body, after its values
@@ -344,12 +345,12 @@ module _ (w : List ℕ) (S H : Flags) (p : Position) (en : Entered w p) where
 
   for-in-turns : (c l f n : ℕ) → Is (for-in c l f) → f < blockCount w → n ≡ unlessTaken (has S f || has H f) f → Turns f c l n (λ v. valueMade visit (flatForm (tableOf w) span) c span (noneMade v))
   unfolding terminalTurn loopTurn
-  for-in-turns c l f n q h o = turns (for-in c l f) f c l n _ q (λ F R C. rw span-is (then-same (scheduleLoop f c (some l) C) _ _ (λ inside.
+  for-in-turns c l f n q h o = turns (for-in c l f) f c l n _ q (λ F R C. rw span-is (then-same (schedule (target-loop f c l) C) _ _ (λ inside.
       sym (value-then visit (flatForm (tableOf w) span) c span (noneMade (inside .visits)) (body f l F R C inside (unlessScheduled C f)))))) h o
 
   for-of-turns : (c test l f n : ℕ) → Is (for-of c test l f) → f < blockCount w → n ≡ unlessTaken (has S f || has H f) f → Turns f c l n (λ v. forOfMade (tableOf w) visit c test span (noneMade v))
   unfolding terminalTurn loopTurn
-  for-of-turns c test l f n q h o = turns (for-of c test l f) f c l n _ q (λ F R C. rw span-is (then-same (scheduleLoop f c (some l) C) _ _ (λ inside.
+  for-of-turns c test l f n q h o = turns (for-of c test l f) f c l n _ q (λ F R C. rw span-is (then-same (schedule (target-loop f c l) C) _ _ (λ inside.
       let k : Made → Result State = body f l F R C inside (unlessScheduled C f) in
       let flat : ValueBlockResult → Value = flatForm (tableOf w) span in
       sym (bind-assoc (valueMade visit flat c span (noneMade (inside .visits))) (valueMade visit flat test span) k
@@ -361,7 +362,7 @@ module _ (w : List ℕ) (S H : Flags) (p : Position) (en : Entered w p) where
   for-turns : (init test : ℕ) (update : Option ℕ) (l f n : ℕ) → Is (for init test update l f) → f < blockCount w → n ≡ unlessTaken (has S f || has H f) f
       → Turns f (continueBlockOf update test) l n (λ v. forMade (tableOf w) visit init test update span (noneMade v))
   unfolding terminalTurn loopTurn
-  for-turns init test update l f n q h o = turns (for init test update l f) f (continueBlockOf update test) l n _ q (λ F R C. rw span-is (then-same (scheduleLoop f (continueBlockOf update test) (some l) C) _ _ (λ inside.
+  for-turns init test update l f n q h o = turns (for init test update l f) f (continueBlockOf update test) l n _ q (λ F R C. rw span-is (then-same (schedule (target-loop f (continueBlockOf update test) l) C) _ _ (λ inside.
       let k : Made → Result State = body f l F R C inside (unlessScheduled C f) in
       let flat : ValueBlockResult → Value = flatForm (tableOf w) span in
       let start : Result Made = valueMade visit flat init span (noneMade (inside .visits)) in
@@ -380,7 +381,7 @@ module _ (w : List ℕ) (S H : Flags) (p : Position) (en : Entered w p) where
       → terminalTurn (tableOf w) visit (while c l f) (p .block) (blockAt (tableOf w) (p .block)) F R (p .count) C
       ≡ unlessUnreachable (tableOf w) C f >>= λ taken. loopTurn (p .block) f c l taken (p .count) (λ v. valueMade visit plainForm c span (noneMade v)) F R C
   unfolding terminalTurn loopTurn
-  while-asks c l f F R C = rw span-is (then-same (unlessUnreachable (tableOf w) C f) _ _ (λ taken. then-same (scheduleLoop f c (some l) C) _ _ (λ inside.
+  while-asks c l f F R C = rw span-is (then-same (unlessUnreachable (tableOf w) C f) _ _ (λ taken. then-same (schedule (target-loop f c l) C) _ _ (λ inside.
       sym (value-then visit plainForm c span (noneMade (inside .visits)) (body f l F R C inside taken)))))
 
   while-turns : (c l f n : ℕ) → Is (while c l f) → f < blockCount w → (blockWord w f 2 ≡ 0 → ⊥) → n ≡ unlessTaken (eqb (blockWord w f 2) 1 || (has S f || has H f)) f
@@ -498,9 +499,9 @@ remove-added [] f e = refl
 remove-added (x ∷ S) zero e = ap (λ (y : Bool). y ∷ S) (sym e)
 remove-added (x ∷ S) (suc f) e = ap (λ (l : Flags). x ∷ l) (remove-added S f e)
 
-id-taken : (f v : ℕ) (C : definition.Context) → has (C .scheduled) f ≡ false → unscheduled (withVisits v (scheduled (target-if f) C)) ≡ idTaken (withVisits v C)
-unfolding unscheduled unscheduledTop unscheduledBy popped withVisits scheduled pushed idTaken
-id-taken f v C e = ap (λ (S : Flags). popped (C .stack) S (withVisits v (pushed (target-if f) (add (C .scheduled) f) C))) (remove-added (C .scheduled) f e)
+id-taken : (f v : ℕ) (C : definition.Context) → has (C .scheduled) f ≡ false → unscheduled (withVisits v (pushed (target-if f) C)) ≡ idTaken (withVisits v C)
+unfolding unscheduled unscheduledTop unscheduledBy popped withVisits pushed idTaken
+id-taken f v C e = ap (λ (S : Flags). popped (C .stack) S (withVisits v (pushed (target-if f) C))) (remove-added (C .scheduled) f e)
 
 module _ (S H : Flags) (v : ℕ) (C : definition.Context) (seen : Seen S H v C) (f n : ℕ) (h : f < 1024) (o : n ≡ unlessTaken (has S f || has H f) f) where
   value-context : (after : ℕ) → unscheduledIf (unlessNone n) (withVisits after (scheduledIf (unlessNone n) C)) ≡ changed (takeIdIf (eqb n 65535)) (withVisits after C)

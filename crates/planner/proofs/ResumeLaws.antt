@@ -13,9 +13,9 @@ use Rattle.table.proofs.TableLaws.{case-at, length-blocks, length-cases}
 use Rattle.table.proofs.RangeLaws.{case-block}
 use Rattle.table.proofs.BlockLaws.{no-number, end-by, code-at, span-at}
 use Rattle.definition.specs.Build.{rejected, accepted}
-use Rattle.definition.specs.Context.{Flags, has, isScheduled, target-case, withVisits}
+use Rattle.definition.specs.Context.{Flags, has, isScheduled, target-case, pushed, withVisits}
 use Rattle.definition.specs.Context as definition
-use Rattle.definition.specs.Machine.{State, visiting, ended, choosing, Turn, halt, turn, into, scheduled, secondPart, caseBuilt, withLeft, close, noCase, caseAt, chooseCase, switchColumns, resumeAt, blockRow, valueOut, step}
+use Rattle.definition.specs.Machine.{State, visiting, ended, choosing, Turn, halt, turn, into, secondPart, caseBuilt, withLeft, close, noCase, caseAt, chooseCase, switchColumns, resumeAt, blockRow, valueOut, step}
 use Rattle.definition.specs.Machine as machine
 use Rattle.definition.specs.Result.{Result, ok, _>>=_, refuseIf}
 use Rattle.definition.specs.Tree.{Row, row}
@@ -229,10 +229,10 @@ module _ (w : List ℕ) (p : Position) (frame : Frame) where
       abbrev caseRow : Row
       caseRow = row 11 (caseWord w number 0) 0 0 0 0
 
-      case-goes-on : (F : List machine.Frame) (R : List Row) (C : definition.Context) → resumeStep w p frame F R C ≡ ok (choosing (caseBuilt (frameOf frame)) F (R ++ (caseRow ∷ [])) (scheduled (target-case (caseWord w number 1)) C))
+      case-goes-on : (F : List machine.Frame) (R : List Row) (C : definition.Context) → resumeStep w p frame F R C ≡ ok (choosing (caseBuilt (frameOf frame)) F (R ++ (caseRow ∷ [])) (pushed (target-case (caseWord w number 1)) C))
       unfolding resumeAt caseOf
       case-goes-on F R C = resume-at _ F R C switch-at
-          ∙ ap (λ (k : Case). ok (choosing (caseBuilt (frameOf frame)) F (R ++ (row 11 (k .test) 0 0 0 0 ∷ [])) (scheduled (target-case (k .block)) C))) case-is
+          ∙ ap (λ (k : Case). ok (choosing (caseBuilt (frameOf frame)) F (R ++ (row 11 (k .test) 0 0 0 0 ∷ [])) (pushed (target-case (k .block)) C))) case-is
 
       abbrev casePlan : (rows block : ℕ) → Plan
       casePlan rows block = choosingNext (oneBuilt frame) (p .depth) rows (p .visits) (Schedule (CaseTarget block))

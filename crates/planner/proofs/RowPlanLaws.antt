@@ -19,7 +19,7 @@ use Rattle.table.proofs.BlockLaws.{no-number, some-number, end-by, id-at}
 use Rattle.definition.specs.Build.{rejected}
 use Rattle.definition.specs.Context.{Flags, has, pushed, isScheduled, markScopeFallthrough}
 use Rattle.definition.specs.Context as definition
-use Rattle.definition.specs.Machine.{visiting, ended, going, halt, turn, into, opens, scheduled, scheduledIf, terminalTurn}
+use Rattle.definition.specs.Machine.{visiting, ended, going, halt, turn, into, opens, scheduledIf, terminalTurn}
 use Rattle.definition.specs.Machine as machine
 use Rattle.definition.specs.Result.{ok}
 use Rattle.definition.specs.Statement.{unlessScheduled, markScopeFallthroughIf}
@@ -48,7 +48,7 @@ label-in n (inr h) = subst (λ (z : Option ℕ). Below 1024 z) (sym (some-number
 scope-moved : (g : Option ℕ) (C : definition.Context) → markScopeFallthroughIf g (scheduledIf g C) ≡ scheduledIf g (scoped g C)
 unfolding markScopeFallthroughIf
 scope-moved none C = refl
-scope-moved (some f) C = unfold scheduled pushed markScopeFallthrough in refl
+scope-moved (some f) C = unfold pushed markScopeFallthrough in refl
 
 scope-busy : (g h : Option ℕ) (C : definition.Context) (x : ℕ) → isScheduled (markScopeFallthroughIf g (scheduledIf h C)) x ≡ isScheduled (scheduledIf h C) x
 unfolding markScopeFallthroughIf
@@ -58,7 +58,7 @@ scope-busy (some f) h C x = unfold markScopeFallthrough isScheduled in refl
 scope-visits : (g : Option ℕ) (C : definition.Context) → markScopeFallthroughIf g (scheduledIf g C) .visits ≡ C .visits
 unfolding markScopeFallthroughIf
 scope-visits none C = refl
-scope-visits (some f) C = unfold scheduled pushed markScopeFallthrough in refl
+scope-visits (some f) C = unfold pushed markScopeFallthrough in refl
 
 refused-applied : (plan : Plan) (F : List machine.Frame) (R : List Row) (C : definition.Context) → (plan .code ≡ 0 → ⊥) → applied plan F R C ≡ halt (rejected (plan .code) (plan .at) (plan .position .visits))
 unfolding applied

@@ -18,7 +18,7 @@ use Rattle.table.proofs.BlockLaws.{no-number, some-number, code-at}
 use Rattle.definition.specs.Build.{rejected}
 use Rattle.definition.specs.Context.{Flags, has, add, isScheduled, pushed, target-if}
 use Rattle.definition.specs.Context as definition
-use Rattle.definition.specs.Machine.{State, visiting, going, halt, turn, into, opens, scheduled, scheduledIf}
+use Rattle.definition.specs.Machine.{State, visiting, going, halt, turn, into, opens, scheduledIf}
 use Rattle.definition.specs.Machine as machine
 use Rattle.definition.specs.Result.{ok, refused, _>>=_, refuseIf}
 use Rattle.definition.specs.Statement.{unlessScheduled, unlessUnreachable}
@@ -31,8 +31,8 @@ use Rattle.planner.proofs.PlanLaws.{within-all, visits-same, refuse-app
 
 -- ---- sets
 
-pub scheduled-push : (n x : ℕ) (C : definition.Context) → n < length (C .scheduled) → isScheduled (scheduled (target-if n) C) x ≡ eqb x n || isScheduled C x
-unfolding isScheduled scheduled pushed has add
+pub scheduled-push : (n x : ℕ) (C : definition.Context) → n < length (C .scheduled) → isScheduled (pushed (target-if n) C) x ≡ eqb x n || isScheduled C x
+unfolding isScheduled pushed has add
 scheduled-push n x C h = at (ℕ-discrete x n)
   where
     at : Dec (x ≡ n) → getD (set (C .scheduled) n true) x false || getD (C .catchHandlers) x false ≡ eqb x n || (getD (C .scheduled) x false || getD (C .catchHandlers) x false)
@@ -114,7 +114,7 @@ enclose-same S H p n block code at F R C l k nz seen d = by (eqb block n || (has
 
     visits : (z : Option ℕ) → scheduledIf z C .visits ≡ p .visits
     visits none = seen .visits
-    visits (some f) = unfold scheduled pushed in seen .visits
+    visits (some f) = unfold pushed in seen .visits
 
     by : (y : Bool) → eqb block n || (has S block || has H block) ≡ y → turn (into block code at fr F R D) ≡ applied (enclosing y p n block code at) F R C
     by true e = ap turn (into-busy block code at fr F R D (busy ∙ e) ∙ ap (λ (v : ℕ). refused code at v) (visits (unlessNone n))) ∙ turn-refused code at (p .visits) ∙ sym (refuse-applied p code at F R C nz)

@@ -18,7 +18,7 @@ use Rattle.table.proofs.BlockLaws.{no-number, some-number, end-by}
 use Rattle.definition.specs.Build.{rejected}
 use Rattle.definition.specs.Context.{Flags, has, pushed, scheduleCatchHandler}
 use Rattle.definition.specs.Context as definition
-use Rattle.definition.specs.Machine.{State, visiting, choosing, going, halt, turn, leave, into, opens, scheduled, scheduledIf, scheduledSwitch, withLeft, numberOfCases, terminalTurn}
+use Rattle.definition.specs.Machine.{State, visiting, choosing, going, halt, turn, leave, into, opens, scheduledIf, scheduledSwitch, withLeft, numberOfCases, terminalTurn}
 use Rattle.definition.specs.Machine as machine
 use Rattle.definition.specs.Result.{Result, ok, _>>=_}
 use Rattle.definition.specs.Statement.{unlessUnreachable, casesLastFirst}
@@ -290,7 +290,7 @@ module _ (w : List ℕ) (S H : Flags) (p : Position) (en : Entered w p) where
       where
         caught : (g : Option ℕ) (C : definition.Context) → scheduleCatchHandler (blockWord w (p .block) 4) (scheduledIf g C) ≡ scheduledIf g (scheduleCatchHandler (blockWord w (p .block) 4) C)
         caught none C = refl
-        caught (some x) C = unfold scheduled pushed scheduleCatchHandler in refl
+        caught (some x) C = unfold pushed scheduleCatchHandler in refl
 
         same : (F : List machine.Frame) (R : List Row) (C : definition.Context) → length F ≡ p .depth → Seen S H (p .visits) C
             → turn (try-rest F R C (unlessNone n)) ≡ applied (tryPlan n (blockWord w (p .block) 3) (blockWord w (p .block) 4)) F R C

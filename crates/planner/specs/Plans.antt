@@ -1,15 +1,15 @@
 -- What a plan means for the machine of turns.
 use Prim.Native.Nat.{ℕ, zero, suc, _+_, _-_}
-use mathlib.Core.Bool.{Bool, true, false, not, _||_}
+use mathlib.Core.Bool.{Bool, true, false, _||_}
 use mathlib.Core.List.{List, [], _∷_}
 use mathlib.Core.Option.{Option, none, some}
 use lib.Dec.{eqb}
 use lib.ListN.{length, getD, drop}
 use Rattle.table.specs.Table.{unlessNone}
 use Rattle.definition.specs.Build.{accepted, rejected}
-use Rattle.definition.specs.Context.{add, has, pushed, target-loop, scheduleCatchHandler, markScopeFallthrough, withVisits}
+use Rattle.definition.specs.Context.{pushed, scheduleCatchHandler, markScopeFallthrough, withVisits}
 use Rattle.definition.specs.Context as definition
-use Rattle.definition.specs.Machine.{State, visiting, ended, choosing, popping, Turn, going, halt, scheduled, unscheduled}
+use Rattle.definition.specs.Machine.{State, visiting, ended, choosing, popping, Turn, going, halt, unscheduled}
 use Rattle.definition.specs.Machine as machine
 use Rattle.definition.specs.Tree.{Row}
 use Rattle.control.specs.declared.ControlFlowTarget.the-variants.{If, Switch}
@@ -19,7 +19,7 @@ use Rattle.planner.specs.declared.plan.Stage.the-variants.{Visit, Ended,
 use Rattle.planner.specs.declared.plan.Position.{Position}
 use Rattle.planner.specs.declared.plan.Frame.{Frame}
 use Rattle.planner.specs.declared.plan.Change.{Change}
-use Rattle.planner.specs.declared.plan.Change.the-variants.{Nothing, Schedule, ScheduleLoop, TakeId, Unschedule}
+use Rattle.planner.specs.declared.plan.Change.the-variants.{Nothing, Schedule, TakeId, Unschedule}
 use Rattle.planner.specs.declared.plan.Plan.{Plan}
 
 -- ---- from the code's records to the machine's
@@ -47,19 +47,12 @@ stateAt Halt block frames rows count cx = ended frames rows count cx
 
 -- ---- what the driver does with a plan
 
--- `schedule_loop` where the continue block is not scheduled
-unfoldable pub scheduledLoop : (fallthrough continueBlock loopBlock : ℕ) → definition.Context → definition.Context
-scheduledLoop fallthrough continueBlock loopBlock cx =
-    pushed (target-loop fallthrough continueBlock (some loopBlock) (not (has (add (add (cx .scheduled) fallthrough) continueBlock) loopBlock)))
-    (add (add (add (cx .scheduled) fallthrough) continueBlock) loopBlock) cx
-
 unfoldable pub idTaken : definition.Context → definition.Context
 idTaken cx = record { nextId = suc (cx .nextId); emitted = cx .emitted; scopeFallthroughs = cx .scopeFallthroughs; scheduled = cx .scheduled; catchHandlers = cx .catchHandlers; stack = cx .stack; visits = cx .visits }
 
 abbrev pub changed : Change → definition.Context → definition.Context
 changed Nothing cx = cx
-changed (Schedule target) cx = scheduled (targetOf target) cx
-changed (ScheduleLoop fallthrough continueBlock loopBlock) cx = scheduledLoop fallthrough continueBlock loopBlock cx
+changed (Schedule target) cx = pushed (targetOf target) cx
 changed TakeId cx = idTaken cx
 changed Unschedule cx = unscheduled cx
 

@@ -41,11 +41,6 @@ pub struct Frame {
 pub enum Change {
     Nothing,
     Schedule(ControlFlowTarget),
-    ScheduleLoop {
-        fallthrough: u16,
-        continue_block: u16,
-        loop_block: u16,
-    },
     TakeId,
     Unschedule,
 }

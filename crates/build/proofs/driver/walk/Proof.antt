@@ -6,13 +6,13 @@ use mathlib.Core.Bool.{false}
 use lib.ListN.{length, set}
 use mathlib.Core.Logic.{⊎-elim}
 use borrow.Author.Needs.{needs}
-use Rattle.control.specs.Abstraction.{contextOf, resolvedOf, stored}
+use Rattle.control.specs.Abstraction.{contextOf, resolvedOf, settled}
 use Rattle.control.specs.Contract.{Room}
 use Rattle.planner.specs.declared.plan.Plan.{Plan}
 use Rattle.planner.specs.declared.plan.Change.{Change}
-use Rattle.planner.specs.declared.plan.Change.the-variants.{Schedule, ScheduleLoop, Unschedule}
+use Rattle.planner.specs.declared.plan.Change.the-variants.{Schedule, Unschedule}
 use Rattle.build.specs.Driver.{foundBy, visitedBlock, planEnds}
-use Rattle.build.proofs.ApplyLaws.{withMarks, Whole, Changeable, Changed, Applicable, Applied, nothing-changed, schedule-changed, loop-changed, unschedule-changed, id-changed, changeable-marked, whole-marked, plan-applied, last-entry}
+use Rattle.build.proofs.ApplyLaws.{withMarks, Whole, Changeable, Changed, Applicable, Applied, nothing-changed, schedule-changed, unschedule-changed, id-changed, changeable-marked, whole-marked, plan-applied, last-entry}
 use Rattle.control.specs.declared.Context.{Context}
 use Rattle.planner.specs.declared.plan.Position.{Position}
 use Rattle.planner.specs.declared.plan.Frame.{Frame}
@@ -81,7 +81,9 @@ search-from-requires : tie.Need-search-from-requires Inv-loop2 μ-loop2 Inv-loop
 search-from-requires c κs = tt
 
 loop2-holds : tie.Need-loop2-holds Inv-loop2 μ-loop2 Inv-loop μ-loop
-loop2-holds c = search-start _ _ _ (c .search-from .ensures)
+loop2-holds c =
+    let at-loop : tie.At-loop Inv-loop2 μ-loop2 Inv-loop μ-loop = search in
+    search-start _ _ _ (at-loop .loop .inv .walking .whole .settled) (c .search-from .ensures)
 
 sub-at : tie.Need-sub-at Inv-loop2 μ-loop2 Inv-loop μ-loop
 sub-at c = search needs
@@ -226,7 +228,7 @@ module _ (c : tie.After-frame-slot Inv-loop2 μ-loop2 Inv-loop μ-loop) where
   visited = visitedBlock (p .stage) (p .block)
 
   abbrev with-marks : Context
-  with-marks = record { emitted = c .before .before .before .before .before .before .before .mark .last .0; «catch_handlers» = c .before .before .before .before .before .mark2 .last .0; «scope_fallthroughs» = c .before .before .before .mark3 .last .0; len = cx .len; scheduled = cx .scheduled; pushed = cx .pushed; «next_schedule_id» = cx .«next_schedule_id»; stack = cx .stack }
+  with-marks = record { emitted = c .before .before .before .before .before .before .before .mark .last .0; «catch_handlers» = c .before .before .before .before .before .mark2 .last .0; «scope_fallthroughs» = c .before .before .before .mark3 .last .0; len = cx .len; scheduled = cx .scheduled; pushed = cx .pushed; pending = cx .pending; refused = cx .refused; «next_schedule_id» = cx .«next_schedule_id»; stack = cx .stack }
 
   abbrev frames : List Frame
   frames = set (at-head planned .loop .frames) (c .frame-slot .result) (plan .frame)
@@ -263,15 +265,8 @@ module _ (c : tie.After-entry2 Inv-loop2 μ-loop2 Inv-loop μ-loop) where
   schedule-room : Room (with-marks (c .before .before .before .before .before))
   schedule-room = changeable (c .before .before .before .before .before) _ (c .before .before .before .change .given .1) .1
 
-  by-schedule : Changed (Schedule (c .before .before .before .change .given .0 .0)) (with-marks (c .before .before .before .before .before)) (stored (c .before .schedule .result))
+  by-schedule : Changed (Schedule (c .before .before .before .change .given .0 .0)) (with-marks (c .before .before .before .before .before)) (settled (c .before .schedule .result))
   by-schedule = schedule-changed _ _ _ _ (c .before .schedule .ensures) refl (schedule-room .len) (whole (c .before .before .before .before .before))
-
-module _ (c : tie.After-entry3 Inv-loop2 μ-loop2 Inv-loop μ-loop) where
-  loop-room : Room (with-marks (c .before .before .before .before .before))
-  loop-room = changeable (c .before .before .before .before .before) _ (c .before .before .before .change2 .given .1) .1
-
-  by-schedule-loop : Changed (ScheduleLoop (c .before .before .before .change2 .given .0 .0) (c .before .before .before .change2 .given .0 .1 .0) (c .before .before .before .change2 .given .0 .1 .1 .0)) (with-marks (c .before .before .before .before .before)) (stored (c .before .schedule-loop .result))
-  by-schedule-loop = loop-changed _ _ _ _ _ _ (c .before .schedule-loop .ensures) refl (loop-room .len) (whole (c .before .before .before .before .before))
 
 module _ (c : tie.After-unschedule Inv-loop2 μ-loop2 Inv-loop μ-loop) where
   by-unschedule : Changed Unschedule (with-marks (c .before .before .before .before)) (c .unschedule .result)
@@ -321,56 +316,18 @@ element-set-from-entry c =
     omega (arith, at-schedule .schedule .ensures .len, schedule-room c .len)
 
 loop-less-2 : tie.Need-loop-less-2 Inv-loop2 μ-loop2 Inv-loop μ-loop
-unfolding stored
+unfolding settled
 loop-less-2 c =
     let at-change : tie.After-change Inv-loop2 μ-loop2 Inv-loop μ-loop = search in
     let at-frame-slot : tie.After-frame-slot Inv-loop2 μ-loop2 Inv-loop μ-loop = search in
     lower (at-frame-slot) _ (at-change .change .given .1) _ (by-schedule c)
 
 loop-again-2 : tie.Need-loop-again-2 Inv-loop2 μ-loop2 Inv-loop μ-loop
-unfolding stored
+unfolding settled
 loop-again-2 c =
     let at-change : tie.After-change Inv-loop2 μ-loop2 Inv-loop μ-loop = search in
     let at-frame-slot : tie.After-frame-slot Inv-loop2 μ-loop2 Inv-loop μ-loop = search in
     next (at-frame-slot) _ (at-change .change .given .1) _ (by-schedule c)
-
-enum-known-change-2 : tie.Need-enum-known-change-2 Inv-loop2 μ-loop2 Inv-loop μ-loop
-enum-known-change-2 c = search needs
-
-schedule-loop-requires : tie.Need-schedule-loop-requires Inv-loop2 μ-loop2 Inv-loop μ-loop
-schedule-loop-requires c κs =
-    let at-change2 : tie.After-change2 Inv-loop2 μ-loop2 Inv-loop μ-loop = search in
-    let at-frame-slot : tie.After-frame-slot Inv-loop2 μ-loop2 Inv-loop μ-loop = search in
-    changeable (at-frame-slot) _ (at-change2 .change2 .given .1)
-
-sub-entry-2 : tie.Need-sub-entry-2 Inv-loop2 μ-loop2 Inv-loop μ-loop
-sub-entry-2 c =
-    let at-schedule-loop : tie.After-schedule-loop Inv-loop2 μ-loop2 Inv-loop μ-loop = search in
-    omega (arith, at-schedule-loop .schedule-loop .ensures .len)
-
-mul-entry-3 : tie.Need-mul-entry-3 Inv-loop2 μ-loop2 Inv-loop μ-loop
-mul-entry-3 c =
-    let at-schedule-loop : tie.After-schedule-loop Inv-loop2 μ-loop2 Inv-loop μ-loop = search in
-    omega (arith, at-schedule-loop .schedule-loop .ensures .len, loop-room c .len)
-
-element-set-from-entry-2 : tie.Need-element-set-from-entry-2 Inv-loop2 μ-loop2 Inv-loop μ-loop
-element-set-from-entry-2 c =
-    let at-schedule-loop : tie.After-schedule-loop Inv-loop2 μ-loop2 Inv-loop μ-loop = search in
-    omega (arith, at-schedule-loop .schedule-loop .ensures .len, loop-room c .len)
-
-loop-less-3 : tie.Need-loop-less-3 Inv-loop2 μ-loop2 Inv-loop μ-loop
-unfolding stored
-loop-less-3 c =
-    let at-change2 : tie.After-change2 Inv-loop2 μ-loop2 Inv-loop μ-loop = search in
-    let at-frame-slot : tie.After-frame-slot Inv-loop2 μ-loop2 Inv-loop μ-loop = search in
-    lower (at-frame-slot) _ (at-change2 .change2 .given .1) _ (by-schedule-loop c)
-
-loop-again-3 : tie.Need-loop-again-3 Inv-loop2 μ-loop2 Inv-loop μ-loop
-unfolding stored
-loop-again-3 c =
-    let at-change2 : tie.After-change2 Inv-loop2 μ-loop2 Inv-loop μ-loop = search in
-    let at-frame-slot : tie.After-frame-slot Inv-loop2 μ-loop2 Inv-loop μ-loop = search in
-    next (at-frame-slot) _ (at-change2 .change2 .given .1) _ (by-schedule-loop c)
 
 enum-told-2 : tie.Need-enum-told-2 Inv-loop2 μ-loop2 Inv-loop μ-loop
 enum-told-2 c = search needs
@@ -380,26 +337,26 @@ add-cx c =
     let at-frame-slot : tie.After-frame-slot Inv-loop2 μ-loop2 Inv-loop μ-loop = search in
     omega (arith, changeable (at-frame-slot) _ (c .enum-told2 .given .1))
 
-loop-less-4 : tie.Need-loop-less-4 Inv-loop2 μ-loop2 Inv-loop μ-loop
-loop-less-4 c =
+loop-less-3 : tie.Need-loop-less-3 Inv-loop2 μ-loop2 Inv-loop μ-loop
+loop-less-3 c =
     let at-frame-slot : tie.After-frame-slot Inv-loop2 μ-loop2 Inv-loop μ-loop = search in
     lower (at-frame-slot) _ (c .enum-told2 .given .1) _ (id-changed _ (whole (at-frame-slot)))
 
-loop-again-4 : tie.Need-loop-again-4 Inv-loop2 μ-loop2 Inv-loop μ-loop
-loop-again-4 c =
+loop-again-3 : tie.Need-loop-again-3 Inv-loop2 μ-loop2 Inv-loop μ-loop
+loop-again-3 c =
     let at-frame-slot : tie.After-frame-slot Inv-loop2 μ-loop2 Inv-loop μ-loop = search in
     next (at-frame-slot) _ (c .enum-told2 .given .1) _ (id-changed _ (whole (at-frame-slot)))
 
 enum-told-3 : tie.Need-enum-told-3 Inv-loop2 μ-loop2 Inv-loop μ-loop
 enum-told-3 c = search needs
 
-sub-entry-3 : tie.Need-sub-entry-3 Inv-loop2 μ-loop2 Inv-loop μ-loop
-sub-entry-3 c =
+sub-entry-2 : tie.Need-sub-entry-2 Inv-loop2 μ-loop2 Inv-loop μ-loop
+sub-entry-2 c =
     let at-frame-slot : tie.After-frame-slot Inv-loop2 μ-loop2 Inv-loop μ-loop = search in
     changeable (at-frame-slot) _ (c .enum-told3 .given .1)
 
-mul-entry-4 : tie.Need-mul-entry-4 Inv-loop2 μ-loop2 Inv-loop μ-loop
-mul-entry-4 c =
+mul-entry-3 : tie.Need-mul-entry-3 Inv-loop2 μ-loop2 Inv-loop μ-loop
+mul-entry-3 c =
     let at-frame-slot : tie.After-frame-slot Inv-loop2 μ-loop2 Inv-loop μ-loop = search in
     omega (arith, whole (at-frame-slot) .bounded .most)
 
@@ -414,14 +371,14 @@ unschedule-requires c κs =
     let at-frame-slot : tie.After-frame-slot Inv-loop2 μ-loop2 Inv-loop μ-loop = search in
     last-entry _ (changeable (at-frame-slot) _ (at-enum-told3 .enum-told3 .given .1)) (whole (at-frame-slot))
 
-loop-less-5 : tie.Need-loop-less-5 Inv-loop2 μ-loop2 Inv-loop μ-loop
-loop-less-5 c =
+loop-less-4 : tie.Need-loop-less-4 Inv-loop2 μ-loop2 Inv-loop μ-loop
+loop-less-4 c =
     let at-enum-told3 : tie.After-enum-told3 Inv-loop2 μ-loop2 Inv-loop μ-loop = search in
     let at-frame-slot : tie.After-frame-slot Inv-loop2 μ-loop2 Inv-loop μ-loop = search in
     lower (at-frame-slot) _ (at-enum-told3 .enum-told3 .given .1) _ (by-unschedule c)
 
-loop-again-5 : tie.Need-loop-again-5 Inv-loop2 μ-loop2 Inv-loop μ-loop
-loop-again-5 c =
+loop-again-4 : tie.Need-loop-again-4 Inv-loop2 μ-loop2 Inv-loop μ-loop
+loop-again-4 c =
     let at-enum-told3 : tie.After-enum-told3 Inv-loop2 μ-loop2 Inv-loop μ-loop = search in
     let at-frame-slot : tie.After-frame-slot Inv-loop2 μ-loop2 Inv-loop μ-loop = search in
     next (at-frame-slot) _ (at-enum-told3 .enum-told3 .given .1) _ (by-unschedule c)
@@ -474,21 +431,14 @@ walk-spec =
     element-set-from-entry
     loop-less-2
     loop-again-2
-    enum-known-change-2
-    schedule-loop-requires
-    sub-entry-2
-    mul-entry-3
-    element-set-from-entry-2
-    loop-less-3
-    loop-again-3
     enum-told-2
     add-cx
-    loop-less-4
-    loop-again-4
+    loop-less-3
+    loop-again-3
     enum-told-3
-    sub-entry-3
-    mul-entry-4
+    sub-entry-2
+    mul-entry-3
     element-copy-out-entry-2
     unschedule-requires
-    loop-less-5
-    loop-again-5)
+    loop-less-4
+    loop-again-4)
