@@ -1,15 +1,16 @@
 -- A plan, applied to the Context: what it asks, and what it does to the definition's Context. For the driver's loop.
 use Prim.Native.Nat.{ℕ, _+_, _-_, _<_}
 use native.Mathlib.Omega.{arith}
-use native.Mathlib.Numerals.{add-one}
 use mathlib.Core.Path.{_≡_, refl, sym, ap, _∙_, subst}
 use mathlib.Core.Bool.{Bool, true, false}
 use mathlib.Core.Option.{Option, none, some}
 use lib.ListN.{length, getD, set, length-set}
+use lib.Seq.{getD-set-same}
 use Rattle.table.specs.Table.{unlessNone}
 use Rattle.table.proofs.BlockLaws.{no-number, some-number}
 use Rattle.definition.specs.Context.{Flags, add, emit, remove, scheduledBy, scheduleCatchHandler, markScopeFallthrough, unscheduledBy, ControlFlowTarget, target-if, target-switch, target-case, target-loop}
 use Rattle.definition.specs.Context as definition
+use Rattle.definition.specs.Machine.{unscheduled}
 use Rattle.control.specs.declared.ControlFlowTarget as code
 use Rattle.control.specs.declared.Context.{Context}
 use Rattle.control.specs.declared.Entry.{Entry}
@@ -18,9 +19,9 @@ use Rattle.control.specs.Contract.{Named, Room, Bounded, Last, Scheduled, Unsch
 use Rattle.control.proofs.ContextLaws.{settles, pushes, pops}
 use Rattle.definition.specs.Framed.{Below}
 use Rattle.planner.specs.declared.plan.Change.{Change}
-use Rattle.planner.specs.declared.plan.Change.the-variants.{Nothing, Schedule, TakeId, Unschedule}
+use Rattle.planner.specs.declared.plan.Change.the-variants.{Nothing, Schedule, ScheduleBriefly, Unschedule}
 use Rattle.planner.specs.declared.plan.Plan.{Plan}
-use Rattle.planner.specs.Plans.{changed, handled, scoped, idTaken}
+use Rattle.planner.specs.Plans.{changed, handled, scoped}
 use Rattle.build.specs.Driver.{marked}
 
 -- ---- what applying a plan asks, and what it leaves
@@ -48,7 +49,7 @@ withMarks visited handler fallthrough cx = record {
 abbrev pub Changeable : Change → Context → Type 0
 Changeable Nothing cx = Unit {0}
 Changeable (Schedule target) cx = Named target × Room cx
-Changeable TakeId cx = cx .«next_schedule_id» < 65535
+Changeable (ScheduleBriefly target) cx = Named target × Room cx
 Changeable Unschedule cx = 0 < cx .len
 
 -- what the driver carries along: nothing is pending, the stack's bound, the blocks of its entries, and the arrays' lengths
@@ -119,10 +120,23 @@ unschedule-changed cx r last top h w = record {
   };
 }
 
-pub id-changed : (cx : Context) → Whole cx
-    → Changed TakeId cx (record { emitted = cx .emitted; «catch_handlers» = cx .«catch_handlers»; «scope_fallthroughs» = cx .«scope_fallthroughs»; len = cx .len; scheduled = cx .scheduled; pushed = cx .pushed; pending = cx .pending; refused = cx .refused; «next_schedule_id» = cx .«next_schedule_id» + 1; stack = cx .stack })
-unfolding contextOf idTaken
-id-changed cx w = record { context = λ visits. rw add-one refl; whole = record { settled = w .settled; bounded = w .bounded; wide = w .wide; tall = w .tall } }
+-- pushed, settled and popped
+pub last-scheduled : (target : code.ControlFlowTarget) (cx r : Context) → Scheduled target cx r → Named target → cx .len < 1152 → Whole cx → Last (settled r) (r .pushed)
+unfolding settled
+last-scheduled target cx r h named small w = record {
+  nonempty = omega (arith, h .len);
+  settled = refl;
+  read = sym (getD-set-same (r .stack) (r .len - 1) (r .pushed) noEntry (omega (arith, h .len, small, long)));
+  named = rw (h .state) named;
+}
+  where
+    long : length (r .stack) ≡ 1152
+    long = ap (λ (z : Context). length (z .stack)) (h .state) ∙ w .tall
+
+pub briefly-changed : (target : code.ControlFlowTarget) (cx s r : Context) (last : Entry) → Changed (Schedule target) cx s → Last s last → Unscheduled last s r → Changed (ScheduleBriefly target) cx r
+briefly-changed target cx s r last h top u =
+    let off : Changed Unschedule s r = unschedule-changed s r last top u (h .whole) in
+    record { context = λ visits. off .context visits ∙ ap unscheduled (h .context visits); whole = off .whole }
 
 -- ---- the sets
 
@@ -155,7 +169,7 @@ marks visited handler fallthrough cx visits = marks-by (unlessNone visited) (unl
 pub changeable-marked : (change : Change) (visited handler fallthrough : ℕ) (cx : Context) → Changeable change cx → Changeable change (withMarks visited handler fallthrough cx)
 changeable-marked Nothing visited handler fallthrough cx h = tt
 changeable-marked (Schedule target) visited handler fallthrough cx (n, r) = (n, record { len = r .len; id = r .id; settled = r .settled })
-changeable-marked TakeId visited handler fallthrough cx h = h
+changeable-marked (ScheduleBriefly target) visited handler fallthrough cx (n, r) = (n, record { len = r .len; id = r .id; settled = r .settled })
 changeable-marked Unschedule visited handler fallthrough cx h = h
 
 pub plan-applied : (visited : ℕ) (plan : Plan) (cx m r : Context) → m ≡ withMarks visited (plan .handler) (plan .scope) cx → Changed (plan .change) m r → Applied visited plan cx r

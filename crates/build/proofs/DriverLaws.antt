@@ -42,11 +42,11 @@ use Rattle.planner.specs.declared.plan.Stage.the-variants.{Visit, Ended, Choose
 use Rattle.planner.specs.declared.plan.Position.{Position}
 use Rattle.planner.specs.declared.plan.Frame.{Frame}
 use Rattle.planner.specs.declared.plan.Change.{Change}
-use Rattle.planner.specs.declared.plan.Change.the-variants.{Nothing, Schedule, TakeId, Unschedule}
+use Rattle.planner.specs.declared.plan.Change.the-variants.{Nothing, Schedule, ScheduleBriefly, Unschedule}
 use Rattle.planner.specs.declared.plan.Plan.{Plan}
 use Rattle.build.specs.declared.search.Jump.{Jump}
 use Rattle.build.specs.declared.search.Jump.the-variants as search
-use Rattle.planner.specs.Plans.{frameOf, noFrame, framesOf, stateAt, idTaken, changed, handled, scoped, within, kept, contextAfter, onward, applied}
+use Rattle.planner.specs.Plans.{frameOf, noFrame, framesOf, stateAt, changed, handled, scoped, within, kept, contextAfter, onward, applied}
 use Rattle.planner.specs.Planned.{NamedChange, entriesOnTop, deepest, Nested, Fitting}
 use Rattle.planner.specs.Jumps.{FoundBelow}
 use Rattle.planner.specs.Turn.{Resolves, Shown, inHand, FrameFits, StageFits, Ready, emitting, PlannedTurn}
@@ -452,7 +452,7 @@ module _ (w : List ℕ) (pr : Promise w) (ck : Checked (tableOf w)) where
           -- ---- what applying the plan asks
 
           changeable : Changeable (plan .change) cx
-          unfolding contextOf definition.pushed idTaken
+          unfolding contextOf definition.pushed definition.popped machine.unscheduled machine.unscheduledTop
           changeable = at (plan .change) (subst (λ (D : definition.Context). length (D .stack) ≤ 1024) marked-context (next-numbers .stack)) (subst (λ (D : definition.Context). D .nextId ≤ 16384) marked-context (next-numbers .ids)) (fit .change)
             where
               D : definition.Context
@@ -468,7 +468,7 @@ module _ (w : List ℕ) (pr : Promise w) (ck : Checked (tableOf w)) where
               at : (ch : Change) → length (changed ch D .stack) ≤ 1024 → changed ch D .nextId ≤ 16384 → NamedChange (entriesOnTop (inHand (p .stage) (p .depth) f)) ch → Changeable ch cx
               at Nothing s i n = tt
               at (Schedule target) s i n = (n, record { len = omega (arith, len, s); id = omega arith; settled = I .whole .settled })
-              at TakeId s i n = omega arith
+              at (ScheduleBriefly target) s i n = (n, record { len = omega (arith, len, s); id = omega arith; settled = I .whole .settled })
               at Unschedule s i n = omega (arith, n, filled)
 
           pub applicable : Applicable visited plan cx

@@ -184,7 +184,13 @@ pub fn walk(words: &[u32], tree: &mut [u32]) -> Walked
                 cx.stack[cx.len - 1] = entry;
                 cx.pending = false;
             }
-            Change::TakeId => cx.next_schedule_id += 1,
+            Change::ScheduleBriefly(target) => {
+                cx = cx.schedule(target);
+                let entry = cx.pushed;
+                cx.stack[cx.len - 1] = entry;
+                cx.pending = false;
+                cx = cx.unschedule(entry);
+            }
             Change::Unschedule => {
                 let entry = cx.stack[cx.len - 1];
                 cx = cx.unschedule(entry);

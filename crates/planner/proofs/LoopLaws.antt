@@ -41,9 +41,9 @@ use Rattle.planner.specs.declared.plan.Plan.{Plan}
 use Rattle.planner.specs.declared.loops.Values.{Values}
 use Rattle.planner.specs.declared.loops.Loop as loops
 use Rattle.control.specs.declared.ControlFlowTarget.the-variants.{Loop}
-use Rattle.planner.specs.Plans.{frameOf, changed, applied, openFrame, refusing, leaving, idTaken, unlessTaken}
+use Rattle.planner.specs.Plans.{frameOf, changed, applied, openFrame, refusing, leaving, unlessTaken}
 use Rattle.planner.specs.Planned.{Seen, NamedChange, Fitting, PlannedBare, Entered, terminalStep}
-use Rattle.planner.specs.Loops.{PlannedRows, Made, plainMade, flatMade, testedValues, forValues, forOfValues, noneMade, valueMade, plainForm, flatForm, updateMade, testedMade, forMade, forOfMade, noValues, valuesOf, Makes, Spent, MakesMore, MakesTested, loopTurn, afterValues, enteringBody, enteringLoop, loopTaken, continuesAt, valueFallthrough, takeIdIf}
+use Rattle.planner.specs.Loops.{PlannedRows, Made, plainMade, flatMade, testedValues, forValues, forOfValues, noneMade, valueMade, plainForm, flatForm, updateMade, testedMade, forMade, forOfMade, noValues, valuesOf, Makes, Spent, MakesMore, MakesTested, loopTurn, afterValues, enteringBody, enteringLoop, loopTaken, continuesAt, valueFallthrough, brieflyIf}
 use Rattle.planner.proofs.PlanLaws.{within-all, refuse-applied, leave-applied, leave-nested, nest-applied}
 use Rattle.planner.proofs.StepLaws.{label-scheduled, seen-scheduled, turn-refused, turn-ok}
 use Rattle.planner.proofs.VisitLaws.{bare-planned, step-by, few-blocks, ranges, reach-same, reached-missing}
@@ -492,24 +492,18 @@ module _ {w : List ℕ} {S H : Flags} {p : Position} {plan : Plan} (en : Entered
 
 -- ---- value statements
 
--- an entry that is pushed and popped again leaves only its id taken
-remove-added : (S : Flags) (f : ℕ) → has S f ≡ false → remove (add S f) f ≡ S
-unfolding has add remove
-remove-added [] f e = refl
-remove-added (x ∷ S) zero e = ap (λ (y : Bool). y ∷ S) (sym e)
-remove-added (x ∷ S) (suc f) e = ap (λ (l : Flags). x ∷ l) (remove-added S f e)
+value-context : (n after : ℕ) (C : definition.Context) → unscheduledIf (unlessNone n) (withVisits after (scheduledIf (unlessNone n) C)) ≡ changed (brieflyIf (eqb n 65535) n) (withVisits after C)
+unfolding unlessNone withVisits pushed
+value-context n after C = at (eqb n 65535)
+  where
+    at : (y : Bool) → unscheduledIf (elim y [ true ↦ none | false ↦ some n ]) (withVisits after (scheduledIf (elim y [ true ↦ none | false ↦ some n ]) C)) ≡ changed (brieflyIf y n) (withVisits after C)
+    at true = refl
+    at false = refl
 
-id-taken : (f v : ℕ) (C : definition.Context) → has (C .scheduled) f ≡ false → unscheduled (withVisits v (pushed (target-if f) C)) ≡ idTaken (withVisits v C)
-unfolding unscheduled unscheduledTop unscheduledBy popped withVisits pushed idTaken
-id-taken f v C e = ap (λ (S : Flags). popped (C .stack) S (withVisits v (pushed (target-if f) C))) (remove-added (C .scheduled) f e)
-
-module _ (S H : Flags) (v : ℕ) (C : definition.Context) (seen : Seen S H v C) (f n : ℕ) (h : f < 1024) (o : n ≡ unlessTaken (has S f || has H f) f) where
-  value-context : (after : ℕ) → unscheduledIf (unlessNone n) (withVisits after (scheduledIf (unlessNone n) C)) ≡ changed (takeIdIf (eqb n 65535)) (withVisits after C)
-  value-context after = by (has S f || has H f) refl o
-    where
-      by : (y : Bool) → has S f || has H f ≡ y → n ≡ unlessTaken y f → unscheduledIf (unlessNone n) (withVisits after (scheduledIf (unlessNone n) C)) ≡ changed (takeIdIf (eqb n 65535)) (withVisits after C)
-      by true e q = rw (q, no-number)
-      by false e q = rw (q, some-number f (λ z. omega arith), ne-eqb f 65535 (λ z. omega arith)) (id-taken f after C (ap (λ (z : Flags). has z f) (seen .scheduled) ∙ or-false (has S f) (has H f) e))
+-- a fallthrough that is taken is one of the 1,024 blocks
+taken-block : (y : Bool) (f n : ℕ) → n ≡ unlessTaken y f → f < 1024 → (n ≡ 65535 → ⊥) → n < 1024
+taken-block true f n e h g = absurd (g e)
+taken-block false f n e h g = omega (arith, e, h)
 
 -- a terminal with such a fallthrough: its turn, and the fallthrough's range
 pub record ValueTerminal (e : Terminal) (f : ℕ) : Type 0 where
@@ -567,24 +561,24 @@ module _ (w : List ℕ) (S H : Flags) (p : Position) (en : Entered w p) (f : ℕ
 
     pub value-statement-left : (n rows : ℕ) (plan : Plan) (b′ : List ℕ) → r .code ≡ 0 → n ≡ unlessTaken (has S f || has H f) f
         → Written b₁ (r .tally .rows) (row 4 (r .id) (r .place) (blockWord w (p .block) 9) 0 0) b′ rows
-        → plan ≡ leaving n (p .depth) (p .count + 1) rows (r .tally .visits) (takeIdIf (eqb n 65535)) → PlannedRows w S H p b plan b′
+        → plan ≡ leaving n (p .depth) (p .count + 1) rows (r .tally .visits) (brieflyIf (eqb n 65535) n) → PlannedRows w S H p b plan b′
     value-statement-left n rows plan b′ z o put e = subst (λ (y : Plan). PlannedRows w S H p b y b′) (sym e) (record {
       out = valueOut (v .value) ++ (last ∷ []);
       held = λ _ R h. rw (← (append-assoc R (valueOut (v .value)) (last ∷ [])), ← (push-row-after last (R ++ valueOut (v .value))), ← (push-value-after (v .value) R)) (put .kept _ (v .found z .held _ h));
       same = same;
-      fitting = λ _. record { change = named (eqb n 65535); handler = rw no-number tt; scope = rw no-number tt; deep = λ y. absurd (let o : _≡_ {A = ℕ} 0 1 = cc in omega arith); next = omega arith; nested = leave-nested (eqb n 65535) };
+      fitting = λ _. record { change = named (eqb n 65535) refl; handler = rw no-number tt; scope = rw no-number tt; deep = λ y. absurd (let o : _≡_ {A = ℕ} 0 1 = cc in omega arith); next = omega arith; nested = leave-nested (eqb n 65535) };
     })
       where
         last : Row
         last = row 4 (r .id) (r .place) (blockWord w (p .block) 9) 0 0
 
-        named : (y : Bool) → NamedChange 0 (takeIdIf y)
-        named true = tt
-        named false = tt
+        named : (y : Bool) → eqb n 65535 ≡ y → NamedChange 0 (brieflyIf y n)
+        named true g = tt
+        named false g = taken-block (has S f || has H f) f n o (few-blocks w (en .promise) f fallthrough-below) (eqb-false n 65535 g)
 
         same : (F : List machine.Frame) (R : List Row) (C : definition.Context) → length F ≡ p .depth → Seen S H (p .visits) C
-            → turn (terminalStep w p F R C) ≡ applied (leaving n (p .depth) (p .count + 1) rows (r .tally .visits) (takeIdIf (eqb n 65535))) F (R ++ (valueOut (v .value) ++ (last ∷ []))) C
+            → turn (terminalStep w p F R C) ≡ applied (leaving n (p .depth) (p .count + 1) rows (r .tally .visits) (brieflyIf (eqb n 65535) n)) F (R ++ (valueOut (v .value) ++ (last ∷ []))) C
         same F R C d seen =
             ap turn (value-step F R C seen ∙ then-on (left F R C) v z) ∙ unfold left in (turn-ok _
-            ∙ rw (label-scheduled w (en .promise) S H (p .visits) C seen f (few-blocks w (en .promise) f fallthrough-below) ∙ ap unlessNone (sym o), value-context S H (p .visits) C seen f n (few-blocks w (en .promise) f fallthrough-below) o (r .tally .visits), span-at w (p .block) (en .block), append-assoc R (valueOut (v .value)) (last ∷ []))
-            (sym (leave-applied n (p .depth) (p .count + 1) rows (r .tally .visits) (takeIdIf (eqb n 65535)) F (R ++ (valueOut (v .value) ++ (last ∷ []))) C ∙ rw (within-all (p .depth) F d, add-one))))
+            ∙ rw (label-scheduled w (en .promise) S H (p .visits) C seen f (few-blocks w (en .promise) f fallthrough-below) ∙ ap unlessNone (sym o), value-context n (r .tally .visits) C, span-at w (p .block) (en .block), append-assoc R (valueOut (v .value)) (last ∷ []))
+            (sym (leave-applied n (p .depth) (p .count + 1) rows (r .tally .visits) (brieflyIf (eqb n 65535) n) F (R ++ (valueOut (v .value) ++ (last ∷ []))) C ∙ rw (within-all (p .depth) F d, add-one))))

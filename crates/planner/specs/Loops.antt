@@ -16,14 +16,14 @@ use Rattle.definition.specs.Statement.{loopIsTaken}
 use Rattle.definition.specs.Tree.{Row, Value}
 use Rattle.definition.specs.Value.{VisitValueBlock, ValueBlockResult, valueBlockResultToSequence, visitValueBlock}
 use Rattle.control.specs.declared.ControlFlowTarget.{ControlFlowTarget}
-use Rattle.control.specs.declared.ControlFlowTarget.the-variants.{Loop}
+use Rattle.control.specs.declared.ControlFlowTarget.the-variants.{If, Loop}
 use Rattle.rows.specs.Rows.{Holds}
 use Rattle.rows.specs.Stack.{pushed}
 use Rattle.value.specs.declared.result.ValueResult.{ValueResult}
 use Rattle.planner.specs.declared.plan.Stage.the-variants.{Visit}
 use Rattle.planner.specs.declared.plan.Position.{Position}
 use Rattle.planner.specs.declared.plan.Change.{Change}
-use Rattle.planner.specs.declared.plan.Change.the-variants.{Nothing, Schedule, TakeId}
+use Rattle.planner.specs.declared.plan.Change.the-variants.{Nothing, Schedule, ScheduleBriefly}
 use Rattle.planner.specs.declared.plan.Plan.{Plan}
 use Rattle.planner.specs.declared.loops.Values.{Values}
 use Rattle.planner.specs.declared.loops.Loop as loops
@@ -182,7 +182,7 @@ valueFallthrough (maybe-throw continuation) = none
 valueFallthrough (try body handler fallthrough binding) = none
 valueFallthrough (scope pruned body fallthrough number) = none
 
--- such a statement pushes an entry and pops it, which leaves its id taken
-abbrev pub takeIdIf : (unlabeled : Bool) → Change
-takeIdIf true = Nothing
-takeIdIf false = TakeId
+-- such a statement pushes an entry and pops it
+abbrev pub brieflyIf : (unlabeled : Bool) → (label : ℕ) → Change
+brieflyIf true taken = Nothing
+brieflyIf false taken = ScheduleBriefly (If taken)

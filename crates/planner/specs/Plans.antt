@@ -19,7 +19,7 @@ use Rattle.planner.specs.declared.plan.Stage.the-variants.{Visit, Ended,
 use Rattle.planner.specs.declared.plan.Position.{Position}
 use Rattle.planner.specs.declared.plan.Frame.{Frame}
 use Rattle.planner.specs.declared.plan.Change.{Change}
-use Rattle.planner.specs.declared.plan.Change.the-variants.{Nothing, Schedule, TakeId, Unschedule}
+use Rattle.planner.specs.declared.plan.Change.the-variants.{Nothing, Schedule, ScheduleBriefly, Unschedule}
 use Rattle.planner.specs.declared.plan.Plan.{Plan}
 
 -- ---- from the code's records to the machine's
@@ -47,13 +47,10 @@ stateAt Halt block frames rows count cx = ended frames rows count cx
 
 -- ---- what the driver does with a plan
 
-unfoldable pub idTaken : definition.Context → definition.Context
-idTaken cx = record { nextId = suc (cx .nextId); emitted = cx .emitted; scopeFallthroughs = cx .scopeFallthroughs; scheduled = cx .scheduled; catchHandlers = cx .catchHandlers; stack = cx .stack; visits = cx .visits }
-
 abbrev pub changed : Change → definition.Context → definition.Context
 changed Nothing cx = cx
 changed (Schedule target) cx = pushed (targetOf target) cx
-changed TakeId cx = idTaken cx
+changed (ScheduleBriefly target) cx = unscheduled (pushed (targetOf target) cx)
 changed Unschedule cx = unscheduled cx
 
 abbrev pub handled : Option ℕ → definition.Context → definition.Context

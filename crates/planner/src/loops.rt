@@ -30,14 +30,14 @@ use value::walk::visit_value_block;
 use value::walk::visit_value_block_terminal;
 ghost use mathlib.Core.Path.{_≡_};
 ghost use mathlib.Core.Option.{some};
-ghost use Prim.Native.Nat.{_-_, _<_};
+ghost use Prim.Native.Nat.{_-_, _≤_, _<_};
 ghost use lib.Dec.{eqb};
 ghost use Rattle.table.specs.Words.{blockCount, blockWord};
 ghost use Rattle.table.specs.Table.{tableOf, terminalAt, unlessNone};
 ghost use Rattle.definition.specs.Value.{visitValueBlock};
 ghost use Rattle.control.specs.Contract.{continueScheduled};
 ghost use Rattle.planner.specs.Planned.{Entered, PlannedBare};
-ghost use Rattle.planner.specs.Loops.{PlannedRows, plainMade, flatMade, forValues, forOfValues, noValues, valuesOf, Makes, Spent, MakesMore, MakesTested, loopTarget, scheduleLoop, enteringLoop, loopTaken, continuesAt, valueFallthrough, takeIdIf};
+ghost use Rattle.planner.specs.Loops.{PlannedRows, plainMade, flatMade, forValues, forOfValues, noValues, valuesOf, Makes, Spent, MakesMore, MakesTested, loopTarget, scheduleLoop, enteringLoop, loopTaken, continuesAt, valueFallthrough, brieflyIf};
 
 // What a loop's values came to: a refusal, or the rows and visits then.
 pub struct Values {
@@ -433,13 +433,16 @@ pub fn visit_for_in<'a>(
     enter_loop(scheduled, catch_handlers, p, values, blocks)
 }
 
-fn take_id(label: u32) -> Change
-    ensures { λ r. ⌜ r ≡ takeIdIf (eqb label 65535) ⌝ }
+fn schedule_briefly(label: u32) -> Change
+    requires { ⌜ label ≤ 65535 ⌝ }
+    ensures { λ r. ⌜ r ≡ brieflyIf (eqb label 65535) label ⌝ }
 {
     if label == NONE {
         return Change::Nothing;
     }
-    Change::TakeId
+    Change::ScheduleBriefly(ControlFlowTarget::If {
+        block: narrow(label),
+    })
 }
 
 // A Logical, Ternary, Optional or Sequence, whose fallthrough is that column, as a statement: an INSTR with the terminal's own span.
@@ -476,6 +479,6 @@ pub fn visit_value<'a>(
         p.count + 1,
         rows,
         after.visits,
-        take_id(label),
+        schedule_briefly(label),
     )
 }

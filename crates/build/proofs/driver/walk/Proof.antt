@@ -7,12 +7,12 @@ use lib.ListN.{length, set}
 use mathlib.Core.Logic.{⊎-elim}
 use borrow.Author.Needs.{needs}
 use Rattle.control.specs.Abstraction.{contextOf, resolvedOf, settled}
-use Rattle.control.specs.Contract.{Room}
+use Rattle.control.specs.Contract.{Last, Room}
 use Rattle.planner.specs.declared.plan.Plan.{Plan}
 use Rattle.planner.specs.declared.plan.Change.{Change}
-use Rattle.planner.specs.declared.plan.Change.the-variants.{Schedule, Unschedule}
+use Rattle.planner.specs.declared.plan.Change.the-variants.{Schedule, ScheduleBriefly, Unschedule}
 use Rattle.build.specs.Driver.{foundBy, visitedBlock, planEnds}
-use Rattle.build.proofs.ApplyLaws.{withMarks, Whole, Changeable, Changed, Applicable, Applied, nothing-changed, schedule-changed, unschedule-changed, id-changed, changeable-marked, whole-marked, plan-applied, last-entry}
+use Rattle.build.proofs.ApplyLaws.{withMarks, Whole, Changeable, Changed, Applicable, Applied, nothing-changed, schedule-changed, unschedule-changed, briefly-changed, last-scheduled, changeable-marked, whole-marked, plan-applied, last-entry}
 use Rattle.control.specs.declared.Context.{Context}
 use Rattle.planner.specs.declared.plan.Position.{Position}
 use Rattle.planner.specs.declared.plan.Frame.{Frame}
@@ -268,9 +268,24 @@ module _ (c : tie.After-entry2 Inv-loop2 μ-loop2 Inv-loop μ-loop) where
   by-schedule : Changed (Schedule (c .before .before .before .change .given .0 .0)) (with-marks (c .before .before .before .before .before)) (settled (c .before .schedule .result))
   by-schedule = schedule-changed _ _ _ _ (c .before .schedule .ensures) refl (schedule-room .len) (whole (c .before .before .before .before .before))
 
+module _ (c : tie.After-entry3 Inv-loop2 μ-loop2 Inv-loop μ-loop) where
+  briefly : Changeable (ScheduleBriefly (c .before .before .before .change2 .given .0 .0)) (with-marks (c .before .before .before .before .before))
+  briefly = changeable (c .before .before .before .before .before) _ (c .before .before .before .change2 .given .1)
+
+  pushed-first : Changed (Schedule (c .before .before .before .change2 .given .0 .0)) (with-marks (c .before .before .before .before .before)) (settled (c .before .schedule2 .result))
+  pushed-first = schedule-changed _ _ _ _ (c .before .schedule2 .ensures) refl (briefly .1 .len) (whole (c .before .before .before .before .before))
+
+  pushed-last : Last (settled (c .before .schedule2 .result)) (c .before .schedule2 .result .pushed)
+  pushed-last = last-scheduled _ _ _ (c .before .schedule2 .ensures) (briefly .0) (briefly .1 .len) (whole (c .before .before .before .before .before))
+
 module _ (c : tie.After-unschedule Inv-loop2 μ-loop2 Inv-loop μ-loop) where
-  by-unschedule : Changed Unschedule (with-marks (c .before .before .before .before)) (c .unschedule .result)
-  by-unschedule = unschedule-changed _ _ _ (last-entry _ (changeable (c .before .before .before .before) _ (c .before .before .enum-told3 .given .1)) (whole (c .before .before .before .before))) (c .unschedule .ensures) (whole (c .before .before .before .before))
+  by-briefly : Changed (ScheduleBriefly (c .before .before .before .before .change2 .given .0 .0)) (with-marks (c .before .before .before .before .before .before)) (c .unschedule .result)
+  unfolding settled
+  by-briefly = briefly-changed _ _ _ _ _ (pushed-first (c .before)) (pushed-last (c .before)) (c .unschedule .ensures)
+
+module _ (c : tie.After-unschedule2 Inv-loop2 μ-loop2 Inv-loop μ-loop) where
+  by-unschedule : Changed Unschedule (with-marks (c .before .before .before .before)) (c .unschedule2 .result)
+  by-unschedule = unschedule-changed _ _ _ (last-entry _ (changeable (c .before .before .before .before) _ (c .before .before .enum-told2 .given .1)) (whole (c .before .before .before .before))) (c .unschedule2 .ensures) (whole (c .before .before .before .before))
 
 mul-frames : tie.Need-mul-frames Inv-loop2 μ-loop2 Inv-loop μ-loop
 mul-frames c = omega (arith, c .frame-slot .ensures, turn-slot (turn (planned c)) (goes-on c))
@@ -329,59 +344,81 @@ loop-again-2 c =
     let at-frame-slot : tie.After-frame-slot Inv-loop2 μ-loop2 Inv-loop μ-loop = search in
     next (at-frame-slot) _ (at-change .change .given .1) _ (by-schedule c)
 
-enum-told-2 : tie.Need-enum-told-2 Inv-loop2 μ-loop2 Inv-loop μ-loop
-enum-told-2 c = search needs
+enum-known-change-2 : tie.Need-enum-known-change-2 Inv-loop2 μ-loop2 Inv-loop μ-loop
+enum-known-change-2 c = search needs
 
-add-cx : tie.Need-add-cx Inv-loop2 μ-loop2 Inv-loop μ-loop
-add-cx c =
+schedule-requires-2 : tie.Need-schedule-requires-2 Inv-loop2 μ-loop2 Inv-loop μ-loop
+schedule-requires-2 c κs =
+    let at-change2 : tie.After-change2 Inv-loop2 μ-loop2 Inv-loop μ-loop = search in
     let at-frame-slot : tie.After-frame-slot Inv-loop2 μ-loop2 Inv-loop μ-loop = search in
-    omega (arith, changeable (at-frame-slot) _ (c .enum-told2 .given .1))
-
-loop-less-3 : tie.Need-loop-less-3 Inv-loop2 μ-loop2 Inv-loop μ-loop
-loop-less-3 c =
-    let at-frame-slot : tie.After-frame-slot Inv-loop2 μ-loop2 Inv-loop μ-loop = search in
-    lower (at-frame-slot) _ (c .enum-told2 .given .1) _ (id-changed _ (whole (at-frame-slot)))
-
-loop-again-3 : tie.Need-loop-again-3 Inv-loop2 μ-loop2 Inv-loop μ-loop
-loop-again-3 c =
-    let at-frame-slot : tie.After-frame-slot Inv-loop2 μ-loop2 Inv-loop μ-loop = search in
-    next (at-frame-slot) _ (c .enum-told2 .given .1) _ (id-changed _ (whole (at-frame-slot)))
-
-enum-told-3 : tie.Need-enum-told-3 Inv-loop2 μ-loop2 Inv-loop μ-loop
-enum-told-3 c = search needs
+    changeable (at-frame-slot) _ (at-change2 .change2 .given .1)
 
 sub-entry-2 : tie.Need-sub-entry-2 Inv-loop2 μ-loop2 Inv-loop μ-loop
 sub-entry-2 c =
-    let at-frame-slot : tie.After-frame-slot Inv-loop2 μ-loop2 Inv-loop μ-loop = search in
-    changeable (at-frame-slot) _ (c .enum-told3 .given .1)
+    let at-schedule2 : tie.After-schedule2 Inv-loop2 μ-loop2 Inv-loop μ-loop = search in
+    omega (arith, at-schedule2 .schedule2 .ensures .len)
 
 mul-entry-3 : tie.Need-mul-entry-3 Inv-loop2 μ-loop2 Inv-loop μ-loop
 mul-entry-3 c =
+    let at-schedule2 : tie.After-schedule2 Inv-loop2 μ-loop2 Inv-loop μ-loop = search in
+    omega (arith, at-schedule2 .schedule2 .ensures .len, briefly c .1 .len)
+
+element-set-from-entry-2 : tie.Need-element-set-from-entry-2 Inv-loop2 μ-loop2 Inv-loop μ-loop
+element-set-from-entry-2 c =
+    let at-schedule2 : tie.After-schedule2 Inv-loop2 μ-loop2 Inv-loop μ-loop = search in
+    omega (arith, at-schedule2 .schedule2 .ensures .len, briefly c .1 .len)
+
+unschedule-requires : tie.Need-unschedule-requires Inv-loop2 μ-loop2 Inv-loop μ-loop
+unfolding settled
+unschedule-requires c κs = pushed-last c
+
+loop-less-3 : tie.Need-loop-less-3 Inv-loop2 μ-loop2 Inv-loop μ-loop
+loop-less-3 c =
+    let at-change2 : tie.After-change2 Inv-loop2 μ-loop2 Inv-loop μ-loop = search in
+    let at-frame-slot : tie.After-frame-slot Inv-loop2 μ-loop2 Inv-loop μ-loop = search in
+    lower (at-frame-slot) _ (at-change2 .change2 .given .1) _ (by-briefly c)
+
+loop-again-3 : tie.Need-loop-again-3 Inv-loop2 μ-loop2 Inv-loop μ-loop
+loop-again-3 c =
+    let at-change2 : tie.After-change2 Inv-loop2 μ-loop2 Inv-loop μ-loop = search in
+    let at-frame-slot : tie.After-frame-slot Inv-loop2 μ-loop2 Inv-loop μ-loop = search in
+    next (at-frame-slot) _ (at-change2 .change2 .given .1) _ (by-briefly c)
+
+enum-told-2 : tie.Need-enum-told-2 Inv-loop2 μ-loop2 Inv-loop μ-loop
+enum-told-2 c = search needs
+
+sub-entry-3 : tie.Need-sub-entry-3 Inv-loop2 μ-loop2 Inv-loop μ-loop
+sub-entry-3 c =
+    let at-frame-slot : tie.After-frame-slot Inv-loop2 μ-loop2 Inv-loop μ-loop = search in
+    changeable (at-frame-slot) _ (c .enum-told2 .given .1)
+
+mul-entry-4 : tie.Need-mul-entry-4 Inv-loop2 μ-loop2 Inv-loop μ-loop
+mul-entry-4 c =
     let at-frame-slot : tie.After-frame-slot Inv-loop2 μ-loop2 Inv-loop μ-loop = search in
     omega (arith, whole (at-frame-slot) .bounded .most)
 
 element-copy-out-entry-2 : tie.Need-element-copy-out-entry-2 Inv-loop2 μ-loop2 Inv-loop μ-loop
 element-copy-out-entry-2 c =
     let at-frame-slot : tie.After-frame-slot Inv-loop2 μ-loop2 Inv-loop μ-loop = search in
-    omega (arith, changeable (at-frame-slot) _ (c .enum-told3 .given .1), whole (at-frame-slot) .bounded .most)
+    omega (arith, changeable (at-frame-slot) _ (c .enum-told2 .given .1), whole (at-frame-slot) .bounded .most)
 
-unschedule-requires : tie.Need-unschedule-requires Inv-loop2 μ-loop2 Inv-loop μ-loop
-unschedule-requires c κs =
-    let at-enum-told3 : tie.After-enum-told3 Inv-loop2 μ-loop2 Inv-loop μ-loop = search in
+unschedule-requires-2 : tie.Need-unschedule-requires-2 Inv-loop2 μ-loop2 Inv-loop μ-loop
+unschedule-requires-2 c κs =
+    let at-enum-told2 : tie.After-enum-told2 Inv-loop2 μ-loop2 Inv-loop μ-loop = search in
     let at-frame-slot : tie.After-frame-slot Inv-loop2 μ-loop2 Inv-loop μ-loop = search in
-    last-entry _ (changeable (at-frame-slot) _ (at-enum-told3 .enum-told3 .given .1)) (whole (at-frame-slot))
+    last-entry _ (changeable (at-frame-slot) _ (at-enum-told2 .enum-told2 .given .1)) (whole (at-frame-slot))
 
 loop-less-4 : tie.Need-loop-less-4 Inv-loop2 μ-loop2 Inv-loop μ-loop
 loop-less-4 c =
-    let at-enum-told3 : tie.After-enum-told3 Inv-loop2 μ-loop2 Inv-loop μ-loop = search in
+    let at-enum-told2 : tie.After-enum-told2 Inv-loop2 μ-loop2 Inv-loop μ-loop = search in
     let at-frame-slot : tie.After-frame-slot Inv-loop2 μ-loop2 Inv-loop μ-loop = search in
-    lower (at-frame-slot) _ (at-enum-told3 .enum-told3 .given .1) _ (by-unschedule c)
+    lower (at-frame-slot) _ (at-enum-told2 .enum-told2 .given .1) _ (by-unschedule c)
 
 loop-again-4 : tie.Need-loop-again-4 Inv-loop2 μ-loop2 Inv-loop μ-loop
 loop-again-4 c =
-    let at-enum-told3 : tie.After-enum-told3 Inv-loop2 μ-loop2 Inv-loop μ-loop = search in
+    let at-enum-told2 : tie.After-enum-told2 Inv-loop2 μ-loop2 Inv-loop μ-loop = search in
     let at-frame-slot : tie.After-frame-slot Inv-loop2 μ-loop2 Inv-loop μ-loop = search in
-    next (at-frame-slot) _ (at-enum-told3 .enum-told3 .given .1) _ (by-unschedule c)
+    next (at-frame-slot) _ (at-enum-told2 .enum-told2 .given .1) _ (by-unschedule c)
 
 pub walk-spec : {M : Type 1} → statement M
 walk-spec =
@@ -431,14 +468,18 @@ walk-spec =
     element-set-from-entry
     loop-less-2
     loop-again-2
-    enum-told-2
-    add-cx
-    loop-less-3
-    loop-again-3
-    enum-told-3
+    enum-known-change-2
+    schedule-requires-2
     sub-entry-2
     mul-entry-3
-    element-copy-out-entry-2
+    element-set-from-entry-2
     unschedule-requires
+    loop-less-3
+    loop-again-3
+    enum-told-2
+    sub-entry-3
+    mul-entry-4
+    element-copy-out-entry-2
+    unschedule-requires-2
     loop-less-4
     loop-again-4)
