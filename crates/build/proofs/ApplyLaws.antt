@@ -6,17 +6,20 @@ use mathlib.Core.Bool.{Bool, true, false}
 use mathlib.Core.Option.{Option, none, some}
 use lib.ListN.{length, getD, set, length-set}
 use lib.Seq.{getD-set-same}
+use lib.Dec.{eqb}
+use borrow.Author.Tests.{eq-eqb, ne-eqb}
 use Rattle.table.specs.Table.{unlessNone}
 use Rattle.table.proofs.BlockLaws.{no-number, some-number}
-use Rattle.definition.specs.Context.{Flags, add, emit, remove, scheduledBy, scheduleCatchHandler, markScopeFallthrough, unscheduledBy, ControlFlowTarget, target-if, target-switch, target-case, target-loop}
+use Rattle.definition.specs.Context.{Flags, add, emit, remove, blockAsked, scheduledBy, scheduleCatchHandler, markScopeFallthrough, unscheduledBy, ControlFlowTarget, target-if, target-switch, target-case, target-loop}
 use Rattle.definition.specs.Context as definition
 use Rattle.definition.specs.Machine.{unscheduled}
+use Rattle.definition.specs.Result.{Result, ok, refused, _>>=_}
 use Rattle.control.specs.declared.ControlFlowTarget as code
 use Rattle.control.specs.declared.Context.{Context}
 use Rattle.control.specs.declared.Entry.{Entry}
-use Rattle.control.specs.Abstraction.{targetOf, noEntry, contextOf, settled}
+use Rattle.control.specs.Abstraction.{targetOf, noEntry, contextOf, resultOf, settled}
 use Rattle.control.specs.Contract.{Named, Room, Bounded, Last, Scheduled, Unscheduled}
-use Rattle.control.proofs.ContextLaws.{settles, pushes, pops}
+use Rattle.control.proofs.ContextLaws.{settles}
 use Rattle.definition.specs.Framed.{Below}
 use Rattle.planner.specs.declared.plan.Change.{Change}
 use Rattle.planner.specs.declared.plan.Change.the-variants.{Nothing, Schedule, ScheduleBriefly, Unschedule}
@@ -60,8 +63,13 @@ pub record Whole (cx : Context) : Type 0 where
   pub tall : length (cx .stack) ≡ 1152
 
 pub record Changed (change : Change) (cx r : Context) : Type 0 where
-  pub context : (visits : ℕ) → contextOf visits r ≡ changed change (contextOf visits cx)
+  pub context : (visits : ℕ) → changed change (contextOf visits cx) ≡ ok (contextOf visits r)
   pub whole : Whole r
+
+-- a change that `schedule` refuses
+pub record Blocked (change : Change) (cx : Context) (code at : ℕ) : Type 0 where
+  pub context : (visits : ℕ) → changed change (contextOf visits cx) ≡ refused code at visits
+  pub refuses : code ≡ 0 → ⊥
 
 pub record Applicable (visited : ℕ) (plan : Plan) (cx : Context) : Type 0 where
   pub block : Below 1024 (unlessNone visited)
@@ -71,7 +79,7 @@ pub record Applicable (visited : ℕ) (plan : Plan) (cx : Context) : Type 0 wher
   pub whole : Whole cx
 
 pub record Applied (visited : ℕ) (plan : Plan) (cx r : Context) : Type 0 where
-  pub context : (visits : ℕ) → contextOf visits r ≡ changed (plan .change) (scoped (unlessNone (plan .scope)) (handled (unlessNone (plan .handler)) (emitted (unlessNone visited) (contextOf visits cx))))
+  pub context : (visits : ℕ) → changed (plan .change) (contextOf visits (withMarks visited (plan .handler) (plan .scope) cx)) ≡ ok (contextOf visits r)
   pub whole : Whole r
 
 -- ---- the stack
@@ -86,10 +94,20 @@ length-scheduled (target-switch b) s = length-set s b true
 length-scheduled (target-case b) s = length-set s b true
 length-scheduled (target-loop b c l) s = length-set (set (set s b true) c true) l true ∙ length-set (set s b true) c true ∙ length-set s b true
 
-pub schedule-changed : (target : code.ControlFlowTarget) (cx r s : Context) → Scheduled target cx r → s ≡ settled r → cx .len < 1152 → Whole cx
+result-by : (at visits : ℕ) (r : Context) (y : Bool) → eqb (r .refused) 0 ≡ y → resultOf at visits r ≡ elim y [ true ↦ ok (contextOf visits r) | false ↦ refused (r .refused) at visits ]
+result-by at visits r y e = ap (λ (z : Bool). elim z [ true ↦ ok (contextOf visits r) | false ↦ refused (r .refused) at visits ]) e
+
+pub schedule-blocked : (target : code.ControlFlowTarget) (cx r : Context) → Scheduled target cx r → (r .refused ≡ 0 → ⊥) → Blocked (Schedule target) cx (r .refused) (blockAsked (targetOf target))
+schedule-blocked target cx r h z = record { context = λ visits. h .context visits ∙ result-by _ visits r false (ne-eqb (r .refused) 0 z); refuses = z }
+
+pub briefly-blocked : (target : code.ControlFlowTarget) (cx r : Context) → Scheduled target cx r → (r .refused ≡ 0 → ⊥) → Blocked (ScheduleBriefly target) cx (r .refused) (blockAsked (targetOf target))
+unfolding _>>=_
+briefly-blocked target cx r h z = record { context = λ visits. ap (λ (m : Result definition.Context). m >>= λ inside. ok (unscheduled inside)) (schedule-blocked target cx r h z .context visits); refuses = z }
+
+pub schedule-changed : (target : code.ControlFlowTarget) (cx r s : Context) → Scheduled target cx r → r .refused ≡ 0 → s ≡ settled r → cx .len < 1152 → Whole cx
     → Changed (Schedule target) cx s
-schedule-changed target cx r s h e small w = rw e (record {
-  context = λ visits. settles visits r (h .pending) (omega (arith, h .len)) (omega (arith, h .len, long)) ∙ ap (contextOf visits) (h .state) ∙ pushes visits target cx (w .settled);
+schedule-changed target cx r s h z e small w = rw e (record {
+  context = λ visits. h .context visits ∙ result-by _ visits r true (eq-eqb (r .refused) 0 z) ∙ ap ok (sym (settles visits r (h .pending) (omega (arith, h .len)) (omega (arith, h .len, long))));
   whole = unfold settled in record {
     settled = refl;
     bounded = h .bounded (w .bounded);
@@ -111,7 +129,7 @@ length-removed (target-loop b c l) true s = length-set (set (set s b false) c fa
 
 pub unschedule-changed : (cx r : Context) (last : Entry) → Last cx last → Unscheduled last cx r → Whole cx → Changed Unschedule cx r
 unschedule-changed cx r last top h w = record {
-  context = λ visits. ap (contextOf visits) (h .state) ∙ sym (pops cx last top visits);
+  context = λ visits. ap ok (sym (h .pops visits));
   whole = record {
     settled = h .settled;
     bounded = h .bounded (w .bounded);
@@ -134,9 +152,10 @@ last-scheduled target cx r h named small w = record {
     long = ap (λ (z : Context). length (z .stack)) (h .state) ∙ w .tall
 
 pub briefly-changed : (target : code.ControlFlowTarget) (cx s r : Context) (last : Entry) → Changed (Schedule target) cx s → Last s last → Unscheduled last s r → Changed (ScheduleBriefly target) cx r
+unfolding _>>=_
 briefly-changed target cx s r last h top u =
     let off : Changed Unschedule s r = unschedule-changed s r last top u (h .whole) in
-    record { context = λ visits. off .context visits ∙ ap unscheduled (h .context visits); whole = off .whole }
+    record { context = λ visits. ap (λ (m : Result definition.Context). m >>= λ inside. ok (unscheduled inside)) (h .context visits) ∙ off .context visits; whole = off .whole }
 
 -- ---- the sets
 
@@ -173,10 +192,7 @@ changeable-marked (ScheduleBriefly target) visited handler fallthrough cx (n, r)
 changeable-marked Unschedule visited handler fallthrough cx h = h
 
 pub plan-applied : (visited : ℕ) (plan : Plan) (cx m r : Context) → m ≡ withMarks visited (plan .handler) (plan .scope) cx → Changed (plan .change) m r → Applied visited plan cx r
-plan-applied visited plan cx m r e h = record {
-  context = λ visits. h .context visits ∙ ap (λ (z : Context). changed (plan .change) (contextOf visits z)) e ∙ ap (changed (plan .change)) (marks visited (plan .handler) (plan .scope) cx visits);
-  whole = h .whole;
-}
+plan-applied visited plan cx m r e h = record { context = λ visits. ap (λ (z : Context). changed (plan .change) (contextOf visits z)) (sym e) ∙ h .context visits; whole = h .whole }
 
 -- ---- one mark
 

@@ -44,7 +44,7 @@ use Rattle.control.specs.declared.ControlFlowTarget.the-variants.{Loop}
 use Rattle.planner.specs.Plans.{frameOf, changed, applied, openFrame, refusing, leaving, unlessTaken}
 use Rattle.planner.specs.Planned.{Seen, NamedChange, Fitting, PlannedBare, Entered, terminalStep}
 use Rattle.planner.specs.Loops.{PlannedRows, Made, plainMade, flatMade, testedValues, forValues, forOfValues, noneMade, valueMade, plainForm, flatForm, updateMade, testedMade, forMade, forOfMade, noValues, valuesOf, Makes, Spent, MakesMore, MakesTested, loopTurn, afterValues, enteringBody, enteringLoop, loopTaken, continuesAt, valueFallthrough, brieflyIf}
-use Rattle.planner.proofs.PlanLaws.{within-all, refuse-applied, leave-applied, leave-nested, nest-applied}
+use Rattle.planner.proofs.PlanLaws.{within-all, refuse-applied, leave-applied, leave-nested, nest-applied, Label, label-taken, label-below, label-briefly}
 use Rattle.planner.proofs.StepLaws.{label-scheduled, seen-scheduled, turn-refused, turn-ok}
 use Rattle.planner.proofs.VisitLaws.{bare-planned, step-by, few-blocks, ranges, reach-same, reached-missing}
 
@@ -177,6 +177,10 @@ visits-inside : (f c l v : ℕ) (C : definition.Context) → withVisits v (pushe
 unfolding withVisits pushed
 visits-inside f c l v C = refl
 
+seen-visits : {S H : Flags} {v : ℕ} {C : definition.Context} (after : ℕ) → Seen S H v C → Seen S H after (withVisits after C)
+unfolding withVisits
+seen-visits after seen = record { scheduled = seen .scheduled; handlers = seen .handlers; visits = refl; wide = seen .wide }
+
 -- ---- the turn that all loops share is its plan
 
 into-taken : (at l v : ℕ) (taken : Bool) (fr : machine.Frame) (F : List machine.Frame) (R : List Row) (C : definition.Context) → taken ≡ true → intoLoop at l taken v fr F R C ≡ refused 16 at v
@@ -197,14 +201,16 @@ module _ (S H : Flags) (p : Position) (f c l n : ℕ) (values : ℕ → Result M
       ap (λ (z : Result definition.Context). turn (z >>= λ inside. values (inside .visits) >>= λ made. intoLoop (p .block) l (loopIsTaken C l f) (made .visits) (machine.frameOf (p .block) (unlessNone n) 1 (p .count)) F (R ++ made .out) inside)) (loop-not-scheduled S H (p .visits) C seen f c l h e)
       ∙ turn-refused 15 c (p .visits) ∙ sym (refuse-applied p 15 c F R C (λ z. omega arith))
 
-  body-same : (r : Values) (out : List Row) → length F ≡ p .depth
+  body-same : (r : Values) (out : List Row) → length F ≡ p .depth → continueScheduled S f c ≡ false
       → turn (intoLoop (p .block) l (loopIsTaken C l f) (r .visits) (machine.frameOf (p .block) (unlessNone n) 1 (p .count)) F out (pushed (target-loop f c l) C)) ≡ applied (enteringBody (loopTaken S H l f) p r (blocksOf f n c l)) F out C
-  body-same r out d = ap (λ (z : Bool). turn (intoLoop (p .block) l z (r .visits) (machine.frameOf (p .block) (unlessNone n) 1 (p .count)) F out (pushed (target-loop f c l) C))) (loop-taken S H (p .visits) C seen f c l h) ∙ by (loopTaken S H l f)
+  body-same r out d e = ap (λ (z : Bool). turn (intoLoop (p .block) l z (r .visits) (machine.frameOf (p .block) (unlessNone n) 1 (p .count)) F out (pushed (target-loop f c l) C))) (loop-taken S H (p .visits) C seen f c l h) ∙ by (loopTaken S H l f)
     where
       by : (y : Bool) → turn (intoLoop (p .block) l y (r .visits) (machine.frameOf (p .block) (unlessNone n) 1 (p .count)) F out (pushed (target-loop f c l) C)) ≡ applied (enteringBody y p r (blocksOf f n c l)) F out C
       by true = ap turn (into-taken (p .block) l (r .visits) true _ F out _ refl) ∙ turn-refused 16 (p .block) (r .visits) ∙ sym (refuse-applied (afterValues p r) 16 (p .block) F out C (λ z. omega arith))
       by false = ap turn (into-body (p .block) l (r .visits) false _ F out _ refl) ∙ turn-ok _
-          ∙ sym (nest-applied l (openFrame p n 1) (p .depth + 1) (r .rows) (r .visits) 65535 65535 (Schedule (Loop f c l)) F out C ∙ rw (no-number, within-all (p .depth + 1 - 1) F (omega (arith, d)), ← (visits-inside f c l (r .visits) C)))
+          ∙ sym (nest-applied l (openFrame p n 1) (p .depth + 1) (r .rows) (r .visits) 65535 65535 (Schedule (Loop f c l)) F out C (pushed (target-loop f c l) (withVisits (r .visits) C))
+          (rw no-number (loop-scheduled S H (r .visits) (withVisits (r .visits) C) (seen-visits (r .visits) seen) f c l h e))
+          ∙ rw (within-all (p .depth + 1 - 1) F (omega (arith, d)), ← (visits-inside f c l (r .visits) C)))
 
   entered-same : {b b′ : List ℕ} (r : Values) (m : Makes p (values (p .visits)) b r b′) → length F ≡ p .depth → continueScheduled S f c ≡ false
       → turn (loopTurn (p .block) f c l (unlessNone n) (p .count) values F R C) ≡ applied (enteringLoop (eqb (r .code) 0) (loopTaken S H l f) p r (blocksOf f n c l)) F (R ++ m .out) C
@@ -222,7 +228,7 @@ module _ (S H : Flags) (p : Position) (f c l n : ℕ) (values : ℕ → Result M
       started = unfold _>>=_ in ap (λ (v : ℕ). turn (values v >>= k)) (loop-visits S H (p .visits) C seen f c l h)
 
       by : (y : Bool) → eqb (r .code) 0 ≡ y → turn (values (p .visits) >>= k) ≡ applied (enteringLoop y (loopTaken S H l f) p r (blocksOf f n c l)) F (R ++ m .out) C
-      by true q = ap turn (made-on m k (eqb-true (r .code) 0 q)) ∙ body-same r (R ++ m .out) d
+      by true q = ap turn (made-on m k (eqb-true (r .code) 0 q)) ∙ body-same r (R ++ m .out) d e
       by false q = ap turn (made-off m k (eqb-false (r .code) 0 q)) ∙ turn-refused (r .code) (r .at) (r .visits) ∙ sym (refuse-applied (afterValues p r) (r .code) (r .at) F (R ++ m .out) C (eqb-false (r .code) 0 q))
 
 -- ---- planners of loops
@@ -427,15 +433,15 @@ module _ {w : List ℕ} {block init test : ℕ} (update : ℕ) {l f : ℕ} (ends
 abbrev Enters : Flags → Flags → Position → Values → Plan → (f n c l : ℕ) → Type 0
 Enters S H p r plan f n c l = plan ≡ enteringLoop (eqb (r .code) 0) (loopTaken S H l f) p r (blocksOf f n c l)
 
-abbrev Label : Flags → Flags → (f n : ℕ) → Type 0
-Label S H f n = n ≡ unlessTaken (has S f || has H f) f
+abbrev Takes : Flags → Flags → (f n : ℕ) → Type 0
+Takes S H f n = n ≡ unlessTaken (has S f || has H f) f
 
 module _ {w : List ℕ} {S H : Flags} {p : Position} {plan : Plan} (en : Entered w p) where
   module _ {l c f : ℕ} (ends : Ends w (p .block) (do-while l c f)) {scheduled : Bool} (asked : scheduled ≡ continueScheduled S f c) where
     pub do-while-refused : scheduled ≡ true → plan ≡ refusing p 15 c → PlannedBare w S H p plan
     do-while-refused t q = loop-refused w S H p en f c l _ _ plan (do-while-turns w S H p en l c f _ (ends .is) (ends .named .2) refl) (ends .named .2) (sym asked ∙ t) q
 
-    pub do-while-entered : {n : ℕ} {r : Values} → scheduled ≡ false → Label S H f n → r ≡ noValues p → Enters S H p r plan f n c l → PlannedBare w S H p plan
+    pub do-while-entered : {n : ℕ} {r : Values} → scheduled ≡ false → Takes S H f n → r ≡ noValues p → Enters S H p r plan f n c l → PlannedBare w S H p plan
     do-while-entered {n} {r} t o start q buffer =
         loop-entered w S H p en f c l n _ r plan
         (do-while-turns w S H p en l c f n (ends .is) (ends .named .2) o)
@@ -461,7 +467,7 @@ module _ {w : List ℕ} {S H : Flags} {p : Position} {plan : Plan} (en : Entered
     pub for-refused : scheduled ≡ true → plan ≡ refusing p 15 c → PlannedBare w S H p plan
     for-refused t q = loop-refused w S H p en f c l _ _ plan (for-turns-at w S H p en init test update l f c _ (ends .is) continues (ends .named .4) refl) (ends .named .4) (sym asked ∙ t) q
 
-    pub for-entered : {n : ℕ} {r : Values} {b b′ : List ℕ} → scheduled ≡ false → Label S H f n → Makes p (forValues w p init test update) b r b′ → Enters S H p r plan f n c l
+    pub for-entered : {n : ℕ} {r : Values} {b b′ : List ℕ} → scheduled ≡ false → Takes S H f n → Makes p (forValues w p init test update) b r b′ → Enters S H p r plan f n c l
         → PlannedRows w S H p b plan b′
     for-entered {n} {r} t o made q =
         loop-entered w S H p en f c l n _ r plan
@@ -472,7 +478,7 @@ module _ {w : List ℕ} {S H : Flags} {p : Position} {plan : Plan} (en : Entered
     pub for-of-refused : scheduled ≡ true → plan ≡ refusing p 15 c → PlannedBare w S H p plan
     for-of-refused t q = loop-refused w S H p en f c l _ _ plan (for-of-turns w S H p en c test l f _ (ends .is) (ends .named .3) refl) (ends .named .3) (sym asked ∙ t) q
 
-    pub for-of-entered : {n : ℕ} {r : Values} {b b′ : List ℕ} → scheduled ≡ false → Label S H f n → Makes p (forOfValues w p c test) b r b′ → Enters S H p r plan f n c l
+    pub for-of-entered : {n : ℕ} {r : Values} {b b′ : List ℕ} → scheduled ≡ false → Takes S H f n → Makes p (forOfValues w p c test) b r b′ → Enters S H p r plan f n c l
         → PlannedRows w S H p b plan b′
     for-of-entered {n} {r} t o made q =
         loop-entered w S H p en f c l n _ r plan
@@ -483,7 +489,7 @@ module _ {w : List ℕ} {S H : Flags} {p : Position} {plan : Plan} (en : Entered
     pub for-in-refused : scheduled ≡ true → plan ≡ refusing p 15 c → PlannedBare w S H p plan
     for-in-refused t q = loop-refused w S H p en f c l _ _ plan (for-in-turns w S H p en c l f _ (ends .is) (ends .named .2) refl) (ends .named .2) (sym asked ∙ t) q
 
-    pub for-in-entered : {n : ℕ} {before r : Values} {b b′ : List ℕ} → scheduled ≡ false → Label S H f n → before ≡ noValues p → MakesMore p (flatMade w p c) before b r b′
+    pub for-in-entered : {n : ℕ} {before r : Values} {b b′ : List ℕ} → scheduled ≡ false → Takes S H f n → before ≡ noValues p → MakesMore p (flatMade w p c) before b r b′
         → Enters S H p r plan f n c l → PlannedRows w S H p b plan b′
     for-in-entered {n} {r = r} t o start made q =
         loop-entered w S H p en f c l n _ r plan
@@ -492,18 +498,12 @@ module _ {w : List ℕ} {S H : Flags} {p : Position} {plan : Plan} (en : Entered
 
 -- ---- value statements
 
-value-context : (n after : ℕ) (C : definition.Context) → unscheduledIf (unlessNone n) (withVisits after (scheduledIf (unlessNone n) C)) ≡ changed (brieflyIf (eqb n 65535) n) (withVisits after C)
-unfolding unlessNone withVisits pushed
-value-context n after C = at (eqb n 65535)
+value-moved : (n after : ℕ) (C : definition.Context) → withVisits after (scheduledIf (unlessNone n) C) ≡ scheduledIf (unlessNone n) (withVisits after C)
+value-moved n after C = at (unlessNone n)
   where
-    at : (y : Bool) → unscheduledIf (elim y [ true ↦ none | false ↦ some n ]) (withVisits after (scheduledIf (elim y [ true ↦ none | false ↦ some n ]) C)) ≡ changed (brieflyIf y n) (withVisits after C)
-    at true = refl
-    at false = refl
-
--- a fallthrough that is taken is one of the 1,024 blocks
-taken-block : (y : Bool) (f n : ℕ) → n ≡ unlessTaken y f → f < 1024 → (n ≡ 65535 → ⊥) → n < 1024
-taken-block true f n e h g = absurd (g e)
-taken-block false f n e h g = omega (arith, e, h)
+    at : (o : Option ℕ) → withVisits after (scheduledIf o C) ≡ scheduledIf o (withVisits after C)
+    at none = refl
+    at (some f) = unfold withVisits pushed in refl
 
 -- a terminal with such a fallthrough: its turn, and the fallthrough's range
 pub record ValueTerminal (e : Terminal) (f : ℕ) : Type 0 where
@@ -572,13 +572,17 @@ module _ (w : List ℕ) (S H : Flags) (p : Position) (en : Entered w p) (f : ℕ
         last : Row
         last = row 4 (r .id) (r .place) (blockWord w (p .block) 9) 0 0
 
+        free : Label S n
+        free = rw o (label-taken S H false f (few-blocks w (en .promise) f fallthrough-below))
+
         named : (y : Bool) → eqb n 65535 ≡ y → NamedChange 0 (brieflyIf y n)
         named true g = tt
-        named false g = taken-block (has S f || has H f) f n o (few-blocks w (en .promise) f fallthrough-below) (eqb-false n 65535 g)
+        named false g = label-below free g
 
         same : (F : List machine.Frame) (R : List Row) (C : definition.Context) → length F ≡ p .depth → Seen S H (p .visits) C
             → turn (terminalStep w p F R C) ≡ applied (leaving n (p .depth) (p .count + 1) rows (r .tally .visits) (brieflyIf (eqb n 65535) n)) F (R ++ (valueOut (v .value) ++ (last ∷ []))) C
         same F R C d seen =
             ap turn (value-step F R C seen ∙ then-on (left F R C) v z) ∙ unfold left in (turn-ok _
-            ∙ rw (label-scheduled w (en .promise) S H (p .visits) C seen f (few-blocks w (en .promise) f fallthrough-below) ∙ ap unlessNone (sym o), value-context n (r .tally .visits) C, span-at w (p .block) (en .block), append-assoc R (valueOut (v .value)) (last ∷ []))
-            (sym (leave-applied n (p .depth) (p .count + 1) rows (r .tally .visits) (brieflyIf (eqb n 65535) n) F (R ++ (valueOut (v .value) ++ (last ∷ []))) C ∙ rw (within-all (p .depth) F d, add-one))))
+            ∙ rw (label-scheduled w (en .promise) S H (p .visits) C seen f (few-blocks w (en .promise) f fallthrough-below) ∙ ap unlessNone (sym o), value-moved n (r .tally .visits) C, span-at w (p .block) (en .block), append-assoc R (valueOut (v .value)) (last ∷ []))
+            (sym (leave-applied n (p .depth) (p .count + 1) rows (r .tally .visits) (brieflyIf (eqb n 65535) n) F (R ++ (valueOut (v .value) ++ (last ∷ []))) C _
+            (label-briefly free (withVisits (r .tally .visits) C) (seen-visits (r .tally .visits) seen .scheduled)) ∙ rw (within-all (p .depth) F d, add-one))))

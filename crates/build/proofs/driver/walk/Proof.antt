@@ -7,16 +7,18 @@ use lib.ListN.{length, set}
 use mathlib.Core.Logic.{⊎-elim}
 use borrow.Author.Needs.{needs}
 use Rattle.control.specs.Abstraction.{contextOf, resolvedOf, settled}
-use Rattle.control.specs.Contract.{Last, Room}
+use Rattle.control.specs.Contract.{Last}
 use Rattle.planner.specs.declared.plan.Plan.{Plan}
 use Rattle.planner.specs.declared.plan.Change.{Change}
 use Rattle.planner.specs.declared.plan.Change.the-variants.{Schedule, ScheduleBriefly, Unschedule}
-use Rattle.build.specs.Driver.{foundBy, visitedBlock, planEnds}
-use Rattle.build.proofs.ApplyLaws.{withMarks, Whole, Changeable, Changed, Applicable, Applied, nothing-changed, schedule-changed, unschedule-changed, briefly-changed, last-scheduled, changeable-marked, whole-marked, plan-applied, last-entry}
+use Rattle.table.specs.Table.{tableOf}
+use Rattle.definition.specs.Build.{report}
+use Rattle.build.specs.Driver.{foundBy, visitedBlock, planEnds, blockedBy, Reported}
+use Rattle.build.proofs.ApplyLaws.{withMarks, Whole, Changeable, Changed, Blocked, Applicable, Applied, nothing-changed, schedule-changed, schedule-blocked, unschedule-changed, briefly-changed, briefly-blocked, last-scheduled, changeable-marked, whole-marked, plan-applied, last-entry}
 use Rattle.control.specs.declared.Context.{Context}
 use Rattle.planner.specs.declared.plan.Position.{Position}
 use Rattle.planner.specs.declared.plan.Frame.{Frame}
-use Rattle.build.proofs.DriverLaws.{Walking, turnsLeft, walking-start, frame-read, found-jump, found-below, ready, shallow, visit-below, AtTurn, turn-ends, turn-applicable, turn-slot, turn-again, turn-lower}
+use Rattle.build.proofs.DriverLaws.{Walking, turnsLeft, walking-start, frame-read, found-jump, found-below, ready, shallow, visit-below, AtTurn, turn-ends, turn-applicable, turn-slot, turn-blocked, turn-again, turn-lower}
 use denote.Ref.{now}
 use Rattle.build.proofs.CheckedLaws.{checked-table}
 use Rattle.build.proofs.SearchLaws.{Searching, search-start, search-on, search-none, search-found}
@@ -249,6 +251,10 @@ module _ (c : tie.After-frame-slot Inv-loop2 μ-loop2 Inv-loop μ-loop) where
     changeable : Changeable change with-marks
     changeable = subst (λ (z : Context). Changeable change z) (sym marks-made) (changeable-marked change visited (plan .handler) (plan .scope) cx (subst (λ (z : Change). Changeable z cx) e (applicable .change)))
 
+    blocks : {code at : ℕ} → Blocked change with-marks code at
+        → Reported (report (tableOf (now (at-head planned .before .before .before .before .before .before .args .words)))) (blockedBy code at (plan .position)) (planned .plan-turn .last .1 .0)
+    blocks {code} {at} E = turn-blocked (turn planned) goes-on (subst (λ (z : Change). Blocked z (withMarks visited (plan .handler) (plan .scope) cx) code at) (sym e) (subst (λ (z : Context). Blocked change z code at) marks-made E))
+
     module _ (r : Context) (E : Changed change with-marks r) where
       changed : Applied visited plan cx r
       changed = plan-applied visited plan cx with-marks r marks-made (subst (λ (z : Change). Changed z with-marks r) (sym e) E)
@@ -261,27 +267,45 @@ module _ (c : tie.After-frame-slot Inv-loop2 μ-loop2 Inv-loop μ-loop) where
 
 -- ---- what each change leaves
 
-module _ (c : tie.After-entry2 Inv-loop2 μ-loop2 Inv-loop μ-loop) where
-  schedule-room : Room (with-marks (c .before .before .before .before .before))
-  schedule-room = changeable (c .before .before .before .before .before) _ (c .before .before .before .change .given .1) .1
+module _ (c : tie.After-schedule Inv-loop2 μ-loop2 Inv-loop μ-loop) where
+  abbrev slotted : tie.After-frame-slot Inv-loop2 μ-loop2 Inv-loop μ-loop
+  slotted = search
 
-  by-schedule : Changed (Schedule (c .before .before .before .change .given .0 .0)) (with-marks (c .before .before .before .before .before)) (settled (c .before .schedule .result))
-  by-schedule = schedule-changed _ _ _ _ (c .before .schedule .ensures) refl (schedule-room .len) (whole (c .before .before .before .before .before))
+  abbrev asked : tie.After-change Inv-loop2 μ-loop2 Inv-loop μ-loop
+  asked = search
 
-module _ (c : tie.After-entry3 Inv-loop2 μ-loop2 Inv-loop μ-loop) where
-  briefly : Changeable (ScheduleBriefly (c .before .before .before .change2 .given .0 .0)) (with-marks (c .before .before .before .before .before))
-  briefly = changeable (c .before .before .before .before .before) _ (c .before .before .before .change2 .given .1)
+  schedulable : Changeable (Schedule (asked .change .given .0 .0)) (with-marks slotted)
+  schedulable = changeable slotted _ (asked .change .given .1)
 
-  pushed-first : Changed (Schedule (c .before .before .before .change2 .given .0 .0)) (with-marks (c .before .before .before .before .before)) (settled (c .before .schedule2 .result))
-  pushed-first = schedule-changed _ _ _ _ (c .before .schedule2 .ensures) refl (briefly .1 .len) (whole (c .before .before .before .before .before))
+  by-schedule : c .schedule .result .refused ≡ 0 → Changed (Schedule (asked .change .given .0 .0)) (with-marks slotted) (settled (c .schedule .result))
+  by-schedule z = schedule-changed _ _ _ _ (c .schedule .ensures) z refl (schedulable .1 .len) (whole slotted)
 
-  pushed-last : Last (settled (c .before .schedule2 .result)) (c .before .schedule2 .result .pushed)
-  pushed-last = last-scheduled _ _ _ (c .before .schedule2 .ensures) (briefly .0) (briefly .1 .len) (whole (c .before .before .before .before .before))
+module _ (c : tie.After-schedule2 Inv-loop2 μ-loop2 Inv-loop μ-loop) where
+  abbrev slotted2 : tie.After-frame-slot Inv-loop2 μ-loop2 Inv-loop μ-loop
+  slotted2 = search
+
+  abbrev asked2 : tie.After-change2 Inv-loop2 μ-loop2 Inv-loop μ-loop
+  asked2 = search
+
+  briefly : Changeable (ScheduleBriefly (asked2 .change2 .given .0 .0)) (with-marks slotted2)
+  briefly = changeable slotted2 _ (asked2 .change2 .given .1)
+
+  pushed-first : c .schedule2 .result .refused ≡ 0 → Changed (Schedule (asked2 .change2 .given .0 .0)) (with-marks slotted2) (settled (c .schedule2 .result))
+  pushed-first z = schedule-changed _ _ _ _ (c .schedule2 .ensures) z refl (briefly .1 .len) (whole slotted2)
+
+  pushed-last : Last (settled (c .schedule2 .result)) (c .schedule2 .result .pushed)
+  pushed-last = last-scheduled _ _ _ (c .schedule2 .ensures) (briefly .0) (briefly .1 .len) (whole slotted2)
 
 module _ (c : tie.After-unschedule Inv-loop2 μ-loop2 Inv-loop μ-loop) where
-  by-briefly : Changed (ScheduleBriefly (c .before .before .before .before .change2 .given .0 .0)) (with-marks (c .before .before .before .before .before .before)) (c .unschedule .result)
+  abbrev scheduled2 : tie.After-schedule2 Inv-loop2 μ-loop2 Inv-loop μ-loop
+  scheduled2 = search
+
+  abbrev else5 : tie.Else5 Inv-loop2 μ-loop2 Inv-loop μ-loop
+  else5 = search
+
+  by-briefly : Changed (ScheduleBriefly (asked2 scheduled2 .change2 .given .0 .0)) (with-marks (slotted2 scheduled2)) (c .unschedule .result)
   unfolding settled
-  by-briefly = briefly-changed _ _ _ _ _ (pushed-first (c .before)) (pushed-last (c .before)) (c .unschedule .ensures)
+  by-briefly = briefly-changed _ _ _ _ _ (pushed-first scheduled2 (else5 .if5 .left)) (pushed-last scheduled2) (c .unschedule .ensures)
 
 module _ (c : tie.After-unschedule2 Inv-loop2 μ-loop2 Inv-loop μ-loop) where
   by-unschedule : Changed Unschedule (with-marks (c .before .before .before .before)) (c .unschedule2 .result)
@@ -315,6 +339,22 @@ schedule-requires c κs =
     let at-frame-slot : tie.After-frame-slot Inv-loop2 μ-loop2 Inv-loop μ-loop = search in
     changeable (at-frame-slot) _ (at-change .change .given .1)
 
+blocked-requires : tie.Need-blocked-requires Inv-loop2 μ-loop2 Inv-loop μ-loop
+blocked-requires c κs = tt
+
+same-length-2 : tie.Need-same-length-2 Inv-loop2 μ-loop2 Inv-loop μ-loop
+same-length-2 c =
+    let at-frame-slot : tie.After-frame-slot Inv-loop2 μ-loop2 Inv-loop μ-loop = search in
+    omega (arith, planned at-frame-slot .plan-turn .kept .1 .0, at-head (planned at-frame-slot) .loop .inv .long)
+
+returns-2 : tie.Need-returns-2 Inv-loop2 μ-loop2 Inv-loop μ-loop
+returns-2 c =
+    let then4 : tie.Then4 Inv-loop2 μ-loop2 Inv-loop μ-loop = search in
+    let at-schedule : tie.After-schedule Inv-loop2 μ-loop2 Inv-loop μ-loop = search in
+    let at-change : tie.After-change Inv-loop2 μ-loop2 Inv-loop μ-loop = search in
+    let at-frame-slot : tie.After-frame-slot Inv-loop2 μ-loop2 Inv-loop μ-loop = search in
+    rw (c .blocked .ensures) (blocks at-frame-slot _ (at-change .change .given .1) (schedule-blocked _ _ _ (at-schedule .schedule .ensures) (then4 .if4 .taken)))
+
 sub-entry : tie.Need-sub-entry Inv-loop2 μ-loop2 Inv-loop μ-loop
 sub-entry c =
     let at-schedule : tie.After-schedule Inv-loop2 μ-loop2 Inv-loop μ-loop = search in
@@ -323,26 +363,26 @@ sub-entry c =
 mul-entry-2 : tie.Need-mul-entry-2 Inv-loop2 μ-loop2 Inv-loop μ-loop
 mul-entry-2 c =
     let at-schedule : tie.After-schedule Inv-loop2 μ-loop2 Inv-loop μ-loop = search in
-    omega (arith, at-schedule .schedule .ensures .len, schedule-room c .len)
+    omega (arith, at-schedule .schedule .ensures .len, schedulable at-schedule .1 .len)
 
 element-set-from-entry : tie.Need-element-set-from-entry Inv-loop2 μ-loop2 Inv-loop μ-loop
 element-set-from-entry c =
     let at-schedule : tie.After-schedule Inv-loop2 μ-loop2 Inv-loop μ-loop = search in
-    omega (arith, at-schedule .schedule .ensures .len, schedule-room c .len)
+    omega (arith, at-schedule .schedule .ensures .len, schedulable at-schedule .1 .len)
 
 loop-less-2 : tie.Need-loop-less-2 Inv-loop2 μ-loop2 Inv-loop μ-loop
 unfolding settled
 loop-less-2 c =
-    let at-change : tie.After-change Inv-loop2 μ-loop2 Inv-loop μ-loop = search in
-    let at-frame-slot : tie.After-frame-slot Inv-loop2 μ-loop2 Inv-loop μ-loop = search in
-    lower (at-frame-slot) _ (at-change .change .given .1) _ (by-schedule c)
+    let else4 : tie.Else4 Inv-loop2 μ-loop2 Inv-loop μ-loop = search in
+    let at-schedule : tie.After-schedule Inv-loop2 μ-loop2 Inv-loop μ-loop = search in
+    lower (slotted at-schedule) _ (asked at-schedule .change .given .1) _ (by-schedule at-schedule (else4 .if4 .left))
 
 loop-again-2 : tie.Need-loop-again-2 Inv-loop2 μ-loop2 Inv-loop μ-loop
 unfolding settled
 loop-again-2 c =
-    let at-change : tie.After-change Inv-loop2 μ-loop2 Inv-loop μ-loop = search in
-    let at-frame-slot : tie.After-frame-slot Inv-loop2 μ-loop2 Inv-loop μ-loop = search in
-    next (at-frame-slot) _ (at-change .change .given .1) _ (by-schedule c)
+    let else4 : tie.Else4 Inv-loop2 μ-loop2 Inv-loop μ-loop = search in
+    let at-schedule : tie.After-schedule Inv-loop2 μ-loop2 Inv-loop μ-loop = search in
+    next (slotted at-schedule) _ (asked at-schedule .change .given .1) _ (by-schedule at-schedule (else4 .if4 .left))
 
 enum-known-change-2 : tie.Need-enum-known-change-2 Inv-loop2 μ-loop2 Inv-loop μ-loop
 enum-known-change-2 c = search needs
@@ -353,6 +393,22 @@ schedule-requires-2 c κs =
     let at-frame-slot : tie.After-frame-slot Inv-loop2 μ-loop2 Inv-loop μ-loop = search in
     changeable (at-frame-slot) _ (at-change2 .change2 .given .1)
 
+blocked-requires-2 : tie.Need-blocked-requires-2 Inv-loop2 μ-loop2 Inv-loop μ-loop
+blocked-requires-2 c κs = tt
+
+same-length-3 : tie.Need-same-length-3 Inv-loop2 μ-loop2 Inv-loop μ-loop
+same-length-3 c =
+    let at-frame-slot : tie.After-frame-slot Inv-loop2 μ-loop2 Inv-loop μ-loop = search in
+    omega (arith, planned at-frame-slot .plan-turn .kept .1 .0, at-head (planned at-frame-slot) .loop .inv .long)
+
+returns-3 : tie.Need-returns-3 Inv-loop2 μ-loop2 Inv-loop μ-loop
+returns-3 c =
+    let then5 : tie.Then5 Inv-loop2 μ-loop2 Inv-loop μ-loop = search in
+    let at-schedule2 : tie.After-schedule2 Inv-loop2 μ-loop2 Inv-loop μ-loop = search in
+    let at-change2 : tie.After-change2 Inv-loop2 μ-loop2 Inv-loop μ-loop = search in
+    let at-frame-slot : tie.After-frame-slot Inv-loop2 μ-loop2 Inv-loop μ-loop = search in
+    rw (c .blocked2 .ensures) (blocks at-frame-slot _ (at-change2 .change2 .given .1) (briefly-blocked _ _ _ (at-schedule2 .schedule2 .ensures) (then5 .if5 .taken)))
+
 sub-entry-2 : tie.Need-sub-entry-2 Inv-loop2 μ-loop2 Inv-loop μ-loop
 sub-entry-2 c =
     let at-schedule2 : tie.After-schedule2 Inv-loop2 μ-loop2 Inv-loop μ-loop = search in
@@ -361,28 +417,24 @@ sub-entry-2 c =
 mul-entry-3 : tie.Need-mul-entry-3 Inv-loop2 μ-loop2 Inv-loop μ-loop
 mul-entry-3 c =
     let at-schedule2 : tie.After-schedule2 Inv-loop2 μ-loop2 Inv-loop μ-loop = search in
-    omega (arith, at-schedule2 .schedule2 .ensures .len, briefly c .1 .len)
+    omega (arith, at-schedule2 .schedule2 .ensures .len, briefly at-schedule2 .1 .len)
 
 element-set-from-entry-2 : tie.Need-element-set-from-entry-2 Inv-loop2 μ-loop2 Inv-loop μ-loop
 element-set-from-entry-2 c =
     let at-schedule2 : tie.After-schedule2 Inv-loop2 μ-loop2 Inv-loop μ-loop = search in
-    omega (arith, at-schedule2 .schedule2 .ensures .len, briefly c .1 .len)
+    omega (arith, at-schedule2 .schedule2 .ensures .len, briefly at-schedule2 .1 .len)
 
 unschedule-requires : tie.Need-unschedule-requires Inv-loop2 μ-loop2 Inv-loop μ-loop
 unfolding settled
-unschedule-requires c κs = pushed-last c
+unschedule-requires c κs =
+    let at-schedule2 : tie.After-schedule2 Inv-loop2 μ-loop2 Inv-loop μ-loop = search in
+    pushed-last at-schedule2
 
 loop-less-3 : tie.Need-loop-less-3 Inv-loop2 μ-loop2 Inv-loop μ-loop
-loop-less-3 c =
-    let at-change2 : tie.After-change2 Inv-loop2 μ-loop2 Inv-loop μ-loop = search in
-    let at-frame-slot : tie.After-frame-slot Inv-loop2 μ-loop2 Inv-loop μ-loop = search in
-    lower (at-frame-slot) _ (at-change2 .change2 .given .1) _ (by-briefly c)
+loop-less-3 c = lower (slotted2 (scheduled2 c)) _ (asked2 (scheduled2 c) .change2 .given .1) _ (by-briefly c)
 
 loop-again-3 : tie.Need-loop-again-3 Inv-loop2 μ-loop2 Inv-loop μ-loop
-loop-again-3 c =
-    let at-change2 : tie.After-change2 Inv-loop2 μ-loop2 Inv-loop μ-loop = search in
-    let at-frame-slot : tie.After-frame-slot Inv-loop2 μ-loop2 Inv-loop μ-loop = search in
-    next (at-frame-slot) _ (at-change2 .change2 .given .1) _ (by-briefly c)
+loop-again-3 c = next (slotted2 (scheduled2 c)) _ (asked2 (scheduled2 c) .change2 .given .1) _ (by-briefly c)
 
 enum-told-2 : tie.Need-enum-told-2 Inv-loop2 μ-loop2 Inv-loop μ-loop
 enum-told-2 c = search needs
@@ -463,6 +515,9 @@ walk-spec =
     loop-again
     enum-known-change
     schedule-requires
+    blocked-requires
+    same-length-2
+    returns-2
     sub-entry
     mul-entry-2
     element-set-from-entry
@@ -470,6 +525,9 @@ walk-spec =
     loop-again-2
     enum-known-change-2
     schedule-requires-2
+    blocked-requires-2
+    same-length-3
+    returns-3
     sub-entry-2
     mul-entry-3
     element-set-from-entry-2
