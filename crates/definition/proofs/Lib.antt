@@ -2,6 +2,7 @@ pub mod Steps
 pub mod Flags
 pub mod ValueWalk
 pub mod Never
+pub mod Visits
 pub mod Rows
 pub mod Simulation
 pub mod Invariant
