@@ -11,6 +11,7 @@ pub mod Checked
 pub mod Accepted
 pub mod Readings
 pub mod Formed
+pub mod PlainEnough
 pub mod Loops
 pub mod Semantics
 pub mod Resolve

@@ -9,7 +9,7 @@ use lib.Dec.{eqb}
 use borrow.Author.Tests.{eqb-true}
 use Rattle.table.specs.Table.{codeOf, Table, Block, Operation, other, load-local, store-local, Terminal, absent, unreachable, throw, return, goto, if, branch, switch, do-while, while, for, for-of, for-in, logical, ternary, optional, sequence, maybe-throw, try, scope, Variant, Break, Continue, Try, blockAt, terminalAt, instructionAt, instructionRowsAt, isAbsent, isUnreachable, label}
 use Rattle.definition.specs.Context.{getBreakTarget, getContinueTarget, Resolution, has, Entry, target-if, target-loop, Context, isScheduled, withVisits, markScopeFallthrough, pushed, schedule, unschedule, breakTargetFrom, continueTargetFrom}
-use Rattle.definition.specs.Plain.{Plain, fallthroughOf, plainCodes, isBranch, isStore, endsInStore, NotBranch, otherNames, All}
+use Rattle.definition.specs.Plain.{fallthroughOf, plainCodes, isBranch, isStore, endsInStore, NotBranch, otherNames, All}
 use Rattle.definition.specs.Result.{Result, ok, _>>=_, refuseIf}
 use Rattle.definition.specs.Run.{Answers}
 use Rattle.definition.specs.Completion.{contains, Completion, break, continue}
@@ -19,6 +19,7 @@ use Rattle.definition.specs.Tree.{Kind, implicit, labeled, unlabeled, Va
 use Rattle.definition.specs.Value.{visitValueBlock, beginVisit, ValueBlockResult, VisitValueBlock, instructionsOf, wrapWithSequence, finalValue, storedToNamed, allButLast, last, extractValueBlockResult, branchValue, visitValueBlockAt}
 use Rattle.definition.proofs.Semantics.{Frame, in-label, in-scope, in-loop, target, Built, built-return, built-throw, built-jump, built-if, built-if-only, built-label, built-scope, built-while}
 use Rattle.definition.proofs.Ranged.{Ranged}
+use Rattle.definition.proofs.PlainEnough.{PlainEnough}
 use Rattle.definition.proofs.Steps.{true-false, refused-ok, ok-eq, bind-ok}
 use Rattle.definition.proofs.Resolve.{break-exit, break-names, break-target, continue-target}
 use Rattle.definition.proofs.State.{Known, fallthrough-of, StateOk, with-visits-ok, Entered, enter-ok, fallthrough-free, untaken-free, push-label-ok, push-scope-ok, push-loop-ok, schedule-ok, schedule-loop-ok, Closed, unschedule-ok}
@@ -155,7 +156,7 @@ module _ (t : Table) where
   plain-reachable (scope false b f s) h = refl
   plain-reachable (scope true b f s) h = refl
 
-  reached-ok : (pl : Plain t) (c : Context) (f : ℕ) (g : Option ℕ) → isScheduled c f ≡ false → unlessUnreachable t c f ≡ ok g → g ≡ some f
+  reached-ok : (pl : PlainEnough t) (c : Context) (f : ℕ) (g : Option ℕ) → isScheduled c f ≡ false → unlessUnreachable t c f ≡ ok g → g ≡ some f
   unfolding unlessUnreachable
   reached-ok pl c f g h e =
       let (u, h₁, e₁) = bind-ok (refuseIf (isAbsent (terminalAt t f)) 10 f (c .visits)) _ g e in
@@ -199,7 +200,7 @@ module _ (t : Table) where
   and-then : {F : List Frame} {S S′ : List Entry} {c : Context} → Closed t F S c → S ≡ S′ → Closed t F S′ c
   and-then p h = record { state = p .state; same = p .same ∙ h }
 
-  module _ (pl : Plain t) (rg : Ranged t) (values : VisitValueBlock) (vo : TestOk t values) (inner : TraverseBlock) (wo : WalkOk inner) where
+  module _ (pl : PlainEnough t) (rg : Ranged t) (values : VisitValueBlock) (vo : TestOk t values) (inner : TraverseBlock) (wo : WalkOk inner) where
     if-ok : {F : List Frame} {c₀ c : Context} (b x y a f : ℕ) (k : Block) (s : TerminalResult) → Entered t b F c₀ c → terminalAt t b ≡ if x y a f
         → visitTerminal t values inner (if x y a f) b k c ≡ ok s → StepOk F b (c .stack) s
     unfolding visitTerminal
@@ -421,7 +422,7 @@ module _ (t : Table) where
         let m : Made F b (c₁ .stack) r = next-ok F b (c₁ .stack) (visitBlock t values inner n) s r (visit-block-ok n) (terminal-ok b (terminalAt t b) s q nb refl h₂) k₂ in
         record { tree = m .tree; left = and-then (m .left) (q .same) }
 
-  module _ (pl : Plain t) (rg : Ranged t) where
+  module _ (pl : PlainEnough t) (rg : Ranged t) where
     pub walk-ok : (d : ℕ) → WalkOk (traverseBlock t d)
     unfolding WalkOk traverseBlock
     walk-ok zero F b c r p nb e = absurd (refused-ok e)
