@@ -9,8 +9,10 @@ use lib.ListN.{length, List·getD-eq-default}
 use lib.Dec.{T, eqb, leb, ltb}
 use borrow.Author.Tests.{ltb-true, ltb-false}
 use Rattle.table.specs.Words.{word, entryWord, blockCount, placeCount, caseCount, wordsNeeded}
-use Rattle.table.specs.Check.{Verdict, accepted, refused, Rule, fits, blockRules, instructionRules, caseRules, placeRules, identifierRules, andThen, rowVerdict, rowsVerdict, wordsVerdict, limits, countsVerdict, checked}
-use Rattle.table.specs.Table.{Block, noBlock, Terminal, absent, unreachable, throw, return, goto, if, branch, switch, do-while, while, for, for-of, for-in, logical, ternary, optional, label, sequence, maybe-throw, try, scope, tableOf, terminalAt}
+use Rattle.table.specs.Check.{Verdict, accepted, refused, Rule, fits, blockRules, instructionRules, caseRules, placeRules, identifierRules, andThen, rowVerdict}
+use Rattle.table.specs.Check.{rowsVerdict, wordsVerdict, limits, countsVerdict, checked}
+use Rattle.table.specs.Table.{Block, noBlock, Terminal, absent, unreachable, throw, return, goto, if, branch, switch, do-while, while, for, for-of, for-in}
+use Rattle.table.specs.Table.{logical, ternary, optional, label, sequence, maybe-throw, try, scope, tableOf, terminalAt}
 use Rattle.table.specs.Promise.{InRange, Promise}
 use Rattle.table.proofs.PromiseLaws.{promised}
 use Rattle.table.proofs.RangeLaws.{in-range}

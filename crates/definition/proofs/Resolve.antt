@@ -21,7 +21,8 @@ module _ (t : Table) where
   pub data Framed (scopes : Flags) : List Frame → List Entry → Type 0 where
     no-frame : Framed scopes [] []
     label-framed : {F : List Frame} {S : List Entry} (i f : ℕ) → Framed scopes F S → Framed scopes (in-label f ∷ F) (record { id = i; target = target-if f; ownsLoop = false } ∷ S)
-    scope-framed : {F : List Frame} {S : List Entry} (i f : ℕ) → has scopes f ≡ true → Framed scopes F S → Framed scopes (in-scope f ∷ F) (record { id = i; target = target-if f; ownsLoop = false } ∷ S)
+    scope-framed : {F : List Frame} {S : List Entry} (i f : ℕ) → has scopes f ≡ true → Framed scopes F S
+        → Framed scopes (in-scope f ∷ F) (record { id = i; target = target-if f; ownsLoop = false } ∷ S)
     loop-framed : {F : List Frame} {S : List Entry} (i f x w l : ℕ) (ll : ℕ) (o : Bool) → terminalAt t w ≡ while x l f → Framed scopes F S
         → Framed scopes (in-loop f x ∷ F) (record { id = i; target = target-loop f x ll; ownsLoop = o } ∷ S)
 

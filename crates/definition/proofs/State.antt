@@ -9,7 +9,9 @@ use mathlib.Core.Bool.{Bool, true, false, _||_}
 use lib.ListN.{length}
 use lib.Dec.{eqb}
 use Rattle.table.specs.Table.{Table, while, terminalAt, isAbsent}
-use Rattle.definition.specs.Context.{Flags, has, add, remove, ControlFlowTarget, target-if, target-switch, target-case, target-loop, Entry, Context, start, isScheduled, emit, withVisits, markScopeFallthrough, pushed, schedule, unscheduledBy, popped, unscheduleTop, unschedule}
+use Rattle.definition.specs.Context.{Flags, has, add, remove, ControlFlowTarget, target-if, target-switch, target-case, target-loop, Entry, Context}
+use Rattle.definition.specs.Context.{start, isScheduled, emit, withVisits, markScopeFallthrough, pushed, schedule, unscheduledBy, popped, unscheduleTop}
+use Rattle.definition.specs.Context.{unschedule}
 use Rattle.definition.specs.Plain.{fallthroughOf}
 use Rattle.definition.specs.Result.{refused, ok, refuseIf}
 use Rattle.definition.specs.Statement.{enterBlock, unlessScheduled}

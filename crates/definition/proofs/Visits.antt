@@ -11,117 +11,21 @@ use lib.Dec.{eqb, leb}
 use borrow.Author.Tests.{leb-false}
 use Rattle.table.specs.Check.{Verdict, checked}
 use Rattle.table.specs.Check as check
-use Rattle.table.specs.Table.{
-  Table,
-  Block,
-  Case,
-  Terminal,
-  absent,
-  unreachable,
-  throw,
-  return,
-  goto,
-  if,
-  branch,
-  switch,
-  do-while,
-  while,
-  for,
-  for-of,
-  for-in,
-  logical,
-  ternary,
-  optional,
-  sequence,
-  maybe-throw,
-  try,
-  scope,
-  Variant,
-  Break,
-  Continue,
-  Try,
-  label,
-  tableOf,
-  blockAt,
-  terminalAt,
-}
+use Rattle.table.specs.Table.{Table, Block, Case, Terminal, absent, unreachable, throw, return, goto, if, branch, switch, do-while, while, for, for-of, for-in}
+use Rattle.table.specs.Table.{logical, ternary, optional, sequence, maybe-throw, try, scope, Variant, Break, Continue, Try, label, tableOf, blockAt, terminalAt}
 use Rattle.definition.specs.Result.{Result, ok, refused}
 use Rattle.definition.specs.Tree.{Kind, implicit, labeled, unlabeled, Statement, Statements}
-use Rattle.definition.specs.Context.{
-  ControlFlowTarget,
-  target-if,
-  target-switch,
-  target-case,
-  target-loop,
-  has,
-  Entry,
-  Context,
-  start,
-  emit,
-  withVisits,
-  markScopeFallthrough,
-  scheduleCatchHandler,
-  pushed,
-  schedule,
-  popped,
-  unscheduleTop,
-  unschedule,
-  isScheduled,
-  Resolution,
-}
-use Rattle.definition.specs.Value.{
-  mostVisits,
-  beginVisit,
-  VisitValueBlock,
-  ValueBlockResult,
-  Ways,
-  extractValueBlockResult,
-  extractOrRefuse,
-  testBlockEnded,
-  visitTestBlock,
-  visitValueBlockTerminal,
-  thenFallthrough,
-  branchValue,
-  maybeThrowValue,
-  visitValueBlockAt,
-  visitValueBlock,
-}
-use Rattle.definition.specs.Statement.{
-  TraverseBlock,
-  BlockResult,
-  TerminalResult,
-  AlternateResult,
-  CasesResult,
-  enterBlock,
-  unlessScheduled,
-  unlessUnreachable,
-  scheduleIf,
-  scheduleSwitch,
-  unscheduleIf,
-  markScopeFallthroughIf,
-  breakToScope,
-  breakResolved,
-  visitBreak,
-  continueResolved,
-  visitContinue,
-  visitGoto,
-  traverseUnscheduled,
-  traverseAlternate,
-  traverseConsequent,
-  traverseEnclosed,
-  traverseLoop,
-  visitUpdate,
-  traverseCases,
-  unscheduleAll,
-  casesLastFirst,
-  scheduleIds,
-  visitValueStatement,
-  visitTerminal,
-  thenNext,
-  visitBlock,
-  traverseBlock,
-  buildTree,
-}
+use Rattle.definition.specs.Context.{ControlFlowTarget, target-if, target-switch, target-case, target-loop, has, Entry, Context, start, emit, withVisits}
+use Rattle.definition.specs.Context.{markScopeFallthrough, scheduleCatchHandler, pushed, schedule, popped, unscheduleTop, unschedule, isScheduled}
+use Rattle.definition.specs.Context.{Resolution}
+use Rattle.definition.specs.Value.{mostVisits, beginVisit, VisitValueBlock, ValueBlockResult, Ways, extractValueBlockResult, extractOrRefuse}
+use Rattle.definition.specs.Value.{testBlockEnded, visitTestBlock, visitValueBlockTerminal, thenFallthrough, branchValue, maybeThrowValue}
+use Rattle.definition.specs.Value.{visitValueBlockAt, visitValueBlock}
+use Rattle.definition.specs.Statement.{TraverseBlock, BlockResult, TerminalResult, AlternateResult, CasesResult, enterBlock, unlessScheduled}
+use Rattle.definition.specs.Statement.{unlessUnreachable, scheduleIf, scheduleSwitch, unscheduleIf, markScopeFallthroughIf, breakToScope, breakResolved}
+use Rattle.definition.specs.Statement.{visitBreak, continueResolved, visitContinue, visitGoto, traverseUnscheduled, traverseAlternate, traverseConsequent}
+use Rattle.definition.specs.Statement.{traverseEnclosed, traverseLoop, visitUpdate, traverseCases, unscheduleAll, casesLastFirst, scheduleIds}
+use Rattle.definition.specs.Statement.{visitValueStatement, visitTerminal, thenNext, visitBlock, traverseBlock, buildTree}
 use Rattle.definition.specs.Build.{Report, accepted, rejected, reported, report, refusal, placed, outcomeOf, afterCheck, built}
 use Rattle.definition.proofs.Steps.{Counted, counted-bind, counted-unless, counted-pick}
 
