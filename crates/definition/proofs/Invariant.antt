@@ -935,7 +935,7 @@ within t ck (suc n) s lt g = at (step t s) refl (λ s′ e. within t ck n s′ (
     at (going s′) e again = again s′ e
     at (halt a) e again = sym (going-halt t s a g e)
 
--- from the start, 16,818,177 turns give the report
-pub machine-turns : (t : Table) → Checked t → run t 16818177 (begin t) ≡ report t
+-- from the start 16,818,177 turns give the report, and more give the same
+pub machine-turns : (t : Table) → Checked t → (turns : ℕ) → 16818177 ≤ turns → run t turns (begin t) ≡ report t
 unfolding start
-machine-turns t ck = within t ck 16818177 (begin t) (omega arith) (going-start t ck)
+machine-turns t ck turns enough = within t ck turns (begin t) (omega (arith, enough)) (going-start t ck)

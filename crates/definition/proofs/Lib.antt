@@ -3,12 +3,14 @@ pub mod Flags
 pub mod ValueWalk
 pub mod Never
 pub mod Visits
+pub mod Enough
 pub mod Rows
 pub mod Simulation
 pub mod Invariant
 pub mod Ranged
 pub mod Checked
 pub mod Accepted
+pub mod Outcomes
 pub mod Readings
 pub mod Formed
 pub mod PlainEnough

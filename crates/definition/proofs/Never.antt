@@ -445,9 +445,12 @@ of-paper code h = leb→le code 31 (second (leb 10 code) h)
     second false k = absurd k
 
 -- whatever refuses a table is one of the paper's refusals
-pub never-above : (t : Table) (code at visits : ℕ) → report t ≡ rejected code at visits → code ≤ 31
+pub never-of-paper : (t : Table) (code at visits : ℕ) → report t ≡ rejected code at visits → T (ofPaper code)
 unfolding report
-never-above t code at visits e = of-paper code (never t code at visits (rejected-is (buildTree t) code at visits e))
+never-of-paper t code at visits e = never t code at visits (rejected-is (buildTree t) code at visits e)
+
+pub never-above : (t : Table) (code at visits : ℕ) → report t ≡ rejected code at visits → code ≤ 31
+never-above t code at visits e = of-paper code (never-of-paper t code at visits e)
 
 -- "Four Rust messages never occur and are proved so". The fourth has no counterpart: a target's type is a constructor
 pub never-already-scheduled : (t : Table) (at visits : ℕ) → report t ≡ rejected alreadyScheduled at visits → ⊥

@@ -1,12 +1,11 @@
 -- What holds of a step's result, whether it is refused or not, and what an accepted step tells of its parts: for every proof over the walks.
 use mathlib.Core.Path.{_≡_, refl}
-use Prim.Native.Nat.{ℕ, _≤_}
+use Prim.Native.Nat.{ℕ}
 use native.Mathlib.Omega.{arith}
 use mathlib.Core.Option.{Option, none, some}
 use mathlib.Core.Bool.{Bool, true, false, _&&_}
 use lib.Dec.{T, leb}
 use Rattle.definition.specs.Result.{Result, ok, refused, _>>=_, refuseIf}
-use Rattle.definition.specs.Value.{mostVisits}
 
 pub true-false : true ≡ false → ⊥
 true-false e = let z : _≡_ {A = ℕ} 0 1 = cc in omega arith
@@ -114,24 +113,32 @@ pub fine-good : {A : Type 0} (P Q : A → Type 0) (step : Result A) → ((a : A)
 fine-good P Q (ok a) f h = f a h
 fine-good P Q (refused code at visits) f h = tt
 
--- ---- "Visits at most 8,192", of the result and of a refusal
-
-abbrev Bounded : (code visits : ℕ) → Type 0
-Bounded code visits = visits ≤ mostVisits
+-- ---- Q of the count of visits, of the result and of a refusal
 
 -- `of` is a result's count
-abbrev pub Counted : {A : Type 0} → (of : A → ℕ) → Result A → Type 0
-Counted of step = Holds Bounded (λ a. of a ≤ mostVisits) step
+abbrev pub Counted : {A : Type 0} → (Q : ℕ → Type 0) → (of : A → ℕ) → Result A → Type 0
+Counted Q of step = Holds (λ code visits. Q visits) (λ a. Q (of a)) step
 
-pub counted-bind : {A B : Type 0} (f : A → ℕ) (g : B → ℕ) (step : Result A) (next : A → Result B)
-    → Counted f step → ((a : A) → f a ≤ mostVisits → Counted g (next a)) → Counted g (step >>= next)
-counted-bind f g step next h k = holds-bind Bounded (λ a. f a ≤ mostVisits) (λ b. g b ≤ mostVisits) step next h k
+pub counted-bind : {A B : Type 0} (Q : ℕ → Type 0) (f : A → ℕ) (g : B → ℕ) (step : Result A) (next : A → Result B)
+    → Counted Q f step → ((a : A) → Q (f a) → Counted Q g (next a)) → Counted Q g (step >>= next)
+counted-bind Q f g step next h k = holds-bind (λ code visits. Q visits) (λ a. Q (f a)) (λ b. Q (g b)) step next h k
 
-pub counted-unless : {B : Type 0} (g : B → ℕ) (test : Bool) (code at visits : ℕ) (next : Unit {0} → Result B)
-    → visits ≤ mostVisits → (test ≡ false → Counted g (next tt)) → Counted g (refuseIf test code at visits >>= next)
-counted-unless g test code at visits next h k = holds-unless Bounded (λ b. g b ≤ mostVisits) test code at visits next h k
+pub counted-unless : {B : Type 0} (Q : ℕ → Type 0) (g : B → ℕ) (test : Bool) (code at visits : ℕ) (next : Unit {0} → Result B)
+    → Q visits → (test ≡ false → Counted Q g (next tt)) → Counted Q g (refuseIf test code at visits >>= next)
+counted-unless Q g test code at visits next h k = holds-unless (λ code visits. Q visits) (λ b. Q (g b)) test code at visits next h k
 
-pub counted-pick : {A : Type 0} (f : A → ℕ) (test : Bool) (yes-step no-step : Result A)
-    → (test ≡ true → Counted f yes-step) → (test ≡ false → Counted f no-step) → Counted f (elim test [ true ↦ yes-step | false ↦ no-step ])
-counted-pick f true yes-step no-step h k = h refl
-counted-pick f false yes-step no-step h k = k refl
+pub counted-pick : {A : Type 0} (Q : ℕ → Type 0) (f : A → ℕ) (test : Bool) (yes-step no-step : Result A)
+    → (test ≡ true → Counted Q f yes-step) → (test ≡ false → Counted Q f no-step) → Counted Q f (elim test [ true ↦ yes-step | false ↦ no-step ])
+counted-pick Q f true yes-step no-step h k = h refl
+counted-pick Q f false yes-step no-step h k = k refl
+
+-- ---- two ways on after a step, which are the same for what holds of its result
+
+pub good-same : {A B : Type 0} (P : A → Type 0) (step : Result A) (f g : A → Result B) → Good P step → ((a : A) → P a → f a ≡ g a) → step >>= f ≡ step >>= g
+unfolding _>>=_
+good-same P (ok a) f g h e = e a h
+good-same P (refused code at visits) f g h e = refl
+
+pub counted-good : {A : Type 0} (Q : ℕ → Type 0) (f : A → ℕ) (step : Result A) → Counted Q f step → Good (λ a. Q (f a)) step
+counted-good Q f (ok a) h = h
+counted-good Q f (refused code at visits) h = tt
