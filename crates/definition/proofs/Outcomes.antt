@@ -10,12 +10,12 @@ use lib.Dec.{T, eqb, leb, leb→le}
 use Rattle.table.specs.Check.{Verdict, checked}
 use Rattle.table.specs.Check as check
 use Rattle.table.specs.Table.{tableOf}
-use Rattle.definition.specs.Tree.{Row}
+use Rattle.definition.specs.Tree.{Statements, Row, rows}
 use Rattle.definition.specs.Build.{Report, accepted, rejected, report, Outcome, refusal, wordsOf, placed, outcomeOf, afterCheck, built}
 use Rattle.definition.proofs.Steps.{ofPaper}
 use Rattle.definition.proofs.Never.{never-of-paper}
 use Rattle.definition.proofs.Checked.{ofCheck, Coded, coded}
-use Rattle.definition.proofs.Accepted.{words-length}
+use Rattle.definition.proofs.Accepted.{Accepted, accepted-of, words-length}
 
 -- the code of a refusal of words or of a table: 1 to 4, 10 to 31
 abbrev pub ofInput : ℕ → Bool
@@ -39,10 +39,14 @@ of-table code h = by (ofCheck code)
 abbrev pub acceptance : (lent : ℕ) → List Row → (visits : ℕ) → Outcome
 acceptance lent list visits = record { code = 0; at = 0; rows = length list; visits = visits; buffer = wordsOf list ++ replicate (lent - length list * 6) 0 }
 
+outcome-same : (o : Outcome) (code at number : ℕ) (buffer : List ℕ) → o .code ≡ code → o .at ≡ at → o .rows ≡ number → o .buffer ≡ buffer
+    → o ≡ record { code = code; at = at; rows = number; visits = o .visits; buffer = buffer }
+outcome-same o code at number buffer c a n b = λ i. record { code = c i; at = a i; rows = n i; visits = o .visits; buffer = b i }
+
 -- what holds of each kind of outcome holds of all
 module _ (P : Outcome → Type 0) (lent : ℕ) (on-refusal : (code at visits : ℕ) → T (ofInput code) → P (refusal code at 0 visits lent))
-  (on-full : (list : List Row) (visits : ℕ) → P (refusal 40 0 (length list) visits lent))
-  (on-fit : (list : List Row) (visits : ℕ) → length list ≤ lent / 6 → P (acceptance lent list visits)) where
+    (on-full : (list : List Row) (visits : ℕ) → P (refusal 40 0 (length list) visits lent))
+    (on-fit : (list : List Row) (visits : ℕ) → length list ≤ lent / 6 → P (acceptance lent list visits)) where
   on-rows : (list : List Row) (visits : ℕ) → P (placed lent list visits)
   unfolding placed
   on-rows list visits = by (leb (length list) (lent / 6)) refl
@@ -102,6 +106,12 @@ module _ (words : List ℕ) (lent : ℕ) where
       every-outcome (λ o. o .code ≡ 0 → o .at ≡ 0) lent
       (λ code at visits h e. absurd (subst (λ (n : ℕ). T (ofInput n)) e h)) (λ list visits e. refl) (λ list visits h e. refl) words
 
+  pub accepted-fits : built words lent .code ≡ 0 → built words lent .rows * 6 ≤ lent
+  unfolding refusal
+  accepted-fits =
+      every-outcome (λ o. o .code ≡ 0 → o .rows * 6 ≤ lent) lent
+      (λ code at visits h e. absurd (subst (λ (n : ℕ). T (ofInput n)) e h)) (λ list visits e. absurd (omega (arith, e))) (λ list visits h e. omega (arith, h)) words
+
   pub buffer-length : length (built words lent .buffer) ≡ lent
   unfolding refusal
   buffer-length =
@@ -109,3 +119,17 @@ module _ (words : List ℕ) (lent : ℕ) where
       (λ code at visits h. length-replicate lent 0) (λ list visits. length-replicate lent 0)
       (λ list visits h. length-append (wordsOf list) (replicate (lent - length list * 6) 0)
       ∙ omega (arith, h, words-length list, length-replicate {A = ℕ} (lent - length list * 6) 0)) words
+
+  -- one equation for all that a refusal shows
+  pub refused-form : (built words lent .code ≡ 0 → ⊥)
+      → built words lent ≡ refusal (built words lent .code) (built words lent .at) (built words lent .rows) (built words lent .visits) lent
+  unfolding refusal
+  refused-form h = rw (sym (refused-zeros h))
+
+  -- and for all that an accepted build shows
+  pub accepted-form : built words lent .code ≡ 0
+      → (root : Statements) × (length (rows root) * 6 ≤ lent) × (built words lent ≡ acceptance lent (rows root) (built words lent .visits))
+  accepted-form h =
+      let a : Accepted words lent = accepted-of words lent h in
+      let list : List Row = rows (a .root .statements) in
+      (a .root .statements, omega (arith, accepted-fits h, a .number), outcome-same (built words lent) 0 0 (length list) _ h (accepted-at h) (a .number) (a .held))

@@ -62,7 +62,7 @@ abbrev table : (number : ℕ) → (blocks : List ℕ) → List ℕ
 table number blocks = 0 ∷ number ∷ 0 ∷ 0 ∷ 1 ∷ 1 ∷ blocks ++ 0 ∷ 1 ∷ []
 
 -- the table of the sample file
-abbrev file : List ℕ
+abbrev pub file : List ℕ
 file = table 1 (empty (Return 0) 7)
 
 abbrev W : List ℕ
@@ -128,10 +128,11 @@ abbrev refuses : (words : List ℕ) → (lent code at rows visits : ℕ) → Sam
 refuses words lent code at rows visits =
     record { words = words; lent = lent; outcome = record { code = code; at = at; rows = rows; visits = visits; buffer = replicate lent 0 } }
 
--- accepts: table, words lent, rows, visits. refuses: table, words lent, code, at, rows, visits
+-- accepts: table, words lent, rows, visits. refuses: table, words lent, code, at, rows, visits. The first is what treebuild prints: "It lends 2,048 rows"
 abbrev pub samples : List Sample
 samples =
-    accepts file 12 2 1 (RETURN 0 7 ++ BLOCK 1)
+    accepts file 12288 2 1 (RETURN 0 7 ++ BLOCK 1)
+    ∷ accepts file 12 2 1 (RETURN 0 7 ++ BLOCK 1)
     ∷ refuses file 11 40 0 2 1
     ∷ accepts W 36 6 4 (LOAD 0 ++ CONTINUE 3 3 0 ++ BLOCK 1 ++ WHILE 1 3 ++ RETURN 0 4 ++ BLOCK 2)
     ∷ accepts W-break 45 6 4 (LOAD 0 ++ BREAK 3 3 2 ++ BLOCK 1 ++ WHILE 1 3 ++ RETURN 0 4 ++ BLOCK 2)
@@ -157,3 +158,6 @@ unfolding word entryWord blockCount instructionCount caseCount placeCount identi
     traverseConsequent traverseEnclosed loopIsTaken traverseLoop visitUpdate casesLastFirst traverseCases unscheduleAll visitValueStatement visitTerminal
     instructionStatements thenNext visitBlock traverseBlock buildTree reported report refusal wordsOf placed outcomeOf afterCheck built
 the-samples = refl
+
+pub file-sample : built file 12288 ≡ accepts file 12288 2 1 (RETURN 0 7 ++ BLOCK 1) .outcome
+file-sample = let same = the-samples in cc
