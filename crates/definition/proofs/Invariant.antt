@@ -16,8 +16,8 @@ use Rattle.table.specs.Table.{isUnreachable, label}
 use Rattle.definition.specs.Build.{Report, report}
 use Rattle.definition.specs.Framed.{Below, isSwitch, Framed}
 use Rattle.definition.specs.Context.{getBreakTarget, getContinueTarget, Resolution, Flags, has, add, ControlFlowTarget, target-if, target-switch}
-use Rattle.definition.specs.Context.{target-case, Entry, Context, start, isScheduled, emit, withVisits, scheduleCatchHandler, markScopeFallthrough}
-use Rattle.definition.specs.Context.{pushed, schedule, target-loop, popped}
+use Rattle.definition.specs.Context.{target-case, target-loop, blockedCode, blockAsked, Entry, Context, start, isScheduled, emit, withVisits}
+use Rattle.definition.specs.Context.{scheduleCatchHandler, markScopeFallthrough, pushed, schedule, target-loop, popped}
 use Rattle.definition.specs.Machine.{Frame, State, visiting, ended, choosing, popping, Turn, going, halt, turn, leave, blockRow, valueOut, updateOut}
 use Rattle.definition.specs.Machine.{statementOut, jumpOut, added, instructionsOut, closingRow, scheduledIf, scheduledSwitch, unscheduledTop, unscheduled}
 use Rattle.definition.specs.Machine.{unscheduledIf, opens, frameOf, secondPart, withLeft, caseBuilt, into, intoLoop, closeBy, close, caseAt}
@@ -158,9 +158,9 @@ scheduled-held : (g : ControlFlowTarget) (c : Context) → Held c 1 (suc (length
 unfolding pushed
 scheduled-held g c = record { ids = omega arith; seen = refl; marked = refl; flags = refl; stack = refl }
 
-loop-held : (f k l : ℕ) (c : Context) → Good (Held c 1 (suc (length (c .stack)))) (schedule (target-loop f k l) c)
-unfolding schedule pushed
-loop-held f k l c = good-unless (Held c 1 (suc (length (c .stack)))) _ 15 k (c .visits) _ (λ h. record { ids = omega arith; seen = refl; marked = refl; flags = refl; stack = refl })
+schedule-held : (g : ControlFlowTarget) (c : Context) → Good (Held c 1 (suc (length (c .stack)))) (schedule g c)
+unfolding schedule
+schedule-held g c = good-unless (Held c 1 (suc (length (c .stack)))) _ (blockedCode g) (blockAsked g) (c .visits) _ (λ h. scheduled-held g c)
 
 if-held : (g : Option ℕ) (c : Context) → Held c 1 (opens g + length (c .stack)) (scheduledIf g c)
 if-held none c = record { ids = omega arith; seen = refl; marked = refl; flags = refl; stack = omega arith }
@@ -501,11 +501,11 @@ module _ (t : Table) (ck : Checked t) (d : ℕ) where
       at (if x y a g) q n = good-pick (Fit t p) (fr .second) _ _ (closed R c h) (good-pick (Fit t p) (eqb a g) _ _ (closed R c h) (into-again a 13 a (n .1)))
       at (branch x y a) q n = good-pick (Fit t p) (fr .second) _ _ (closed R c h) (into-again a 19 (fr .block) (n .1))
       at (switch x i m g) q n =
+          good-bind (Held c 1 (suc (length (c .stack)))) (Fit t p) _ _ (schedule-held (target-case (caseAt t (i + fr .left) .block)) c) (λ c₁ k.
           choose-fit t (caseBuilt fr)
-          (inside-held t c 1 (inside-out t (row 11 (caseAt t (i + fr .left) .test) 0 0 0 0 ∷ []) (fr .count) 3 h (omega arith) (omega (arith, h .tallied)))
-          (scheduled-held (target-case (caseAt t (i + fr .left) .block)) c) (omega arith) (omega (arith, h .stack)))
+          (inside-held t c 1 (inside-out t (row 11 (caseAt t (i + fr .left) .test) 0 0 0 0 ∷ []) (fr .count) 3 h (omega arith) (omega (arith, h .tallied))) k (omega arith) (omega (arith, h .stack)))
           (omega arith) (omega arith) refl (le-refl _) (omega arith) (ap isSwitch q)
-          (record { block = o .block; label = o .label; entries = omega (arith, o .entries); case = λ z. omega (arith, o .case z) }) f
+          (record { block = o .block; label = o .label; entries = omega (arith, o .entries); case = λ z. omega (arith, o .case z) }) f)
       at (do-while l x g) q n = good-bind (BlockTaken (c .visits)) (Fit t p) _ _ (values x none (blockAt t (fr .block) .span) (c .visits) (h .visits)) (λ w k.
           closed _ _ (inside-visited t (valueOut (w .value)) (w .visits) 4 h (k .0) (k .1) (omega (arith, value-out-size (w .value), k .0, k .2))))
       at (while x l g) q n = closed R c h
@@ -642,7 +642,7 @@ module _ (t : Table) (ck : Checked t) (d : ℕ) where
       where
         fits : numberOfCases t i k ≤ length (t .cases) - i → numberOfCases t i k < 1 + (length (t .cases) - switchColumns (terminalAt t b) .first)
         fits u = rw q (omega (arith, u))
-    terminal-fit (do-while l x g) q n = good-bind (Held c 1 (suc (length (c .stack)))) (Fit t p) _ _ (loop-held g x l c) (λ c₁ k. at c₁ k)
+    terminal-fit (do-while l x g) q n = good-bind (Held c 1 (suc (length (c .stack)))) (Fit t p) _ _ (schedule-held (target-loop g x l) c) (λ c₁ k. at c₁ k)
       where
         none-out : (c₁ : Context) → Good (Fit t p) (intoLoop b l (loopIsTaken c l g) (c₁ .visits) (frameOf b (unlessScheduled c g) 1 m) F (R ++ []) c₁)
             → Good (Fit t p) (intoLoop b l (loopIsTaken c l g) (c₁ .visits) (frameOf b (unlessScheduled c g) 1 m) F R c₁)
@@ -653,10 +653,10 @@ module _ (t : Table) (ck : Checked t) (d : ℕ) where
             none-out c₁ (loop-fit (unlessScheduled c g) l (loopIsTaken c l g) (c₁ .visits) [] c₁ k (taken-below c g (n .2)) (ap isSwitch q) (n .0) (le-refl _)
             (omega (arith, k .seen, h .visits)) (omega arith))
     terminal-fit (while x l g) q n = good-bind (Below (length (t .blocks))) (Fit t p) _ _ (reach-below c g (n .2)) (λ o k.
-        good-bind (Held c 1 (suc (length (c .stack)))) (Fit t p) _ _ (loop-held g x l c) (λ c₁ k₁.
+        good-bind (Held c 1 (suc (length (c .stack)))) (Fit t p) _ _ (schedule-held (target-loop g x l) c) (λ c₁ k₁.
         good-bind (BlockTaken (c₁ .visits)) (Fit t p) _ _ (values x none (blockAt t b .span) (c₁ .visits) (omega (arith, k₁ .seen, h .visits))) (λ w u.
         loop-fit o l _ (w .visits) (valueOut (w .value)) c₁ k₁ k (ap isSwitch q) (n .1) (u .0) (u .1) (omega (arith, value-out-size (w .value), u .0, u .2)))))
-    terminal-fit (for i x v l g) q n = good-bind (Held c 1 (suc (length (c .stack)))) (Fit t p) _ _ (loop-held g (continueBlockOf v x) l c) (λ c₁ k₁.
+    terminal-fit (for i x v l g) q n = good-bind (Held c 1 (suc (length (c .stack)))) (Fit t p) _ _ (schedule-held (target-loop g (continueBlockOf v x) l) c) (λ c₁ k₁.
         good-bind (BlockTaken (c₁ .visits)) (Fit t p) _ _ (values i none (blockAt t b .span) (c₁ .visits) (omega (arith, k₁ .seen, h .visits))) (λ w u.
         good-bind (BlockTaken (w .visits)) (Fit t p) _ _ (values x none (blockAt t b .span) (w .visits) (u .1)) (λ y u₁.
         good-bind (UpdateTaken (y .visits)) (Fit t p) _ _ (updates v (blockAt t b .span) (y .visits) (u₁ .1)) (λ z u₂.
@@ -684,7 +684,7 @@ module _ (t : Table) (ck : Checked t) (d : ℕ) where
         together A B C c₁ v w =
             subst (λ (z : List Row). Good (Fit t p) (intoLoop b l (loopIsTaken c l g) v (frameOf b (unlessScheduled c g) 1 m) F z c₁))
             (sym (append-assoc (R ++ A) B C ∙ append-assoc R A (B ++ C))) w
-    terminal-fit (for-of i x l g) q n = good-bind (Held c 1 (suc (length (c .stack)))) (Fit t p) _ _ (loop-held g i l c) (λ c₁ k₁.
+    terminal-fit (for-of i x l g) q n = good-bind (Held c 1 (suc (length (c .stack)))) (Fit t p) _ _ (schedule-held (target-loop g i l) c) (λ c₁ k₁.
         good-bind (BlockTaken (c₁ .visits)) (Fit t p) _ _ (values i none (blockAt t b .span) (c₁ .visits) (omega (arith, k₁ .seen, h .visits))) (λ w u.
         good-bind (BlockTaken (w .visits)) (Fit t p) _ _ (values x none (blockAt t b .span) (w .visits) (u .1)) (λ y u₁.
         together (valueOut (valueBlockResultToSequence t w (blockAt t b .span))) (valueOut (valueBlockResultToSequence t y (blockAt t b .span))) c₁ (y .visits)
@@ -707,7 +707,7 @@ module _ (t : Table) (ck : Checked t) (d : ℕ) where
         together : (A B : List Row) (c₁ : Context) (v : ℕ) → Good (Fit t p) (intoLoop b l (loopIsTaken c l g) v (frameOf b (unlessScheduled c g) 1 m) F (R ++ (A ++ B)) c₁)
             → Good (Fit t p) (intoLoop b l (loopIsTaken c l g) v (frameOf b (unlessScheduled c g) 1 m) F ((R ++ A) ++ B) c₁)
         together A B c₁ v w = subst (λ (z : List Row). Good (Fit t p) (intoLoop b l (loopIsTaken c l g) v (frameOf b (unlessScheduled c g) 1 m) F z c₁)) (sym (append-assoc R A B)) w
-    terminal-fit (for-in i l g) q n = good-bind (Held c 1 (suc (length (c .stack)))) (Fit t p) _ _ (loop-held g i l c) (λ c₁ k₁.
+    terminal-fit (for-in i l g) q n = good-bind (Held c 1 (suc (length (c .stack)))) (Fit t p) _ _ (schedule-held (target-loop g i l) c) (λ c₁ k₁.
         good-bind (BlockTaken (c₁ .visits)) (Fit t p) _ _ (values i none (blockAt t b .span) (c₁ .visits) (omega (arith, k₁ .seen, h .visits))) (λ w u.
         loop-fit (unlessScheduled c g) l (loopIsTaken c l g) (w .visits) (valueOut (valueBlockResultToSequence t w (blockAt t b .span))) c₁ k₁
         (taken-below c g (n .2)) (ap isSwitch q) (n .1) (u .0) (u .1)

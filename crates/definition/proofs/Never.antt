@@ -452,7 +452,15 @@ never-of-paper t code at visits e = never t code at visits (rejected-is (buildTr
 pub never-above : (t : Table) (code at visits : ℕ) → report t ≡ rejected code at visits → code ≤ 31
 never-above t code at visits e = of-paper code (never-of-paper t code at visits e)
 
--- "Four Rust messages never occur and are proved so". The fourth has no counterpart: a target's type is a constructor
+-- "Four Rust messages never occur and are proved so". An unknown target type: every target is one of the four
+pub target-known : (g : ControlFlowTarget)
+    → ((block : ℕ) × (g ≡ target-if block)) ⊎ (((block : ℕ) × (g ≡ target-switch block)) ⊎ (((block : ℕ) × (g ≡ target-case block))
+    ⊎ ((block continueBlock loopBlock : ℕ) × (g ≡ target-loop block continueBlock loopBlock))))
+target-known (target-if block) = inl (block, refl)
+target-known (target-switch block) = inr (inl (block, refl))
+target-known (target-case block) = inr (inr (inl (block, refl)))
+target-known (target-loop block continueBlock loopBlock) = inr (inr (inr (block, continueBlock, loopBlock, refl)))
+
 pub never-already-scheduled : (t : Table) (at visits : ℕ) → report t ≡ rejected alreadyScheduled at visits → ⊥
 never-already-scheduled t at visits e = omega (arith, never-above t alreadyScheduled at visits e)
 

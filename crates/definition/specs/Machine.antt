@@ -109,7 +109,7 @@ closingRowOf (scope pruned body fallthrough number) block second taken built = s
 abbrev pub closingRow : Table → (block : ℕ) → (second : Bool) → (label : Option ℕ) → (built : ℕ) → Row
 closingRow t block second taken built = closingRowOf (terminalAt t block) (blockAt t block) second taken built
 
--- ---- the control stack. The refusals 90 and 91 are not asked: they never occur
+-- ---- the control stack. A label is free where it is taken, so 90 is not asked of it; nor is 91: they never occur
 
 abbrev pub scheduledIf : Option ℕ → Context → Context
 scheduledIf none cx = cx
@@ -249,7 +249,8 @@ resumeAt t visit (branch test consequent alternate) block frame frames rows cx =
     ]
 resumeAt t visit (switch test first number fallthrough) block frame frames rows cx =
     let case : Case = caseAt t (first + frame .left) in
-    ok (choosing (caseBuilt frame) frames (rows ++ (row 11 (case .test) 0 0 0 0 ∷ [])) (pushed (target-case (case .block)) cx))
+    schedule (target-case (case .block)) cx >>= λ inside.
+    ok (choosing (caseBuilt frame) frames (rows ++ (row 11 (case .test) 0 0 0 0 ∷ [])) inside)
 resumeAt t visit (do-while loop test fallthrough) block frame frames rows cx =
     visit test none (block .span) (cx .visits) >>= λ tested. ok (close t frame frames (rows ++ valueOut (tested .value)) (withVisits (tested .visits) cx))
 resumeAt t visit (while test loop fallthrough) block frame frames rows cx = ok (close t frame frames rows cx)
