@@ -43,7 +43,7 @@ abbrev plainInstruction : (id : ℕ) → List ℕ
 plainInstruction id = id ∷ 0 ∷ 0 ∷ 0 ∷ 0 ∷ 0 ∷ []
 
 -- W: 0 While(1,2,3) id 1; 1 Branch(0,2,3) id 2; 2 Goto(1,Continue) id 3; 3 Return(0) id 4, with one, two, one and one instruction
-abbrev W : List ℕ
+abbrev pub W : List ℕ
 W =
     0 ∷ 4 ∷ 5 ∷ 0 ∷ 1 ∷ 1
     ∷ (blockRow 0 1 9 1 2 3 0 0 1
@@ -54,7 +54,7 @@ W =
 
 -- Two loops: 0 While(1,2,3); 1 Branch(0,2,3); 2 While(4,5,6); 4 Branch(0,5,6); 5 If(0,7,8,8): its consequent 7 goes on to the outer loop's
 -- test, 8 to the inner's; 6 Goto(1,Continue); 3 Throw(0) id 9. One instruction in each block but the last two
-abbrev loops : List ℕ
+abbrev pub loops : List ℕ
 loops =
     0 ∷ 9 ∷ 7 ∷ 0 ∷ 1 ∷ 1
     ∷ (blockRow 0 1 9 1 2 3 0 0 1
