@@ -8,6 +8,7 @@ pub mod long;
 pub mod mutate;
 pub mod plain;
 pub mod program;
+pub mod samples;
 pub mod shared;
 pub mod small;
 pub mod words;
