@@ -9,6 +9,7 @@ pub mod Ranged
 pub mod Checked
 pub mod Accepted
 pub mod Readings
+pub mod Crossed
 pub mod Formed
 pub mod Loops
 pub mod Semantics

@@ -1,7 +1,7 @@
 -- The tree that rows are read as. Rows write 65,535 for no label and nothing for an absent alternate, so that the tree has to be well-formed:
 -- then its rows are the rows of no other such tree (proofs/Readings).
 use mathlib.Core.Path.{_≡_}
-use Prim.Native.Nat.{ℕ, _<_, _*_}
+use Prim.Native.Nat.{ℕ, _≤_, _<_, _*_}
 use mathlib.Core.List.{List}
 use mathlib.Core.Option.{Option, none, some}
 use mathlib.Core.Bool.{Bool, true, false}
@@ -36,8 +36,8 @@ unfoldable mutual
   WellFormedStatement (SCOPE pruned scope body) = WellFormed body
   WellFormedStatement (RETURN value id) = Unit {0}
   WellFormedStatement (THROW value id) = Unit {0}
-  WellFormedStatement (BREAK target id kind) = Unit {0}
-  WellFormedStatement (CONTINUE target id kind) = Unit {0}
+  WellFormedStatement (BREAK target id kind loops) = loops ≤ 128
+  WellFormedStatement (CONTINUE target id kind loops) = loops ≤ 128
 
   pub WellFormed : Statements → Type 0
   WellFormed done = Unit {0}
