@@ -60,7 +60,7 @@ kindOf Labeled = labeled
 kindOf Unlabeled = unlabeled
 
 abbrev pub resolutionOf : Resolution → definition.Resolution
-resolutionOf resolution = record { target = resolution .target; kind = kindOf (resolution .kind) }
+resolutionOf resolution = record { target = resolution .target; kind = kindOf (resolution .kind); loops = resolution .loops }
 
 abbrev pub resolvedOf : Resolved → Option definition.Resolution
 resolvedOf Nothing = none

@@ -2,7 +2,7 @@ use mathlib.Core.Path.{_≡_, refl, sym, ap, _∙_}
 use mathlib.Core.Option.{some}
 use mathlib.Core.Bool.{Bool, true, false}
 use mathlib.Core.List.{List}
-use Prim.Native.Nat.{ℕ, _≤_}
+use Prim.Native.Nat.{ℕ, _+_, _≤_}
 use borrow.Author.Needs.{needs}
 use Rattle.definition.specs.Context.{continueTargetFrom, getContinueTarget}
 use Rattle.control.specs.declared.Entry.{Entry}
@@ -12,18 +12,20 @@ use Rattle.control.proofs.Context.get_continue_target.Statement.{statem
 use Rattle.control.proofs.Context.get_continue_target.Tie as tie
 
 -- the entries below `at` give what all give
-record Searched (block : ℕ) (entries : List Entry) (len at : ℕ) (top above : Bool) : Type 0 where
+record Searched (block : ℕ) (entries : List Entry) (len at : ℕ) (top : Bool) (above : ℕ) : Type 0 where
   small : at ≤ 1152
-  rest : continueTargetFrom (stackOf entries len) block true false ≡ continueTargetFrom (stackOf entries at) block top above
+  few : above + at ≤ len
+  most : len ≤ 1152
+  rest : continueTargetFrom (stackOf entries len) block true 0 ≡ continueTargetFrom (stackOf entries at) block top above
 
 abbrev Inv-loop : tie.InvT-loop
-Inv-loop block self at₀ top₀ has-preceding-loop₀ at top has-preceding-loop = Searched block (self .stack) (self .len) at top has-preceding-loop
+Inv-loop block self at₀ top₀ loops₀ at top loops = Searched block (self .stack) (self .len) at top loops
 
 abbrev μ-loop : tie.MeasureT-loop
-μ-loop block self at₀ top₀ has-preceding-loop₀ at top has-preceding-loop = at
+μ-loop block self at₀ top₀ loops₀ at top loops = at
 
 loop-holds : tie.Need-loop-holds Inv-loop μ-loop
-loop-holds c = record { small = search needs; rest = refl }
+loop-holds c = record { small = search needs; few = search needs; most = search needs; rest = refl }
 
 sub-at : tie.Need-sub-at Inv-loop μ-loop
 sub-at c = search needs
@@ -40,8 +42,8 @@ continues-at-requires c κs = search needs
 continue-to-requires : tie.Need-continue-to-requires Inv-loop μ-loop
 continue-to-requires c κs = search needs
 
-or-loop-requires : tie.Need-or-loop-requires Inv-loop μ-loop
-or-loop-requires c κs = search needs
+count-loop-requires : tie.Need-count-loop-requires Inv-loop μ-loop
+count-loop-requires c κs = search needs
 
 loop-less : tie.Need-loop-less Inv-loop μ-loop
 loop-less c = search needs
@@ -50,7 +52,7 @@ loop-again : tie.Need-loop-again Inv-loop μ-loop
 loop-again c =
     let at-test = c .before .before in
     let at-loop = at-test .before .before .before in
-    record { small = search needs; rest = at-loop .loop .inv .rest ∙ rw (c .or-loop .ensures) (continue-missed _ _ _ _ _ (at-test .before .before .if1 .left) (sym (at-test .continues-at .ensures) ∙ c .before .if2 .left)) }
+    record { small = search needs; few = search needs; most = at-loop .loop .inv .most; rest = at-loop .loop .inv .rest ∙ rw (c .count-loop .ensures .0) (continue-missed _ _ _ _ _ (at-test .before .before .if1 .left) (sym (at-test .continues-at .ensures) ∙ c .before .if2 .left)) }
 
 returns : tie.Need-returns Inv-loop μ-loop
 unfolding getContinueTarget contextOf
@@ -75,7 +77,7 @@ get-continue-target-spec =
     element-copy-out-entry
     continues-at-requires
     continue-to-requires
-    or-loop-requires
+    count-loop-requires
     loop-less
     loop-again
     returns
