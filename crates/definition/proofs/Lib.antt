@@ -17,6 +17,7 @@ pub mod Resolve
 pub mod State
 pub mod Structure
 pub mod Law
+pub mod JumpRows
 pub mod PlainTest
 pub mod Example
 pub mod Samples
