@@ -165,7 +165,7 @@ pub fn walk(words: &[u32], tree: &mut [u32]) -> Walked
             let entry = cx.stack[at];
             let target = entry.target;
             if meets(jump, target) {
-                break resolve(jump, target, top, loops);
+                break resolve(jump, entry, top, loops);
             }
             loops = count_loop(loops, target);
             top = false;
