@@ -2,7 +2,8 @@
 
 use std::ffi::c_uint;
 
-/// Words in a row of the tree: op, a, b, c, d, e.
+/// Words in a row of the tree: op, a, b, c, d, e. In a BREAK (24) and a CONTINUE (25) d is the number of
+/// loops that the jump leaves before its target, at most 128.
 pub const ROW_WORDS: usize = 6;
 
 /// Code (0 accepted), at, rows and visits.
