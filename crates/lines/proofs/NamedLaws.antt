@@ -73,6 +73,10 @@ module _ {ws : List ℕ} {row : ℕ} {named : Named} (p : Promise ws) (h : Names
   pub lines-count : length (namedAt (tableOf ws) row) ≡ named .cases + named .count
   lines-count = rw (h .are) (simp (length-append, length-rows) (ap (λ (n : ℕ). named .cases + n) (length-take-le (named .count) (named .blocks) (omega (arith, h .few, h .five)))))
 
+  -- and they are at most 1,029
+  pub few-lines : named .cases + named .count ≤ 1029
+  few-lines = omega (arith, h .within, h .few, p .sized .limited .cases)
+
   pub target-case : (k : ℕ) {test block : ℕ} → k < named .cases → Chooses ws (named .«first_case» + k) test block → Target ws row k block
   target-case k below chosen = record {
     is = rw (h .are) (List·getD-append (caseBlocks rows) _ 0 k (rw length-rows below) ∙ case-block rows k ∙ rw (getD-take (named .cases) _ k beyond below, getD-drop, chosen .is beyond));
