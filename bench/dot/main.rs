@@ -16,6 +16,7 @@ fn proved(words: &[u32], text: &mut [u8]) -> (u32, usize) {
 
 const BLOCKS: usize = 1024;
 const CASES: usize = 1024;
+// Words of a block's row.
 const BLOCK: usize = 10;
 
 // What a plain engineer would write, given a table whose blocks are all Switches: a number by its digits, pushed one by one.
@@ -100,11 +101,12 @@ fn main() {
     let lines = expected.iter().filter(|byte| **byte == b'\n').count() - 2;
     println!("{lines} lines, {} bytes", expected.len());
 
-    let a = least(|| drop(black_box(proved(black_box(&words), &mut text))));
+    let draw = |text: &mut [u8]| _ = black_box(proved(black_box(&words), text));
+    let a = least(|| draw(&mut text));
     let b = least(|| plain(black_box(&words), black_box(&mut expected)));
     let c = least(|| formatted(black_box(&words), black_box(&mut expected)));
     println!("proved {a:.2} ms; plain Rust, by hand {b:.2} ms ({:.2} times); with writeln! {c:.2} ms ({:.2} times)", a / b, a / c);
     let short = text.len() - 1;
-    let d = least(|| drop(black_box(proved(black_box(&words), &mut text[..short]))));
+    let d = least(|| draw(&mut text[..short]));
     println!("a byte too few lent (44): {d:.2} ms");
 }

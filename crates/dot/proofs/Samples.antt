@@ -82,7 +82,7 @@ pub the-samples : map (λ sample. graphText (sample .table)) samples ≡ map (λ
 unfolding digitsOf decimal namedBy linesFrom lines lineText linesText graphText
 the-samples = refl
 
--- 74 bytes are enough for W, and 73 are not
+-- W has 74 bytes, and a zero after them where more are lent; 73 are not enough
 pub W-fits : placed 75 (graphText W) ≡ record { code = 0; at = 0; length = 74; buffer = graphText W ++ (0 ∷ []) }
 unfolding digitsOf decimal namedBy linesFrom lines lineText linesText graphText placed
 W-fits = refl

@@ -1,13 +1,10 @@
-// The lines of a table, row by row.
+// The lines of a table, row by row. Bounds for the sums: 28 bytes a line (numbers of ten digits), 1,029 lines a row, 1,024 rows.
 use crate::write::write_bytes;
 use crate::write::write_line;
-use lines::Named;
 use lines::named_at;
 use lines::target;
 use table::words::block_count;
-ghost use mathlib.Core.Path.{_≡_};
-ghost use Prim.Native.Nat.{_+_, _*_, _^_, _<_, _≤_};
-ghost use lib.ListN.{length};
+ghost use Prim.Native.Nat.{_+_, _^_, _<_, _≤_};
 ghost use Rattle.table.specs.Words.{blockCount};
 ghost use Rattle.table.specs.Table.{tableOf};
 ghost use Rattle.table.specs.Promise.{Promise};

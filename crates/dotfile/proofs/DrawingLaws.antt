@@ -2,11 +2,11 @@
 use Prim.Native.Nat.{ℕ, _-_, _^_, _≤_, _<_}
 use mathlib.Core.Path.{_≡_, refl, sym, ap, _∙_}
 use mathlib.Core.Bool.{Bool, true, false}
-use mathlib.Core.List.{List, [], _∷_, _++_}
+use mathlib.Core.List.{List, []}
 use native.Mathlib.Omega.{arith}
 use native.Mathlib.Nat.{sub-zero}
 use lib.Dec.{leb}
-use lib.ListN.{length, take, replicate}
+use lib.ListN.{length, take}
 use lib.Seq.{take-at}
 use borrow.Author.Tests.{leb-true, le-leb, eq-eqb, ne-eqb}
 use Rattle.table.specs.Check.{Verdict, accepted, refused, checked}

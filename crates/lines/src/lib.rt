@@ -20,13 +20,10 @@ use table::terminals::ternary_at;
 use table::terminals::try_at;
 use table::terminals::while_at;
 ghost use mathlib.Core.Path.{_≡_};
-ghost use mathlib.Core.List.{[], _∷_};
 ghost use Prim.Native.Nat.{_+_, _<_};
-ghost use lib.ListN.{getD};
 ghost use Rattle.table.specs.Words.{blockCount};
-ghost use Rattle.table.specs.Table.{tableOf, unlessNone};
+ghost use Rattle.table.specs.Table.{unlessNone};
 ghost use Rattle.table.specs.Promise.{Promise};
-ghost use Rattle.lines.specs.Lines.{namedAt, unlessNo};
 ghost use Rattle.lines.specs.Named.{Names, Target, noCase, casesThen, forNames};
 
 // Those of the case rows from `first_case` on, then the first `count` blocks.
@@ -80,6 +77,7 @@ fn for_names(end: For) -> Named
     )
 }
 
+// An arm for each of the 22 codes, so longer than other functions: each reads its terminal and lists the blocks.
 pub fn named_at(words: &[u32], row: u32) -> Named
     requires { ⌜ Promise (now words) ⌝ }
     requires { ⌜ row < blockCount (now words) ⌝ }
