@@ -1,5 +1,8 @@
 //! `build_reactive_function`, proved, from Rust.
 
+#[cfg(feature = "dot")]
+pub mod dot;
+
 use std::ffi::c_uint;
 
 /// Words in a row of the tree: op, a, b, c, d, e. In a BREAK (24) and a CONTINUE (25) d is the number of

@@ -3,6 +3,7 @@
 pub mod corners;
 pub mod draft;
 pub mod files;
+pub mod graphs;
 pub mod limits;
 pub mod long;
 pub mod mutate;
