@@ -11,7 +11,7 @@ use lib.ListN.{length, getD, set}
 use lib.Seq.{getD-set-same, getD-set-other}
 use native.Mathlib.Decide.{ℕ-discrete}
 use borrow.Author.Tests.{eq-eqb, ne-eqb, eqb-true, eqb-false}
-use Rattle.table.specs.Words.{blockCount, placeCount, caseCount, blockWord}
+use Rattle.table.specs.Words.{blockCount, placeCount, caseCount, blockWord, codeAt}
 use Rattle.table.specs.Promise.{Promise, InRange, BelowUnlessNone, Ends}
 use Rattle.table.specs.Table.{Table, Block, Terminal, absent, unreachable, throw, return, goto, if, branch, switch, do-while, while, for, for-of, for-in, logical, ternary, optional, label, sequence, maybe-throw, try, scope, tableOf, terminalOf, terminalAt, blockAt, unlessNone}
 use Rattle.table.proofs.RangeLaws.{in-range}
@@ -46,7 +46,7 @@ use Rattle.planner.specs.Planned.{Seen, NamedChange, Fitting, PlannedBar
 use Rattle.planner.specs.Loops.{PlannedRows, Made, plainMade, flatMade, testedValues, forValues, forOfValues, noneMade, valueMade, plainForm, flatForm, updateMade, testedMade, forMade, forOfMade, noValues, valuesOf, Makes, Spent, MakesMore, MakesTested, loopTurn, afterValues, enteringBody, enteringLoop, loopTaken, continuesAt, valueFallthrough, brieflyIf}
 use Rattle.planner.proofs.PlanLaws.{within-all, refuse-applied, leave-applied, leave-nested, nest-applied, Label, label-taken, label-below, label-briefly}
 use Rattle.planner.proofs.StepLaws.{label-scheduled, seen-scheduled, turn-refused, turn-ok}
-use Rattle.planner.proofs.VisitLaws.{bare-planned, step-by, few-blocks, ranges, reach-same, reached-missing}
+use Rattle.planner.proofs.VisitLaws.{bare-planned, step-by, few-blocks, ranges, reach-same, reached-missing, Takes}
 
 no-some : {f : ℕ} → _≡_ {A = Option ℕ} none (some f) → ⊥
 no-some q = let o : _≡_ {A = ℕ} 0 1 = cc in omega arith
@@ -395,9 +395,9 @@ module _ (w : List ℕ) (S H : Flags) (p : Position) (en : Entered w p) where
   while-turns c l f n q h z o F R C seen = ap turn (step-by w p (while c l f) F R C q ∙ while-asks c l f F R C)
       ∙ reach-same w S H p (en .promise) f n h (few-blocks w (en .promise) f h) z o (λ taken. loopTurn (p .block) f c l taken (p .count) (λ v. valueMade visit plainForm c span (noneMade v)) F R C) C seen
 
-  while-unreached : (c l f : ℕ) (plan : Plan) → Is (while c l f) → f < blockCount w → blockWord w f 2 ≡ 0 → plan ≡ refusing p 10 f → PlannedBare w S H p plan
-  while-unreached c l f plan q h z r =
-      reached-missing w S H p en (while c l f) f (λ F R C taken. loopTurn (p .block) f c l taken (p .count) (λ v. valueMade visit plainForm c span (noneMade v)) F R C) f plan q (while-asks c l f) h refl z r
+  while-unreached : (c l f : ℕ) (plan : Plan) → Ends w (p .block) (while c l f) → codeAt w f ≡ 0 → plan ≡ refusing p 10 f → PlannedBare w S H p plan
+  while-unreached c l f plan ends z r =
+      reached-missing w S H p en (while c l f) f (λ F R C taken. loopTurn (p .block) f c l taken (p .count) (λ v. valueMade visit plainForm c span (noneMade v)) F R C) ends (while-asks c l f) (ends .named .2) plan z r
 
 -- ---- a For's update, as its code reads it
 
@@ -433,9 +433,6 @@ module _ {w : List ℕ} {block init test : ℕ} (update : ℕ) {l f : ℕ} (ends
 abbrev Enters : Flags → Flags → Position → Values → Plan → (f n c l : ℕ) → Type 0
 Enters S H p r plan f n c l = plan ≡ enteringLoop (eqb (r .code) 0) (loopTaken S H l f) p r (blocksOf f n c l)
 
-abbrev Takes : Flags → Flags → (f n : ℕ) → Type 0
-Takes S H f n = n ≡ unlessTaken (has S f || has H f) f
-
 module _ {w : List ℕ} {S H : Flags} {p : Position} {plan : Plan} (en : Entered w p) where
   module _ {l c f : ℕ} (ends : Ends w (p .block) (do-while l c f)) {scheduled : Bool} (asked : scheduled ≡ continueScheduled S f c) where
     pub do-while-refused : scheduled ≡ true → plan ≡ refusing p 15 c → PlannedBare w S H p plan
@@ -449,7 +446,7 @@ module _ {w : List ℕ} {S H : Flags} {p : Position} {plan : Plan} (en : Entered
 
   module _ {c l f kind : ℕ} (ends : Ends w (p .block) (while c l f)) (reached : kind ≡ blockWord w f 2) where
     pub while-missing : kind ≡ 0 → plan ≡ refusing p 10 f → PlannedBare w S H p plan
-    while-missing z q = while-unreached w S H p en c l f plan (ends .is) (ends .named .2) (sym reached ∙ z) q
+    while-missing z q = while-unreached w S H p en c l f plan ends (sym reached ∙ z) q
 
     pub while-refused : {scheduled : Bool} → (kind ≡ 0 → ⊥) → scheduled ≡ continueScheduled S f c → scheduled ≡ true → plan ≡ refusing p 15 c → PlannedBare w S H p plan
     while-refused z asked t q = loop-refused w S H p en f c l _ _ plan (while-turns w S H p en c l f _ (ends .is) (ends .named .2) (λ y. z (reached ∙ y)) refl) (ends .named .2) (sym asked ∙ t) q

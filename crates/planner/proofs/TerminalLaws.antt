@@ -229,30 +229,16 @@ module _ (w : List ℕ) (E S H Z : Flags) (p : Position) (found : Resolved) (her
             sees : (C : definition.Context) → On C → AtTerminal w S H Z q found (emit b (withVisits (suc (C .visits)) C))
             sees C o = entered-sees q C o (next-visit C q o ev) eb
 
--- ---- codes from 20 on
+-- ---- none of the 22 codes
 
-pub twenty : (n : ℕ) → (n ≡ 0 → ⊥) → (n ≡ 1 → ⊥) → (n ≡ 2 → ⊥) → (n ≡ 3 → ⊥) → (n ≡ 4 → ⊥) → (n ≡ 5 → ⊥) → (n ≡ 6 → ⊥) → (n ≡ 7 → ⊥) → (n ≡ 8 → ⊥) → (n ≡ 9 → ⊥) → (n ≡ 10 → ⊥) → (n ≡ 11 → ⊥) → (n ≡ 12 → ⊥) → (n ≡ 13 → ⊥) → (n ≡ 14 → ⊥) → (n ≡ 15 → ⊥) → (n ≡ 16 → ⊥) → (n ≡ 17 → ⊥) → (n ≡ 18 → ⊥) → (n ≡ 19 → ⊥) → 20 ≤ n
-twenty zero f0 f1 f2 f3 f4 f5 f6 f7 f8 f9 f10 f11 f12 f13 f14 f15 f16 f17 f18 f19 = absurd (f0 refl)
-twenty (suc (zero)) f0 f1 f2 f3 f4 f5 f6 f7 f8 f9 f10 f11 f12 f13 f14 f15 f16 f17 f18 f19 = absurd (f1 refl)
-twenty (suc (suc (zero))) f0 f1 f2 f3 f4 f5 f6 f7 f8 f9 f10 f11 f12 f13 f14 f15 f16 f17 f18 f19 = absurd (f2 refl)
-twenty (suc (suc (suc (zero)))) f0 f1 f2 f3 f4 f5 f6 f7 f8 f9 f10 f11 f12 f13 f14 f15 f16 f17 f18 f19 = absurd (f3 refl)
-twenty (suc (suc (suc (suc (zero))))) f0 f1 f2 f3 f4 f5 f6 f7 f8 f9 f10 f11 f12 f13 f14 f15 f16 f17 f18 f19 = absurd (f4 refl)
-twenty (suc (suc (suc (suc (suc (zero)))))) f0 f1 f2 f3 f4 f5 f6 f7 f8 f9 f10 f11 f12 f13 f14 f15 f16 f17 f18 f19 = absurd (f5 refl)
-twenty (suc (suc (suc (suc (suc (suc (zero))))))) f0 f1 f2 f3 f4 f5 f6 f7 f8 f9 f10 f11 f12 f13 f14 f15 f16 f17 f18 f19 = absurd (f6 refl)
-twenty (suc (suc (suc (suc (suc (suc (suc (zero)))))))) f0 f1 f2 f3 f4 f5 f6 f7 f8 f9 f10 f11 f12 f13 f14 f15 f16 f17 f18 f19 = absurd (f7 refl)
-twenty (suc (suc (suc (suc (suc (suc (suc (suc (zero))))))))) f0 f1 f2 f3 f4 f5 f6 f7 f8 f9 f10 f11 f12 f13 f14 f15 f16 f17 f18 f19 = absurd (f8 refl)
-twenty (suc (suc (suc (suc (suc (suc (suc (suc (suc (zero)))))))))) f0 f1 f2 f3 f4 f5 f6 f7 f8 f9 f10 f11 f12 f13 f14 f15 f16 f17 f18 f19 = absurd (f9 refl)
-twenty (suc (suc (suc (suc (suc (suc (suc (suc (suc (suc (zero))))))))))) f0 f1 f2 f3 f4 f5 f6 f7 f8 f9 f10 f11 f12 f13 f14 f15 f16 f17 f18 f19 = absurd (f10 refl)
-twenty (suc (suc (suc (suc (suc (suc (suc (suc (suc (suc (suc (zero)))))))))))) f0 f1 f2 f3 f4 f5 f6 f7 f8 f9 f10 f11 f12 f13 f14 f15 f16 f17 f18 f19 = absurd (f11 refl)
-twenty (suc (suc (suc (suc (suc (suc (suc (suc (suc (suc (suc (suc (zero))))))))))))) f0 f1 f2 f3 f4 f5 f6 f7 f8 f9 f10 f11 f12 f13 f14 f15 f16 f17 f18 f19 = absurd (f12 refl)
-twenty (suc (suc (suc (suc (suc (suc (suc (suc (suc (suc (suc (suc (suc (zero)))))))))))))) f0 f1 f2 f3 f4 f5 f6 f7 f8 f9 f10 f11 f12 f13 f14 f15 f16 f17 f18 f19 = absurd (f13 refl)
-twenty (suc (suc (suc (suc (suc (suc (suc (suc (suc (suc (suc (suc (suc (suc (zero))))))))))))))) f0 f1 f2 f3 f4 f5 f6 f7 f8 f9 f10 f11 f12 f13 f14 f15 f16 f17 f18 f19 = absurd (f14 refl)
-twenty (suc (suc (suc (suc (suc (suc (suc (suc (suc (suc (suc (suc (suc (suc (suc (zero)))))))))))))))) f0 f1 f2 f3 f4 f5 f6 f7 f8 f9 f10 f11 f12 f13 f14 f15 f16 f17 f18 f19 = absurd (f15 refl)
-twenty (suc (suc (suc (suc (suc (suc (suc (suc (suc (suc (suc (suc (suc (suc (suc (suc (zero))))))))))))))))) f0 f1 f2 f3 f4 f5 f6 f7 f8 f9 f10 f11 f12 f13 f14 f15 f16 f17 f18 f19 = absurd (f16 refl)
-twenty (suc (suc (suc (suc (suc (suc (suc (suc (suc (suc (suc (suc (suc (suc (suc (suc (suc (zero)))))))))))))))))) f0 f1 f2 f3 f4 f5 f6 f7 f8 f9 f10 f11 f12 f13 f14 f15 f16 f17 f18 f19 = absurd (f17 refl)
-twenty (suc (suc (suc (suc (suc (suc (suc (suc (suc (suc (suc (suc (suc (suc (suc (suc (suc (suc (zero))))))))))))))))))) f0 f1 f2 f3 f4 f5 f6 f7 f8 f9 f10 f11 f12 f13 f14 f15 f16 f17 f18 f19 = absurd (f18 refl)
-twenty (suc (suc (suc (suc (suc (suc (suc (suc (suc (suc (suc (suc (suc (suc (suc (suc (suc (suc (suc (zero)))))))))))))))))))) f0 f1 f2 f3 f4 f5 f6 f7 f8 f9 f10 f11 f12 f13 f14 f15 f16 f17 f18 f19 = absurd (f19 refl)
-twenty (suc (suc (suc (suc (suc (suc (suc (suc (suc (suc (suc (suc (suc (suc (suc (suc (suc (suc (suc (suc (n))))))))))))))))))))) f0 f1 f2 f3 f4 f5 f6 f7 f8 f9 f10 f11 f12 f13 f14 f15 f16 f17 f18 f19 = omega arith
+-- a number that is none of the first k, as a match over them says it
+abbrev pub Missed : ℕ → ℕ → Type 0
+Missed zero n = Unit {0}
+Missed (suc k) n = Missed k n × (n ≡ k → ⊥)
+
+pub missed-past : (k n : ℕ) → Missed k n → k ≤ n
+missed-past zero n h = omega arith
+missed-past (suc k) n (h, g) = omega (arith, missed-past k n h, g)
 
 pub visits-ready : (w : List ℕ) (p : Position) (frame : Frame) → Ready w p frame → p .stage ≡ Visit → Visits w p
 visits-ready w p frame ready e =

@@ -1,5 +1,5 @@
 use Rattle.planner.proofs.LoopLaws.{fallthrough-below, value-statement-refused, value-statement-left}
-use Rattle.planner.proofs.VisitLaws.{few-blocks, taken-most}
+use Rattle.planner.proofs.VisitLaws.{few-blocks, takes-most}
 use native.Mathlib.Omega.{arith}
 use borrow.Author.Needs.{needs}
 use Rattle.planner.proofs.loops.visit_value.Statement.{statement}
@@ -61,7 +61,7 @@ schedule-briefly-requires c κs =
     let start : tie.Start = search in
     let below = fallthrough-below (start .args .words .now) (start .args .scheduled .now) (start .args .catch-handlers .now) (start .args .p) (start .pre .0) _ (start .pre .1 .1) in
     let few = few-blocks (start .args .words .now) (start .pre .0 .promise) (at-block-word .block-word .result) (rw (at-block-word .block-word .ensures) below) in
-    taken-most _ _ _ _ (at-unless-scheduled .unless-scheduled .ensures) few
+    takes-most (start .args .scheduled .now) (start .args .catch-handlers .now) (at-block-word .block-word .result) (at-unless-scheduled .unless-scheduled .ensures) few
 
 leave-requires : tie.Need-leave-requires
 leave-requires c κs = search needs
