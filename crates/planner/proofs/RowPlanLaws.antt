@@ -59,9 +59,14 @@ unfolding markScopeFallthroughIf
 scope-visits none C = refl
 scope-visits (some f) C = unfold pushed markScopeFallthrough in refl
 
-refused-applied : (plan : Plan) (F : List machine.Frame) (R : List Row) (C : definition.Context) → (plan .code ≡ 0 → ⊥) → applied plan F R C ≡ halt (rejected (plan .code) (plan .at) (plan .position .visits))
+refused-applied : (plan : Plan) (F : List machine.Frame) (R : List Row) (C : definition.Context) → (plan .code ≡ 0 → ⊥)
+    → applied plan F R C ≡ halt (rejected (plan .code) (plan .at) (plan .position .visits))
 unfolding applied
-refused-applied plan F R C h = ap (λ (y : Bool). elim y [ true ↦ onward (plan .position .stage) plan F R (contextAfter plan C) | false ↦ halt (rejected (plan .code) (plan .at) (plan .position .visits)) ]) (ne-eqb (plan .code) 0 h)
+refused-applied plan F R C h =
+    ap (λ (y : Bool). elim y [
+      | true ↦ onward (plan .position .stage) plan F R (contextAfter plan C)
+      | false ↦ halt (rejected (plan .code) (plan .at) (plan .position .visits))
+    ]) (ne-eqb (plan .code) 0 h)
 
 module _ (w : List ℕ) (S H : Flags) (p : Position) (en : Entered w p) (pruned : Bool) (x f s n : ℕ) (ends : Ends w (p .block) (scope pruned x f s)) (takes : Takes S H f n) where
   few : (x < 1024) × (f < 1024)
@@ -85,20 +90,23 @@ module _ (w : List ℕ) (S H : Flags) (p : Position) (en : Entered w p) (pruned 
   fits false z = record { change = named-if n l; handler = rw no-number tt; scope = label-in n l; deep = λ _. omega arith; next = omega arith; nested = tt }
 
   scoped-by : (F : List machine.Frame) (R : List Row) (C : definition.Context) → length F ≡ p .depth → Seen S H (p .visits) C → (b : Bool) → eqb x n || (has S x || has H x) ≡ b
-      → turn (into x 18 (p .block) (machine.frameOf (p .block) (unlessNone n) (opens (unlessNone n)) (p .count)) F R (markScopeFallthroughIf (unlessNone n) (scheduledIf (unlessNone n) C))) ≡ applied (E b) F R C
+      → turn (into x 18 (p .block) (machine.frameOf (p .block) (unlessNone n) (opens (unlessNone n)) (p .count)) F R
+      (markScopeFallthroughIf (unlessNone n) (scheduledIf (unlessNone n) C))) ≡ applied (E b) F R C
   scoped-by F R C d seen true o =
       ap turn (into-busy x 18 (p .block) _ F R _ (scope-busy (unlessNone n) (unlessNone n) C x ∙ busy-with S H (p .visits) n x C l (few .0) seen ∙ o)) ∙ turn-refused 18 (p .block) _
       ∙ ap (λ (v : ℕ). halt (rejected 18 (p .block) v)) (scope-visits (unlessNone n) C ∙ seen .visits) ∙ sym (refused-applied (E true) F R C (λ z. omega arith))
   scoped-by F R C d seen false o =
       ap turn (into-free x 18 (p .block) _ F R _ (scope-busy (unlessNone n) (unlessNone n) C x ∙ busy-with S H (p .visits) n x C l (few .0) seen ∙ o)) ∙ turn-ok _
-      ∙ sym (nest-applied x (openFrame p n (entriesIf (eqb n 65535))) (p .depth + 1) (p .rows) (p .visits) 65535 n (scheduleIf (eqb n 65535) n) F R C (markScopeFallthroughIf (unlessNone n) (scheduledIf (unlessNone n) C))
+      ∙ sym (nest-applied x (openFrame p n (entriesIf (eqb n 65535))) (p .depth + 1) (p .rows) (p .visits) 65535 n (scheduleIf (eqb n 65535) n) F R C
+      (markScopeFallthroughIf (unlessNone n) (scheduledIf (unlessNone n) C))
       (rw (no-number, visits-same (p .visits) C (seen .visits), scope-moved (unlessNone n) C) (label-if l (scoped (unlessNone n) C) (scope-seen (unlessNone n) C ∙ seen .scheduled)))
       ∙ rw (label-entries n, within-all (p .depth + 1 - 1) F (omega (arith, d))))
 
   abbrev busy-now : Bool
   busy-now = eqb x n || (has S x || has H x)
 
-  scope-enclosed : (plan : Plan) {busy : Bool} {inner : Plan} → busy ≡ has S x || has H x → inner ≡ enclosing (scheduledWith busy n x) p n x 18 (p .block) → plan ≡ withScope inner n → PlannedBare w S H p plan
+  scope-enclosed : (plan : Plan) {busy : Bool} {inner : Plan} → busy ≡ has S x || has H x → inner ≡ enclosing (scheduledWith busy n x) p n x 18 (p .block)
+      → plan ≡ withScope inner n → PlannedBare w S H p plan
   unfolding terminalTurn
   scope-enclosed plan b i e = rw (e, i, b) (bare-planned w S H p (E busy-now) (rows busy-now) (λ F R C d seen. ap turn (step-by w p _ F R C (ends .is))
       ∙ ap (λ (g : Option ℕ). turn (into x 18 (p .block) (machine.frameOf (p .block) g (opens g) (p .count)) F R (markScopeFallthroughIf g (scheduledIf g C)))) (label-is C seen)
@@ -106,7 +114,8 @@ module _ (w : List ℕ) (S H : Flags) (p : Position) (en : Entered w p) (pruned 
 
 -- what the code of a scope returns
 module _ {w : List ℕ} {S H : Flags} {p : Position} {plan : Plan} (en : Entered w p) {pruned : Bool} {x f s : ℕ} (ends : Ends w (p .block) (scope pruned x f s)) where
-  pub scope-nested : {n : ℕ} {busy : Bool} {inner : Plan} → Takes S H f n → busy ≡ has S x || has H x → inner ≡ enclosing (scheduledWith busy n x) p n x 18 (p .block) → plan ≡ withScope inner n → PlannedBare w S H p plan
+  pub scope-nested : {n : ℕ} {busy : Bool} {inner : Plan} → Takes S H f n → busy ≡ has S x || has H x
+      → inner ≡ enclosing (scheduledWith busy n x) p n x 18 (p .block) → plan ≡ withScope inner n → PlannedBare w S H p plan
   scope-nested {n} takes b i e = scope-enclosed w S H p en pruned x f s n ends takes plan b i e
 
 -- ---- Throw and Return
@@ -120,7 +129,10 @@ pub left-planned : (w : List ℕ) (p : Position) (out : List Row) (b b′ : List
 left-planned w p out b b′ rows′ count′ plan held same e = subst (λ (z : Plan). Planned (terminalStep w p) (λ C. C .visits ≡ p .visits) [] (p .depth) (p .rows) b z b′) (sym e) (record {
   out = out;
   held = λ _ before h. held before h;
-  same = λ F R C d v. ap turn (same F R C d v) ∙ turn-ok _ ∙ sym (leave-applied 65535 (p .depth) count′ rows′ (p .visits) Nothing F (R ++ out) C _ refl ∙ rw (no-number, visits-same (p .visits) C v, within-all (p .depth) F d));
+  same =
+      λ F R C d v. ap turn (same F R C d v) ∙ turn-ok _ ∙ sym
+      (leave-applied 65535 (p .depth) count′ rows′ (p .visits) Nothing F (R ++ out) C _ refl ∙ rw
+      (no-number, visits-same (p .visits) C v, within-all (p .depth) F d));
   fitting = λ _. record { change = tt; handler = rw no-number tt; scope = rw no-number tt; deep = λ z. absurd (let o : _≡_ {A = ℕ} 0 1 = cc in omega arith); next = omega arith; nested = tt };
 })
 

@@ -29,7 +29,8 @@ use Rattle.planner.specs.declared.plan.Change.the-variants.{Nothing}
 use Rattle.planner.specs.declared.plan.Plan.{Plan}
 use Rattle.planner.specs.Plans.{frameOf, applied, openFrame, refusing, leaving, nesting, choosingNext, unlessTaken, entriesIf, scheduleIf, scheduleSwitch, scheduledWith, enclosing, withHandler}
 use Rattle.planner.specs.Planned.{Seen, NamedChange, Fitting, PlannedBare, Entered, terminalStep}
-use Rattle.planner.proofs.PlanLaws.{within-all, visits-same, refuse-applied, leave-applied, leave-nested, nest-applied, choose-applied, Label, label-taken, label-most, label-below, label-entries, label-if, label-switch}
+use Rattle.planner.proofs.PlanLaws.{within-all, visits-same, refuse-applied, leave-applied, leave-nested, nest-applied, choose-applied, Label}
+use Rattle.planner.proofs.PlanLaws.{label-taken, label-most, label-below, label-entries, label-if, label-switch}
 use Rattle.planner.proofs.StepLaws.{label-scheduled, label-missing, label-reached, enclose-same, turn-refused, turn-ok}
 
 -- ---- a planner with no row
@@ -80,7 +81,8 @@ named-if n l = at (eqb n 65535) (λ e. label-below l e)
     at true h = tt
     at false h = h refl
 
-enclosing-fits : {S : Flags} (y : Bool) (p : Position) (n block code at : ℕ) → Label S n → (code ≡ 0 → ⊥) → enclosing y p n block code at .code ≡ 0 → Fitting [] (p .depth) (enclosing y p n block code at)
+enclosing-fits : {S : Flags} (y : Bool) (p : Position) (n block code at : ℕ) → Label S n → (code ≡ 0 → ⊥) → enclosing y p n block code at .code ≡ 0
+    → Fitting [] (p .depth) (enclosing y p n block code at)
 enclosing-fits true p n block code at l h e = absurd (h e)
 enclosing-fits false p n block code at l h e = record { change = named-if n l; handler = rw no-number tt; scope = rw no-number tt; deep = λ _. omega arith; next = omega arith; nested = tt }
 
@@ -149,7 +151,9 @@ module _ (w : List ℕ) (S H : Flags) (p : Position) (en : Entered w p) (e : Ter
 -- as many cases as the terminal lists
 number-is : (w : List ℕ) (first number : ℕ) → first + number ≤ caseCount w → numberOfCases (tableOf w) first number ≡ number
 unfolding numberOfCases casesLastFirst
-number-is w first number h = length-reverse (take number (drop first (tableOf w .cases))) ∙ whole number (drop first (tableOf w .cases)) (omega (arith, length-drop first (tableOf w .cases), length-cases w))
+number-is w first number h =
+    length-reverse (take number (drop first (tableOf w .cases))) ∙ whole number (drop first (tableOf w .cases))
+    (omega (arith, length-drop first (tableOf w .cases), length-cases w))
   where
     whole : (n : ℕ) (l : List Case) → n ≤ length l → length (take n l) ≡ n
     whole zero l k = refl
@@ -209,7 +213,9 @@ module _ {w : List ℕ} {S H : Flags} {p : Position} {plan : Plan} (en : Entered
 
     pub switch-begins : {n entries : ℕ} {change : Change} → (kind ≡ 0 → ⊥) → Reached w S H f n → entries ≡ entriesIf (eqb n 65535) → change ≡ scheduleSwitch (eqb n 65535) n
         → plan ≡ choosingNext (switchFrame p n entries m) (p .depth + 1) (p .rows) (p .visits) change → PlannedBare w S H p plan
-    switch-begins {n} z r o g q = rw (q, o, g) (reached-same w S H p en (switch t i m f) f (switchRest w p i m) ends (switch-asks w p t i m f) (ends .named .2) n (choosingNext frame (p .depth + 1) (p .rows) (p .visits) (scheduleSwitch (eqb n 65535) n))
+    switch-begins {n} z r o g q =
+        rw (q, o, g) (reached-same w S H p en (switch t i m f) f (switchRest w p i m) ends (switch-asks w p t i m f) (ends .named .2) n
+        (choosingNext frame (p .depth + 1) (p .rows) (p .visits) (scheduleSwitch (eqb n 65535) n))
         (λ y. z (reached ∙ y)) r (λ _. refl)
         (λ _. record { change = named (eqb n 65535) (λ y. label-below l y); handler = rw no-number tt; scope = rw no-number tt; deep = λ _. omega arith; next = omega arith; nested = refl }) same)
       where
@@ -236,7 +242,9 @@ module _ {w : List ℕ} {S H : Flags} {p : Position} {plan : Plan} (en : Entered
 
     pub try-nested : {n entries : ℕ} {frame : Frame} {change : Change} {inner : Plan} → (kind ≡ 0 → ⊥) → Reached w S H f n → entries ≡ entriesIf (eqb n 65535) → frame ≡ openFrame p n entries
         → change ≡ scheduleIf (eqb n 65535) n → inner ≡ nesting x frame (p .depth + 1) (p .rows) (p .visits) 65535 65535 change → plan ≡ withHandler inner y → PlannedBare w S H p plan
-    try-nested {n} z r o g k q e = rw (e, q, g, o, k) (reached-same w S H p en (try x y f binding) f (tryRest p x y) ends (try-asks w p x y f binding) (ends .named .2) n (tryPlan p x y n) (λ v. z (reached ∙ v)) r (λ _. refl)
+    try-nested {n} z r o g k q e =
+        rw (e, q, g, o, k) (reached-same w S H p en (try x y f binding) f (tryRest p x y) ends (try-asks w p x y f binding) (ends .named .2) n (tryPlan p x y n)
+        (λ v. z (reached ∙ v)) r (λ _. refl)
         (λ _. record { change = named-if n l; handler = rw (some-number y (λ v. omega (arith, few))) few; scope = rw no-number tt; deep = λ _. omega arith; next = omega arith; nested = tt }) same)
       where
         few : y < 1024
@@ -252,9 +260,11 @@ module _ {w : List ℕ} {S H : Flags} {p : Position} {plan : Plan} (en : Entered
         handler-seen : (C : definition.Context) → Seen S H (p .visits) C → scheduleCatchHandler y C .scheduled ≡ S
         handler-seen C seen = unfold scheduleCatchHandler in seen .scheduled
 
-        same : (F : List machine.Frame) (R : List Row) (C : definition.Context) → length F ≡ p .depth → Seen S H (p .visits) C → turn (tryRest p x y F R C (unlessNone n)) ≡ applied (tryPlan p x y n) F R C
+        same : (F : List machine.Frame) (R : List Row) (C : definition.Context) → length F ≡ p .depth → Seen S H (p .visits) C
+            → turn (tryRest p x y F R C (unlessNone n)) ≡ applied (tryPlan p x y n) F R C
         same F R C d seen = turn-ok _
-            ∙ sym (nest-applied x (openFrame p n (entriesIf (eqb n 65535))) (p .depth + 1) (p .rows) (p .visits) y 65535 (scheduleIf (eqb n 65535) n) F R C (scheduleCatchHandler y (scheduledIf (unlessNone n) C))
+            ∙ sym (nest-applied x (openFrame p n (entriesIf (eqb n 65535))) (p .depth + 1) (p .rows) (p .visits) y 65535 (scheduleIf (eqb n 65535) n) F R C
+            (scheduleCatchHandler y (scheduledIf (unlessNone n) C))
             (rw (no-number, some-number y (λ v. omega (arith, few)), visits-same (p .visits) C (seen .visits), caught (unlessNone n) C) (label-if l (scheduleCatchHandler y C) (handler-seen C seen)))
             ∙ rw (label-entries n, within-all (p .depth + 1 - 1) F (omega (arith, d))))
 
@@ -266,7 +276,14 @@ module _ {w : List ℕ} {S H : Flags} {p : Position} {plan : Plan} (en : Entered
       ap turn (step-by w p _ F R C (ends .is)) ∙ turn-ok _
       ∙ ap (λ (z : Option ℕ). going (leave z F R (p .count) C)) (label-scheduled w (en .promise) S H (p .visits) C seen f (omega (arith, ends .named, ends .few)) ∙ ap unlessNone (sym q))
       ∙ sym (leave-applied n (p .depth) (p .count) (p .rows) (p .visits) Nothing F R C _ refl ∙ rw (visits-same (p .visits) C (seen .visits), within-all (p .depth) F d)))
-      (λ _. record { change = tt; handler = rw no-number tt; scope = rw no-number tt; deep = λ z. absurd (let o : _≡_ {A = ℕ} 0 1 = cc in omega arith); next = omega arith; nested = leave-nested (eqb n 65535) }))
+      (λ _. record {
+        change = tt;
+        handler = rw no-number tt;
+        scope = rw no-number tt;
+        deep = λ z. absurd (let o : _≡_ {A = ℕ} 0 1 = cc in omega arith);
+        next = omega arith;
+        nested = leave-nested (eqb n 65535);
+      }))
 
   pub unreachable-left : codeAt w (p .block) ≡ 1 → plan ≡ leaving 65535 (p .depth) (p .count) (p .rows) (p .visits) Nothing → PlannedBare w S H p plan
   unfolding terminalTurn terminalOf

@@ -27,7 +27,8 @@ enclose-requires c κs =
     let labelled : tie.After-unless-unreachable = search in
     let read : tie.After-label-at = search in
     let start : tie.Start = search in
-    let most = reached-most (start .args .words .now) (start .args .scheduled .now) (start .args .catch-handlers .now) (read .label-at .result .fallthrough) (labelled .unless-unreachable .ensures) (omega (arith, read .label-at .ensures .named .1, read .label-at .ensures .few)) in
+    let most = reached-most (start .args .words .now) (start .args .scheduled .now) (start .args .catch-handlers .now) (read .label-at .result .fallthrough)
+    (labelled .unless-unreachable .ensures) (omega (arith, read .label-at .ensures .named .1, read .label-at .ensures .few)) in
     search needs
 
 returns-2 : tie.Need-returns-2

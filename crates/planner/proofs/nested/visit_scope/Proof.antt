@@ -19,7 +19,8 @@ enclose-requires c κs =
     let labelled : tie.After-unless-scheduled = search in
     let read : tie.After-scope-at = search in
     let start : tie.Start = search in
-    let most = takes-most (start .args .scheduled .now) (start .args .catch-handlers .now) (read .scope-at .result .fallthrough) (labelled .unless-scheduled .ensures) (omega (arith, read .scope-at .ensures .named .1, read .scope-at .ensures .few)) in
+    let most = takes-most (start .args .scheduled .now) (start .args .catch-handlers .now) (read .scope-at .result .fallthrough)
+    (labelled .unless-scheduled .ensures) (omega (arith, read .scope-at .ensures .named .1, read .scope-at .ensures .few)) in
     search needs
 
 with-scope-requires : tie.Need-with-scope-requires

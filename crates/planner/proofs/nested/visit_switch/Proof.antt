@@ -30,7 +30,8 @@ schedule-switch-requires c κs =
     let labelled : tie.After-unless-unreachable = search in
     let read : tie.After-switch-at = search in
     let start : tie.Start = search in
-    let most = reached-most (start .args .words .now) (start .args .scheduled .now) (start .args .catch-handlers .now) (read .switch-at .result .fallthrough) (labelled .unless-unreachable .ensures) (omega (arith, read .switch-at .ensures .named .2, read .switch-at .ensures .few)) in
+    let most = reached-most (start .args .words .now) (start .args .scheduled .now) (start .args .catch-handlers .now) (read .switch-at .result .fallthrough)
+    (labelled .unless-unreachable .ensures) (omega (arith, read .switch-at .ensures .named .2, read .switch-at .ensures .few)) in
     search needs
 
 choose-requires : tie.Need-choose-requires
@@ -45,7 +46,8 @@ returns-2 c =
     let reached : tie.After-code-at = search in
     let read : tie.After-switch-at = search in
     let start : tie.Start = search in
-    switch-begins (start .pre .0) (read .switch-at .ensures) (reached .code-at .ensures) (left .if1 .left) (labelled .unless-unreachable .ensures) (entries .entries-of .ensures) (change .schedule-switch .ensures) (c .choose .ensures)
+    switch-begins (start .pre .0) (read .switch-at .ensures) (reached .code-at .ensures) (left .if1 .left) (labelled .unless-unreachable .ensures)
+    (entries .entries-of .ensures) (change .schedule-switch .ensures) (c .choose .ensures)
 
 pub visit-switch-spec : {M : Type 1} → statement M
 visit-switch-spec =

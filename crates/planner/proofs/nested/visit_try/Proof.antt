@@ -33,7 +33,8 @@ schedule-if-requires c κs =
     let labelled : tie.After-unless-unreachable = search in
     let read : tie.After-try-at = search in
     let start : tie.Start = search in
-    let most = reached-most (start .args .words .now) (start .args .scheduled .now) (start .args .catch-handlers .now) (read .try-at .result .fallthrough) (labelled .unless-unreachable .ensures) (omega (arith, read .try-at .ensures .named .2, read .try-at .ensures .few)) in
+    let most = reached-most (start .args .words .now) (start .args .scheduled .now) (start .args .catch-handlers .now) (read .try-at .result .fallthrough)
+    (labelled .unless-unreachable .ensures) (omega (arith, read .try-at .ensures .named .2, read .try-at .ensures .few)) in
     search needs
 
 traverse-block-requires : tie.Need-traverse-block-requires
@@ -53,7 +54,8 @@ returns-2 c =
     let reached : tie.After-code-at = search in
     let read : tie.After-try-at = search in
     let start : tie.Start = search in
-    try-nested (start .pre .0) (read .try-at .ensures) (reached .code-at .ensures) (left .if1 .left) (labelled .unless-unreachable .ensures) (entries .entries-of .ensures) (frame .frame-of .ensures) (change .schedule-if .ensures)
+    try-nested (start .pre .0) (read .try-at .ensures) (reached .code-at .ensures) (left .if1 .left) (labelled .unless-unreachable .ensures)
+    (entries .entries-of .ensures) (frame .frame-of .ensures) (change .schedule-if .ensures)
     (inner .traverse-block .ensures) (c .with-handler .ensures)
 
 pub visit-try-spec : {M : Type 1} → statement M

@@ -140,7 +140,8 @@ returns-5 c =
     let at-match : tie.At-match-keys5 = search in
     let at-code-at : tie.After-code-at = search in
     let at-entry : tie.Start = search in
-    planned-as (λ F R C. refl) (λ C o. goto-seen _ _ _ _ _ _ (at-entry .pre .0 .promise) (at-entry .pre .0 .block) C o (sym (at-code-at .code-at .ensures) ∙ at-match .match .keys5)) (at-visit-goto .visit-goto .ensures)
+    planned-as (λ F R C. refl) (λ C o. goto-seen _ _ _ _ _ _ (at-entry .pre .0 .promise) (at-entry .pre .0 .block) C o
+    (sym (at-code-at .code-at .ensures) ∙ at-match .match .keys5)) (at-visit-goto .visit-goto .ensures)
 
 returns-6 : tie.Need-returns-6
 returns-6 c = planned-as (λ F R C. refl) (λ C o. o .seen) (c .visit-if .ensures _)
@@ -154,7 +155,8 @@ returns-7 c =
     let at-match : tie.At-match-keys7 = search in
     let at-code-at : tie.After-code-at = search in
     let at-entry : tie.Start = search in
-    planned-as (λ F R C. refl) (λ C o. branch-seen _ _ _ _ _ _ (at-entry .pre .0 .promise) (at-entry .pre .0 .block) C o (sym (at-code-at .code-at .ensures) ∙ at-match .match .keys7)) (at-visit-branch .visit-branch .ensures)
+    planned-as (λ F R C. refl) (λ C o. branch-seen _ _ _ _ _ _ (at-entry .pre .0 .promise) (at-entry .pre .0 .block) C o
+    (sym (at-code-at .code-at .ensures) ∙ at-match .match .keys7)) (at-visit-branch .visit-branch .ensures)
 
 returns-8 : tie.Need-returns-8
 returns-8 c = planned-as (λ F R C. refl) (λ C o. o .seen) (c .visit-switch .ensures _)
