@@ -10,7 +10,8 @@ use lib.Dec.{eqb}
 use borrow.Author.Tests.{eq-eqb, ne-eqb}
 use Rattle.table.specs.Table.{unlessNone}
 use Rattle.table.proofs.BlockLaws.{no-number, some-number}
-use Rattle.definition.specs.Context.{Flags, add, emit, remove, blockAsked, scheduledBy, scheduleCatchHandler, markScopeFallthrough, unscheduledBy, ControlFlowTarget, target-if, target-switch, target-case, target-loop}
+use Rattle.definition.specs.Context.{Flags, add, emit, remove, blockAsked, scheduledBy, scheduleCatchHandler, markScopeFallthrough, unscheduledBy}
+use Rattle.definition.specs.Context.{ControlFlowTarget, target-if, target-switch, target-case, target-loop}
 use Rattle.definition.specs.Context as definition
 use Rattle.definition.specs.Machine.{unscheduled}
 use Rattle.definition.specs.Result.{Result, ok, refused, _>>=_}
@@ -100,9 +101,15 @@ result-by at visits r y e = ap (λ (z : Bool). elim z [ true ↦ ok (contextOf v
 pub schedule-blocked : (target : code.ControlFlowTarget) (cx r : Context) → Scheduled target cx r → (r .refused ≡ 0 → ⊥) → Blocked (Schedule target) cx (r .refused) (blockAsked (targetOf target))
 schedule-blocked target cx r h z = record { context = λ visits. h .context visits ∙ result-by _ visits r false (ne-eqb (r .refused) 0 z); refuses = z }
 
-pub briefly-blocked : (target : code.ControlFlowTarget) (cx r : Context) → Scheduled target cx r → (r .refused ≡ 0 → ⊥) → Blocked (ScheduleBriefly target) cx (r .refused) (blockAsked (targetOf target))
+pub briefly-blocked : (target : code.ControlFlowTarget) (cx r : Context) → Scheduled target cx r → (r .refused ≡ 0 → ⊥)
+    → Blocked (ScheduleBriefly target) cx (r .refused) (blockAsked (targetOf target))
 unfolding _>>=_
-briefly-blocked target cx r h z = record { context = λ visits. ap (λ (m : Result definition.Context). m >>= λ inside. ok (unscheduled inside)) (schedule-blocked target cx r h z .context visits); refuses = z }
+briefly-blocked target cx r h z =
+    record {
+      context = λ visits. ap (λ (m : Result definition.Context). m >>= λ inside. ok (unscheduled inside)) (schedule-blocked target cx r h z .context
+          visits);
+      refuses = z;
+    }
 
 pub schedule-changed : (target : code.ControlFlowTarget) (cx r s : Context) → Scheduled target cx r → r .refused ≡ 0 → s ≡ settled r → cx .len < 1152 → Whole cx
     → Changed (Schedule target) cx s

@@ -10,7 +10,9 @@ use mathlib.Core.Option.{Option, none, some}
 use lib.ListN.{length, getD}
 use Rattle.table.specs.Words.{blockCount, placeCount, caseCount}
 use Rattle.table.specs.Promise.{Promise, InRange, BelowUnlessNone}
-use Rattle.table.specs.Table.{Block, Terminal, absent, unreachable, throw, return, goto, if, branch, switch, do-while, while, for, for-of, for-in, logical, ternary, optional, label, sequence, maybe-throw, try, scope, tableOf, caseOf, blockAt, terminalAt, noBlock, rowsFrom, instructionRowsAt}
+use Rattle.table.specs.Table.{Block, Terminal, absent, unreachable, throw, return, goto, if, branch, switch, do-while, while, for, for-of, for-in, logical}
+use Rattle.table.specs.Table.{ternary, optional, label, sequence, maybe-throw, try, scope, tableOf, caseOf, blockAt, terminalAt, noBlock, rowsFrom}
+use Rattle.table.specs.Table.{instructionRowsAt}
 use Rattle.table.proofs.BlockLaws.{length-rows}
 use Rattle.table.proofs.TableLaws.{length-blocks, length-cases, case-at}
 use Rattle.table.proofs.RangeLaws.{in-range, run-in-range, case-block}
@@ -52,12 +54,20 @@ getD-beyond (x ∷ xs) (suc i) d h = getD-beyond xs i d (omega arith)
 
 module _ (w : List ℕ) (pr : Promise w) where
   names-at : (block : ℕ) → (y : Bool) → ltb block (blockCount w) ≡ y → NamesBelow (length (tableOf w .blocks)) (terminalAt (tableOf w) block)
-  names-at block true e = let h : block < blockCount w = ltb-true _ _ e in rw (length-blocks w) (names-below (blockCount w) (placeCount w) (caseCount w) (terminalAt (tableOf w) block) (in-range w pr block h))
-  names-at block false e = let h : blockCount w ≤ block = ltb-false _ _ e in subst (λ (z : Block). NamesBelow (length (tableOf w .blocks)) (z .terminal)) (sym (getD-beyond (tableOf w .blocks) block noBlock (omega (arith, length-blocks w, h)))) tt
+  names-at block true e =
+      let h : block < blockCount w = ltb-true _ _ e in rw (length-blocks w)
+      (names-below (blockCount w) (placeCount w) (caseCount w) (terminalAt (tableOf w) block) (in-range w pr block h))
+  names-at block false e =
+      let h : blockCount w ≤ block = ltb-false _ _ e in subst (λ (z : Block). NamesBelow (length (tableOf w .blocks)) (z .terminal))
+      (sym (getD-beyond (tableOf w .blocks) block noBlock (omega (arith, length-blocks w, h)))) tt
 
   counts-at : (block : ℕ) → (y : Bool) → ltb block (blockCount w) ≡ y → length (instructionRowsAt (tableOf w) block) ≤ 4096
-  counts-at block true e = let h : block < blockCount w = ltb-true _ _ e in omega (arith, length-rows (blockAt (tableOf w) block .first) (blockAt (tableOf w) block .count), run-in-range w pr block h, pr .sized .limited .instructions)
-  counts-at block false e = let h : blockCount w ≤ block = ltb-false _ _ e in subst (λ (z : Block). length (rowsFrom (z .first) (z .count)) ≤ 4096) (sym (getD-beyond (tableOf w .blocks) block noBlock (omega (arith, length-blocks w, h)))) (omega arith)
+  counts-at block true e =
+      let h : block < blockCount w = ltb-true _ _ e in omega
+      (arith, length-rows (blockAt (tableOf w) block .first) (blockAt (tableOf w) block .count), run-in-range w pr block h, pr .sized .limited .instructions)
+  counts-at block false e =
+      let h : blockCount w ≤ block = ltb-false _ _ e in subst (λ (z : Block). length (rowsFrom (z .first) (z .count)) ≤ 4096)
+      (sym (getD-beyond (tableOf w .blocks) block noBlock (omega (arith, length-blocks w, h)))) (omega arith)
 
   case-below : (case : ℕ) → case < caseCount w → caseAt (tableOf w) case .block < blockCount w
   unfolding caseOf

@@ -88,7 +88,8 @@ frames-within A n d h = rw (frames-length A n) (go (n - d) n d (omega arith))
     go (suc k) (suc n) d e = go k n d (omega arith)
 
 -- what a plan keeps of the frames is what its store leaves
-frames-kept : (A : List Frame) (n d : ℕ) (keep : Bool) (f : Frame) → (keep ≡ true → 1 ≤ d) → d ≤ deepest keep n → slot keep d < length A → kept keep f d (framesOf A n) ≡ framesOf (set A (slot keep d) f) d
+frames-kept : (A : List Frame) (n d : ℕ) (keep : Bool) (f : Frame) → (keep ≡ true → 1 ≤ d) → d ≤ deepest keep n → slot keep d < length A
+    → kept keep f d (framesOf A n) ≡ framesOf (set A (slot keep d) f) d
 unfolding framesOf
 frames-kept A n zero true f deep next room = absurd (let z : 1 ≤ 0 = deep refl in omega arith)
 frames-kept A n (suc d) true f deep next room =
@@ -155,12 +156,20 @@ record Numbers (F : List machine.Frame) (R : List Row) (C : definition.Context) 
   entries : length (C .stack) ≡ entriesOf F
 
 numbers : (t : Table) (s : Stage) (b : ℕ) (F : List machine.Frame) (R : List Row) (m : ℕ) (C : definition.Context) → Live s (length F) → Sound t (stateAt s b F R m C) → Numbers F R C
-numbers t Visit b F R m C l h = let z : invariant.Small (visiting b F R m C) = invariant.sound-small t (visiting b F R m C) h in record { visits = z .visits; frames = z .frames; stack = z .stack; ids = z .ids; rows = z .rows; entries = h .2 .stack }
-numbers t Ended b F R m C l h = let z : invariant.Small (ended F R m C) = invariant.sound-small t (ended F R m C) h in record { visits = z .visits; frames = z .frames; stack = z .stack; ids = z .ids; rows = z .rows; entries = h .1 .stack }
+numbers t Visit b F R m C l h =
+    let z : invariant.Small (visiting b F R m C) = invariant.sound-small t (visiting b F R m C) h in record
+    { visits = z .visits; frames = z .frames; stack = z .stack; ids = z .ids; rows = z .rows; entries = h .2 .stack }
+numbers t Ended b F R m C l h =
+    let z : invariant.Small (ended F R m C) = invariant.sound-small t (ended F R m C) h in record
+    { visits = z .visits; frames = z .frames; stack = z .stack; ids = z .ids; rows = z .rows; entries = h .1 .stack }
 numbers t Choose b [] R m C l h = absurd (omega arith)
-numbers t Choose b (f ∷ F) R m C l h = let z : invariant.Small (choosing f F R C) = invariant.sound-small t (choosing f F R C) h in record { visits = z .visits; frames = z .frames; stack = z .stack; ids = z .ids; rows = z .rows; entries = h .3 .stack }
+numbers t Choose b (f ∷ F) R m C l h =
+    let z : invariant.Small (choosing f F R C) = invariant.sound-small t (choosing f F R C) h in record
+    { visits = z .visits; frames = z .frames; stack = z .stack; ids = z .ids; rows = z .rows; entries = h .3 .stack }
 numbers t Pop b [] R m C l h = absurd (omega arith)
-numbers t Pop b (f ∷ F) R m C l h = let z : invariant.Small (popping f F R C) = invariant.sound-small t (popping f F R C) h in record { visits = z .visits; frames = z .frames; stack = z .stack; ids = z .ids; rows = z .rows; entries = h .2 .stack }
+numbers t Pop b (f ∷ F) R m C l h =
+    let z : invariant.Small (popping f F R C) = invariant.sound-small t (popping f F R C) h in record
+    { visits = z .visits; frames = z .frames; stack = z .stack; ids = z .ids; rows = z .rows; entries = h .2 .stack }
 numbers t Halt b F R m C l h = absurd l
 
 -- the potential does not look at the rows
@@ -211,26 +220,39 @@ found-jump w cx p jump found S R e =
     subst (λ (z : Option definition.Resolution). Resolves (terminalAt (tableOf w) (p .block)) (contextOf (p .visits) cx) z) (sym (R (p .visits))) (S e .resolves (contextOf (p .visits) cx) refl refl)
 
 -- its target is one of the 1,024 blocks, as every entry's is
-break-below : (entries : List Entry) (n b : ℕ) (top : Bool) (above : ℕ) → ((k : ℕ) → k < n → Named (getD entries k noEntry .target)) → (r : definition.Resolution) → definition.breakTargetFrom (stackOf entries n) b top above ≡ some r → r .target < 1024
+break-below : (entries : List Entry) (n b : ℕ) (top : Bool) (above : ℕ) → ((k : ℕ) → k < n → Named (getD entries k noEntry .target))
+    → (r : definition.Resolution) → definition.breakTargetFrom (stackOf entries n) b top above ≡ some r → r .target < 1024
 unfolding stackOf definition.breakTargetFrom
 break-below entries zero b top above named r e = absurd (none-some e)
-break-below entries (suc n) b top above named r e = at (eqb (definition.targetBlock (targetOf (getD entries n noEntry .target))) b) refl e (λ t a h. break-below entries n b t a (λ k l. named k (omega arith)) r h)
+break-below entries (suc n) b top above named r e =
+    at (eqb (definition.targetBlock (targetOf (getD entries n noEntry .target))) b) refl e
+    (λ t a h. break-below entries n b t a (λ k l. named k (omega arith)) r h)
   where
     at : (y : Bool) → eqb (definition.targetBlock (targetOf (getD entries n noEntry .target))) b ≡ y
-        → elim y [ true ↦ some (record { target = b; kind = definition.breakKind (definition.isLoop (targetOf (getD entries n noEntry .target))) top above; loops = above }) | false ↦ definition.breakTargetFrom (stackOf entries n) b false (definition.loopsOf (targetOf (getD entries n noEntry .target)) + above) ] ≡ some r
+        → elim y [ true ↦ some (record { target = b; kind = definition.breakKind (definition.isLoop (targetOf (getD entries n noEntry .target))) top above;
+        loops = above }) | false ↦ definition.breakTargetFrom (stackOf entries n) b false
+        (definition.loopsOf (targetOf (getD entries n noEntry .target)) + above) ] ≡ some r
         → ((t : Bool) (a : ℕ) → definition.breakTargetFrom (stackOf entries n) b t a ≡ some r → r .target < 1024) → r .target < 1024
-    at true q h again = let t : b ≡ r .target = ap target-or (h) in let same : definition.targetBlock (targetOf (getD entries n noEntry .target)) ≡ b = eqb-true _ _ q in omega (arith, t, same, named-block (getD entries n noEntry .target) (named n (omega arith)))
+    at true q h again =
+        let t : b ≡ r .target = ap target-or (h) in let same : definition.targetBlock (targetOf (getD entries n noEntry .target)) ≡ b = eqb-true _ _ q in omega
+        (arith, t, same, named-block (getD entries n noEntry .target) (named n (omega arith)))
     at false q h again = again false (definition.loopsOf (targetOf (getD entries n noEntry .target)) + above) h
 
-continue-below : (entries : List Entry) (n b : ℕ) (top : Bool) (above : ℕ) → ((k : ℕ) → k < n → Named (getD entries k noEntry .target)) → (r : definition.Resolution) → definition.continueTargetFrom (stackOf entries n) b top above ≡ some r → r .target < 1024
+continue-below : (entries : List Entry) (n b : ℕ) (top : Bool) (above : ℕ) → ((k : ℕ) → k < n → Named (getD entries k noEntry .target))
+    → (r : definition.Resolution) → definition.continueTargetFrom (stackOf entries n) b top above ≡ some r → r .target < 1024
 unfolding stackOf definition.continueTargetFrom
 continue-below entries zero b top above named r e = absurd (none-some e)
-continue-below entries (suc n) b top above named r e = at (definition.continuesAt (targetOf (getD entries n noEntry .target)) b) e (λ t a h. continue-below entries n b t a (λ k l. named k (omega arith)) r h)
+continue-below entries (suc n) b top above named r e =
+    at (definition.continuesAt (targetOf (getD entries n noEntry .target)) b) e (λ t a h. continue-below entries n b t a (λ k l. named k (omega arith)) r h)
   where
     at : (y : Bool)
-        → elim y [ true ↦ some (record { target = definition.targetBlock (targetOf (getD entries n noEntry .target)); kind = definition.continueKind top above; loops = above }) | false ↦ definition.continueTargetFrom (stackOf entries n) b false (definition.loopsOf (targetOf (getD entries n noEntry .target)) + above) ] ≡ some r
+        → elim y [ true ↦ some (record { target = definition.targetBlock (targetOf (getD entries n noEntry .target)); kind = definition.continueKind top above;
+        loops = above }) | false ↦ definition.continueTargetFrom (stackOf entries n) b false
+        (definition.loopsOf (targetOf (getD entries n noEntry .target)) + above) ] ≡ some r
         → ((t : Bool) (a : ℕ) → definition.continueTargetFrom (stackOf entries n) b t a ≡ some r → r .target < 1024) → r .target < 1024
-    at true h again = let t : definition.targetBlock (targetOf (getD entries n noEntry .target)) ≡ r .target = ap target-or (h) in omega (arith, t, named-block (getD entries n noEntry .target) (named n (omega arith)))
+    at true h again =
+        let t : definition.targetBlock (targetOf (getD entries n noEntry .target)) ≡ r .target = ap target-or (h) in omega
+        (arith, t, named-block (getD entries n noEntry .target) (named n (omega arith)))
     at false h again = again false (definition.loopsOf (targetOf (getD entries n noEntry .target)) + above) h
 
 pub found-below : (cx : Context) (jump : Jump) (found : Resolved) → Whole cx → ((visits : ℕ) → resolvedOf found ≡ foundBy jump (contextOf visits cx)) → FoundBelow found
@@ -246,7 +268,9 @@ module _ (w : List ℕ) (pr : Promise w) (ck : Checked (tableOf w)) where
   unfolding framesOf pushed
   walking-start buffer cx A p new l q = rw q (record {
     rows = [];
-    going = subst (λ (C : definition.Context). Going (tableOf w) (visiting (entryWord w) [] [] 0 C)) (sym (new .context)) (subst (λ (b : ℕ). Going (tableOf w) (visiting b [] [] 0 definition.start)) entry-word (going-start (tableOf w) ck));
+    going =
+        subst (λ (C : definition.Context). Going (tableOf w) (visiting (entryWord w) [] [] 0 C)) (sym (new .context))
+        (subst (λ (b : ℕ). Going (tableOf w) (visiting b [] [] 0 definition.start)) entry-word (going-start (tableOf w) ck));
     held = record { count = refl; rows = tt };
     live = tt;
     whole = record { settled = new .settled; bounded = new .bounded; wide = flags; tall = ap length (new .stack) ∙ length-replicate 1152 noEntry };
@@ -266,7 +290,8 @@ module _ (w : List ℕ) (pr : Promise w) (ck : Checked (tableOf w)) where
       let z : f ≡ getD A n noFrame = rw q at e in
       rw z (record { framed = o; built = omega (arith, h .marked, marks-below (C .emitted), h .flags); count = omega (arith, h .tallied, l) })
 
-  fits-at : (A : List Frame) (R : List Row) (C : definition.Context) (f : Frame) (s : Stage) (b n m rows visits : ℕ) → f ≡ getD A (n - 1) noFrame → length R ≡ rows → Live s n → Sound (tableOf w) (stateAt s b (framesOf A n) R m C)
+  fits-at : (A : List Frame) (R : List Row) (C : definition.Context) (f : Frame) (s : Stage) (b n m rows visits : ℕ) → f ≡ getD A (n - 1) noFrame
+      → length R ≡ rows → Live s n → Sound (tableOf w) (stateAt s b (framesOf A n) R m C)
       → StageFits w s (record { block = b; depth = n; count = m; rows = rows; visits = visits; stage = s }) f
   unfolding framesOf
   fits-at A R C f Visit b n m rows u e l v h = (rw (← (length-blocks w)) (h .0), omega (arith, h .2 .tallied, l))
@@ -331,7 +356,9 @@ module _ (w : List ℕ) (pr : Promise w) (ck : Checked (tableOf w)) where
 
       stepped : step (tableOf w) (stateOf p A (I .rows) cx) ≡ applied plan (framesOf A (p .depth)) after entering
       unfolding after entering
-      stepped = subst (λ (F : List machine.Frame). step (tableOf w) (stateAt (p .stage) (p .block) F (I .rows) (p .count) C) ≡ applied plan F (I .rows ++ T .out) (emitting (p .stage) (p .block) C)) together
+      stepped =
+          subst (λ (F : List machine.Frame). step (tableOf w) (stateAt (p .stage) (p .block) F (I .rows) (p .count) C) ≡ applied plan F (I .rows ++ T .out)
+          (emitting (p .stage) (p .block) C)) together
           (T .same (restOf A (p .stage) (p .depth)) (I .rows) C (ap length together ∙ frames-length A (p .depth)) shown)
 
       -- a refusal
@@ -411,7 +438,9 @@ module _ (w : List ℕ) (pr : Promise w) (ck : Checked (tableOf w)) where
               none-at : (o : Option ℕ) → o ≡ none → withVisits (plan .position .visits) C ≡ emitted o (contextOf (plan .position .visits) cx)
               none-at o e = none-same ∙ ap (λ (z : Option ℕ). emitted z (contextOf (plan .position .visits) cx)) (sym e)
 
-              at : (s : Stage) → (s ≡ Visit → p .block < blockCount w) → withVisits (plan .position .visits) (emitting s (p .block) C) ≡ emitted (unlessNone (visitedBlock s (p .block))) (contextOf (plan .position .visits) cx)
+              at : (s : Stage) → (s ≡ Visit → p .block < blockCount w)
+                  → withVisits (plan .position .visits) (emitting s (p .block) C) ≡ emitted (unlessNone (visitedBlock s (p .block)))
+                  (contextOf (plan .position .visits) cx)
               at Visit h = visit-at (unlessNone (p .block)) (some-number (p .block) (λ e. let z : p .block < blockCount w = h refl in omega (arith, z, pr .sized .limited .blocks)))
               at Ended h = none-at (unlessNone 65535) no-number
               at Choose h = none-at (unlessNone 65535) no-number
@@ -431,7 +460,9 @@ module _ (w : List ℕ) (pr : Promise w) (ck : Checked (tableOf w)) where
               room = record { len = omega (arith, len, numbered .stack); id = omega (arith, numbered .ids); settled = I .whole .settled }
 
               filled : entriesOnTop (inHand (p .stage) (p .depth) f) ≤ cx .len
-              filled = let z : length (control.entriesOf (cx .pending) (cx .pushed) (cx .stack) (cx .len)) ≡ entriesOf (inHand (p .stage) (p .depth) f ++ restOf A (p .stage) (p .depth)) = numbered .entries ∙ ap entriesOf (sym together) in
+              filled =
+                  let z : length (control.entriesOf (cx .pending) (cx .pushed) (cx .stack) (cx .len)) ≡ entriesOf
+                  (inHand (p .stage) (p .depth) f ++ restOf A (p .stage) (p .depth)) = numbered .entries ∙ ap entriesOf (sym together) in
                   omega (arith, entries-top (p .stage) (p .depth) f (restOf A (p .stage) (p .depth)), len, z)
 
               at : (ch : Change) → NamedChange (entriesOnTop (inHand (p .stage) (p .depth) f)) ch → Changeable ch cx
@@ -444,7 +475,9 @@ module _ (w : List ℕ) (pr : Promise w) (ck : Checked (tableOf w)) where
           applicable = record { block = at (p .stage) visit-below; handler = fit .handler; scope = fit .scope; change = changeable; whole = I .whole }
             where
               at : (s : Stage) → (s ≡ Visit → p .block < blockCount w) → Below 1024 (unlessNone (visitedBlock s (p .block)))
-              at Visit h = let z : p .block < blockCount w = h refl in subst (λ (o : Option ℕ). Below 1024 o) (sym (some-number (p .block) (λ e. omega (arith, z, pr .sized .limited .blocks)))) (omega (arith, z, pr .sized .limited .blocks))
+              at Visit h =
+                  let z : p .block < blockCount w = h refl in subst (λ (o : Option ℕ). Below 1024 o)
+                  (sym (some-number (p .block) (λ e. omega (arith, z, pr .sized .limited .blocks)))) (omega (arith, z, pr .sized .limited .blocks))
               at Ended h = subst (λ (o : Option ℕ). Below 1024 o) (sym no-number) tt
               at Choose h = subst (λ (o : Option ℕ). Below 1024 o) (sym no-number) tt
               at Pop h = subst (λ (o : Option ℕ). Below 1024 o) (sym no-number) tt
@@ -485,7 +518,9 @@ module _ (w : List ℕ) (pr : Promise w) (ck : Checked (tableOf w)) where
 
             leads : step (tableOf w) (stateOf p A (I .rows) cx) ≡ going next
             unfolding next K
-            leads = stepped ∙ ahead ∙ ap (onward (plan .position .stage) plan (framesOf A (p .depth)) after) (marked-context ∙ E .context (plan .position .visits)) ∙ at (plan .position .stage) on next-live
+            leads =
+                stepped ∙ ahead ∙ ap (onward (plan .position .stage) plan (framesOf A (p .depth)) after) (marked-context ∙ E .context (plan .position .visits))
+                ∙ at (plan .position .stage) on next-live
               where
                 D : definition.Context
                 D = contextOf (plan .position .visits) r
@@ -498,7 +533,8 @@ module _ (w : List ℕ) (pr : Promise w) (ck : Checked (tableOf w)) where
                 pop-same [] h = absurd (omega arith)
                 pop-same (g ∷ F) h = refl
 
-                at : (s : Stage) → isHalt s ≡ false → Live s (plan .position .depth) → onward s plan (framesOf A (p .depth)) after (ok D) ≡ going (stateAt s (plan .position .block) K after (plan .position .count) D)
+                at : (s : Stage) → isHalt s ≡ false → Live s (plan .position .depth)
+                    → onward s plan (framesOf A (p .depth)) after (ok D) ≡ going (stateAt s (plan .position .block) K after (plan .position .count) D)
                 at Visit e l = refl
                 at Ended e l = refl
                 at Choose e l = ap going (choose-same K (omega (arith, kept-deep)))
@@ -525,7 +561,8 @@ module _ (w : List ℕ) (pr : Promise w) (ck : Checked (tableOf w)) where
 
             pub turns-lower : turnsLeft (plan .position) A′ r < turnsLeft p A cx
             turns-lower =
-                let lower : potential (stateOf (plan .position) A′ after r) < potential (stateOf p A (I .rows) cx) = going-lower (tableOf w) ck (stateOf p A (I .rows) cx) _ (I .going) (leads ∙ ap going arrived) in
+                let lower : potential (stateOf (plan .position) A′ after r) < potential (stateOf p A (I .rows) cx) = going-lower (tableOf w) ck
+                (stateOf p A (I .rows) cx) _ (I .going) (leads ∙ ap going arrived) in
                 omega (
                   arith,
                   lower,

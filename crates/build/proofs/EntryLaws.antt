@@ -45,33 +45,39 @@ abbrev filled : (lent : ℕ) → List Row → (visits : ℕ) → definition.Outc
 filled lent rows visits = record { code = 0; at = 0; rows = length rows; visits = visits; buffer = wordsOf rows ++ replicate (lent - length rows * 6) 0 }
 
 -- too many rows
-pub overfull-outcome : (walked : Walked) (buffer : List ℕ) (o : definition.Outcome) → walked .code ≡ 0 → length buffer / 6 < walked .rows → o ≡ refusal 40 0 (walked .rows) (walked .visits) (length buffer)
+pub overfull-outcome : (walked : Walked) (buffer : List ℕ) (o : definition.Outcome) → walked .code ≡ 0 → length buffer / 6 < walked .rows
+    → o ≡ refusal 40 0 (walked .rows) (walked .visits) (length buffer)
     → (a : Report) → Reported a walked buffer → o ≡ outcomeOf (length buffer) a
 unfolding outcomeOf placed
 overfull-outcome walked buffer o z l e (accepted rows visits) h =
     let n : length rows ≡ walked .rows = row-count (walked .rows) buffer rows (h .2) in
-    e ∙ rw (← n, h .1) (ap (λ (y : Bool). elim y [ true ↦ filled (length buffer) rows visits | false ↦ refusal 40 0 (length rows) visits (length buffer) ]) (sym (lt-leb (length rows) (length buffer / 6) (omega (arith, n, l)))))
+    e ∙ rw (← n, h .1) (ap (λ (y : Bool). elim y [ true ↦ filled (length buffer) rows visits | false ↦ refusal 40 0 (length rows) visits (length buffer) ])
+    (sym (lt-leb (length rows) (length buffer / 6) (omega (arith, n, l)))))
 overfull-outcome walked buffer o z l e (rejected code at visits) h = absurd (h .1 (sym (h .0) ∙ z))
 
 -- the rows, then zeros
-pub accepted-outcome : (walked : Walked) (buffer buffer′ : List ℕ) → walked .code ≡ 0 → walked .rows ≤ length buffer / 6 → buffer′ ≡ take (walked .rows * 6) buffer ++ replicate (length buffer - walked .rows * 6) 0
+pub accepted-outcome : (walked : Walked) (buffer buffer′ : List ℕ) → walked .code ≡ 0 → walked .rows ≤ length buffer / 6
+    → buffer′ ≡ take (walked .rows * 6) buffer ++ replicate (length buffer - walked .rows * 6) 0
     → (a : Report) → Reported a walked buffer → outcome (record { code = 0; at = 0; rows = walked .rows; visits = walked .visits }) buffer′ ≡ outcomeOf (length buffer) a
 unfolding outcomeOf placed
 accepted-outcome walked buffer buffer′ z l e (accepted rows visits) h =
     let n : length rows ≡ walked .rows = row-count (walked .rows) buffer rows (h .2) in
     let w : take (walked .rows * 6) buffer ≡ wordsOf rows = words-held buffer (walked .rows) rows (h .2) (omega arith) in
     let same : outcome (record { code = 0; at = 0; rows = walked .rows; visits = walked .visits }) buffer′ ≡ filled (length buffer) rows visits = rw (n, h .1, e, w) refl in
-    same ∙ ap (λ (y : Bool). elim y [ true ↦ filled (length buffer) rows visits | false ↦ refusal 40 0 (length rows) visits (length buffer) ]) (sym (le-leb (length rows) (length buffer / 6) (omega (arith, n, l))))
+    same ∙ ap (λ (y : Bool). elim y [ true ↦ filled (length buffer) rows visits | false ↦ refusal 40 0 (length rows) visits (length buffer) ])
+    (sym (le-leb (length rows) (length buffer / 6) (omega (arith, n, l))))
 accepted-outcome walked buffer buffer′ z l e (rejected code at visits) h = absurd (h .1 (sym (h .0) ∙ z))
 
 -- ---- the whole
 
-pub unchecked-built : (words : List ℕ) (lent : ℕ) (o : definition.Outcome) (verdict : Verdict) → verdict ≡ checked words → isAccepted verdict ≡ false → o ≡ refusal (codeOf verdict) (placeOf verdict) 0 0 lent → o ≡ built words lent
+pub unchecked-built : (words : List ℕ) (lent : ℕ) (o : definition.Outcome) (verdict : Verdict) → verdict ≡ checked words → isAccepted verdict ≡ false
+    → o ≡ refusal (codeOf verdict) (placeOf verdict) 0 0 lent → o ≡ built words lent
 unfolding built afterCheck
 unchecked-built words lent o check.accepted v z e = absurd (true-false z)
 unchecked-built words lent o (check.refused code at) v z e = rw (← v) e
 
-pub checked-built : (words : List ℕ) (lent lent′ : ℕ) (o : definition.Outcome) (verdict : Verdict) → verdict ≡ checked words → isAccepted verdict ≡ true → lent′ ≡ lent → o ≡ outcomeOf lent′ (report (tableOf words)) → o ≡ built words lent
+pub checked-built : (words : List ℕ) (lent lent′ : ℕ) (o : definition.Outcome) (verdict : Verdict) → verdict ≡ checked words → isAccepted verdict ≡ true
+    → lent′ ≡ lent → o ≡ outcomeOf lent′ (report (tableOf words)) → o ≡ built words lent
 unfolding built afterCheck
 checked-built words lent lent′ o check.accepted v z l e = rw (← v) (rw l at e)
 checked-built words lent lent′ o (check.refused code at) v z l e = absurd (true-false (sym z))

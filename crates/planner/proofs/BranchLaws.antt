@@ -66,11 +66,13 @@ module _ (w : List ℕ) (p : Position) (en : Entered w p) (code : blockWord w (p
       held = λ _ before h. rw (append-nil before) h;
       same = λ F R C d o. rw (append-nil R) (ap turn (branch-is false F R C (seen-scheduled S H (p .visits) C (o .sets) (col 4) ∙ ap (λ (k : ℕ). has S k || has H k) (sym t) ∙ f)) ∙ turn-ok _
           ∙ ap (λ (k : ℕ). going (visiting k (machine.frameOf (p .block) none 0 (p .count) ∷ F) R 0 C)) (sym t)
-          ∙ sym (nest-applied x (openFrame p 65535 0) (p .depth + 1) (p .rows) (p .visits) 65535 65535 Nothing F R C _ refl ∙ rw (no-number, visits-same (p .visits) C (o .sets .visits), within-all (p .depth + 1 - 1) F (omega (arith, d)))));
+          ∙ sym (nest-applied x (openFrame p 65535 0) (p .depth + 1) (p .rows) (p .visits) 65535 65535 Nothing F R C _ refl ∙ rw
+          (no-number, visits-same (p .visits) C (o .sets .visits), within-all (p .depth + 1 - 1) F (omega (arith, d)))));
       fitting = λ _. record { change = tt; handler = rw no-number tt; scope = rw no-number tt; deep = λ _. omega arith; next = omega arith; nested = tt };
     })
 
-    module _ (x y id : ℕ) (b : List ℕ) (jump : Jumped) (b₁ : List ℕ) (t : x ≡ col 4) (u : y ≡ col 5) (i : id ≡ col 8) (busy : has S (col 4) || has H (col 4) ≡ true) (met : JumpMet (breakOutcome (p .block) x id resolved) O (p .visits) (p .rows) b jump b₁) where
+    module _ (x y id : ℕ) (b : List ℕ) (jump : Jumped) (b₁ : List ℕ) (t : x ≡ col 4) (u : y ≡ col 5) (i : id ≡ col 8)
+        (busy : has S (col 4) || has H (col 4) ≡ true) (met : JumpMet (breakOutcome (p .block) x id resolved) O (p .visits) (p .rows) b jump b₁) where
       abbrev st : Option Statement
       st = met .statement
 
@@ -82,7 +84,8 @@ module _ (w : List ℕ) (p : Position) (en : Entered w p) (code : blockWord w (p
       jumped F R C o =
           let q : isScheduled C (col 4) ≡ true = seen-scheduled S H (p .visits) C (o .sets) (col 4) ∙ busy in
           branch-is true F R C q ∙ ap (λ (z : Option Resolution). breakResolved (p .block) (col 4) (col 8) C z >>= rest F R C) (sym (o .breaks q))
-          ∙ ap (λ (k : ℕ). breakResolved (p .block) k (col 8) C (resolvedOf resolved) >>= rest F R C) (sym t) ∙ ap (λ (k : ℕ). breakResolved (p .block) x k C (resolvedOf resolved) >>= rest F R C) (sym i)
+          ∙ ap (λ (k : ℕ). breakResolved (p .block) k (col 8) C (resolvedOf resolved) >>= rest F R C) (sym t) ∙ ap
+          (λ (k : ℕ). breakResolved (p .block) x k C (resolvedOf resolved) >>= rest F R C) (sym i)
           ∙ ap (λ (m : Result (Option Statement)). m >>= rest F R C) (met .same C (o .seen))
 
       pub branch-refused : (plan : Plan) (b′ : List ℕ) → (jump .code ≡ 0 → ⊥) → plan ≡ refusing p (jump .code) (jump .at) → Planned (terminalStep w p) On [] (p .depth) (p .rows) b plan b′
@@ -103,7 +106,9 @@ module _ (w : List ℕ) (p : Position) (en : Entered w p) (code : blockWord w (p
       branch-taken plan b′ z f e = subst (λ (k : Plan). Planned (terminalStep w p) On [] (p .depth) (p .rows) b k b′) (sym e) (record {
         out = [];
         held = λ k. absurd (omega (arith, k));
-        same = λ F R C d o. ap turn (went F R C z o ∙ into-busy (col 5) 19 (p .block) _ F _ C (seen-scheduled S H (p .visits) C (o .sets) (col 5) ∙ ap (λ (k : ℕ). has S k || has H k) (sym u) ∙ f)) ∙ turn-refused 19 (p .block) (C .visits)
+        same =
+            λ F R C d o. ap turn (went F R C z o ∙ into-busy (col 5) 19 (p .block) _ F _ C
+            (seen-scheduled S H (p .visits) C (o .sets) (col 5) ∙ ap (λ (k : ℕ). has S k || has H k) (sym u) ∙ f)) ∙ turn-refused 19 (p .block) (C .visits)
             ∙ ap (λ (v : ℕ). halt (rejected 19 (p .block) v)) (o .sets .visits) ∙ sym (refuse-applied p 19 (p .block) F (R ++ []) C (λ k. omega arith));
         fitting = λ k. absurd (omega (arith, k));
       })
@@ -113,7 +118,9 @@ module _ (w : List ℕ) (p : Position) (en : Entered w p) (code : blockWord w (p
       branch-other op n rows′ plan b′ z o₉ c h f e = subst (λ (k : Plan). Planned (terminalStep w p) On [] (p .depth) (p .rows) b k b′) (sym e) (record {
         out = jumpOut st ++ (row op n 0 0 0 0 ∷ []);
         held = λ _ before k. rw (sym (append-assoc before (jumpOut st) (row op n 0 0 0 0 ∷ []))) (row-held b₁ b′ (jump .rows) rows′ (row op n 0 0 0 0) h (before ++ jumpOut st) (met .held z before k));
-        same = λ F R C d o. ap turn (went F R C z o ∙ into-free (col 5) 19 (p .block) _ F _ C (seen-scheduled S H (p .visits) C (o .sets) (col 5) ∙ ap (λ (k : ℕ). has S k || has H k) (sym u) ∙ f)) ∙ turn-ok _
+        same =
+            λ F R C d o. ap turn (went F R C z o ∙ into-free (col 5) 19 (p .block) _ F _ C
+            (seen-scheduled S H (p .visits) C (o .sets) (col 5) ∙ ap (λ (k : ℕ). has S k || has H k) (sym u) ∙ f)) ∙ turn-ok _
             ∙ ap (λ (k : ℕ). going (visiting k (secondPart (machine.frameOf (p .block) none 0 (p .count)) ∷ F) ((R ++ jumpOut st) ++ (blockRow (added st 0) ∷ [])) 0 C)) (sym u)
             ∙ ap (λ (l : List Row). going (visiting y (secondPart (machine.frameOf (p .block) none 0 (p .count)) ∷ F) l 0 C)) (rows-are R)
             ∙ sym (nest-applied y (second (openFrame p 65535 0)) (p .depth + 1) rows′ (p .visits) 65535 65535 Nothing F (R ++ (jumpOut st ++ (row op n 0 0 0 0 ∷ []))) C _ refl
@@ -122,4 +129,6 @@ module _ (w : List ℕ) (p : Position) (en : Entered w p) (code : blockWord w (p
       })
         where
           rows-are : (R : List Row) → (R ++ jumpOut st) ++ (blockRow (added st 0) ∷ []) ≡ R ++ (jumpOut st ++ (row op n 0 0 0 0 ∷ []))
-          rows-are R = ap (λ (k : ℕ). (R ++ jumpOut st) ++ (blockRow k ∷ [])) (sym (c ∙ met .count z)) ∙ ap (λ (k : ℕ). (R ++ jumpOut st) ++ (row k n 0 0 0 0 ∷ [])) (sym o₉) ∙ append-assoc R (jumpOut st) (row op n 0 0 0 0 ∷ [])
+          rows-are R =
+              ap (λ (k : ℕ). (R ++ jumpOut st) ++ (blockRow k ∷ [])) (sym (c ∙ met .count z)) ∙ ap (λ (k : ℕ). (R ++ jumpOut st) ++ (row k n 0 0 0 0 ∷ []))
+              (sym o₉) ∙ append-assoc R (jumpOut st) (row op n 0 0 0 0 ∷ [])

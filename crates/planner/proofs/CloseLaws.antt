@@ -10,7 +10,9 @@ use lib.ListN.{length}
 use borrow.Author.Tests.{eqb-true, eqb-false}
 use Rattle.table.specs.Words.{blockCount, blockWord, largest}
 use Rattle.table.specs.Promise.{Promise}
-use Rattle.table.specs.Table.{Table, Block, Terminal, absent, unreachable, throw, return, goto, if, branch, switch, do-while, while, for, for-of, for-in, logical, ternary, optional, label, sequence, maybe-throw, try, scope, codeOf, tableOf, terminalOf, blockOf, terminalAt, blockAt, unlessNone}
+use Rattle.table.specs.Table.{Table, Block, Terminal, absent, unreachable, throw, return, goto, if, branch, switch, do-while, while, for, for-of, for-in}
+use Rattle.table.specs.Table.{logical, ternary, optional, label, sequence, maybe-throw, try, scope, codeOf, tableOf, terminalOf, blockOf, terminalAt, blockAt}
+use Rattle.table.specs.Table.{unlessNone}
 use Rattle.table.proofs.TableLaws.{block-at}
 use Rattle.table.proofs.BlockLaws.{no-number, end-by, code-at}
 use Rattle.definition.specs.Context as definition
@@ -43,14 +45,16 @@ or-none n = at (eqb n largest) refl
 module _ (w : List ℕ) (frame : Frame) (h : frame .block < blockCount w) where
   abbrev rowBy : (code : ℕ) → Row
   rowBy code =
-      closingRowOf (terminalOf code (blockWord w (frame .block) 3) (blockWord w (frame .block) 4) (blockWord w (frame .block) 5) (blockWord w (frame .block) 6) (blockWord w (frame .block) 7)) (blockOf w (frame .block))
+      closingRowOf (terminalOf code (blockWord w (frame .block) 3) (blockWord w (frame .block) 4) (blockWord w (frame .block) 5) (blockWord w (frame .block) 6)
+      (blockWord w (frame .block) 7)) (blockOf w (frame .block))
       (frame .second) (unlessNone (frame .label)) (frame .built)
 
   -- the row of a block with this code
   pub closing-by : (code : ℕ) → blockWord w (frame .block) 2 ≡ code → closingRowAt w frame ≡ rowBy code
   closing-by code e =
       ap (λ (z : Terminal). closingRowOf z (blockAt (tableOf w) (frame .block)) (frame .second) (unlessNone (frame .label)) (frame .built)) (end-by w (frame .block) h code e)
-      ∙ ap (λ (b : Block). closingRowOf (terminalOf code (blockWord w (frame .block) 3) (blockWord w (frame .block) 4) (blockWord w (frame .block) 5) (blockWord w (frame .block) 6) (blockWord w (frame .block) 7)) b (frame .second) (unlessNone (frame .label)) (frame .built))
+      ∙ ap (λ (b : Block). closingRowOf (terminalOf code (blockWord w (frame .block) 3) (blockWord w (frame .block) 4) (blockWord w (frame .block) 5)
+      (blockWord w (frame .block) 6) (blockWord w (frame .block) 7)) b (frame .second) (unlessNone (frame .label)) (frame .built))
       (block-at w (frame .block) h)
 
 -- an If and a Branch close alike
@@ -71,7 +75,9 @@ closing-if w frame h least most = at (eqb code 5) refl
 
 -- a statement without nested lists has no closing row
 abbrev pub Closes : ℕ → Type 0
-Closes code = ((5 ≤ code → code < 7 → ⊥) × (code ≡ 7 → ⊥) × (code ≡ 8 → ⊥) × (code ≡ 9 → ⊥) × (code ≡ 10 → ⊥)) × ((code ≡ 11 → ⊥) × (code ≡ 12 → ⊥) × (code ≡ 16 → ⊥) × (code ≡ 19 → ⊥) × (code ≡ 20 → ⊥) × (code ≡ 21 → ⊥))
+Closes code =
+    ((5 ≤ code → code < 7 → ⊥) × (code ≡ 7 → ⊥) × (code ≡ 8 → ⊥) × (code ≡ 9 → ⊥) × (code ≡ 10 → ⊥)) ×
+    ((code ≡ 11 → ⊥) × (code ≡ 12 → ⊥) × (code ≡ 16 → ⊥) × (code ≡ 19 → ⊥) × (code ≡ 20 → ⊥) × (code ≡ 21 → ⊥))
 
 none-closes : (e : Terminal) (b : Block) (s : Bool) (l : Option ℕ) (n : ℕ) → Closes (codeOf e) → closingRowOf e b s l n ≡ row 0 0 0 0 0 0
 unfolding closingRowOf
@@ -103,7 +109,8 @@ closing-none w frame pr h k = none-closes (terminalAt (tableOf w) (frame .block)
 
 -- ---- the plan
 
-close-many : (n : ℕ) (t : Table) (f : machine.Frame) (F : List machine.Frame) (R : List Row) (C : definition.Context) → 2 ≤ n → closeBy n t f F R C ≡ popping (withEntries (n - 1) f) F R (unscheduled C)
+close-many : (n : ℕ) (t : Table) (f : machine.Frame) (F : List machine.Frame) (R : List Row) (C : definition.Context) → 2 ≤ n
+    → closeBy n t f F R C ≡ popping (withEntries (n - 1) f) F R (unscheduled C)
 close-many zero t f F R C h = absurd (omega arith)
 close-many (suc zero) t f F R C h = absurd (omega arith)
 close-many (suc (suc n)) t f F R C h =
@@ -147,7 +154,15 @@ module _ (w : List ℕ) (p : Position) (frame : Frame) (cl : Closing w p frame) 
     out = closingRowAt w frame ∷ [];
     held = λ _ before k. rw (← r, ← (push-row-after last before)) (put .kept (stack.pushed before []) k);
     same = same;
-    fitting = λ _. record { change = named (frame .entries) h; handler = rw no-number tt; scope = rw no-number tt; deep = λ z. absurd (let o : _≡_ {A = ℕ} 0 1 = cc in omega arith); next = omega arith; nested = leave-nested (eqb (frame .label) 65535) };
+    fitting =
+        λ _. record {
+          change = named (frame .entries) h;
+          handler = rw no-number tt;
+          scope = rw no-number tt;
+          deep = λ z. absurd (let o : _≡_ {A = ℕ} 0 1 = cc in omega arith);
+          next = omega arith;
+          nested = leave-nested (eqb (frame .label) 65535);
+        };
   })
     where
       named : (n : ℕ) → n < 2 → NamedChange n (unscheduleIf (eqb n 0))
@@ -156,7 +171,10 @@ module _ (w : List ℕ) (p : Position) (frame : Frame) (cl : Closing w p frame) 
       named (suc (suc n)) k = absurd (omega arith)
 
       same : (F : List machine.Frame) (R : List Row) (C : definition.Context) → length (frameOf frame ∷ F) ≡ p .depth → C .visits ≡ p .visits
-          → turn (closeStep w frame F R C) ≡ applied (leaving (frame .label) (p .depth - 1) (frame .count + 1) rows (p .visits) (unscheduleIf (eqb (frame .entries) 0))) (frameOf frame ∷ F) (R ++ (closingRowAt w frame ∷ [])) C
+          → turn (closeStep w frame F R C) ≡ applied
+          (leaving (frame .label) (p .depth - 1) (frame .count + 1) rows (p .visits) (unscheduleIf (eqb (frame .entries) 0))) (frameOf frame ∷ F)
+          (R ++ (closingRowAt w frame ∷ [])) C
       same F R C d on = turn-ok _ ∙ ap going (close-last (frame .entries) (tableOf w) (frameOf frame) F R C h)
-          ∙ sym (leave-applied (frame .label) (p .depth - 1) (frame .count + 1) rows (p .visits) (unscheduleIf (eqb (frame .entries) 0)) (frameOf frame ∷ F) (R ++ (closingRowAt w frame ∷ [])) C _ (unscheduled-but (eqb (frame .entries) 0) _)
+          ∙ sym (leave-applied (frame .label) (p .depth - 1) (frame .count + 1) rows (p .visits) (unscheduleIf (eqb (frame .entries) 0)) (frameOf frame ∷ F)
+          (R ++ (closingRowAt w frame ∷ [])) C _ (unscheduled-but (eqb (frame .entries) 0) _)
           ∙ let s : frame .count + 1 ≡ suc (frame .count) = omega arith in rw (visits-same (p .visits) C on, within-rest (p .depth) (frameOf frame) F d, s))

@@ -38,7 +38,8 @@ added-count : (s : Option Statement) (n : ℕ) → n + added s 0 ≡ added s n
 added-count none n = omega arith
 added-count (some s) n = omega arith
 
-pub jump-planned : (w : List ℕ) (p : Position) (On : definition.Context → Type 0) (outcome : definition.Context → Result (Option Statement)) (O : Flags) (b : List ℕ) (jump : Jumped) (b′ : List ℕ) (plan : Plan)
+pub jump-planned : (w : List ℕ) (p : Position) (On : definition.Context → Type 0) (outcome : definition.Context
+    → Result (Option Statement)) (O : Flags) (b : List ℕ) (jump : Jumped) (b′ : List ℕ) (plan : Plan)
     → ((F : List machine.Frame) (R : List Row) (C : definition.Context) → On C → terminalStep w p F R C ≡ jumpStep p outcome F R C) → ((C : definition.Context) → On C → JumpSeen O (p .visits) C)
     → JumpMet outcome O (p .visits) (p .rows) b jump b′ → plan ≡ afterJump p jump → Planned (terminalStep w p) On [] (p .depth) (p .rows) b plan b′
 unfolding _>>=_
@@ -54,7 +55,9 @@ jump-planned w p On outcome O b jump b′ plan step seen met e = subst (λ (z : 
     by true q = record {
       out = jumpOut st;
       held = λ _ before h. met .held (eqb-true (jump .code) 0 q) before h;
-      same = λ F R C d o. ap turn (step F R C o ∙ ap (λ (z : Result (Option Statement)). z >>= λ s. ok (ended F (R ++ jumpOut s) (added s (p .count)) C)) (met .same C (seen C o) ∙ ap (λ (y : Bool). jumpedTo y jump st (p .visits)) q)) ∙ turn-ok _
+      same =
+          λ F R C d o. ap turn (step F R C o ∙ ap (λ (z : Result (Option Statement)). z >>= λ s. ok (ended F (R ++ jumpOut s) (added s (p .count)) C))
+          (met .same C (seen C o) ∙ ap (λ (y : Bool). jumpedTo y jump st (p .visits)) q)) ∙ turn-ok _
           ∙ sym (leave-applied 65535 (p .depth) (p .count + jump .count) (jump .rows) (p .visits) Nothing F (R ++ jumpOut st) C _ refl
           ∙ rw (no-number, visits-same (p .visits) C (seen C o .visits), within-all (p .depth) F d, cnt q));
       fitting = λ _. record { change = tt; handler = rw no-number tt; scope = rw no-number tt; deep = λ z. absurd (let o : _≡_ {A = ℕ} 0 1 = cc in omega arith); next = omega arith; nested = tt };
@@ -62,7 +65,9 @@ jump-planned w p On outcome O b jump b′ plan step seen met e = subst (λ (z : 
     by false q = record {
       out = [];
       held = λ z. absurd (nz z);
-      same = λ F R C d o. ap turn (step F R C o ∙ ap (λ (z : Result (Option Statement)). z >>= λ s. ok (ended F (R ++ jumpOut s) (added s (p .count)) C)) (met .same C (seen C o) ∙ ap (λ (y : Bool). jumpedTo y jump st (p .visits)) q))
+      same =
+          λ F R C d o. ap turn (step F R C o ∙ ap (λ (z : Result (Option Statement)). z >>= λ s. ok (ended F (R ++ jumpOut s) (added s (p .count)) C))
+          (met .same C (seen C o) ∙ ap (λ (y : Bool). jumpedTo y jump st (p .visits)) q))
           ∙ turn-refused (jump .code) (jump .at) (p .visits) ∙ sym (refuse-applied p (jump .code) (jump .at) F (R ++ []) C nz);
       fitting = λ z. absurd (nz z);
     }
@@ -70,7 +75,8 @@ jump-planned w p On outcome O b jump b′ plan step seen met e = subst (λ (z : 
         nz : jump .code ≡ 0 → ⊥
         nz z = let o : _≡_ {A = Bool} true false = sym (eq-eqb (jump .code) 0 z) ∙ q in let u : _≡_ {A = ℕ} 0 1 = cc in omega arith
 
-pub jump-count : (outcome : definition.Context → Result (Option Statement)) (O : Flags) (v n : ℕ) (b : List ℕ) (jump : Jumped) (b′ : List ℕ) → JumpMet outcome O v n b jump b′ → jump .code ≡ 0 → jump .count ≤ 1
+pub jump-count : (outcome : definition.Context → Result (Option Statement)) (O : Flags) (v n : ℕ) (b : List ℕ) (jump : Jumped) (b′ : List ℕ)
+    → JumpMet outcome O v n b jump b′ → jump .code ≡ 0 → jump .count ≤ 1
 jump-count outcome O v n b jump b′ met z = rw (met .count z) (low (met .statement))
   where
     low : (s : Option Statement) → added s 0 ≤ 1
@@ -91,28 +97,39 @@ module _ (w : List ℕ) (p : Position) (en : Entered w p) (code : blockWord w (p
   variant-is v n e q = goto-at ∙ ap (λ (z : Variant). goto (blockWord w (p .block) 3) z) (ap variantOf e ∙ q)
 
   pub goto-break : (target id : ℕ) (b : List ℕ) (jump : Jumped) (b′ : List ℕ) (plan : Plan) → blockWord w (p .block) 4 ≡ 0 → target ≡ blockWord w (p .block) 3 → id ≡ blockWord w (p .block) 8
-      → JumpMet (breakOutcome (p .block) target id resolved) O (p .visits) (p .rows) b jump b′ → plan ≡ afterJump p jump → Planned (terminalStep w p) (GotoSeen w p O resolved) [] (p .depth) (p .rows) b plan b′
+      → JumpMet (breakOutcome (p .block) target id resolved) O (p .visits) (p .rows) b jump b′ → plan ≡ afterJump p jump
+      → Planned (terminalStep w p) (GotoSeen w p O resolved) [] (p .depth) (p .rows) b plan b′
   unfolding terminalTurn visitGoto visitBreak variantOf _>>=_
   goto-break target id b jump b′ plan v t i met e = jump-planned w p (GotoSeen w p O resolved) (breakOutcome (p .block) target id resolved) O b jump b′ plan
-      (λ F R C o. step-by w p _ F R C (variant-is Break 0 v refl) ∙ rw (id-at w (p .block) (en .block), sym i, sym t) (ap (λ (z : Option Resolution). after F R C (breakResolved (p .block) target id C z)) (sym (o .breaks v ∙ ap (getBreakTarget C) (sym t))) ∙ moved F R C (breakOutcome (p .block) target id resolved C))) (λ C o. o .seen) met e
+      (λ F R C o. step-by w p _ F R C (variant-is Break 0 v refl) ∙ rw (id-at w (p .block) (en .block), sym i, sym t)
+      (ap (λ (z : Option Resolution). after F R C (breakResolved (p .block) target id C z)) (sym (o .breaks v ∙ ap (getBreakTarget C) (sym t))) ∙ moved F R C
+      (breakOutcome (p .block) target id resolved C))) (λ C o. o .seen) met e
     where
       after : List machine.Frame → List Row → definition.Context → Result (Option Statement) → Result State
-      after F R C m = (m >>= λ statement. ok (record { statement = statement; next = none; context = C })) >>= λ (r : TerminalResult). ok (leave (r .next) F (R ++ jumpOut (r .statement)) (added (r .statement) (p .count)) (r .context))
+      after F R C m =
+          (m >>= λ statement. ok (record { statement = statement; next = none; context = C })) >>= λ (r : TerminalResult). ok
+          (leave (r .next) F (R ++ jumpOut (r .statement)) (added (r .statement) (p .count)) (r .context))
 
       moved : (F : List machine.Frame) (R : List Row) (C : definition.Context) (m : Result (Option Statement)) → after F R C m ≡ (m >>= λ s. ok (ended F (R ++ jumpOut s) (added s (p .count)) C))
       moved F R C (ok s) = refl
       moved F R C (refused a c v) = refl
 
   pub goto-continue : (target id : ℕ) (b : List ℕ) (jump : Jumped) (b′ : List ℕ) (plan : Plan) → blockWord w (p .block) 4 ≡ 1 → target ≡ blockWord w (p .block) 3 → id ≡ blockWord w (p .block) 8
-      → JumpMet (continueOutcome target id resolved) O (p .visits) (p .rows) b jump b′ → plan ≡ afterJump p jump → Planned (terminalStep w p) (GotoSeen w p O resolved) [] (p .depth) (p .rows) b plan b′
+      → JumpMet (continueOutcome target id resolved) O (p .visits) (p .rows) b jump b′ → plan ≡ afterJump p jump
+      → Planned (terminalStep w p) (GotoSeen w p O resolved) [] (p .depth) (p .rows) b plan b′
   unfolding terminalTurn visitGoto visitContinue variantOf _>>=_
   goto-continue target id b jump b′ plan v t i met e = jump-planned w p (GotoSeen w p O resolved) (continueOutcome target id resolved) O b jump b′ plan
-      (λ F R C o. step-by w p _ F R C (variant-is Continue 1 v refl) ∙ rw (id-at w (p .block) (en .block), sym i, sym t) (ap (λ (z : Option Resolution). after F R C (continueResolved target id C z)) (sym (o .continues v ∙ ap (getContinueTarget C) (sym t))) ∙ moved F R C (continueResolved target id C (resolvedOf resolved)))) (λ C o. o .seen) met e
+      (λ F R C o. step-by w p _ F R C (variant-is Continue 1 v refl) ∙ rw (id-at w (p .block) (en .block), sym i, sym t)
+      (ap (λ (z : Option Resolution). after F R C (continueResolved target id C z)) (sym (o .continues v ∙ ap (getContinueTarget C) (sym t))) ∙ moved F R C
+      (continueResolved target id C (resolvedOf resolved)))) (λ C o. o .seen) met e
     where
       after : List machine.Frame → List Row → definition.Context → Result Statement → Result State
-      after F R C m = (m >>= λ statement. ok (record { statement = some statement; next = none; context = C })) >>= λ (r : TerminalResult). ok (leave (r .next) F (R ++ jumpOut (r .statement)) (added (r .statement) (p .count)) (r .context))
+      after F R C m =
+          (m >>= λ statement. ok (record { statement = some statement; next = none; context = C })) >>= λ (r : TerminalResult). ok
+          (leave (r .next) F (R ++ jumpOut (r .statement)) (added (r .statement) (p .count)) (r .context))
 
-      moved : (F : List machine.Frame) (R : List Row) (C : definition.Context) (m : Result Statement) → after F R C m ≡ ((m >>= λ s. ok (some s)) >>= λ s. ok (ended F (R ++ jumpOut s) (added s (p .count)) C))
+      moved : (F : List machine.Frame) (R : List Row) (C : definition.Context) (m : Result Statement)
+          → after F R C m ≡ ((m >>= λ s. ok (some s)) >>= λ s. ok (ended F (R ++ jumpOut s) (added s (p .count)) C))
       moved F R C (ok s) = refl
       moved F R C (refused a c v) = refl
 

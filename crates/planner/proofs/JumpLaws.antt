@@ -34,7 +34,9 @@ scoped-break : (at id : ℕ) (O : Flags) (v : ℕ) (found : Resolution) (block :
     → breakOutcome at block id (Found found) C ≡ breakToScope (kindOf (found .kind)) at (C .visits)
 unfolding breakResolved has
 scoped-break at id O v found block C h s =
-    ap (λ (y : Bool). elim y [ true ↦ breakToScope (kindOf (found .kind)) at (C .visits) | false ↦ ok (some (BREAK (foundBlock found) id (kindOf (found .kind)) (found .loops))) ]) (ap (λ (l : Flags). getD l (foundBlock found) false) (s .scopeFallthroughs) ∙ h)
+    ap (λ (y : Bool). elim y [ true ↦ breakToScope (kindOf (found .kind)) at (C .visits)
+    | false ↦ ok (some (BREAK (foundBlock found) id (kindOf (found .kind)) (found .loops))) ])
+    (ap (λ (l : Flags). getD l (foundBlock found) false) (s .scopeFallthroughs) ∙ h)
 
 pub break-scope : (at id : ℕ) (O : Flags) (v n : ℕ) (found : Resolution) (b : List ℕ) (r : Jumped) → getD O (foundBlock found) false ≡ true → kindNumber (kindOf (found .kind)) ≡ 0
     → r ≡ record { code = 0; at = 0; rows = n; count = 0 } → (block : ℕ) → JumpMet (breakOutcome at block id (Found found)) O v n b r b
@@ -49,7 +51,14 @@ break-scope at id O v n found b r h k e block = subst (λ (z : Jumped). JumpMet 
 pub break-out : (at id : ℕ) (O : Flags) (v n : ℕ) (found : Resolution) (b : List ℕ) (r : Jumped) → getD O (foundBlock found) false ≡ true → (kindNumber (kindOf (found .kind)) ≡ 0 → ⊥)
     → r ≡ refusingJump 22 at n → (block : ℕ) → JumpMet (breakOutcome at block id (Found found)) O v n b r b
 break-out at id O v n found b r h k e block = subst (λ (z : Jumped). JumpMet (breakOutcome at block id (Found found)) O v n b z b) (sym e)
-    (record { statement = none; same = λ C s. scoped-break at id O v found block C h s ∙ loud (kindOf (found .kind)) (C .visits) k ∙ ap (λ (w : ℕ). refused 22 at w) (s .visits); held = λ z. absurd (omega (arith, z)); count = λ z. absurd (omega (arith, z)); most = omega arith })
+    (record {
+      statement = none;
+      same = λ C s. scoped-break at id O v found block C h s ∙ loud (kindOf (found .kind)) (C .visits) k ∙ ap (λ (w : ℕ). refused 22
+          at w) (s .visits);
+      held = λ z. absurd (omega (arith, z));
+      count = λ z. absurd (omega (arith, z));
+      most = omega arith;
+    })
   where
     loud : (k : Kind) (w : ℕ) → (kindNumber k ≡ 0 → ⊥) → breakToScope k at w ≡ refused 22 at w
     loud implicit w q = absurd (q refl)
@@ -62,7 +71,10 @@ pub break-row : (at id : ℕ) (O : Flags) (v n n′ : ℕ) (found : Resolution) 
 unfolding breakResolved has statementOut
 break-row at id O v n n′ found op target number b b′ r h o t k w e block = subst (λ (z : Jumped). JumpMet (breakOutcome at block id (Found found)) O v n b z b′) (sym e) (record {
   statement = some (BREAK (foundBlock found) id (kindOf (found .kind)) (found .loops));
-  same = λ C s. ap (λ (y : Bool). elim y [ true ↦ breakToScope (kindOf (found .kind)) at (C .visits) | false ↦ ok (some (BREAK (foundBlock found) id (kindOf (found .kind)) (found .loops))) ]) (ap (λ (l : Flags). getD l (foundBlock found) false) (s .scopeFallthroughs) ∙ h);
+  same =
+      λ C s. ap (λ (y : Bool). elim y [ true ↦ breakToScope (kindOf (found .kind)) at (C .visits)
+      | false ↦ ok (some (BREAK (foundBlock found) id (kindOf (found .kind)) (found .loops))) ])
+      (ap (λ (l : Flags). getD l (foundBlock found) false) (s .scopeFallthroughs) ∙ h);
   held = λ _. row-held b b′ n n′ (row 24 (foundBlock found) id (kindNumber (kindOf (found .kind))) (found .loops) 0) (rw (o, t, k) at w);
   count = λ _. refl;
   most = omega (arith, w .count);

@@ -11,9 +11,10 @@ use lib.ListN.{length, getD, set}
 use lib.Seq.{getD-set-same, getD-set-other}
 use native.Mathlib.Decide.{ℕ-discrete}
 use borrow.Author.Tests.{eq-eqb, ne-eqb, eqb-true, eqb-false}
-use Rattle.table.specs.Words.{blockCount, placeCount, caseCount, blockWord}
+use Rattle.table.specs.Words.{blockCount, placeCount, caseCount, blockWord, codeAt}
 use Rattle.table.specs.Promise.{Promise, InRange, BelowUnlessNone, Ends}
-use Rattle.table.specs.Table.{Table, Block, Terminal, absent, unreachable, throw, return, goto, if, branch, switch, do-while, while, for, for-of, for-in, logical, ternary, optional, label, sequence, maybe-throw, try, scope, tableOf, terminalOf, terminalAt, blockAt, unlessNone}
+use Rattle.table.specs.Table.{Table, Block, Terminal, absent, unreachable, throw, return, goto, if, branch, switch, do-while, while, for, for-of, for-in}
+use Rattle.table.specs.Table.{logical, ternary, optional, label, sequence, maybe-throw, try, scope, tableOf, terminalOf, terminalAt, blockAt, unlessNone}
 use Rattle.table.proofs.RangeLaws.{in-range}
 use Rattle.table.proofs.BlockLaws.{no-number, some-number, end-by, span-at}
 use Rattle.definition.proofs.Never.{or-false}
@@ -43,10 +44,12 @@ use Rattle.planner.specs.declared.loops.Loop as loops
 use Rattle.control.specs.declared.ControlFlowTarget.the-variants.{Loop}
 use Rattle.planner.specs.Plans.{frameOf, changed, applied, openFrame, refusing, leaving, unlessTaken}
 use Rattle.planner.specs.Planned.{Seen, NamedChange, Fitting, PlannedBare, Entered, terminalStep}
-use Rattle.planner.specs.Loops.{PlannedRows, Made, plainMade, flatMade, testedValues, forValues, forOfValues, noneMade, valueMade, plainForm, flatForm, updateMade, testedMade, forMade, forOfMade, noValues, valuesOf, Makes, Spent, MakesMore, MakesTested, loopTurn, afterValues, enteringBody, enteringLoop, loopTaken, continuesAt, valueFallthrough, brieflyIf}
+use Rattle.planner.specs.Loops.{PlannedRows, Made, plainMade, flatMade, testedValues, forValues, forOfValues, noneMade, valueMade, plainForm, flatForm}
+use Rattle.planner.specs.Loops.{updateMade, testedMade, forMade, forOfMade, noValues, valuesOf, Makes, Spent, MakesMore, MakesTested, loopTurn}
+use Rattle.planner.specs.Loops.{afterValues, enteringBody, enteringLoop, loopTaken, continuesAt, valueFallthrough, brieflyIf}
 use Rattle.planner.proofs.PlanLaws.{within-all, refuse-applied, leave-applied, leave-nested, nest-applied, Label, label-taken, label-below, label-briefly}
 use Rattle.planner.proofs.StepLaws.{label-scheduled, seen-scheduled, turn-refused, turn-ok}
-use Rattle.planner.proofs.VisitLaws.{bare-planned, step-by, few-blocks, ranges, reach-same, reached-missing}
+use Rattle.planner.proofs.VisitLaws.{bare-planned, step-by, few-blocks, ranges, reach-same, reached-missing, Takes}
 
 no-some : {f : ℕ} → _≡_ {A = Option ℕ} none (some f) → ⊥
 no-some q = let o : _≡_ {A = ℕ} 0 1 = cc in omega arith
@@ -85,7 +88,8 @@ module _ {p : Position} {o : Result Made} {b₀ b : List ℕ} {before : Values} 
 
     -- one value more was found, and the buffer holds it in its form
     pub value-found : (values : Values) (b′ : List ℕ) → r .code ≡ 0 → values .code ≡ 0 → values .visits ≡ r .tally .visits
-        → ((below : List Row) → Holds b (before .rows) below → Holds b′ (values .rows) (pushValue (form (blockResult r (v .value))) below)) → Makes p (o >>= valueMade visit form block span) b₀ values b′
+        → ((below : List Row) → Holds b (before .rows) below → Holds b′ (values .rows) (pushValue (form (blockResult r (v .value))) below))
+        → Makes p (o >>= valueMade visit form block span) b₀ values b′
     unfolding valueMade
     value-found values b′ f z t held = record {
       out = m .out ++ valueOut (form (blockResult r (v .value)));
@@ -135,7 +139,8 @@ unfolding visitUpdate updateOut _>>=_
 update-then visit none span made k = ap (λ (out : List Row). k (record { out = out; visits = made .visits })) (sym (append-nil (made .out)))
 update-then visit (some update) span made k =
     value-then visit plainForm update span made k
-    ∙ sym (bind-assoc (visit update none span (made .visits)) (λ result. ok (record { value = some (result .value); visits = result .visits })) (λ updated. k (record { out = made .out ++ updateOut (updated .value); visits = updated .visits })))
+    ∙ sym (bind-assoc (visit update none span (made .visits)) (λ result. ok (record { value = some (result .value); visits = result .visits }))
+    (λ updated. k (record { out = made .out ++ updateOut (updated .value); visits = updated .visits })))
 
 -- ---- schedule_loop, by what a planner sees
 
@@ -187,7 +192,8 @@ into-taken : (at l v : ℕ) (taken : Bool) (fr : machine.Frame) (F : List machin
 unfolding intoLoop refuseIf _>>=_
 into-taken at l v taken fr F R C e = rw e
 
-into-body : (at l v : ℕ) (taken : Bool) (fr : machine.Frame) (F : List machine.Frame) (R : List Row) (C : definition.Context) → taken ≡ false → intoLoop at l taken v fr F R C ≡ ok (visiting l (fr ∷ F) R 0 (withVisits v C))
+into-body : (at l v : ℕ) (taken : Bool) (fr : machine.Frame) (F : List machine.Frame) (R : List Row) (C : definition.Context) → taken ≡ false
+    → intoLoop at l taken v fr F R C ≡ ok (visiting l (fr ∷ F) R 0 (withVisits v C))
 unfolding intoLoop refuseIf _>>=_
 into-body at l v taken fr F R C e = rw e
 
@@ -198,15 +204,23 @@ module _ (S H : Flags) (p : Position) (f c l n : ℕ) (values : ℕ → Result M
   refused-same : continueScheduled S f c ≡ true → turn (loopTurn (p .block) f c l (unlessNone n) (p .count) values F R C) ≡ applied (refusing p 15 c) F R C
   unfolding loopTurn _>>=_
   refused-same e =
-      ap (λ (z : Result definition.Context). turn (z >>= λ inside. values (inside .visits) >>= λ made. intoLoop (p .block) l (loopIsTaken C l f) (made .visits) (machine.frameOf (p .block) (unlessNone n) 1 (p .count)) F (R ++ made .out) inside)) (loop-not-scheduled S H (p .visits) C seen f c l h e)
+      ap (λ (z : Result definition.Context). turn
+      (z >>= λ inside. values (inside .visits) >>= λ made. intoLoop (p .block) l (loopIsTaken C l f) (made .visits)
+      (machine.frameOf (p .block) (unlessNone n) 1 (p .count)) F (R ++ made .out) inside)) (loop-not-scheduled S H (p .visits) C seen f c l h e)
       ∙ turn-refused 15 c (p .visits) ∙ sym (refuse-applied p 15 c F R C (λ z. omega arith))
 
   body-same : (r : Values) (out : List Row) → length F ≡ p .depth → continueScheduled S f c ≡ false
-      → turn (intoLoop (p .block) l (loopIsTaken C l f) (r .visits) (machine.frameOf (p .block) (unlessNone n) 1 (p .count)) F out (pushed (target-loop f c l) C)) ≡ applied (enteringBody (loopTaken S H l f) p r (blocksOf f n c l)) F out C
-  body-same r out d e = ap (λ (z : Bool). turn (intoLoop (p .block) l z (r .visits) (machine.frameOf (p .block) (unlessNone n) 1 (p .count)) F out (pushed (target-loop f c l) C))) (loop-taken S H (p .visits) C seen f c l h) ∙ by (loopTaken S H l f)
+      → turn (intoLoop (p .block) l (loopIsTaken C l f) (r .visits) (machine.frameOf (p .block) (unlessNone n) 1 (p .count)) F out
+      (pushed (target-loop f c l) C)) ≡ applied (enteringBody (loopTaken S H l f) p r (blocksOf f n c l)) F out C
+  body-same r out d e =
+      ap (λ (z : Bool). turn (intoLoop (p .block) l z (r .visits) (machine.frameOf (p .block) (unlessNone n) 1 (p .count)) F out
+      (pushed (target-loop f c l) C))) (loop-taken S H (p .visits) C seen f c l h) ∙ by (loopTaken S H l f)
     where
-      by : (y : Bool) → turn (intoLoop (p .block) l y (r .visits) (machine.frameOf (p .block) (unlessNone n) 1 (p .count)) F out (pushed (target-loop f c l) C)) ≡ applied (enteringBody y p r (blocksOf f n c l)) F out C
-      by true = ap turn (into-taken (p .block) l (r .visits) true _ F out _ refl) ∙ turn-refused 16 (p .block) (r .visits) ∙ sym (refuse-applied (afterValues p r) 16 (p .block) F out C (λ z. omega arith))
+      by : (y : Bool) → turn (intoLoop (p .block) l y (r .visits) (machine.frameOf (p .block) (unlessNone n) 1 (p .count)) F out
+          (pushed (target-loop f c l) C)) ≡ applied (enteringBody y p r (blocksOf f n c l)) F out C
+      by true =
+          ap turn (into-taken (p .block) l (r .visits) true _ F out _ refl) ∙ turn-refused 16 (p .block) (r .visits) ∙ sym
+          (refuse-applied (afterValues p r) 16 (p .block) F out C (λ z. omega arith))
       by false = ap turn (into-body (p .block) l (r .visits) false _ F out _ refl) ∙ turn-ok _
           ∙ sym (nest-applied l (openFrame p n 1) (p .depth + 1) (r .rows) (r .visits) 65535 65535 (Schedule (Loop f c l)) F out C (pushed (target-loop f c l) (withVisits (r .visits) C))
           (rw no-number (loop-scheduled S H (r .visits) (withVisits (r .visits) C) (seen-visits (r .visits) seen) f c l h e))
@@ -229,7 +243,9 @@ module _ (S H : Flags) (p : Position) (f c l n : ℕ) (values : ℕ → Result M
 
       by : (y : Bool) → eqb (r .code) 0 ≡ y → turn (values (p .visits) >>= k) ≡ applied (enteringLoop y (loopTaken S H l f) p r (blocksOf f n c l)) F (R ++ m .out) C
       by true q = ap turn (made-on m k (eqb-true (r .code) 0 q)) ∙ body-same r (R ++ m .out) d e
-      by false q = ap turn (made-off m k (eqb-false (r .code) 0 q)) ∙ turn-refused (r .code) (r .at) (r .visits) ∙ sym (refuse-applied (afterValues p r) (r .code) (r .at) F (R ++ m .out) C (eqb-false (r .code) 0 q))
+      by false q =
+          ap turn (made-off m k (eqb-false (r .code) 0 q)) ∙ turn-refused (r .code) (r .at) (r .visits) ∙ sym
+          (refuse-applied (afterValues p r) (r .code) (r .at) F (R ++ m .out) C (eqb-false (r .code) 0 q))
 
 -- ---- planners of loops
 
@@ -240,7 +256,8 @@ pub first-made : {p : Position} {b b′ : List ℕ} {before r : Values} (step : 
 unfolding _>>=_
 first-made {p} {b} {before = before} step q m = m .made (ok (noneMade (p .visits))) b (rw q (start-made p b))
 
-module _ {w : List ℕ} {p : Position} (init test : ℕ) {before first r : Values} {b b₁ b′ : List ℕ} (en : Entered w p) (start : before ≡ noValues p) (made : MakesMore p (flatMade w p init) before b first b₁) where
+module _ {w : List ℕ} {p : Position} (init test : ℕ) {before first r : Values} {b b₁ b′ : List ℕ} (en : Entered w p) (start : before ≡ noValues p)
+    (made : MakesMore p (flatMade w p init) before b first b₁) where
   pub tested-made : MakesMore p (plainMade w p test) first b₁ r b′ → Makes p (testedValues w p init test) b r b′
   tested-made more = more .made _ b (first-made _ start made)
 
@@ -292,7 +309,8 @@ module _ (w : List ℕ) (S H : Flags) (p : Position) (en : Entered w p) where
 
   loop-refused : (f c l n : ℕ) (values : ℕ → Result Made) (plan : Plan) → Turns f c l n values → f < blockCount w → continueScheduled S f c ≡ true → plan ≡ refusing p 15 c → PlannedBare w S H p plan
   loop-refused f c l n values plan turns h e q = subst (λ (z : Plan). PlannedBare w S H p z) (sym q)
-      (bare-planned w S H p (refusing p 15 c) (λ _. refl) (λ F R C d seen. turns F R C seen ∙ refused-same S H p f c l n values F R C seen (few-blocks w (en .promise) f h) e) (λ z. absurd (omega arith)))
+      (bare-planned w S H p (refusing p 15 c) (λ _. refl)
+      (λ F R C d seen. turns F R C seen ∙ refused-same S H p f c l n values F R C seen (few-blocks w (en .promise) f h) e) (λ z. absurd (omega arith)))
 
   loop-entered : (f c l n : ℕ) (values : ℕ → Result Made) {b b′ : List ℕ} (r : Values) (plan : Plan) → Turns f c l n values → (f < blockCount w) × (c < blockCount w) × (l < blockCount w)
       → continueScheduled S f c ≡ false → Makes p (values (p .visits)) b r b′ → plan ≡ enteringLoop (eqb (r .code) 0) (loopTaken S H l f) p r (blocksOf f n c l) → PlannedRows w S H p b plan b′
@@ -335,7 +353,8 @@ module _ (w : List ℕ) (S H : Flags) (p : Position) (en : Entered w p) where
 
   turns : (e : Terminal) (f c l n : ℕ) (values : ℕ → Result Made) → Is e → Loops e f c l values → f < blockCount w → n ≡ unlessTaken (has S f || has H f) f → Turns f c l n values
   turns e f c l n values q loops h o F R C seen = ap turn (step-by w p e F R C q ∙ loops F R C)
-      ∙ ap (λ (z : Option ℕ). turn (loopTurn (p .block) f c l z (p .count) values F R C)) (label-scheduled w (en .promise) S H (p .visits) C seen f (few-blocks w (en .promise) f h) ∙ ap unlessNone (sym o))
+      ∙ ap (λ (z : Option ℕ). turn (loopTurn (p .block) f c l z (p .count) values F R C))
+      (label-scheduled w (en .promise) S H (p .visits) C seen f (few-blocks w (en .promise) f h) ∙ ap unlessNone (sym o))
 
   span-is : blockAt (tableOf w) (p .block) .span ≡ span
   span-is = span-at w (p .block) (en .block)
@@ -368,7 +387,9 @@ module _ (w : List ℕ) (S H : Flags) (p : Position) (en : Entered w p) where
   for-turns : (init test : ℕ) (update : Option ℕ) (l f n : ℕ) → Is (for init test update l f) → f < blockCount w → n ≡ unlessTaken (has S f || has H f) f
       → Turns f (continueBlockOf update test) l n (λ v. forMade (tableOf w) visit init test update span (noneMade v))
   unfolding terminalTurn loopTurn
-  for-turns init test update l f n q h o = turns (for init test update l f) f (continueBlockOf update test) l n _ q (λ F R C. rw span-is (then-same (schedule (target-loop f (continueBlockOf update test) l) C) _ _ (λ inside.
+  for-turns init test update l f n q h o =
+      turns (for init test update l f) f (continueBlockOf update test) l n _ q
+      (λ F R C. rw span-is (then-same (schedule (target-loop f (continueBlockOf update test) l) C) _ _ (λ inside.
       let k : Made → Result State = body f l F R C inside (unlessScheduled C f) in
       let flat : ValueBlockResult → Value = flatForm (tableOf w) span in
       let start : Result Made = valueMade visit flat init span (noneMade (inside .visits)) in
@@ -393,11 +414,14 @@ module _ (w : List ℕ) (S H : Flags) (p : Position) (en : Entered w p) where
   while-turns : (c l f n : ℕ) → Is (while c l f) → f < blockCount w → (blockWord w f 2 ≡ 0 → ⊥) → n ≡ unlessTaken (eqb (blockWord w f 2) 1 || (has S f || has H f)) f
       → Turns f c l n (λ v. valueMade visit plainForm c span (noneMade v))
   while-turns c l f n q h z o F R C seen = ap turn (step-by w p (while c l f) F R C q ∙ while-asks c l f F R C)
-      ∙ reach-same w S H p (en .promise) f n h (few-blocks w (en .promise) f h) z o (λ taken. loopTurn (p .block) f c l taken (p .count) (λ v. valueMade visit plainForm c span (noneMade v)) F R C) C seen
+      ∙ reach-same w S H p (en .promise) f n h (few-blocks w (en .promise) f h) z o
+      (λ taken. loopTurn (p .block) f c l taken (p .count) (λ v. valueMade visit plainForm c span (noneMade v)) F R C) C seen
 
-  while-unreached : (c l f : ℕ) (plan : Plan) → Is (while c l f) → f < blockCount w → blockWord w f 2 ≡ 0 → plan ≡ refusing p 10 f → PlannedBare w S H p plan
-  while-unreached c l f plan q h z r =
-      reached-missing w S H p en (while c l f) f (λ F R C taken. loopTurn (p .block) f c l taken (p .count) (λ v. valueMade visit plainForm c span (noneMade v)) F R C) f plan q (while-asks c l f) h refl z r
+  while-unreached : (c l f : ℕ) (plan : Plan) → Ends w (p .block) (while c l f) → codeAt w f ≡ 0 → plan ≡ refusing p 10 f → PlannedBare w S H p plan
+  while-unreached c l f plan ends z r =
+      reached-missing w S H p en (while c l f) f
+      (λ F R C taken. loopTurn (p .block) f c l taken (p .count) (λ v. valueMade visit plainForm c span (noneMade v)) F R C) ends (while-asks c l f)
+      (ends .named .2) plan z r
 
 -- ---- a For's update, as its code reads it
 
@@ -433,9 +457,6 @@ module _ {w : List ℕ} {block init test : ℕ} (update : ℕ) {l f : ℕ} (ends
 abbrev Enters : Flags → Flags → Position → Values → Plan → (f n c l : ℕ) → Type 0
 Enters S H p r plan f n c l = plan ≡ enteringLoop (eqb (r .code) 0) (loopTaken S H l f) p r (blocksOf f n c l)
 
-abbrev Takes : Flags → Flags → (f n : ℕ) → Type 0
-Takes S H f n = n ≡ unlessTaken (has S f || has H f) f
-
 module _ {w : List ℕ} {S H : Flags} {p : Position} {plan : Plan} (en : Entered w p) where
   module _ {l c f : ℕ} (ends : Ends w (p .block) (do-while l c f)) {scheduled : Bool} (asked : scheduled ≡ continueScheduled S f c) where
     pub do-while-refused : scheduled ≡ true → plan ≡ refusing p 15 c → PlannedBare w S H p plan
@@ -449,7 +470,7 @@ module _ {w : List ℕ} {S H : Flags} {p : Position} {plan : Plan} (en : Entered
 
   module _ {c l f kind : ℕ} (ends : Ends w (p .block) (while c l f)) (reached : kind ≡ blockWord w f 2) where
     pub while-missing : kind ≡ 0 → plan ≡ refusing p 10 f → PlannedBare w S H p plan
-    while-missing z q = while-unreached w S H p en c l f plan (ends .is) (ends .named .2) (sym reached ∙ z) q
+    while-missing z q = while-unreached w S H p en c l f plan ends (sym reached ∙ z) q
 
     pub while-refused : {scheduled : Bool} → (kind ≡ 0 → ⊥) → scheduled ≡ continueScheduled S f c → scheduled ≡ true → plan ≡ refusing p 15 c → PlannedBare w S H p plan
     while-refused z asked t q = loop-refused w S H p en f c l _ _ plan (while-turns w S H p en c l f _ (ends .is) (ends .named .2) (λ y. z (reached ∙ y)) refl) (ends .named .2) (sym asked ∙ t) q
@@ -507,7 +528,8 @@ value-moved n after C = at (unlessNone n)
 
 -- a terminal with such a fallthrough: its turn, and the fallthrough's range
 pub record ValueTerminal (e : Terminal) (f : ℕ) : Type 0 where
-  pub turns : (t : Table) (visit : VisitValueBlock) (at : ℕ) (block : Block) (F : List machine.Frame) (R : List Row) (count : ℕ) (C : definition.Context) → terminalTurn t visit e at block F R count C ≡ valueTurn t visit e at block f F R count C
+  pub turns : (t : Table) (visit : VisitValueBlock) (at : ℕ) (block : Block) (F : List machine.Frame) (R : List Row) (count : ℕ) (C : definition.Context)
+      → terminalTurn t visit e at block F R count C ≡ valueTurn t visit e at block f F R count C
   pub below : (blocks places cases : ℕ) → InRange blocks places cases e → f < blocks
 
 value-terminal : (e : Terminal) (f : ℕ) → valueFallthrough e ≡ some f → ValueTerminal e f
@@ -525,11 +547,27 @@ value-terminal (while test loop fallthrough) f q = absurd (no-some q)
 value-terminal (for init test update loop fallthrough) f q = absurd (no-some q)
 value-terminal (for-of init test loop fallthrough) f q = absurd (no-some q)
 value-terminal (for-in init loop fallthrough) f q = absurd (no-some q)
-value-terminal (logical operator test fallthrough) f q = record { turns = λ t visit at block F R count C. ap (λ (z : ℕ). valueTurn t visit (logical operator test fallthrough) at block z F R count C) (some-same q); below = λ blocks places cases r. omega (arith, some-same q, r .2) }
-value-terminal (ternary test fallthrough) f q = record { turns = λ t visit at block F R count C. ap (λ (z : ℕ). valueTurn t visit (ternary test fallthrough) at block z F R count C) (some-same q); below = λ blocks places cases r. omega (arith, some-same q, r .1) }
-value-terminal (optional chain test fallthrough) f q = record { turns = λ t visit at block F R count C. ap (λ (z : ℕ). valueTurn t visit (optional chain test fallthrough) at block z F R count C) (some-same q); below = λ blocks places cases r. omega (arith, some-same q, r .2) }
+value-terminal (logical operator test fallthrough) f q =
+    record {
+      turns = λ t visit at block F R count C. ap (λ (z : ℕ). valueTurn t visit (logical operator test fallthrough) at block z F R count C) (some-same q);
+      below = λ blocks places cases r. omega (arith, some-same q, r .2);
+    }
+value-terminal (ternary test fallthrough) f q =
+    record {
+      turns = λ t visit at block F R count C. ap (λ (z : ℕ). valueTurn t visit (ternary test fallthrough) at block z F R count C) (some-same q);
+      below = λ blocks places cases r. omega (arith, some-same q, r .1);
+    }
+value-terminal (optional chain test fallthrough) f q =
+    record {
+      turns = λ t visit at block F R count C. ap (λ (z : ℕ). valueTurn t visit (optional chain test fallthrough) at block z F R count C) (some-same q);
+      below = λ blocks places cases r. omega (arith, some-same q, r .2);
+    }
 value-terminal (label body fallthrough) f q = absurd (no-some q)
-value-terminal (sequence body fallthrough) f q = record { turns = λ t visit at block F R count C. ap (λ (z : ℕ). valueTurn t visit (sequence body fallthrough) at block z F R count C) (some-same q); below = λ blocks places cases r. omega (arith, some-same q, r .1) }
+value-terminal (sequence body fallthrough) f q =
+    record {
+      turns = λ t visit at block F R count C. ap (λ (z : ℕ). valueTurn t visit (sequence body fallthrough) at block z F R count C) (some-same q);
+      below = λ blocks places cases r. omega (arith, some-same q, r .1);
+    }
 value-terminal (maybe-throw continuation) f q = absurd (no-some q)
 value-terminal (try body handler fallthrough binding) f q = absurd (no-some q)
 value-terminal (scope pruned body fallthrough number) f q = absurd (no-some q)
@@ -539,7 +577,9 @@ module _ (w : List ℕ) (S H : Flags) (p : Position) (en : Entered w p) (f : ℕ
   fallthrough-below = value-terminal (terminalAt (tableOf w) (p .block)) f q .below (blockCount w) (placeCount w) (caseCount w) (in-range w (en .promise) (p .block) (en .block))
 
   abbrev outcome : Result ValueTerminalResult
-  outcome = visitValueBlockTerminal (tableOf w) (visitValueBlock (tableOf w) (127 - p .depth)) (terminalAt (tableOf w) (p .block)) (blockAt (tableOf w) (p .block) .id) (blockAt (tableOf w) (p .block) .span) (p .visits) (p .block)
+  outcome =
+      visitValueBlockTerminal (tableOf w) (visitValueBlock (tableOf w) (127 - p .depth)) (terminalAt (tableOf w) (p .block))
+      (blockAt (tableOf w) (p .block) .id) (blockAt (tableOf w) (p .block) .span) (p .visits) (p .block)
 
   -- the statement, once its value is made
   left : List machine.Frame → List Row → definition.Context → ValueTerminalResult → Result State
@@ -548,14 +588,18 @@ module _ (w : List ℕ) (S H : Flags) (p : Position) (en : Entered w p) (f : ℕ
 
   value-step : (F : List machine.Frame) (R : List Row) (C : definition.Context) → Seen S H (p .visits) C → terminalStep w p F R C ≡ outcome >>= left F R C
   unfolding valueTurn left
-  value-step F R C seen = value-terminal (terminalAt (tableOf w) (p .block)) f q .turns (tableOf w) (visitValueBlock (tableOf w) (127 - p .depth)) (p .block) (blockAt (tableOf w) (p .block)) F R (p .count) C ∙ rw (seen .visits)
+  value-step F R C seen =
+      value-terminal (terminalAt (tableOf w) (p .block)) f q .turns (tableOf w) (visitValueBlock (tableOf w) (127 - p .depth)) (p .block)
+      (blockAt (tableOf w) (p .block)) F R (p .count) C ∙ rw (seen .visits)
 
   module _ {m : ℕ} {b b₁ : List ℕ} {r : ValueResult} (v : Met w terminalResult outcome (record { rows = p .rows; visits = p .visits }) m b r b₁) where
     pub value-statement-refused : (plan : Plan) (b′ : List ℕ) → (r .code ≡ 0 → ⊥) → plan ≡ refusing (afterValues p (valuesOf r)) (r .code) (r .at) → PlannedRows w S H p b plan b′
     value-statement-refused plan b′ z o = subst (λ (y : Plan). PlannedRows w S H p b y b′) (sym o) (record {
       out = [];
       held = λ e. absurd (z e);
-      same = λ F R C d seen. ap turn (value-step F R C seen ∙ then-off (left F R C) v z) ∙ turn-refused (r .code) (r .at) (r .tally .visits) ∙ sym (refuse-applied (afterValues p (valuesOf r)) (r .code) (r .at) F (R ++ []) C z);
+      same =
+          λ F R C d seen. ap turn (value-step F R C seen ∙ then-off (left F R C) v z) ∙ turn-refused (r .code) (r .at) (r .tally .visits) ∙ sym
+          (refuse-applied (afterValues p (valuesOf r)) (r .code) (r .at) F (R ++ []) C z);
       fitting = λ e. absurd (z e);
     })
 
@@ -564,9 +608,22 @@ module _ (w : List ℕ) (S H : Flags) (p : Position) (en : Entered w p) (f : ℕ
         → plan ≡ leaving n (p .depth) (p .count + 1) rows (r .tally .visits) (brieflyIf (eqb n 65535) n) → PlannedRows w S H p b plan b′
     value-statement-left n rows plan b′ z o put e = subst (λ (y : Plan). PlannedRows w S H p b y b′) (sym e) (record {
       out = valueOut (v .value) ++ (last ∷ []);
-      held = λ _ R h. rw (← (append-assoc R (valueOut (v .value)) (last ∷ [])), ← (push-row-after last (R ++ valueOut (v .value))), ← (push-value-after (v .value) R)) (put .kept _ (v .found z .held _ h));
+      held =
+          λ _ R h. rw (
+            ← (append-assoc R (valueOut (v .value)) (last ∷ [])),
+            ← (push-row-after last (R ++ valueOut (v .value))),
+            ← (push-value-after (v .value) R),
+          ) (put .kept _ (v .found z .held _ h));
       same = same;
-      fitting = λ _. record { change = named (eqb n 65535) refl; handler = rw no-number tt; scope = rw no-number tt; deep = λ y. absurd (let o : _≡_ {A = ℕ} 0 1 = cc in omega arith); next = omega arith; nested = leave-nested (eqb n 65535) };
+      fitting =
+          λ _. record {
+            change = named (eqb n 65535) refl;
+            handler = rw no-number tt;
+            scope = rw no-number tt;
+            deep = λ y. absurd (let o : _≡_ {A = ℕ} 0 1 = cc in omega arith);
+            next = omega arith;
+            nested = leave-nested (eqb n 65535);
+          };
     })
       where
         last : Row
@@ -583,6 +640,11 @@ module _ (w : List ℕ) (S H : Flags) (p : Position) (en : Entered w p) (f : ℕ
             → turn (terminalStep w p F R C) ≡ applied (leaving n (p .depth) (p .count + 1) rows (r .tally .visits) (brieflyIf (eqb n 65535) n)) F (R ++ (valueOut (v .value) ++ (last ∷ []))) C
         same F R C d seen =
             ap turn (value-step F R C seen ∙ then-on (left F R C) v z) ∙ unfold left in (turn-ok _
-            ∙ rw (label-scheduled w (en .promise) S H (p .visits) C seen f (few-blocks w (en .promise) f fallthrough-below) ∙ ap unlessNone (sym o), value-moved n (r .tally .visits) C, span-at w (p .block) (en .block), append-assoc R (valueOut (v .value)) (last ∷ []))
+            ∙ rw (
+              label-scheduled w (en .promise) S H (p .visits) C seen f (few-blocks w (en .promise) f fallthrough-below) ∙ ap unlessNone (sym o),
+              value-moved n (r .tally .visits) C,
+              span-at w (p .block) (en .block),
+              append-assoc R (valueOut (v .value)) (last ∷ []),
+            )
             (sym (leave-applied n (p .depth) (p .count + 1) rows (r .tally .visits) (brieflyIf (eqb n 65535) n) F (R ++ (valueOut (v .value) ++ (last ∷ []))) C _
             (label-briefly free (withVisits (r .tally .visits) C) (seen-visits (r .tally .visits) seen .scheduled)) ∙ rw (within-all (p .depth) F d, add-one))))

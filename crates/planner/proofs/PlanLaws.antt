@@ -22,7 +22,8 @@ use Rattle.planner.specs.declared.plan.Position.{Position}
 use Rattle.planner.specs.declared.plan.Frame.{Frame}
 use Rattle.planner.specs.declared.plan.Change.{Change}
 use Rattle.planner.specs.declared.plan.Stage.the-variants.{Visit}
-use Rattle.planner.specs.Plans.{frameOf, within, changed, handled, scoped, contextAfter, unlessRefused, onward, applied, refusing, stageAfter, leaving, nesting, choosingNext, poppingNext, accepting, unlessTaken, entriesIf, scheduleIf, scheduleSwitch}
+use Rattle.planner.specs.Plans.{frameOf, within, changed, handled, scoped, contextAfter, unlessRefused, onward, applied, refusing, stageAfter, leaving}
+use Rattle.planner.specs.Plans.{nesting, choosingNext, poppingNext, accepting, unlessTaken, entriesIf, scheduleIf, scheduleSwitch}
 use Rattle.planner.specs.Loops.{brieflyIf}
 use Rattle.planner.specs.Planned.{Nested}
 
@@ -51,9 +52,14 @@ visits-same v C e = ap (λ (z : ℕ). withVisits z C) (sym e)
 
 -- ---- plans
 
-pub refuse-applied : (p : Position) (code at : ℕ) (F : List machine.Frame) (R : List Row) (C : definition.Context) → (code ≡ 0 → ⊥) → applied (refusing p code at) F R C ≡ halt (rejected code at (p .visits))
+pub refuse-applied : (p : Position) (code at : ℕ) (F : List machine.Frame) (R : List Row) (C : definition.Context) → (code ≡ 0 → ⊥)
+    → applied (refusing p code at) F R C ≡ halt (rejected code at (p .visits))
 unfolding applied
-refuse-applied p code at F R C h = ap (λ (y : Bool). elim y [ true ↦ onward (p .stage) (refusing p code at) F R (contextAfter (refusing p code at) C) | false ↦ halt (rejected code at (p .visits)) ]) (ne-eqb code 0 h)
+refuse-applied p code at F R C h =
+    ap (λ (y : Bool). elim y [
+      | true ↦ onward (p .stage) (refusing p code at) F R (contextAfter (refusing p code at) C)
+      | false ↦ halt (rejected code at (p .visits))
+    ]) (ne-eqb code 0 h)
 
 -- D is the Context that the plan's change leaves
 pub leave-applied : (next depth count rows visits : ℕ) (change : Change) (F : List machine.Frame) (R : List Row) (C D : definition.Context) → changed change (withVisits visits C) ≡ ok D

@@ -8,14 +8,17 @@ use lib.Dec.{eqb}
 use lib.ListN.{length}
 use borrow.Author.Tests.{eq-eqb, ne-eqb}
 use Rattle.table.specs.Words.{blockCount, caseCount, blockWord, caseWord}
-use Rattle.table.specs.Table.{Table, Block, Case, Terminal, absent, unreachable, throw, return, goto, if, branch, switch, do-while, while, for, for-of, for-in, logical, ternary, optional, label, sequence, maybe-throw, try, scope, codeOf, tableOf, terminalOf, caseOf, terminalAt, blockAt, unlessNone}
+use Rattle.table.specs.Table.{Table, Block, Case, Terminal, absent, unreachable, throw, return, goto, if, branch, switch, do-while, while, for, for-of, for-in}
+use Rattle.table.specs.Table.{logical, ternary, optional, label, sequence, maybe-throw, try, scope, codeOf, tableOf, terminalOf, caseOf, terminalAt, blockAt}
+use Rattle.table.specs.Table.{unlessNone}
 use Rattle.table.proofs.TableLaws.{case-at, length-blocks, length-cases}
 use Rattle.table.proofs.RangeLaws.{case-block}
 use Rattle.table.proofs.BlockLaws.{no-number, end-by, code-at, span-at}
 use Rattle.definition.specs.Build.{rejected, accepted}
 use Rattle.definition.specs.Context.{Flags, has, isScheduled, target-case, schedule, withVisits}
 use Rattle.definition.specs.Context as definition
-use Rattle.definition.specs.Machine.{State, visiting, ended, choosing, Turn, halt, turn, into, secondPart, caseBuilt, withLeft, close, noCase, caseAt, chooseCase, switchColumns, resumeAt, blockRow, valueOut, step}
+use Rattle.definition.specs.Machine.{State, visiting, ended, choosing, Turn, halt, turn, into, secondPart, caseBuilt, withLeft, close, noCase, caseAt}
+use Rattle.definition.specs.Machine.{chooseCase, switchColumns, resumeAt, blockRow, valueOut, step}
 use Rattle.definition.specs.Machine as machine
 use Rattle.definition.specs.Result.{Result, ok, refused, _>>=_, refuseIf}
 use Rattle.definition.specs.Tree.{Row, row}
@@ -45,7 +48,8 @@ use Rattle.planner.proofs.VisitLaws.{few-blocks, ranges}
 
 -- ---- plans for the frame in hand
 
-module _ {top : List machine.Frame} {depth rows : ℕ} {buffer buffer′ : List ℕ} {plan : Plan} {next next′ : List machine.Frame → List Row → definition.Context → Result State} {On On′ : definition.Context → Type 0} where
+module _ {top : List machine.Frame} {depth rows : ℕ} {buffer buffer′ : List ℕ} {plan : Plan}
+    {next next′ : List machine.Frame → List Row → definition.Context → Result State} {On On′ : definition.Context → Type 0} where
   -- another step that comes to the same, and a Context of which more is known
   pub planned-as : ((F : List machine.Frame) (R : List Row) (C : definition.Context) → next′ F R C ≡ next F R C) → ((C : definition.Context) → On′ C → On C)
       → Planned next On top depth rows buffer plan buffer′ → Planned next′ On′ top depth rows buffer plan buffer′
@@ -60,7 +64,9 @@ module _ {top : List machine.Frame} {depth rows : ℕ} {buffer buffer′ : List 
   planned-after more to put e on same m = record {
     out = more ++ m .out;
     held = λ z before h. rw (← (append-assoc before more (m .out))) (m .held z (before ++ more) (put before h));
-    same = λ F R C l o. ap turn (e F R C o) ∙ m .same F (R ++ more) (to C) l (on C o) ∙ same (top ++ F) ((R ++ more) ++ m .out) C ∙ ap (λ (z : List Row). applied plan (top ++ F) z C) (append-assoc R more (m .out));
+    same =
+        λ F R C l o. ap turn (e F R C o) ∙ m .same F (R ++ more) (to C) l (on C o) ∙ same (top ++ F) ((R ++ more) ++ m .out) C ∙ ap
+        (λ (z : List Row). applied plan (top ++ F) z C) (append-assoc R more (m .out));
     fitting = m .fitting;
   }
 
@@ -110,7 +116,10 @@ module _ (w : List ℕ) (p : Position) (frame : Frame) where
       by true u = record {
         out = [];
         held = λ z. absurd (nz z);
-        same = λ F R C d seen. rw (append-nil R) (ap turn (e F R C ∙ into-busy block code at (secondPart (frameOf frame)) F R C (seen-scheduled S H (p .visits) C seen block ∙ u)) ∙ turn-refused code at (C .visits)
+        same =
+            λ F R C d seen. rw (append-nil R) (ap turn
+            (e F R C ∙ into-busy block code at (secondPart (frameOf frame)) F R C (seen-scheduled S H (p .visits) C seen block ∙ u)) ∙ turn-refused code at
+            (C .visits)
             ∙ ap (λ (v : ℕ). halt (rejected code at v)) (seen .visits) ∙ sym (refuse-applied p code at (frameOf frame ∷ F) R C nz));
         fitting = λ z. absurd (nz z);
       }
@@ -118,7 +127,8 @@ module _ (w : List ℕ) (p : Position) (frame : Frame) where
         out = [];
         held = λ _ before h. rw (append-nil before) h;
         same = λ F R C d seen. rw (append-nil R) (ap turn (e F R C ∙ into-free block code at (secondPart (frameOf frame)) F R C (seen-scheduled S H (p .visits) C seen block ∙ u)) ∙ turn-ok _
-            ∙ sym (nest-applied block (second frame) (p .depth) (p .rows) (p .visits) 65535 65535 Nothing (frameOf frame ∷ F) R C _ refl ∙ rw (no-number, visits-same (p .visits) C (seen .visits), within-rest (p .depth) (frameOf frame) F d)));
+            ∙ sym (nest-applied block (second frame) (p .depth) (p .rows) (p .visits) 65535 65535 Nothing (frameOf frame ∷ F) R C _ refl ∙ rw
+            (no-number, visits-same (p .visits) C (seen .visits), within-rest (p .depth) (frameOf frame) F d)));
         fitting = λ _. record { change = tt; handler = rw no-number tt; scope = rw no-number tt; deep = λ _. deep; next = omega arith; nested = tt };
       }
 
@@ -126,7 +136,8 @@ module _ (w : List ℕ) (p : Position) (frame : Frame) where
     pub closing-of : Closing w p frame
     closing-of = record { promise = re .promise; block = re .block; depth = re .depth; rows = omega (arith, re .rows); count = re .count }
 
-    resume-at : (e : Terminal) (F : List machine.Frame) (R : List Row) (C : definition.Context) → terminalAt t (frame .block) ≡ e → resumeStep w p frame F R C ≡ resumeAt t visit e (blockAt t (frame .block)) (frameOf frame) F R C
+    resume-at : (e : Terminal) (F : List machine.Frame) (R : List Row) (C : definition.Context) → terminalAt t (frame .block) ≡ e
+        → resumeStep w p frame F R C ≡ resumeAt t visit e (blockAt t (frame .block)) (frameOf frame) F R C
     resume-at e F R C q = ap (λ (z : Terminal). resumeAt t visit z (blockAt t (frame .block)) (frameOf frame) F R C) q
 
     -- ---- If
@@ -146,7 +157,8 @@ module _ (w : List ℕ) (p : Position) (frame : Frame) where
             | false ↦ elim same [ true ↦ ok (close t (frameOf frame) F R C) | false ↦ into (col 5) 13 (col 5) (secondPart (frameOf frame)) F R C ]
           ]
 
-      if-step : (later same : Bool) (F : List machine.Frame) (R : List Row) (C : definition.Context) → frame .second ≡ later → eqb (col 5) (col 6) ≡ same → resumeStep w p frame F R C ≡ ifResumed later same F R C
+      if-step : (later same : Bool) (F : List machine.Frame) (R : List Row) (C : definition.Context) → frame .second ≡ later → eqb (col 5) (col 6) ≡ same
+          → resumeStep w p frame F R C ≡ ifResumed later same F R C
       unfolding resumeAt
       if-step later same F R C s e = resume-at _ F R C if-at ∙ ap (λ (y : Bool). ifResumed (frame .second) y F R C) e ∙ ap (λ (x : Bool). ifResumed x same F R C) s
 
@@ -156,7 +168,8 @@ module _ (w : List ℕ) (p : Position) (frame : Frame) where
       pub if-without : frame .second ≡ false → col 5 ≡ col 6 → Closed
       if-without s e F R C = if-step false true F R C s (eq-eqb (col 5) (col 6) e)
 
-      pub if-alternate : frame .second ≡ false → (col 5 ≡ col 6 → ⊥) → (F : List machine.Frame) (R : List Row) (C : definition.Context) → resumeStep w p frame F R C ≡ into (col 5) 13 (col 5) (secondPart (frameOf frame)) F R C
+      pub if-alternate : frame .second ≡ false → (col 5 ≡ col 6 → ⊥) → (F : List machine.Frame) (R : List Row) (C : definition.Context)
+          → resumeStep w p frame F R C ≡ into (col 5) 13 (col 5) (secondPart (frameOf frame)) F R C
       if-alternate s e F R C = if-step false false F R C s (ne-eqb (col 5) (col 6) e)
 
     -- ---- Branch
@@ -173,7 +186,8 @@ module _ (w : List ℕ) (p : Position) (frame : Frame) where
       unfolding resumeAt
       branch-second s F R C = resume-at _ F R C branch-at ∙ rw s
 
-      pub branch-alternate : frame .second ≡ false → (F : List machine.Frame) (R : List Row) (C : definition.Context) → resumeStep w p frame F R C ≡ into (col 5) 19 (frame .block) (secondPart (frameOf frame)) F R C
+      pub branch-alternate : frame .second ≡ false → (F : List machine.Frame) (R : List Row) (C : definition.Context)
+          → resumeStep w p frame F R C ≡ into (col 5) 19 (frame .block) (secondPart (frameOf frame)) F R C
       unfolding resumeAt
       branch-alternate s F R C = resume-at _ F R C branch-at ∙ rw s
 
@@ -192,12 +206,14 @@ module _ (w : List ℕ) (p : Position) (frame : Frame) where
       unfolding resumeAt
       try-goes-on s F R C = resume-at _ F R C try-at ∙ rw s
 
-      pub try-handler : (plan : Plan) (buffer : List ℕ) → frame .second ≡ false → plan ≡ nesting (col 4) (second frame) (p .depth) (p .rows) (p .visits) 65535 65535 Nothing → PlannedOn w p frame buffer plan buffer
+      pub try-handler : (plan : Plan) (buffer : List ℕ) → frame .second ≡ false
+          → plan ≡ nesting (col 4) (second frame) (p .depth) (p .rows) (p .visits) 65535 65535 Nothing → PlannedOn w p frame buffer plan buffer
       try-handler plan buffer s q = subst (λ (y : Plan). PlannedOn w p frame buffer y buffer) (sym q) (record {
         out = [];
         held = λ _ before h. rw (append-nil before) h;
         same = λ F R C d on. rw (append-nil R) (ap turn (try-goes-on s F R C) ∙ turn-ok _
-            ∙ sym (nest-applied (col 4) (second frame) (p .depth) (p .rows) (p .visits) 65535 65535 Nothing (frameOf frame ∷ F) R C _ refl ∙ rw (no-number, visits-same (p .visits) C on, within-rest (p .depth) (frameOf frame) F d)));
+            ∙ sym (nest-applied (col 4) (second frame) (p .depth) (p .rows) (p .visits) 65535 65535 Nothing (frameOf frame ∷ F) R C _ refl ∙ rw
+            (no-number, visits-same (p .visits) C on, within-rest (p .depth) (frameOf frame) F d)));
         fitting = λ _. record { change = tt; handler = rw no-number tt; scope = rw no-number tt; deep = λ _. re .depth; next = omega arith; nested = tt };
       })
 
@@ -229,12 +245,15 @@ module _ (w : List ℕ) (p : Position) (frame : Frame) where
       abbrev casePlan : (rows block : ℕ) → Plan
       casePlan rows block = choosingNext (oneBuilt frame) (p .depth) rows (p .visits) (Schedule (CaseTarget block))
 
-      pub case-built : (plan : Plan) (buffer buffer′ : List ℕ) (test block rows : ℕ) → test ≡ caseWord w number 0 → block ≡ caseWord w number 1 → Written buffer (p .rows) (row 11 test 0 0 0 0) buffer′ rows
+      pub case-built : (plan : Plan) (buffer buffer′ : List ℕ) (test block rows : ℕ) → test ≡ caseWord w number 0 → block ≡ caseWord w number 1
+          → Written buffer (p .rows) (row 11 test 0 0 0 0) buffer′ rows
           → plan ≡ casePlan rows block → PlannedOn w p frame buffer plan buffer′
       case-built plan buffer buffer′ test block rows e u put q = subst (λ (y : Plan). PlannedOn w p frame buffer y buffer′) (sym (q ∙ ap (casePlan rows) u)) (record {
         out = caseRow ∷ [];
         held = λ _ before h. rw (← e, ← (push-row-after (row 11 test 0 0 0 0) before)) (put .kept (stack.pushed before []) h);
-        same = λ F R C d on. ap turn (case-goes-on F R C) ∙ turn-asked _ _ ∙ sym (choose-asked (oneBuilt frame) (p .depth) rows (p .visits) (Schedule (CaseTarget (caseWord w number 1))) (frameOf frame ∷ F) (R ++ (caseRow ∷ [])) C
+        same =
+            λ F R C d on. ap turn (case-goes-on F R C) ∙ turn-asked _ _ ∙ sym
+            (choose-asked (oneBuilt frame) (p .depth) rows (p .visits) (Schedule (CaseTarget (caseWord w number 1))) (frameOf frame ∷ F) (R ++ (caseRow ∷ [])) C
             ∙ rw (visits-same (p .visits) C on, within-rest (p .depth) (frameOf frame) F d, more (frame .entries), more (frame .built)));
         fitting = λ _. record { change = case-below; handler = rw no-number tt; scope = rw no-number tt; deep = λ _. re .depth; next = omega arith; nested = refl };
       })
@@ -262,7 +281,8 @@ module _ (w : List ℕ) (p : Position) (frame : Frame) where
       unfolding resumeAt
       test-step F R C on = resume-at _ F R C do-while-at ∙ rw (no-number, span-at w (frame .block) (re .block), on)
 
-      module _ (start : Tally) (buffer buffer₁ : List ℕ) (r : ValueResult) (m : Met w blockResult (visitValueBlock (tableOf w) (128 - p .depth) (col 4) (unlessNone 65535) (col 9) (p .visits)) start 0 buffer r buffer₁) where
+      module _ (start : Tally) (buffer buffer₁ : List ℕ) (r : ValueResult)
+          (m : Met w blockResult (visitValueBlock (tableOf w) (128 - p .depth) (col 4) (unlessNone 65535) (col 9) (p .visits)) start 0 buffer r buffer₁) where
         pub test-refused : (after : Position) (plan : Plan) → after .visits ≡ r .tally .visits → (r .code ≡ 0 → ⊥) → plan ≡ refusing after (r .code) (r .at) → PlannedOn w p frame buffer plan buffer₁
         test-refused after plan e nz q = subst (λ (y : Plan). PlannedOn w p frame buffer y buffer₁) (sym q) (record {
           out = [];
@@ -286,7 +306,8 @@ module _ (w : List ℕ) (p : Position) (frame : Frame) where
     abbrev pub Other : ℕ → Type 0
     Other c = (c ≡ 5 → ⊥) × (c ≡ 6 → ⊥) × (c ≡ 7 → ⊥) × (c ≡ 8 → ⊥) × (c ≡ 19 → ⊥)
 
-    other-closes : (e : Terminal) (b : Block) → Other (codeOf e) → (F : List machine.Frame) (R : List Row) (C : definition.Context) → resumeAt t visit e b (frameOf frame) F R C ≡ closeStep w frame F R C
+    other-closes : (e : Terminal) (b : Block) → Other (codeOf e) → (F : List machine.Frame) (R : List Row) (C : definition.Context)
+        → resumeAt t visit e b (frameOf frame) F R C ≡ closeStep w frame F R C
     unfolding resumeAt
     other-closes absent b h F R C = refl
     other-closes unreachable b h F R C = refl
@@ -374,15 +395,20 @@ module _ (w : List ℕ) (p : Position) (frame : Frame) (ch : Choosing w p frame)
     choice-visits block plan buffer u e q = subst (λ (y : Plan). PlannedChoice w S H p frame buffer y buffer) (sym q) (record {
       out = [];
       held = λ _ before h. rw (append-nil before) h;
-      same = λ F R C d seen. rw (append-nil R) (ap turn (case-chosen false F R C seen (ap (λ (k : ℕ). has S k || has H k) (sym u) ∙ e) ∙ ap (λ (k : ℕ). chosen false k (frame .left - 1) F R C) (sym u)) ∙ turn-ok _
-          ∙ sym (nest-applied block (leftLess frame) (p .depth) (p .rows) (p .visits) 65535 65535 Nothing (frameOf frame ∷ F) R C _ refl ∙ rw (no-number, visits-same (p .visits) C (seen .visits), within-rest (p .depth) (frameOf frame) F d)));
+      same =
+          λ F R C d seen. rw (append-nil R) (ap turn
+          (case-chosen false F R C seen (ap (λ (k : ℕ). has S k || has H k) (sym u) ∙ e) ∙ ap (λ (k : ℕ). chosen false k (frame .left - 1) F R C) (sym u)) ∙
+          turn-ok _
+          ∙ sym (nest-applied block (leftLess frame) (p .depth) (p .rows) (p .visits) 65535 65535 Nothing (frameOf frame ∷ F) R C _ refl ∙ rw
+          (no-number, visits-same (p .visits) C (seen .visits), within-rest (p .depth) (frameOf frame) F d)));
       fitting = λ _. record { change = tt; handler = rw no-number tt; scope = rw no-number tt; deep = λ _. ch .closing .depth; next = omega arith; nested = tt };
     })
 
     abbrev refusal : (same : Bool) → List machine.Frame → List Row → definition.Context → Result State
     refusal same F R C = refuseIf (not same) 14 (frame .block) (C .visits) >>= λ _. ok (choosing (withLeft (frame .left - 1) (frameOf frame)) F R C)
 
-    case-busy : (block : ℕ) (same : Bool) (F : List machine.Frame) (R : List Row) (C : definition.Context) → Seen S H (p .visits) C → block ≡ caseWord w last 1 → has S block || has H block ≡ true → eqb block (column 6) ≡ same
+    case-busy : (block : ℕ) (same : Bool) (F : List machine.Frame) (R : List Row) (C : definition.Context) → Seen S H (p .visits) C → block ≡ caseWord w last 1
+        → has S block || has H block ≡ true → eqb block (column 6) ≡ same
         → chooseStep w frame F R C ≡ refusal same F R C
     case-busy block same F R C seen u e z =
         case-chosen true F R C seen (ap (λ (k : ℕ). has S k || has H k) (sym u) ∙ e)
@@ -406,7 +432,8 @@ module _ (w : List ℕ) (p : Position) (frame : Frame) (ch : Choosing w p frame)
       out = [];
       held = λ _ before h. rw (append-nil before) h;
       same = λ F R C d seen. rw (append-nil R) (ap turn (case-busy block true F R C seen u e (eq-eqb block (column 6) z)) ∙ turn-ok _
-          ∙ sym (choose-applied (leftLess frame) (p .depth) (p .rows) (p .visits) Nothing (frameOf frame ∷ F) R C _ refl ∙ rw (visits-same (p .visits) C (seen .visits), within-rest (p .depth) (frameOf frame) F d)));
+          ∙ sym (choose-applied (leftLess frame) (p .depth) (p .rows) (p .visits) Nothing (frameOf frame ∷ F) R C _ refl ∙ rw
+          (visits-same (p .visits) C (seen .visits), within-rest (p .depth) (frameOf frame) F d)));
       fitting = λ _. fits;
     })
 
@@ -439,7 +466,8 @@ module _ (w : List ℕ) (p : Position) (frame : Frame) where
   }
 
   -- of a Context of which more is known
-  pub turn-on : {On On′ : definition.Context → Type 0} {buffer buffer′ : List ℕ} {plan : Plan} → ((C : definition.Context) → On′ C → On C) → PlannedTurn w On p frame buffer plan buffer′ → PlannedTurn w On′ p frame buffer plan buffer′
+  pub turn-on : {On On′ : definition.Context → Type 0} {buffer buffer′ : List ℕ} {plan : Plan} → ((C : definition.Context) → On′ C → On C)
+      → PlannedTurn w On p frame buffer plan buffer′ → PlannedTurn w On′ p frame buffer plan buffer′
   turn-on on m = record { out = m .out; held = m .held; same = λ F R C l o. m .same F R C l (on C o); fitting = m .fitting }
 
   -- ---- an entry is taken off
@@ -484,10 +512,19 @@ module _ (w : List ℕ) (p : Position) (frame : Frame) where
     out = blockRow (p .count) ∷ [];
     held = λ _ before h. rw (← (push-row-after (blockRow (p .count)) before)) (put .kept (stack.pushed before []) h);
     same = λ F R C. rw (e, z) (λ l o. root F R C l o);
-    fitting = λ _. rw (e, z) (record { change = tt; handler = rw no-number tt; scope = rw no-number tt; deep = λ y. absurd (let o : _≡_ {A = ℕ} 0 1 = cc in omega arith); next = omega arith; nested = tt });
+    fitting =
+        λ _. rw (e, z) (record {
+          change = tt;
+          handler = rw no-number tt;
+          scope = rw no-number tt;
+          deep = λ y. absurd (let o : _≡_ {A = ℕ} 0 1 = cc in omega arith);
+          next = omega arith;
+          nested = tt;
+        });
   })
     where
-      root : (F : List machine.Frame) (R : List Row) (C : definition.Context) → length F ≡ 0 → On C → step (tableOf w) (ended F R (p .count) C) ≡ applied (accepting rows (p .visits)) F (R ++ (blockRow (p .count) ∷ [])) C
+      root : (F : List machine.Frame) (R : List Row) (C : definition.Context) → length F ≡ 0 → On C
+          → step (tableOf w) (ended F R (p .count) C) ≡ applied (accepting rows (p .visits)) F (R ++ (blockRow (p .count) ∷ [])) C
       root [] R C l o = ap (λ (v : ℕ). halt (accepted (R ++ (blockRow (p .count) ∷ [])) v)) (on C o) ∙ sym (accept-applied rows (p .visits) [] (R ++ (blockRow (p .count) ∷ [])) C)
       root (f ∷ F) R C l o = absurd (omega arith)
 
@@ -546,6 +583,7 @@ module _ (w : List ℕ) (p : Position) (frame : Frame) where
         case = omega (arith, length-cases w, rw at at (here .2 .framed .case (here .1)));
       }
 
-  pub chosen-turn : {S H : Flags} {buffer buffer′ : List ℕ} {plan : Plan} → Ready w p frame → p .stage ≡ Choose → PlannedChoice w S H p frame buffer plan buffer′ → PlannedTurn w (Seen S H (p .visits)) p frame buffer plan buffer′
+  pub chosen-turn : {S H : Flags} {buffer buffer′ : List ℕ} {plan : Plan} → Ready w p frame → p .stage ≡ Choose
+      → PlannedChoice w S H p frame buffer plan buffer′ → PlannedTurn w (Seen S H (p .visits)) p frame buffer plan buffer′
   unfolding step
   chosen-turn ready e m = turn-planned Choose (frameOf frame ∷ []) e (hand-choose (p .depth) frame (choosing-fits ready e .closing .depth)) (λ F R C l. refl) (λ C. refl) m

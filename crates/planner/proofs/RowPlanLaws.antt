@@ -6,16 +6,12 @@ use mathlib.Core.Path.{_≡_, refl, sym, ap, _∙_, subst}
 use mathlib.Core.Bool.{Bool, true, false, _||_}
 use mathlib.Core.List.{List, [], _∷_, _++_}
 use mathlib.Core.Option.{Option, none, some}
-use mathlib.Core.Logic.{inl, inr}
 use lib.Dec.{eqb}
 use lib.ListN.{length}
 use borrow.Author.Tests.{ne-eqb}
-use native.Mathlib.Decide.{ℕ-discrete}
-use Rattle.table.proofs.RangeLaws.{code-known}
-use Rattle.table.specs.Words.{blockCount, placeCount, caseCount, blockWord}
-use Rattle.table.specs.Promise.{InRange}
-use Rattle.table.specs.Table.{tableOf, terminalOf, terminalAt, unlessNone, scope}
-use Rattle.table.proofs.BlockLaws.{no-number, some-number, end-by, id-at}
+use Rattle.table.specs.Promise.{Ends, Heads}
+use Rattle.table.specs.Table.{unlessNone, throw, return, scope}
+use Rattle.table.proofs.BlockLaws.{no-number, some-number}
 use Rattle.definition.specs.Build.{rejected}
 use Rattle.definition.specs.Context.{Flags, has, pushed, isScheduled, markScopeFallthrough}
 use Rattle.definition.specs.Context as definition
@@ -33,10 +29,10 @@ use Rattle.planner.specs.declared.plan.Frame.{Frame}
 use Rattle.planner.specs.declared.plan.Change.the-variants.{Nothing}
 use Rattle.planner.specs.declared.plan.Plan.{Plan}
 use Rattle.planner.specs.Plans.{frameOf, scoped, contextAfter, applied, onward, openFrame, leaving, unlessTaken, entriesIf, scheduleIf, scheduledWith, enclosing, withScope}
-use Rattle.planner.specs.Planned.{Seen, Fitting, Planned, PlannedBare, Entered, terminalStep}
+use Rattle.planner.specs.Planned.{Seen, Fitting, Planned, PlannedBare, Entered, terminalStep, SameVisits}
 use Rattle.planner.proofs.PlanLaws.{within-all, visits-same, leave-applied, nest-applied, Label, no-label, free-label, label-taken, label-entries, label-if}
 use Rattle.planner.proofs.StepLaws.{label-scheduled, into-busy, into-free, turn-refused, turn-ok, busy-with}
-use Rattle.planner.proofs.VisitLaws.{bare-planned, step-by, few-blocks, ranges, named-if}
+use Rattle.planner.proofs.VisitLaws.{bare-planned, step-by, named-if, Takes}
 
 -- ---- scopes
 
@@ -63,59 +59,64 @@ unfolding markScopeFallthroughIf
 scope-visits none C = refl
 scope-visits (some f) C = unfold pushed markScopeFallthrough in refl
 
-refused-applied : (plan : Plan) (F : List machine.Frame) (R : List Row) (C : definition.Context) → (plan .code ≡ 0 → ⊥) → applied plan F R C ≡ halt (rejected (plan .code) (plan .at) (plan .position .visits))
+refused-applied : (plan : Plan) (F : List machine.Frame) (R : List Row) (C : definition.Context) → (plan .code ≡ 0 → ⊥)
+    → applied plan F R C ≡ halt (rejected (plan .code) (plan .at) (plan .position .visits))
 unfolding applied
-refused-applied plan F R C h = ap (λ (y : Bool). elim y [ true ↦ onward (plan .position .stage) plan F R (contextAfter plan C) | false ↦ halt (rejected (plan .code) (plan .at) (plan .position .visits)) ]) (ne-eqb (plan .code) 0 h)
+refused-applied plan F R C h =
+    ap (λ (y : Bool). elim y [
+      | true ↦ onward (plan .position .stage) plan F R (contextAfter plan C)
+      | false ↦ halt (rejected (plan .code) (plan .at) (plan .position .visits))
+    ]) (ne-eqb (plan .code) 0 h)
 
-module _ (w : List ℕ) (S H : Flags) (p : Position) (en : Entered w p) where
-  -- a scope's code is 20 or 21: its terminal is a scope
-  pub scope-nested : (pruned : Bool) (f n y : ℕ) (plan : Plan) → terminalAt (tableOf w) (p .block) ≡ scope pruned (blockWord w (p .block) 3) (blockWord w (p .block) 4) (blockWord w (p .block) 5)
-      → f ≡ blockWord w (p .block) 4 → n ≡ unlessTaken (has S f || has H f) f → y ≡ blockWord w (p .block) 3
-      → plan ≡ withScope (enclosing (scheduledWith (has S y || has H y) n y) p n y 18 (p .block)) n → PlannedBare w S H p plan
+module _ (w : List ℕ) (S H : Flags) (p : Position) (en : Entered w p) (pruned : Bool) (x f s n : ℕ) (ends : Ends w (p .block) (scope pruned x f s)) (takes : Takes S H f n) where
+  few : (x < 1024) × (f < 1024)
+  few = (omega (arith, ends .named .0, ends .few), omega (arith, ends .named .1, ends .few))
+
+  l : Label S n
+  l = rw takes (label-taken S H false f (few .1))
+
+  label-is : (C : definition.Context) → Seen S H (p .visits) C → unlessScheduled C f ≡ unlessNone n
+  label-is C seen = label-scheduled w (en .promise) S H (p .visits) C seen f (few .1) ∙ ap unlessNone (sym takes)
+
+  abbrev E : Bool → Plan
+  E b = withScope (enclosing b p n x 18 (p .block)) n
+
+  rows : (b : Bool) → E b .code ≡ 0 → E b .position .rows ≡ p .rows
+  rows true z = refl
+  rows false z = refl
+
+  fits : (b : Bool) → E b .code ≡ 0 → Fitting [] (p .depth) (E b)
+  fits true z = absurd (omega (arith, z))
+  fits false z = record { change = named-if n l; handler = rw no-number tt; scope = label-in n l; deep = λ _. omega arith; next = omega arith; nested = tt }
+
+  scoped-by : (F : List machine.Frame) (R : List Row) (C : definition.Context) → length F ≡ p .depth → Seen S H (p .visits) C → (b : Bool) → eqb x n || (has S x || has H x) ≡ b
+      → turn (into x 18 (p .block) (machine.frameOf (p .block) (unlessNone n) (opens (unlessNone n)) (p .count)) F R
+      (markScopeFallthroughIf (unlessNone n) (scheduledIf (unlessNone n) C))) ≡ applied (E b) F R C
+  scoped-by F R C d seen true o =
+      ap turn (into-busy x 18 (p .block) _ F R _ (scope-busy (unlessNone n) (unlessNone n) C x ∙ busy-with S H (p .visits) n x C l (few .0) seen ∙ o)) ∙ turn-refused 18 (p .block) _
+      ∙ ap (λ (v : ℕ). halt (rejected 18 (p .block) v)) (scope-visits (unlessNone n) C ∙ seen .visits) ∙ sym (refused-applied (E true) F R C (λ z. omega arith))
+  scoped-by F R C d seen false o =
+      ap turn (into-free x 18 (p .block) _ F R _ (scope-busy (unlessNone n) (unlessNone n) C x ∙ busy-with S H (p .visits) n x C l (few .0) seen ∙ o)) ∙ turn-ok _
+      ∙ sym (nest-applied x (openFrame p n (entriesIf (eqb n 65535))) (p .depth + 1) (p .rows) (p .visits) 65535 n (scheduleIf (eqb n 65535) n) F R C
+      (markScopeFallthroughIf (unlessNone n) (scheduledIf (unlessNone n) C))
+      (rw (no-number, visits-same (p .visits) C (seen .visits), scope-moved (unlessNone n) C) (label-if l (scoped (unlessNone n) C) (scope-seen (unlessNone n) C ∙ seen .scheduled)))
+      ∙ rw (label-entries n, within-all (p .depth + 1 - 1) F (omega (arith, d))))
+
+  abbrev busy-now : Bool
+  busy-now = eqb x n || (has S x || has H x)
+
+  scope-enclosed : (plan : Plan) {busy : Bool} {inner : Plan} → busy ≡ has S x || has H x → inner ≡ enclosing (scheduledWith busy n x) p n x 18 (p .block)
+      → plan ≡ withScope inner n → PlannedBare w S H p plan
   unfolding terminalTurn
-  scope-nested pruned f n y plan q s r t e = subst (λ (z : Plan). PlannedBare w S H p z) (sym (e ∙ ap (λ (k : ℕ). withScope (enclosing (scheduledWith (has S k || has H k) n k) p n k 18 (p .block)) n) t))
-      (bare-planned w S H p (E busy) (rows busy) (λ F R C d seen. ap turn (step-by w p _ F R C q) ∙ ap (λ (g : Option ℕ). turn (into x 18 (p .block) (machine.frameOf (p .block) g (opens g) (p .count)) F R (markScopeFallthroughIf g (scheduledIf g C)))) (label-is C seen) ∙ by F R C d seen busy refl) (fits busy))
-    where
-      x : ℕ
-      x = blockWord w (p .block) 3
+  scope-enclosed plan b i e = rw (e, i, b) (bare-planned w S H p (E busy-now) (rows busy-now) (λ F R C d seen. ap turn (step-by w p _ F R C (ends .is))
+      ∙ ap (λ (g : Option ℕ). turn (into x 18 (p .block) (machine.frameOf (p .block) g (opens g) (p .count)) F R (markScopeFallthroughIf g (scheduledIf g C)))) (label-is C seen)
+      ∙ scoped-by F R C d seen busy-now refl) (fits busy-now))
 
-      busy : Bool
-      busy = eqb x n || (has S x || has H x)
-
-      E : Bool → Plan
-      E b = withScope (enclosing b p n x 18 (p .block)) n
-
-      below : (blockWord w (p .block) 3 < 1024) × (blockWord w (p .block) 4 < 1024)
-      below = let g : InRange (blockCount w) (placeCount w) (caseCount w) (scope pruned (blockWord w (p .block) 3) (blockWord w (p .block) 4) (blockWord w (p .block) 5)) = ranges w (en .promise) (p .block) (en .block) _ q in
-          (few-blocks w (en .promise) _ (g .0), few-blocks w (en .promise) _ (g .1))
-
-      n-is : n ≡ unlessTaken (has S (blockWord w (p .block) 4) || has H (blockWord w (p .block) 4)) (blockWord w (p .block) 4)
-      n-is = r ∙ ap (λ (k : ℕ). unlessTaken (has S k || has H k) k) s
-
-      l : Label S n
-      l = rw n-is (label-taken S H false (blockWord w (p .block) 4) (below .1))
-
-      label-is : (C : definition.Context) → Seen S H (p .visits) C → unlessScheduled C (blockWord w (p .block) 4) ≡ unlessNone n
-      label-is C seen = label-scheduled w (en .promise) S H (p .visits) C seen (blockWord w (p .block) 4) (below .1) ∙ ap unlessNone (sym n-is)
-
-      rows : (b : Bool) → E b .code ≡ 0 → E b .position .rows ≡ p .rows
-      rows true z = refl
-      rows false z = refl
-
-      fits : (b : Bool) → E b .code ≡ 0 → Fitting [] (p .depth) (E b)
-      fits true z = absurd (omega (arith, z))
-      fits false z = record { change = named-if n l; handler = rw no-number tt; scope = label-in n l; deep = λ _. omega arith; next = omega arith; nested = tt }
-
-      by : (F : List machine.Frame) (R : List Row) (C : definition.Context) → length F ≡ p .depth → Seen S H (p .visits) C → (b : Bool) → busy ≡ b
-          → turn (into x 18 (p .block) (machine.frameOf (p .block) (unlessNone n) (opens (unlessNone n)) (p .count)) F R (markScopeFallthroughIf (unlessNone n) (scheduledIf (unlessNone n) C))) ≡ applied (E b) F R C
-      by F R C d seen true o =
-          ap turn (into-busy x 18 (p .block) _ F R _ (scope-busy (unlessNone n) (unlessNone n) C x ∙ busy-with S H (p .visits) n x C l (below .0) seen ∙ o)) ∙ turn-refused 18 (p .block) _
-          ∙ ap (λ (v : ℕ). halt (rejected 18 (p .block) v)) (scope-visits (unlessNone n) C ∙ seen .visits) ∙ sym (refused-applied (E true) F R C (λ z. omega arith))
-      by F R C d seen false o =
-          ap turn (into-free x 18 (p .block) _ F R _ (scope-busy (unlessNone n) (unlessNone n) C x ∙ busy-with S H (p .visits) n x C l (below .0) seen ∙ o)) ∙ turn-ok _
-          ∙ sym (nest-applied x (openFrame p n (entriesIf (eqb n 65535))) (p .depth + 1) (p .rows) (p .visits) 65535 n (scheduleIf (eqb n 65535) n) F R C (markScopeFallthroughIf (unlessNone n) (scheduledIf (unlessNone n) C))
-          (rw (no-number, visits-same (p .visits) C (seen .visits), scope-moved (unlessNone n) C) (label-if l (scoped (unlessNone n) C) (scope-seen (unlessNone n) C ∙ seen .scheduled)))
-          ∙ rw (label-entries n, within-all (p .depth + 1 - 1) F (omega (arith, d))))
+-- what the code of a scope returns
+module _ {w : List ℕ} {S H : Flags} {p : Position} {plan : Plan} (en : Entered w p) {pruned : Bool} {x f s : ℕ} (ends : Ends w (p .block) (scope pruned x f s)) where
+  pub scope-nested : {n : ℕ} {busy : Bool} {inner : Plan} → Takes S H f n → busy ≡ has S x || has H x
+      → inner ≡ enclosing (scheduledWith busy n x) p n x 18 (p .block) → plan ≡ withScope inner n → PlannedBare w S H p plan
+  scope-nested {n} takes b i e = scope-enclosed w S H p en pruned x f s n ends takes plan b i e
 
 -- ---- Throw and Return
 
@@ -128,42 +129,25 @@ pub left-planned : (w : List ℕ) (p : Position) (out : List Row) (b b′ : List
 left-planned w p out b b′ rows′ count′ plan held same e = subst (λ (z : Plan). Planned (terminalStep w p) (λ C. C .visits ≡ p .visits) [] (p .depth) (p .rows) b z b′) (sym e) (record {
   out = out;
   held = λ _ before h. held before h;
-  same = λ F R C d v. ap turn (same F R C d v) ∙ turn-ok _ ∙ sym (leave-applied 65535 (p .depth) count′ rows′ (p .visits) Nothing F (R ++ out) C _ refl ∙ rw (no-number, visits-same (p .visits) C v, within-all (p .depth) F d));
+  same =
+      λ F R C d v. ap turn (same F R C d v) ∙ turn-ok _ ∙ sym
+      (leave-applied 65535 (p .depth) count′ rows′ (p .visits) Nothing F (R ++ out) C _ refl ∙ rw
+      (no-number, visits-same (p .visits) C v, within-all (p .depth) F d));
   fitting = λ _. record { change = tt; handler = rw no-number tt; scope = rw no-number tt; deep = λ z. absurd (let o : _≡_ {A = ℕ} 0 1 = cc in omega arith); next = omega arith; nested = tt };
 })
 
 pub row-held : (b b′ : List ℕ) (n n′ : ℕ) (r : Row) → Written b n r b′ n′ → (before : List Row) → Holds b n (stack.pushed before []) → Holds b′ n′ (stack.pushed (before ++ (r ∷ [])) [])
 row-held b b′ n n′ r h before k = rw (push-row-after) at (h .kept (stack.pushed before []) k)
 
-module _ (w : List ℕ) (p : Position) (en : Entered w p) (b b′ : List ℕ) (rows′ : ℕ) (plan : Plan) where
-  pub return-left : (op v id : ℕ) → blockWord w (p .block) 2 ≡ 3 → op ≡ 22 → v ≡ blockWord w (p .block) 3 → id ≡ blockWord w (p .block) 8 → Written b (p .rows) (row op v id 0 0 0) b′ rows′
-      → plan ≡ leaving 65535 (p .depth) (p .count + 1) rows′ (p .visits) Nothing → Planned (terminalStep w p) (λ C. C .visits ≡ p .visits) [] (p .depth) (p .rows) b plan b′
-  unfolding terminalTurn terminalOf
-  return-left op v id code o q i h e = left-planned w p (row op v id 0 0 0 ∷ []) b b′ rows′ (p .count + 1) plan (row-held b b′ (p .rows) rows′ _ h)
-      (λ F R C d s. step-by w p _ F R C (end-by w (p .block) (en .block) 3 code) ∙ rw (o, q, i, id-at w (p .block) (en .block), add-one)) e
+module _ {w : List ℕ} {p : Position} {plan : Plan} {b b′ : List ℕ} {rows′ v first count id span : ℕ} (en : Entered w p) (heads : Heads w (p .block) first count id span) where
+  pub return-left : Ends w (p .block) (return v) → Written b (p .rows) (row 22 v id 0 0 0) b′ rows′ → plan ≡ leaving 65535 (p .depth) (p .count + 1) rows′ (p .visits) Nothing
+      → Planned (terminalStep w p) (SameVisits p) [] (p .depth) (p .rows) b plan b′
+  unfolding terminalTurn
+  return-left ends h e = left-planned w p (row 22 v id 0 0 0 ∷ []) b b′ rows′ (p .count + 1) plan (row-held b b′ (p .rows) rows′ _ h)
+      (λ F R C d s. step-by w p _ F R C (ends .is) ∙ rw (heads .is-id, add-one)) e
 
-  pub throw-left : (op v id : ℕ) → blockWord w (p .block) 2 ≡ 2 → op ≡ 23 → v ≡ blockWord w (p .block) 3 → id ≡ blockWord w (p .block) 8 → Written b (p .rows) (row op v id 0 0 0) b′ rows′
-      → plan ≡ leaving 65535 (p .depth) (p .count + 1) rows′ (p .visits) Nothing → Planned (terminalStep w p) (λ C. C .visits ≡ p .visits) [] (p .depth) (p .rows) b plan b′
-  unfolding terminalTurn terminalOf
-  throw-left op v id code o q i h e = left-planned w p (row op v id 0 0 0 ∷ []) b b′ rows′ (p .count + 1) plan (row-held b b′ (p .rows) rows′ _ h)
-      (λ F R C d s. step-by w p _ F R C (end-by w (p .block) (en .block) 2 code) ∙ rw (o, q, i, id-at w (p .block) (en .block), add-one)) e
-
--- ---- a scope's columns
-
-pub scope-at : (w : List ℕ) (p : Position) → Entered w p → 20 ≤ blockWord w (p .block) 2
-    → (pruned : Bool) × (terminalAt (tableOf w) (p .block) ≡ scope pruned (blockWord w (p .block) 3) (blockWord w (p .block) 4) (blockWord w (p .block) 5))
-unfolding terminalOf
-scope-at w p en h = at (ℕ-discrete (blockWord w (p .block) 2) 20)
-  where
-    at : Dec (blockWord w (p .block) 2 ≡ 20) → (pruned : Bool) × (terminalAt (tableOf w) (p .block) ≡ scope pruned (blockWord w (p .block) 3) (blockWord w (p .block) 4) (blockWord w (p .block) 5))
-    at (yes e) = (false, end-by w (p .block) (en .block) 20 e)
-    at (no e) = (true, end-by w (p .block) (en .block) 21 (last (code-known w (en .promise) (p .block) (en .block)) e))
-      where
-        last : blockWord w (p .block) 2 ≤ 21 → (blockWord w (p .block) 2 ≡ 20 → ⊥) → blockWord w (p .block) 2 ≡ 21
-        last k e = omega (arith, k, h, e)
-
-pub scope-ranges : (w : List ℕ) (p : Position) → Entered w p → 20 ≤ blockWord w (p .block) 2 → (blockWord w (p .block) 3 < blockCount w) × (blockWord w (p .block) 4 < blockCount w)
-scope-ranges w p en h =
-    let s : (pruned : Bool) × (terminalAt (tableOf w) (p .block) ≡ scope pruned (blockWord w (p .block) 3) (blockWord w (p .block) 4) (blockWord w (p .block) 5)) = scope-at w p en h in
-    let g : InRange (blockCount w) (placeCount w) (caseCount w) (scope (s .0) (blockWord w (p .block) 3) (blockWord w (p .block) 4) (blockWord w (p .block) 5)) = ranges w (en .promise) (p .block) (en .block) _ (s .1) in
-    (g .0, g .1)
+  pub throw-left : Ends w (p .block) (throw v) → Written b (p .rows) (row 23 v id 0 0 0) b′ rows′ → plan ≡ leaving 65535 (p .depth) (p .count + 1) rows′ (p .visits) Nothing
+      → Planned (terminalStep w p) (SameVisits p) [] (p .depth) (p .rows) b plan b′
+  unfolding terminalTurn
+  throw-left ends h e = left-planned w p (row 23 v id 0 0 0 ∷ []) b b′ rows′ (p .count + 1) plan (row-held b b′ (p .rows) rows′ _ h)
+      (λ F R C d s. step-by w p _ F R C (ends .is) ∙ rw (heads .is-id, add-one)) e

@@ -58,7 +58,8 @@ module _ (ws : List ℕ) (pr : Promise ws) (S H : Flags) (v : ℕ) (C : definiti
   unfolding unlessUnreachable refuseIf _>>=_
   label-missing f h e = rw (code-at ws f pr h ∙ e)
 
-  pub label-reached : (f : ℕ) → f < blockCount ws → f < 1024 → (blockWord ws f 2 ≡ 0 → ⊥) → unlessUnreachable (tableOf ws) C f ≡ ok (unlessNone (unlessTaken (eqb (blockWord ws f 2) 1 || (has S f || has H f)) f))
+  pub label-reached : (f : ℕ) → f < blockCount ws → f < 1024 → (blockWord ws f 2 ≡ 0 → ⊥)
+      → unlessUnreachable (tableOf ws) C f ≡ ok (unlessNone (unlessTaken (eqb (blockWord ws f 2) 1 || (has S f || has H f)) f))
   unfolding unlessUnreachable refuseIf _>>=_
   label-reached f h k e = rw (code-at ws f pr h, ne-eqb (blockWord ws f 2) 0 e) (at (eqb (blockWord ws f 2) 1))
     where
@@ -76,21 +77,25 @@ pub turn-ok : (s : State) → turn (ok s) ≡ going s
 unfolding turn
 turn-ok s = refl
 
-pub into-busy : (block code at : ℕ) (fr : machine.Frame) (F : List machine.Frame) (R : List Row) (C : definition.Context) → isScheduled C block ≡ true → into block code at fr F R C ≡ refused code at (C .visits)
+pub into-busy : (block code at : ℕ) (fr : machine.Frame) (F : List machine.Frame) (R : List Row) (C : definition.Context) → isScheduled C block ≡ true
+    → into block code at fr F R C ≡ refused code at (C .visits)
 unfolding into refuseIf _>>=_
 into-busy block code at fr F R C e = rw e
 
-pub into-free : (block code at : ℕ) (fr : machine.Frame) (F : List machine.Frame) (R : List Row) (C : definition.Context) → isScheduled C block ≡ false → into block code at fr F R C ≡ ok (visiting block (fr ∷ F) R 0 C)
+pub into-free : (block code at : ℕ) (fr : machine.Frame) (F : List machine.Frame) (R : List Row) (C : definition.Context) → isScheduled C block ≡ false
+    → into block code at fr F R C ≡ ok (visiting block (fr ∷ F) R 0 C)
 unfolding into refuseIf _>>=_
 into-free block code at fr F R C e = rw e
 
 -- whether a block is scheduled once the label is
-pub busy-with : (S H : Flags) (v n block : ℕ) (C : definition.Context) → Label S n → block < 1024 → Seen S H v C → isScheduled (scheduledIf (unlessNone n) C) block ≡ eqb block n || (has S block || has H block)
+pub busy-with : (S H : Flags) (v n block : ℕ) (C : definition.Context) → Label S n → block < 1024 → Seen S H v C
+    → isScheduled (scheduledIf (unlessNone n) C) block ≡ eqb block n || (has S block || has H block)
 busy-with S H v n block C (no-label e) k seen =
     ap (λ (z : Option ℕ). isScheduled (scheduledIf z C) block) (ap unlessNone e ∙ no-number) ∙ seen-scheduled S H v C seen block
     ∙ sym (ap (λ (y : Bool). y || (has S block || has H block)) (ne-eqb block n (λ q. omega arith)))
 busy-with S H v n block C (free-label h _) k seen =
-    ap (λ (z : Option ℕ). isScheduled (scheduledIf z C) block) (some-number n (λ q. omega arith)) ∙ scheduled-push n block C (wide h) ∙ ap (λ (y : Bool). eqb block n || y) (seen-scheduled S H v C seen block)
+    ap (λ (z : Option ℕ). isScheduled (scheduledIf z C) block) (some-number n (λ q. omega arith)) ∙ scheduled-push n block C (wide h) ∙ ap
+    (λ (y : Bool). eqb block n || y) (seen-scheduled S H v C seen block)
   where
     wide : n < 1024 → n < length (C .scheduled)
     wide h = rw (seen .scheduled) (omega (arith, seen .wide))
@@ -116,7 +121,9 @@ enclose-same S H p n block code at F R C l k nz seen d = by (eqb block n || (has
     visits (some f) = unfold pushed in seen .visits
 
     by : (y : Bool) → eqb block n || (has S block || has H block) ≡ y → turn (into block code at fr F R D) ≡ applied (enclosing y p n block code at) F R C
-    by true e = ap turn (into-busy block code at fr F R D (busy ∙ e) ∙ ap (λ (v : ℕ). refused code at v) (visits (unlessNone n))) ∙ turn-refused code at (p .visits) ∙ sym (refuse-applied p code at F R C nz)
+    by true e =
+        ap turn (into-busy block code at fr F R D (busy ∙ e) ∙ ap (λ (v : ℕ). refused code at v) (visits (unlessNone n))) ∙ turn-refused code at (p .visits) ∙
+        sym (refuse-applied p code at F R C nz)
     by false e =
         ap turn (into-free block code at fr F R D (busy ∙ e)) ∙ turn-ok _
         ∙ sym (nest-applied block (openFrame p n (entriesIf (eqb n 65535))) (p .depth + 1) (p .rows) (p .visits) 65535 65535 (scheduleIf (eqb n 65535) n) F R C D

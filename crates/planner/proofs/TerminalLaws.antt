@@ -10,7 +10,9 @@ use lib.ListN.{length}
 use borrow.Author.Tests.{eq-eqb, ne-eqb, le-leb, lt-leb}
 use Rattle.table.specs.Words.{blockCount, blockWord}
 use Rattle.table.specs.Promise.{Promise}
-use Rattle.table.specs.Table.{Table, Block, Terminal, absent, unreachable, throw, return, goto, if, branch, switch, do-while, while, for, for-of, for-in, logical, ternary, optional, label, sequence, maybe-throw, try, scope, Break, Continue, Try, codeOf, tableOf, blockOf, terminalOf, terminalAt, blockAt, rowsFrom, instructionRowsAt, variantOf}
+use Rattle.table.specs.Table.{Table, Block, Terminal, absent, unreachable, throw, return, goto, if, branch, switch, do-while, while, for, for-of, for-in}
+use Rattle.table.specs.Table.{logical, ternary, optional, label, sequence, maybe-throw, try, scope, Break, Continue, Try, codeOf, tableOf, blockOf, terminalOf}
+use Rattle.table.specs.Table.{terminalAt, blockAt, rowsFrom, instructionRowsAt, variantOf}
 use Rattle.table.proofs.TableLaws.{block-at}
 use Rattle.table.proofs.BlockLaws.{end-by, code-at, goto-at, branch-at, length-rows}
 use Rattle.definition.specs.Context.{Flags, has, emit, withVisits, isScheduled, getBreakTarget, getContinueTarget}
@@ -101,7 +103,9 @@ module _ (t : Table) (b : ℕ) (F : List machine.Frame) (R : List Row) (m : ℕ)
   too-deep h = rw (le-leb 128 (length F) h)
 
   inside : Result definition.Context → Result State
-  inside entered = entered >>= λ D. terminalTurn t (visitValueBlock t (depthLeft F)) (terminalAt t b) b (blockAt t b) F (R ++ instructionsOut t (instructionRowsAt t b)) (m + length (instructionRowsAt t b)) D
+  inside entered =
+      entered >>= λ D. terminalTurn t (visitValueBlock t (depthLeft F)) (terminalAt t b) b (blockAt t b) F (R ++ instructionsOut t (instructionRowsAt t b))
+      (m + length (instructionRowsAt t b)) D
 
   not-deep : length F < 128 → visitTurn t b F R m C ≡ inside (enterBlock t b C)
   unfolding visitTurn refuseIf _>>=_ inside
@@ -127,7 +131,8 @@ module _ (t : Table) (b : ℕ) (F : List machine.Frame) (R : List Row) (m : ℕ)
   unfolding inside _>>=_
   inside-refused c a v = refl
 
-  inside-ok : (D : definition.Context) → inside (ok D) ≡ terminalTurn t (visitValueBlock t (depthLeft F)) (terminalAt t b) b (blockAt t b) F (R ++ instructionsOut t (instructionRowsAt t b)) (m + length (instructionRowsAt t b)) D
+  inside-ok : (D : definition.Context) → inside (ok D) ≡ terminalTurn t (visitValueBlock t (depthLeft F)) (terminalAt t b) b (blockAt t b) F
+      (R ++ instructionsOut t (instructionRowsAt t b)) (m + length (instructionRowsAt t b)) D
   unfolding inside _>>=_
   inside-ok D = refl
 
@@ -167,12 +172,16 @@ module _ (w : List ℕ) (E S H Z : Flags) (p : Position) (found : Resolved) (her
   planned plan out held same fit = record {
     out = out;
     held = held;
-    same = λ F R C. subst (λ (s : Stage). length (inHand s (p .depth) frame ++ F) ≡ p .depth → On C → step (tableOf w) (stateAt s b (inHand s (p .depth) frame ++ F) R (p .count) C) ≡ applied plan (inHand s (p .depth) frame ++ F) (R ++ out) (emitting s b C)) (sym (here .stage)) (λ l o. same F R C l o);
+    same =
+        λ F R C. subst (λ (s : Stage). length (inHand s (p .depth) frame ++ F) ≡ p .depth → On C → step (tableOf w)
+        (stateAt s b (inHand s (p .depth) frame ++ F) R (p .count) C) ≡ applied plan (inHand s (p .depth) frame ++ F) (R ++ out) (emitting s b C))
+        (sym (here .stage)) (λ l o. same F R C l o);
     fitting = λ z. subst (λ (s : Stage). Fitting (inHand s (p .depth) frame) (p .depth) plan) (sym (here .stage)) (fit z);
   }
 
   refused-turn : (buffer : List ℕ) (q : Position) (code at : ℕ) (plan : Plan) → (code ≡ 0 → ⊥) → plan ≡ refusing q code at
-      → ((F : List machine.Frame) (R : List Row) (C : definition.Context) → length F ≡ p .depth → On C → visitTurn (tableOf w) b F R (p .count) C ≡ refused code at (q .visits)) → PlannedTurn w On p frame buffer plan buffer
+      → ((F : List machine.Frame) (R : List Row) (C : definition.Context) → length F ≡ p .depth → On C
+      → visitTurn (tableOf w) b F R (p .count) C ≡ refused code at (q .visits)) → PlannedTurn w On p frame buffer plan buffer
   refused-turn buffer q code at plan nz e same = subst (λ (z : Plan). PlannedTurn w On p frame buffer z buffer) (sym e) (planned (refusing q code at) [] (λ z. absurd (nz z))
       (λ F R C l o. ap turn (same F R C l o) ∙ turn-refused code at (q .visits) ∙ sym (refuse-applied q code at F (R ++ []) (emit b C) nz)) (λ z. absurd (nz z)))
 
@@ -180,8 +189,11 @@ module _ (w : List ℕ) (E S H Z : Flags) (p : Position) (found : Resolved) (her
   deep-planned buffer plan h e = refused-turn buffer p 30 b plan (λ z. omega arith) e (λ F R C l o. too-deep (tableOf w) b F R (p .count) C (omega (arith, l)) ∙ ap (refused 30 b) (o .visits))
 
   module _ (shallow : p .depth < 128) where
-    entering-turn : (F : List machine.Frame) (R : List Row) (C : definition.Context) (code at v : ℕ) → length F ≡ p .depth → enterBlock (tableOf w) b C ≡ refused code at v → visitTurn (tableOf w) b F R (p .count) C ≡ refused code at v
-    entering-turn F R C code at v l e = not-deep (tableOf w) b F R (p .count) C (omega (arith, l)) ∙ ap (inside (tableOf w) b F R (p .count) C) e ∙ inside-refused (tableOf w) b F R (p .count) C code at v
+    entering-turn : (F : List machine.Frame) (R : List Row) (C : definition.Context) (code at v : ℕ) → length F ≡ p .depth
+        → enterBlock (tableOf w) b C ≡ refused code at v → visitTurn (tableOf w) b F R (p .count) C ≡ refused code at v
+    entering-turn F R C code at v l e =
+        not-deep (tableOf w) b F R (p .count) C (omega (arith, l)) ∙ ap (inside (tableOf w) b F R (p .count) C) e ∙ inside-refused (tableOf w) b F R (p .count)
+        C code at v
 
     pub visits-planned : (buffer : List ℕ) (plan : Plan) → 8192 ≤ p .visits → plan ≡ refusing p 31 b → PlannedTurn w On p frame buffer plan buffer
     visits-planned buffer plan h e = refused-turn buffer p 31 b plan (λ z. omega arith) e
@@ -193,7 +205,8 @@ module _ (w : List ℕ) (E S H Z : Flags) (p : Position) (found : Resolved) (her
 
       pub absent-planned : (buffer : List ℕ) (q : Position) (plan : Plan) → q .visits ≡ p .visits + 1 → blockWord w b 2 ≡ 0 → plan ≡ refusing q 10 b → PlannedTurn w On p frame buffer plan buffer
       absent-planned buffer q plan s z e = refused-turn buffer q 10 b plan (λ y. omega arith) e (λ F R C l o. entering-turn F R C 10 b (q .visits) l
-          (no-block (tableOf w) b F R (p .count) C (omega (arith, o .visits, few)) (ap (λ (k : ℕ). eqb k 0) (code-at w b (here .promise) (here .block)) ∙ eq-eqb (blockWord w b 2) 0 z) ∙ ap (refused 10 b) (next-visit C q o s)))
+          (no-block (tableOf w) b F R (p .count) C (omega (arith, o .visits, few))
+          (ap (λ (k : ℕ). eqb k 0) (code-at w b (here .promise) (here .block)) ∙ eq-eqb (blockWord w b 2) 0 z) ∙ ap (refused 10 b) (next-visit C q o s)))
 
       module _ (there : blockWord w b 2 ≡ 0 → ⊥) where
         present : eqb (codeOf (terminalAt (tableOf w) b)) 0 ≡ false
@@ -204,7 +217,8 @@ module _ (w : List ℕ) (E S H Z : Flags) (p : Position) (found : Resolved) (her
             (emitted-twice (tableOf w) b F R (p .count) C (omega (arith, o .visits, few)) present (ap (λ (k : Flags). has k b) (o .emitted) ∙ z) ∙ ap (refused 11 b) (next-visit C q o s)))
 
         -- the terminal's planner goes on from the instructions
-        pub entered-planned : (buffer buffer₁ buffer′ : List ℕ) (q : Position) (plan : Plan) → has E b ≡ false → q .block ≡ b → q .depth ≡ p .depth → q .count ≡ p .count + blockWord w b 1 → q .visits ≡ p .visits + 1
+        pub entered-planned : (buffer buffer₁ buffer′ : List ℕ) (q : Position) (plan : Plan) → has E b ≡ false → q .block ≡ b → q .depth ≡ p .depth
+            → q .count ≡ p .count + blockWord w b 1 → q .visits ≡ p .visits + 1
             → InstructionsPut w (blockWord w b 0) (blockWord w b 1) buffer (p .rows) buffer₁ (q .rows)
             → Planned (terminalStep w q) (AtTerminal w S H Z q found) [] (q .depth) (q .rows) buffer₁ plan buffer′ → PlannedTurn w On p frame buffer plan buffer′
         entered-planned buffer buffer₁ buffer′ q plan z eb ed ec ev put m = planned plan (lines ++ m .out)
@@ -218,9 +232,11 @@ module _ (w : List ℕ) (E S H Z : Flags) (p : Position) (found : Resolved) (her
 
             written : (before : List Row) → Holds buffer (p .rows) (pushed before []) → Holds buffer₁ (q .rows) (pushed (before ++ lines) [])
             written before h = subst (λ (X : List Row). Holds buffer₁ (q .rows) X)
-                (ap (λ (is : List ℕ). pushInstructionRows (tableOf w) is (pushed before [])) (sym (rows-at w b (here .block))) ∙ push-instruction-rows-after (tableOf w) (instructionRowsAt (tableOf w) b) before) (put .kept (pushed before []) h)
+                (ap (λ (is : List ℕ). pushInstructionRows (tableOf w) is (pushed before [])) (sym (rows-at w b (here .block))) ∙ push-instruction-rows-after
+                (tableOf w) (instructionRowsAt (tableOf w) b) before) (put .kept (pushed before []) h)
 
-            goes : (F : List machine.Frame) (R : List Row) (C : definition.Context) → length F ≡ p .depth → On C → visitTurn (tableOf w) b F R (p .count) C ≡ terminalStep w q F (R ++ lines) (emit b (withVisits (suc (C .visits)) C))
+            goes : (F : List machine.Frame) (R : List Row) (C : definition.Context) → length F ≡ p .depth → On C
+                → visitTurn (tableOf w) b F R (p .count) C ≡ terminalStep w q F (R ++ lines) (emit b (withVisits (suc (C .visits)) C))
             goes F R C l o = not-deep (tableOf w) b F R (p .count) C (omega (arith, l))
                 ∙ ap (inside (tableOf w) b F R (p .count) C) (enters (tableOf w) b F R (p .count) C (omega (arith, o .visits, few)) present (ap (λ (k : Flags). has k b) (o .emitted) ∙ z))
                 ∙ inside-ok (tableOf w) b F R (p .count) C (emit b (withVisits (suc (C .visits)) C))
@@ -229,30 +245,16 @@ module _ (w : List ℕ) (E S H Z : Flags) (p : Position) (found : Resolved) (her
             sees : (C : definition.Context) → On C → AtTerminal w S H Z q found (emit b (withVisits (suc (C .visits)) C))
             sees C o = entered-sees q C o (next-visit C q o ev) eb
 
--- ---- codes from 20 on
+-- ---- none of the 22 codes
 
-pub twenty : (n : ℕ) → (n ≡ 0 → ⊥) → (n ≡ 1 → ⊥) → (n ≡ 2 → ⊥) → (n ≡ 3 → ⊥) → (n ≡ 4 → ⊥) → (n ≡ 5 → ⊥) → (n ≡ 6 → ⊥) → (n ≡ 7 → ⊥) → (n ≡ 8 → ⊥) → (n ≡ 9 → ⊥) → (n ≡ 10 → ⊥) → (n ≡ 11 → ⊥) → (n ≡ 12 → ⊥) → (n ≡ 13 → ⊥) → (n ≡ 14 → ⊥) → (n ≡ 15 → ⊥) → (n ≡ 16 → ⊥) → (n ≡ 17 → ⊥) → (n ≡ 18 → ⊥) → (n ≡ 19 → ⊥) → 20 ≤ n
-twenty zero f0 f1 f2 f3 f4 f5 f6 f7 f8 f9 f10 f11 f12 f13 f14 f15 f16 f17 f18 f19 = absurd (f0 refl)
-twenty (suc (zero)) f0 f1 f2 f3 f4 f5 f6 f7 f8 f9 f10 f11 f12 f13 f14 f15 f16 f17 f18 f19 = absurd (f1 refl)
-twenty (suc (suc (zero))) f0 f1 f2 f3 f4 f5 f6 f7 f8 f9 f10 f11 f12 f13 f14 f15 f16 f17 f18 f19 = absurd (f2 refl)
-twenty (suc (suc (suc (zero)))) f0 f1 f2 f3 f4 f5 f6 f7 f8 f9 f10 f11 f12 f13 f14 f15 f16 f17 f18 f19 = absurd (f3 refl)
-twenty (suc (suc (suc (suc (zero))))) f0 f1 f2 f3 f4 f5 f6 f7 f8 f9 f10 f11 f12 f13 f14 f15 f16 f17 f18 f19 = absurd (f4 refl)
-twenty (suc (suc (suc (suc (suc (zero)))))) f0 f1 f2 f3 f4 f5 f6 f7 f8 f9 f10 f11 f12 f13 f14 f15 f16 f17 f18 f19 = absurd (f5 refl)
-twenty (suc (suc (suc (suc (suc (suc (zero))))))) f0 f1 f2 f3 f4 f5 f6 f7 f8 f9 f10 f11 f12 f13 f14 f15 f16 f17 f18 f19 = absurd (f6 refl)
-twenty (suc (suc (suc (suc (suc (suc (suc (zero)))))))) f0 f1 f2 f3 f4 f5 f6 f7 f8 f9 f10 f11 f12 f13 f14 f15 f16 f17 f18 f19 = absurd (f7 refl)
-twenty (suc (suc (suc (suc (suc (suc (suc (suc (zero))))))))) f0 f1 f2 f3 f4 f5 f6 f7 f8 f9 f10 f11 f12 f13 f14 f15 f16 f17 f18 f19 = absurd (f8 refl)
-twenty (suc (suc (suc (suc (suc (suc (suc (suc (suc (zero)))))))))) f0 f1 f2 f3 f4 f5 f6 f7 f8 f9 f10 f11 f12 f13 f14 f15 f16 f17 f18 f19 = absurd (f9 refl)
-twenty (suc (suc (suc (suc (suc (suc (suc (suc (suc (suc (zero))))))))))) f0 f1 f2 f3 f4 f5 f6 f7 f8 f9 f10 f11 f12 f13 f14 f15 f16 f17 f18 f19 = absurd (f10 refl)
-twenty (suc (suc (suc (suc (suc (suc (suc (suc (suc (suc (suc (zero)))))))))))) f0 f1 f2 f3 f4 f5 f6 f7 f8 f9 f10 f11 f12 f13 f14 f15 f16 f17 f18 f19 = absurd (f11 refl)
-twenty (suc (suc (suc (suc (suc (suc (suc (suc (suc (suc (suc (suc (zero))))))))))))) f0 f1 f2 f3 f4 f5 f6 f7 f8 f9 f10 f11 f12 f13 f14 f15 f16 f17 f18 f19 = absurd (f12 refl)
-twenty (suc (suc (suc (suc (suc (suc (suc (suc (suc (suc (suc (suc (suc (zero)))))))))))))) f0 f1 f2 f3 f4 f5 f6 f7 f8 f9 f10 f11 f12 f13 f14 f15 f16 f17 f18 f19 = absurd (f13 refl)
-twenty (suc (suc (suc (suc (suc (suc (suc (suc (suc (suc (suc (suc (suc (suc (zero))))))))))))))) f0 f1 f2 f3 f4 f5 f6 f7 f8 f9 f10 f11 f12 f13 f14 f15 f16 f17 f18 f19 = absurd (f14 refl)
-twenty (suc (suc (suc (suc (suc (suc (suc (suc (suc (suc (suc (suc (suc (suc (suc (zero)))))))))))))))) f0 f1 f2 f3 f4 f5 f6 f7 f8 f9 f10 f11 f12 f13 f14 f15 f16 f17 f18 f19 = absurd (f15 refl)
-twenty (suc (suc (suc (suc (suc (suc (suc (suc (suc (suc (suc (suc (suc (suc (suc (suc (zero))))))))))))))))) f0 f1 f2 f3 f4 f5 f6 f7 f8 f9 f10 f11 f12 f13 f14 f15 f16 f17 f18 f19 = absurd (f16 refl)
-twenty (suc (suc (suc (suc (suc (suc (suc (suc (suc (suc (suc (suc (suc (suc (suc (suc (suc (zero)))))))))))))))))) f0 f1 f2 f3 f4 f5 f6 f7 f8 f9 f10 f11 f12 f13 f14 f15 f16 f17 f18 f19 = absurd (f17 refl)
-twenty (suc (suc (suc (suc (suc (suc (suc (suc (suc (suc (suc (suc (suc (suc (suc (suc (suc (suc (zero))))))))))))))))))) f0 f1 f2 f3 f4 f5 f6 f7 f8 f9 f10 f11 f12 f13 f14 f15 f16 f17 f18 f19 = absurd (f18 refl)
-twenty (suc (suc (suc (suc (suc (suc (suc (suc (suc (suc (suc (suc (suc (suc (suc (suc (suc (suc (suc (zero)))))))))))))))))))) f0 f1 f2 f3 f4 f5 f6 f7 f8 f9 f10 f11 f12 f13 f14 f15 f16 f17 f18 f19 = absurd (f19 refl)
-twenty (suc (suc (suc (suc (suc (suc (suc (suc (suc (suc (suc (suc (suc (suc (suc (suc (suc (suc (suc (suc (n))))))))))))))))))))) f0 f1 f2 f3 f4 f5 f6 f7 f8 f9 f10 f11 f12 f13 f14 f15 f16 f17 f18 f19 = omega arith
+-- a number that is none of the first k, as a match over them says it
+abbrev pub Missed : ℕ → ℕ → Type 0
+Missed zero n = Unit {0}
+Missed (suc k) n = Missed k n × (n ≡ k → ⊥)
+
+pub missed-past : (k n : ℕ) → Missed k n → k ≤ n
+missed-past zero n h = omega arith
+missed-past (suc k) n (h, g) = omega (arith, missed-past k n h, g)
 
 pub visits-ready : (w : List ℕ) (p : Position) (frame : Frame) → Ready w p frame → p .stage ≡ Visit → Visits w p
 visits-ready w p frame ready e =

@@ -6,7 +6,8 @@ use mathlib.Core.List.{List, [], _++_}
 use mathlib.Core.Option.{Option, none, some}
 use lib.Dec.{eqb}
 use Rattle.table.specs.Words.{blockWord}
-use Rattle.table.specs.Table.{Table, Terminal, absent, unreachable, throw, return, goto, if, branch, switch, do-while, while, for, for-of, for-in, logical, ternary, optional, label, sequence, maybe-throw, try, scope, tableOf, unlessNone}
+use Rattle.table.specs.Table.{Table, Terminal, absent, unreachable, throw, return, goto, if, branch, switch, do-while, while, for, for-of, for-in, logical}
+use Rattle.table.specs.Table.{ternary, optional, label, sequence, maybe-throw, try, scope, tableOf, unlessNone}
 use Rattle.definition.specs.Context.{Flags, has}
 use Rattle.definition.specs.Context as definition
 use Rattle.definition.specs.Machine.{State, intoLoop, valueOut}

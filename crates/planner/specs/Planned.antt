@@ -67,10 +67,12 @@ pub record Fitting (top : List machine.Frame) (depth : ℕ) (plan : Plan) : Type
   pub nested : Nested (plan .position .stage) (plan .keep)
 
 -- `top` and then the frames are `depth` in all; `On` says what is known of the Context
-pub record Planned (step : List machine.Frame → List Row → definition.Context → Result State) (On : definition.Context → Type 0) (top : List machine.Frame) (depth rows : ℕ) (buffer : List ℕ) (plan : Plan) (buffer′ : List ℕ) : Type 0 where
+pub record Planned (step : List machine.Frame → List Row → definition.Context → Result State) (On : definition.Context
+    → Type 0) (top : List machine.Frame) (depth rows : ℕ) (buffer : List ℕ) (plan : Plan) (buffer′ : List ℕ) : Type 0 where
   pub out : List Row
   pub held : plan .code ≡ 0 → (before : List Row) → Holds buffer rows (pushed before []) → Holds buffer′ (plan .position .rows) (pushed (before ++ out) [])
-  pub same : (frames : List machine.Frame) (before : List Row) (cx : definition.Context) → length (top ++ frames) ≡ depth → On cx → turn (step frames before cx) ≡ applied plan (top ++ frames) (before ++ out) cx
+  pub same : (frames : List machine.Frame) (before : List Row) (cx : definition.Context) → length (top ++ frames) ≡ depth → On cx
+      → turn (step frames before cx) ≡ applied plan (top ++ frames) (before ++ out) cx
   pub fitting : plan .code ≡ 0 → Fitting top depth plan
 
 -- ---- the terminal of a block that is entered
@@ -78,7 +80,8 @@ pub record Planned (step : List machine.Frame → List Row → definition.Contex
 -- what the machine's turn comes to
 abbrev pub terminalStep : List ℕ → Position → List machine.Frame → List Row → definition.Context → Result State
 terminalStep words p frames before cx =
-    machine.terminalTurn (tableOf words) (visitValueBlock (tableOf words) (127 - p .depth)) (terminalAt (tableOf words) (p .block)) (p .block) (blockAt (tableOf words) (p .block)) frames before (p .count) cx
+    machine.terminalTurn (tableOf words) (visitValueBlock (tableOf words) (127 - p .depth)) (terminalAt (tableOf words) (p .block)) (p .block)
+    (blockAt (tableOf words) (p .block)) frames before (p .count) cx
 
 -- what holds of a position there
 pub record Entered (words : List ℕ) (p : Position) : Type 0 where

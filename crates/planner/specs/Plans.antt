@@ -87,7 +87,11 @@ onward Pop plan frames rows after = unlessRefused after (stateAt Pop 0 (kept (pl
 onward Halt plan frames rows after = halt (accepted rows (plan .position .visits))
 
 unfoldable pub applied : Plan → List machine.Frame → List Row → definition.Context → Turn
-applied plan frames rows cx = elim (eqb (plan .code) 0) [ true ↦ onward (plan .position .stage) plan frames rows (contextAfter plan cx) | false ↦ halt (rejected (plan .code) (plan .at) (plan .position .visits)) ]
+applied plan frames rows cx =
+    elim (eqb (plan .code) 0) [
+      | true ↦ onward (plan .position .stage) plan frames rows (contextAfter plan cx)
+      | false ↦ halt (rejected (plan .code) (plan .at) (plan .position .visits))
+    ]
 
 -- ---- the plans that there are
 

@@ -95,7 +95,8 @@ resumeStep words p frame frames before cx =
 
 abbrev pub chooseStep : List ℕ → Frame → List machine.Frame → List Row → definition.Context → Result State
 chooseStep words frame frames before cx =
-    chooseCase (tableOf words) (switchColumns (terminalAt (tableOf words) (frame .block)) .first) (switchColumns (terminalAt (tableOf words) (frame .block)) .fallthrough) (frame .left) (frameOf frame) frames before cx
+    chooseCase (tableOf words) (switchColumns (terminalAt (tableOf words) (frame .block)) .first)
+    (switchColumns (terminalAt (tableOf words) (frame .block)) .fallthrough) (frame .left) (frameOf frame) frames before cx
 
 abbrev pub PlannedClose : List ℕ → Position → Frame → List ℕ → Plan → List ℕ → Type 0
 PlannedClose words p frame = PlannedFor (closeStep words frame) (Begun (p .visits)) p frame

@@ -7,7 +7,8 @@ use mathlib.Core.Option.{Option}
 use lib.ListN.{length}
 use Rattle.table.specs.Words.{blockCount}
 use Rattle.table.specs.Promise.{Promise}
-use Rattle.table.specs.Table.{Terminal, absent, unreachable, throw, return, goto, if, branch, switch, do-while, while, for, for-of, for-in, logical, ternary, optional, label, sequence, maybe-throw, try, scope, Break, Continue, Try, tableOf, terminalAt}
+use Rattle.table.specs.Table.{Terminal, absent, unreachable, throw, return, goto, if, branch, switch, do-while, while, for, for-of, for-in, logical, ternary}
+use Rattle.table.specs.Table.{optional, label, sequence, maybe-throw, try, scope, Break, Continue, Try, tableOf, terminalAt}
 use Rattle.definition.specs.Context.{Flags, emit, isScheduled, getBreakTarget, getContinueTarget}
 use Rattle.definition.specs.Context as definition
 use Rattle.definition.specs.Machine.{step}

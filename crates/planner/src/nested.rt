@@ -17,10 +17,16 @@ use crate::plan::refuse;
 use crate::plan::traverse_block;
 use crate::plan::with_handler;
 use crate::plan::with_scope;
-use table::words::block_word;
+use table::columns::code_at;
+use table::terminals::if_at;
+use table::terminals::label_at;
+use table::terminals::maybe_throw_at;
+use table::terminals::scope_at;
+use table::terminals::switch_at;
+use table::terminals::try_at;
 ghost use mathlib.Core.Path.{_≡_};
 ghost use Prim.Native.Nat.{_≤_};
-ghost use Rattle.table.specs.Words.{blockWord};
+ghost use Rattle.table.specs.Words.{codeAt};
 ghost use Rattle.planner.specs.Planned.{Entered, PlannedBare};
 
 pub fn visit_if<'a>(
@@ -30,17 +36,16 @@ pub fn visit_if<'a>(
     p: Position,
 ) -> Plan
     requires { ⌜ Entered (now words) p ⌝ }
-    requires { ⌜ blockWord (now words) (p .block) 2 ≡ 5 ⌝ }
+    requires { ⌜ codeAt (now words) (p .block) ≡ 5 ⌝ }
     ensures { λ r. ⌜ PlannedBare (now (words .entry)) (now (scheduled .entry)) (now («catch_handlers» .entry)) p r ⌝ }
 {
-    let fallthrough = block_word(words, p.block, 6);
-    if block_word(words, fallthrough, 2) == 0 {
-        return refuse(p, 10, fallthrough);
+    let terminal = if_at(words, p.block);
+    if code_at(words, terminal.fallthrough) == 0 {
+        return refuse(p, 10, terminal.fallthrough);
     }
-    let label = unless_unreachable(words, scheduled, catch_handlers, fallthrough);
-    let consequent = block_word(words, p.block, 4);
-    let busy = scheduled_at(scheduled, catch_handlers, consequent);
-    enclose(busy, p, label, consequent, 12, consequent)
+    let label = unless_unreachable(words, scheduled, catch_handlers, terminal.fallthrough);
+    let busy = scheduled_at(scheduled, catch_handlers, terminal.consequent);
+    enclose(busy, p, label, terminal.consequent, 12, terminal.consequent)
 }
 
 pub fn visit_label<'a>(
@@ -50,17 +55,16 @@ pub fn visit_label<'a>(
     p: Position,
 ) -> Plan
     requires { ⌜ Entered (now words) p ⌝ }
-    requires { ⌜ blockWord (now words) (p .block) 2 ≡ 16 ⌝ }
+    requires { ⌜ codeAt (now words) (p .block) ≡ 16 ⌝ }
     ensures { λ r. ⌜ PlannedBare (now (words .entry)) (now (scheduled .entry)) (now («catch_handlers» .entry)) p r ⌝ }
 {
-    let fallthrough = block_word(words, p.block, 4);
-    if block_word(words, fallthrough, 2) == 0 {
-        return refuse(p, 10, fallthrough);
+    let terminal = label_at(words, p.block);
+    if code_at(words, terminal.fallthrough) == 0 {
+        return refuse(p, 10, terminal.fallthrough);
     }
-    let label = unless_unreachable(words, scheduled, catch_handlers, fallthrough);
-    let body = block_word(words, p.block, 3);
-    let busy = scheduled_at(scheduled, catch_handlers, body);
-    enclose(busy, p, label, body, 17, p.block)
+    let label = unless_unreachable(words, scheduled, catch_handlers, terminal.fallthrough);
+    let busy = scheduled_at(scheduled, catch_handlers, terminal.block);
+    enclose(busy, p, label, terminal.block, 17, p.block)
 }
 
 pub fn visit_switch<'a>(
@@ -70,20 +74,19 @@ pub fn visit_switch<'a>(
     p: Position,
 ) -> Plan
     requires { ⌜ Entered (now words) p ⌝ }
-    requires { ⌜ blockWord (now words) (p .block) 2 ≡ 7 ⌝ }
+    requires { ⌜ codeAt (now words) (p .block) ≡ 7 ⌝ }
     ensures { λ r. ⌜ PlannedBare (now (words .entry)) (now (scheduled .entry)) (now («catch_handlers» .entry)) p r ⌝ }
 {
-    let fallthrough = block_word(words, p.block, 6);
-    if block_word(words, fallthrough, 2) == 0 {
-        return refuse(p, 10, fallthrough);
+    let terminal = switch_at(words, p.block);
+    if code_at(words, terminal.fallthrough) == 0 {
+        return refuse(p, 10, terminal.fallthrough);
     }
-    let label = unless_unreachable(words, scheduled, catch_handlers, fallthrough);
-    let number = block_word(words, p.block, 5);
+    let label = unless_unreachable(words, scheduled, catch_handlers, terminal.fallthrough);
     let frame = Frame {
         block: p.block,
         label: label,
         entries: entries_of(label),
-        left: number,
+        left: terminal.number,
         built: 0,
         count: p.count,
         second: false,
@@ -98,26 +101,24 @@ pub fn visit_try<'a>(
     p: Position,
 ) -> Plan
     requires { ⌜ Entered (now words) p ⌝ }
-    requires { ⌜ blockWord (now words) (p .block) 2 ≡ 19 ⌝ }
+    requires { ⌜ codeAt (now words) (p .block) ≡ 19 ⌝ }
     ensures { λ r. ⌜ PlannedBare (now (words .entry)) (now (scheduled .entry)) (now («catch_handlers» .entry)) p r ⌝ }
 {
-    let fallthrough = block_word(words, p.block, 5);
-    if block_word(words, fallthrough, 2) == 0 {
-        return refuse(p, 10, fallthrough);
+    let terminal = try_at(words, p.block);
+    if code_at(words, terminal.fallthrough) == 0 {
+        return refuse(p, 10, terminal.fallthrough);
     }
-    let label = unless_unreachable(words, scheduled, catch_handlers, fallthrough);
-    let body = block_word(words, p.block, 3);
-    let handler = block_word(words, p.block, 4);
+    let label = unless_unreachable(words, scheduled, catch_handlers, terminal.fallthrough);
     let frame = frame_of(p, label, entries_of(label));
     let plan = traverse_block(
-        body,
+        terminal.block,
         frame,
         p.depth + 1,
         p.rows,
         p.visits,
         schedule_if(label),
     );
-    with_handler(plan, handler)
+    with_handler(plan, terminal.handler)
 }
 
 pub fn visit_maybe_throw<'a>(
@@ -127,10 +128,11 @@ pub fn visit_maybe_throw<'a>(
     p: Position,
 ) -> Plan
     requires { ⌜ Entered (now words) p ⌝ }
-    requires { ⌜ blockWord (now words) (p .block) 2 ≡ 18 ⌝ }
+    requires { ⌜ codeAt (now words) (p .block) ≡ 18 ⌝ }
     ensures { λ r. ⌜ PlannedBare (now (words .entry)) (now (scheduled .entry)) (now («catch_handlers» .entry)) p r ⌝ }
 {
-    let next = unless_scheduled(scheduled, catch_handlers, block_word(words, p.block, 3));
+    let terminal = maybe_throw_at(words, p.block);
+    let next = unless_scheduled(scheduled, catch_handlers, terminal.continuation);
     leave(next, p.depth, p.count, p.rows, p.visits, Change::Nothing)
 }
 
@@ -141,13 +143,12 @@ pub fn visit_scope<'a>(
     p: Position,
 ) -> Plan
     requires { ⌜ Entered (now words) p ⌝ }
-    requires { ⌜ 20 ≤ blockWord (now words) (p .block) 2 ⌝ }
+    requires { ⌜ 20 ≤ codeAt (now words) (p .block) ⌝ }
     ensures { λ r. ⌜ PlannedBare (now (words .entry)) (now (scheduled .entry)) (now («catch_handlers» .entry)) p r ⌝ }
 {
-    let fallthrough = block_word(words, p.block, 4);
-    let label = unless_scheduled(scheduled, catch_handlers, fallthrough);
-    let body = block_word(words, p.block, 3);
-    let busy = scheduled_at(scheduled, catch_handlers, body);
-    let plan = enclose(busy, p, label, body, 18, p.block);
+    let terminal = scope_at(words, p.block);
+    let label = unless_scheduled(scheduled, catch_handlers, terminal.fallthrough);
+    let busy = scheduled_at(scheduled, catch_handlers, terminal.block);
+    let plan = enclose(busy, p, label, terminal.block, 18, p.block);
     with_scope(plan, label)
 }

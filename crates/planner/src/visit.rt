@@ -24,11 +24,12 @@ use crate::plan::advance;
 use crate::plan::leave;
 use crate::plan::refuse;
 use control::Resolved;
+use table::columns::code_at;
 use table::words::block_word;
 use value::instructions::put_instructions;
 ghost use mathlib.Core.Path.{_≡_};
 ghost use mathlib.Core.List.{[]};
-ghost use Rattle.table.specs.Words.{blockWord};
+ghost use Rattle.table.specs.Words.{codeAt};
 ghost use Rattle.planner.specs.declared.plan.Frame.{Frame};
 ghost use Rattle.planner.specs.Jumps.{FoundBelow};
 ghost use Rattle.planner.specs.Planned.{Entered, Planned, terminalStep};
@@ -45,10 +46,11 @@ fn visit_terminal<'a>(
 ) -> Plan
     requires { ⌜ Entered (now words) p ⌝ }
     requires { ⌜ FoundBelow resolved ⌝ }
-    requires { ⌜ (blockWord (now words) (p .block) 2 ≡ 0 → ⊥) ⌝ }
+    requires { ⌜ (codeAt (now words) (p .block) ≡ 0 → ⊥) ⌝ }
     ensures { λ r. ⌜ Planned (terminalStep (now (words .entry)) p) (AtTerminal (now (words .entry)) (now (scheduled .entry)) (now («catch_handlers» .entry)) (now (scopes .entry)) p resolved) [] (p .depth) (p .rows) (now (tree .entry)) r (now (tree .exit)) ⌝ }
 {
-    match block_word(words, p.block, 2) {
+    match code_at(words, p.block) {
+        0 => refuse(p, 10, p.block), // `visit_block` has refused it
         1 => leave(NONE, p.depth, p.count, p.rows, p.visits, Change::Nothing), // Unreachable
         2 => visit_throw(words, tree, p),
         3 => visit_return(words, tree, p),
@@ -68,7 +70,9 @@ fn visit_terminal<'a>(
         17 => visit_value(words, tree, scheduled, catch_handlers, p, 4), // Sequence
         18 => visit_maybe_throw(words, scheduled, catch_handlers, p),
         19 => visit_try(words, scheduled, catch_handlers, p),
-        _ => visit_scope(words, scheduled, catch_handlers, p), // Scope, PrunedScope
+        20 => visit_scope(words, scheduled, catch_handlers, p), // Scope
+        21 => visit_scope(words, scheduled, catch_handlers, p), // PrunedScope
+        _ => refuse(p, 10, p.block), // no checked table has it
     }
 }
 

@@ -31,7 +31,8 @@ returns c =
     let at-if1 : tie.Then1 = search in
     let at-is-accepted : tie.After-is-accepted = search in
     let at-check : tie.After-check = search in
-    checked-built _ _ _ _ _ (at-check .check .ensures) (sym (at-is-accepted .is-accepted .ensures) ∙ at-if1 .if1 .taken) (at-walk .walk .kept .1 .0) (at-finish .finish .ensures _ (at-walk .walk .ensures))
+    checked-built _ _ _ _ _ (at-check .check .ensures) (sym (at-is-accepted .is-accepted .ensures) ∙ at-if1 .if1 .taken) (at-walk .walk .kept .1 .0)
+    (at-finish .finish .ensures _ (at-walk .walk .ensures))
 
 code-requires : tie.Need-code-requires
 code-requires c κs = search needs
@@ -53,7 +54,8 @@ returns-2 c =
     let at-if1 : tie.Else1 = search in
     let at-is-accepted : tie.After-is-accepted = search in
     let at-check : tie.After-check = search in
-    unchecked-built _ _ _ _ (at-check .check .ensures) (sym (at-is-accepted .is-accepted .ensures) ∙ at-if1 .if1 .left) (rw (at-place .place .ensures, at-code .code .ensures) at (at-refuse .refuse .ensures))
+    unchecked-built _ _ _ _ (at-check .check .ensures) (sym (at-is-accepted .is-accepted .ensures) ∙ at-if1 .if1 .left)
+    (rw (at-place .place .ensures, at-code .code .ensures) at (at-refuse .refuse .ensures))
 
 pub build-reactive-function-spec : {M : Type 1} → statement M
 build-reactive-function-spec =

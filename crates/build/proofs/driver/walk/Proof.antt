@@ -14,11 +14,14 @@ use Rattle.planner.specs.declared.plan.Change.the-variants.{Schedule, ScheduleB
 use Rattle.table.specs.Table.{tableOf}
 use Rattle.definition.specs.Build.{report}
 use Rattle.build.specs.Driver.{foundBy, visitedBlock, planEnds, blockedBy, Reported}
-use Rattle.build.proofs.ApplyLaws.{withMarks, Whole, Changeable, Changed, Blocked, Applicable, Applied, nothing-changed, schedule-changed, schedule-blocked, unschedule-changed, briefly-changed, briefly-blocked, last-scheduled, changeable-marked, whole-marked, plan-applied, last-entry}
+use Rattle.build.proofs.ApplyLaws.{withMarks, Whole, Changeable, Changed, Blocked, Applicable, Applied, nothing-changed, schedule-changed}
+use Rattle.build.proofs.ApplyLaws.{schedule-blocked, unschedule-changed, briefly-changed, briefly-blocked, last-scheduled, changeable-marked}
+use Rattle.build.proofs.ApplyLaws.{whole-marked, plan-applied, last-entry}
 use Rattle.control.specs.declared.Context.{Context}
 use Rattle.planner.specs.declared.plan.Position.{Position}
 use Rattle.planner.specs.declared.plan.Frame.{Frame}
-use Rattle.build.proofs.DriverLaws.{Walking, turnsLeft, walking-start, frame-read, found-jump, found-below, ready, shallow, visit-below, AtTurn, turn-ends, turn-applicable, turn-slot, turn-blocked, turn-again, turn-lower}
+use Rattle.build.proofs.DriverLaws.{Walking, turnsLeft, walking-start, frame-read, found-jump, found-below, ready, shallow, visit-below, AtTurn}
+use Rattle.build.proofs.DriverLaws.{turn-ends, turn-applicable, turn-slot, turn-blocked, turn-again, turn-lower}
 use denote.Ref.{now}
 use Rattle.build.proofs.CheckedLaws.{checked-table}
 use Rattle.build.proofs.SearchLaws.{Searching, search-start, search-on, search-none, search-found}
@@ -145,7 +148,8 @@ module _ (c : tie.After-plan-turn Inv-loop2 μ-loop2 Inv-loop μ-loop) where
   abbrev at-head : tie.At-loop Inv-loop2 μ-loop2 Inv-loop μ-loop
   at-head = head (c .before .before .before .before .before .before .before)
 
-  turn : AtTurn (now (at-head .before .before .before .before .before .before .args .words)) (at-head .loop .tree) (at-head .loop .cx) (at-head .loop .frames) (at-head .loop .p) (c .plan-turn .last .1 .0) (c .plan-turn .result)
+  turn : AtTurn (now (at-head .before .before .before .before .before .before .args .words)) (at-head .loop .tree) (at-head .loop .cx) (at-head .loop .frames)
+      (at-head .loop .p) (c .plan-turn .last .1 .0) (c .plan-turn .result)
   turn =
       let at-if1 = c .before .before .before .before .before .before .before in
       let at-jump-at = at-if1 .before .before .before in
@@ -166,8 +170,12 @@ plan-turn-requires c κs =
     let at-jump-at : tie.After-jump-at Inv-loop2 μ-loop2 Inv-loop μ-loop = search in
     let at-innermost : tie.After-innermost Inv-loop2 μ-loop2 Inv-loop μ-loop = search in
     let at-loop : tie.At-loop Inv-loop2 μ-loop2 Inv-loop μ-loop = search in
-    let start : tie.Start Inv-loop2 μ-loop2 Inv-loop μ-loop = search in
-    (ready _ (start .pre) (checked-table _ (start .pre)) _ _ _ _ (at-loop .loop .inv .walking) _ (frame-read _ (start .pre) (checked-table _ (start .pre)) _ _ _ _ (at-loop .loop .inv .walking) _ (at-innermost .innermost .ensures)), found-below _ (at-jump-at .jump-at .result) (at-if1 .if1 .resolved) (at-loop .loop .inv .walking .whole) (found at-if1))
+    let start : tie.Start Inv-loop2 μ-loop2 Inv-loop μ-loop = search in (
+      ready _ (start .pre) (checked-table _ (start .pre)) _ _ _ _ (at-loop .loop .inv .walking) _ (frame-read _ (start .pre) (checked-table _ (start .pre)) _ _ _
+          _ (at-loop .loop .inv .walking) _ (at-innermost .innermost .ensures)),
+      found-below _ (at-jump-at .jump-at .result) (at-if1 .if1 .resolved)
+          (at-loop .loop .inv .walking .whole) (found at-if1),
+    )
 
 ends-requires : tie.Need-ends-requires Inv-loop2 μ-loop2 Inv-loop μ-loop
 ends-requires c κs = tt
@@ -235,16 +243,38 @@ module _ (c : tie.After-frame-slot Inv-loop2 μ-loop2 Inv-loop μ-loop) where
   visited = visitedBlock (p .stage) (p .block)
 
   abbrev with-marks : Context
-  with-marks = record { emitted = c .before .before .before .before .before .before .before .mark .last .0; «catch_handlers» = c .before .before .before .before .before .mark2 .last .0; «scope_fallthroughs» = c .before .before .before .mark3 .last .0; len = cx .len; scheduled = cx .scheduled; pushed = cx .pushed; pending = cx .pending; refused = cx .refused; «next_schedule_id» = cx .«next_schedule_id»; stack = cx .stack }
+  with-marks =
+      record {
+        emitted = c .before .before .before .before .before .before .before .mark .last .0;
+        «catch_handlers» = c .before .before .before .before .before .mark2 .last .0;
+        «scope_fallthroughs» = c .before .before .before .mark3 .last .0;
+        len =
+            cx .len;
+        scheduled = cx .scheduled;
+        pushed = cx .pushed;
+        pending = cx .pending;
+        refused = cx .refused;
+        «next_schedule_id» = cx .«next_schedule_id»;
+        stack = cx .stack;
+      }
 
   abbrev frames : List Frame
   frames = set (at-head planned .loop .frames) (c .frame-slot .result) (plan .frame)
 
   goes-on : planEnds plan ≡ false
-  goes-on = sym (c .before .before .before .before .before .before .before .before .before .before .before .ends .ensures) ∙ c .before .before .before .before .before .before .before .before .before .before .if3 .left
+  goes-on =
+      sym (c .before .before .before .before .before .before .before .before .before .before .before .ends .ensures) ∙
+      c .before .before .before .before .before .before .before .before .before .before .if3 .left
 
   marks-made : with-marks ≡ withMarks visited (plan .handler) (plan .scope) cx
-  marks-made = rw (← (c .before .before .before .mark3 .ensures), ← (c .before .before .before .before .before .mark2 .ensures), ← (c .before .before .before .before .before .before .before .before .visited-block .ensures), ← (c .before .before .before .before .before .before .before .mark .ensures)) refl
+  marks-made =
+      rw (
+        ← (c .before .before .before .mark3 .ensures),
+        ← (c .before .before .before .before .before .mark2 .ensures),
+        ← (c .before .before .before .before .before .before .before .before .visited-block .ensures),
+        ←
+            (c .before .before .before .before .before .before .before .mark .ensures),
+      ) refl
 
   applicable : Applicable visited plan cx
   applicable = turn-applicable (turn planned) goes-on
@@ -254,17 +284,22 @@ module _ (c : tie.After-frame-slot Inv-loop2 μ-loop2 Inv-loop μ-loop) where
 
   module _ (change : Change) (e : plan .change ≡ change) where
     changeable : Changeable change with-marks
-    changeable = subst (λ (z : Context). Changeable change z) (sym marks-made) (changeable-marked change visited (plan .handler) (plan .scope) cx (subst (λ (z : Change). Changeable z cx) e (applicable .change)))
+    changeable =
+        subst (λ (z : Context). Changeable change z) (sym marks-made)
+        (changeable-marked change visited (plan .handler) (plan .scope) cx (subst (λ (z : Change). Changeable z cx) e (applicable .change)))
 
     blocks : {code at : ℕ} → Blocked change with-marks code at
         → Reported (report (tableOf (now (at-head planned .before .before .before .before .before .before .args .words)))) (blockedBy code at (plan .position)) (planned .plan-turn .last .1 .0)
-    blocks {code} {at} E = turn-blocked (turn planned) goes-on (subst (λ (z : Change). Blocked z (withMarks visited (plan .handler) (plan .scope) cx) code at) (sym e) (subst (λ (z : Context). Blocked change z code at) marks-made E))
+    blocks {code} {at} E =
+        turn-blocked (turn planned) goes-on (subst (λ (z : Change). Blocked z (withMarks visited (plan .handler) (plan .scope) cx) code at) (sym e)
+        (subst (λ (z : Context). Blocked change z code at) marks-made E))
 
     module _ (r : Context) (E : Changed change with-marks r) where
       changed : Applied visited plan cx r
       changed = plan-applied visited plan cx with-marks r marks-made (subst (λ (z : Change). Changed z with-marks r) (sym e) E)
 
-      next : Inv (now (at-head planned .before .before .before .before .before .before .args .words)) (now (at-head planned .before .before .before .before .before .before .args .tree)) (planned .plan-turn .last .1 .0) r frames (plan .position)
+      next : Inv (now (at-head planned .before .before .before .before .before .before .args .words))
+          (now (at-head planned .before .before .before .before .before .before .args .tree)) (planned .plan-turn .last .1 .0) r frames (plan .position)
       next = record { walking = turn-again (turn planned) goes-on changed (c .frame-slot .ensures); long = omega (arith, planned .plan-turn .kept .1 .0, at-head planned .loop .inv .long) }
 
       lower : turnsLeft (plan .position) frames r < turnsLeft p (at-head planned .loop .frames) cx
@@ -314,7 +349,9 @@ module _ (c : tie.After-unschedule Inv-loop2 μ-loop2 Inv-loop μ-loop) where
 
 module _ (c : tie.After-unschedule2 Inv-loop2 μ-loop2 Inv-loop μ-loop) where
   by-unschedule : Changed Unschedule (with-marks (c .before .before .before .before)) (c .unschedule2 .result)
-  by-unschedule = unschedule-changed _ _ _ (last-entry _ (changeable (c .before .before .before .before) _ (c .before .before .enum-told2 .given .1)) (whole (c .before .before .before .before))) (c .unschedule2 .ensures) (whole (c .before .before .before .before))
+  by-unschedule =
+      unschedule-changed _ _ _ (last-entry _ (changeable (c .before .before .before .before) _ (c .before .before .enum-told2 .given .1))
+      (whole (c .before .before .before .before))) (c .unschedule2 .ensures) (whole (c .before .before .before .before))
 
 mul-frames : tie.Need-mul-frames Inv-loop2 μ-loop2 Inv-loop μ-loop
 mul-frames c = omega (arith, c .frame-slot .ensures, turn-slot (turn (planned c)) (goes-on c))

@@ -24,7 +24,8 @@ returns c scheduled handlers =
     let at-block-word : tie.After-block-word = search in
     let start : tie.Start = search in
     let pre = start .pre in
-    goto-breaks _ scheduled handlers _ (pre .0) (pre .1 .0) (pre .1 .1) _ (at-narrow .narrow .ensures ∙ at-block-word .block-word .ensures) (sym (at-block-word2 .block-word2 .ensures) ∙ c .match .keys1)
+    goto-breaks _ scheduled handlers _ (pre .0) (pre .1 .0) (pre .1 .1) _ (at-narrow .narrow .ensures ∙ at-block-word .block-word .ensures)
+    (sym (at-block-word2 .block-word2 .ensures) ∙ c .match .keys1)
 
 returns-2 : tie.Need-returns-2
 returns-2 c scheduled handlers =
@@ -33,14 +34,16 @@ returns-2 c scheduled handlers =
     let at-block-word : tie.After-block-word = search in
     let start : tie.Start = search in
     let pre = start .pre in
-    goto-continues _ scheduled handlers _ (pre .0) (pre .1 .0) (pre .1 .1) _ (at-narrow .narrow .ensures ∙ at-block-word .block-word .ensures) (sym (at-block-word2 .block-word2 .ensures) ∙ c .match .keys2)
+    goto-continues _ scheduled handlers _ (pre .0) (pre .1 .0) (pre .1 .1) _ (at-narrow .narrow .ensures ∙ at-block-word .block-word .ensures)
+    (sym (at-block-word2 .block-word2 .ensures) ∙ c .match .keys2)
 
 returns-3 : tie.Need-returns-3
 returns-3 c scheduled handlers =
     let at-block-word2 : tie.After-block-word2 = search in
     let start : tie.Start = search in
     let pre = start .pre in
-    goto-tries _ scheduled handlers _ (pre .0) (pre .1 .0) (pre .1 .1) (λ e. c .match .rest .0 .1 (at-block-word2 .block-word2 .ensures ∙ e)) (λ e. c .match .rest .1 (at-block-word2 .block-word2 .ensures ∙ e))
+    goto-tries _ scheduled handlers _ (pre .0) (pre .1 .0) (pre .1 .1) (λ e. c .match .rest .0 .1 (at-block-word2 .block-word2 .ensures ∙ e))
+    (λ e. c .match .rest .1 (at-block-word2 .block-word2 .ensures ∙ e))
 
 pub goto-jump-spec : {M : Type 1} → statement M
 goto-jump-spec =

@@ -36,7 +36,11 @@ returns c =
     let at-block-word2 : tie.After-block-word2 = search in
     let at-block-word : tie.After-block-word = search in
     let start : tie.Start = search in
-    branch-refused (start .args .words .now) (start .args .p) (start .pre .0) (start .pre .1 .0) (start .args .scheduled .now) (start .args .catch-handlers .now) (start .args .scopes .now) (start .args .resolved) (at-block-word .block-word .result) (at-block-word2 .block-word2 .result) (at-block-word3 .block-word3 .result) _ (at-visit-break .visit-break .result) _ (at-block-word .block-word .ensures) (at-block-word2 .block-word2 .ensures) (at-block-word3 .block-word3 .ensures) (start .pre .1 .1 .1) (at-visit-break .visit-break .ensures) _ _ (then1 .if1 .taken) (c .refuse .ensures)
+    branch-refused (start .args .words .now) (start .args .p) (start .pre .0) (start .pre .1 .0) (start .args .scheduled .now)
+    (start .args .catch-handlers .now) (start .args .scopes .now) (start .args .resolved) (at-block-word .block-word .result)
+    (at-block-word2 .block-word2 .result) (at-block-word3 .block-word3 .result) _ (at-visit-break .visit-break .result) _ (at-block-word .block-word .ensures)
+    (at-block-word2 .block-word2 .ensures) (at-block-word3 .block-word3 .ensures) (start .pre .1 .1 .1) (at-visit-break .visit-break .ensures) _ _
+    (then1 .if1 .taken) (c .refuse .ensures)
 
 put-requires : tie.Need-put-requires
 put-requires c κs = search needs
@@ -46,7 +50,8 @@ scheduled-at-requires c κs =
     let at-slice-known2 : tie.After-slice-known2 = search in
     let at-block-word2 : tie.After-block-word2 = search in
     let start : tie.Start = search in
-    few-blocks (start .args .words .now) (start .pre .0 .promise) (at-block-word2 .block-word2 .result) (rw (at-block-word2 .block-word2 .ensures) (branch-below (start .args .words .now) (start .args .p) (start .pre .0) (start .pre .1 .0) .1))
+    few-blocks (start .args .words .now) (start .pre .0 .promise) (at-block-word2 .block-word2 .result)
+    (rw (at-block-word2 .block-word2 .ensures) (branch-below (start .args .words .now) (start .args .p) (start .pre .0) (start .pre .1 .0) .1))
 
 refuse-requires-2 : tie.Need-refuse-requires-2
 refuse-requires-2 c κs = search needs
@@ -64,7 +69,11 @@ returns-2 c =
     let at-block-word2 : tie.After-block-word2 = search in
     let at-block-word : tie.After-block-word = search in
     let start : tie.Start = search in
-    branch-taken (start .args .words .now) (start .args .p) (start .pre .0) (start .pre .1 .0) (start .args .scheduled .now) (start .args .catch-handlers .now) (start .args .scopes .now) (start .args .resolved) (at-block-word .block-word .result) (at-block-word2 .block-word2 .result) (at-block-word3 .block-word3 .result) _ (at-visit-break .visit-break .result) _ (at-block-word .block-word .ensures) (at-block-word2 .block-word2 .ensures) (at-block-word3 .block-word3 .ensures) (start .pre .1 .1 .1) (at-visit-break .visit-break .ensures) _ _ (else1 .if1 .left) (sym (at-scheduled-at .scheduled-at .ensures) ∙ then2 .if2 .taken) (c .refuse2 .ensures)
+    branch-taken (start .args .words .now) (start .args .p) (start .pre .0) (start .pre .1 .0) (start .args .scheduled .now) (start .args .catch-handlers .now)
+    (start .args .scopes .now) (start .args .resolved) (at-block-word .block-word .result) (at-block-word2 .block-word2 .result)
+    (at-block-word3 .block-word3 .result) _ (at-visit-break .visit-break .result) _ (at-block-word .block-word .ensures) (at-block-word2 .block-word2 .ensures)
+    (at-block-word3 .block-word3 .ensures) (start .pre .1 .1 .1) (at-visit-break .visit-break .ensures) _ _ (else1 .if1 .left)
+    (sym (at-scheduled-at .scheduled-at .ensures) ∙ then2 .if2 .taken) (c .refuse2 .ensures)
 
 frame-of-requires : tie.Need-frame-of-requires
 frame-of-requires c κs = search needs
@@ -103,7 +112,13 @@ returns-3 c =
     let at-block-word2 : tie.After-block-word2 = search in
     let at-block-word : tie.After-block-word = search in
     let start : tie.Start = search in
-    branch-other (start .args .words .now) (start .args .p) (start .pre .0) (start .pre .1 .0) (start .args .scheduled .now) (start .args .catch-handlers .now) (start .args .scopes .now) (start .args .resolved) (at-block-word .block-word .result) (at-block-word2 .block-word2 .result) (at-block-word3 .block-word3 .result) _ (at-visit-break .visit-break .result) _ (at-block-word .block-word .ensures) (at-block-word2 .block-word2 .ensures) (at-block-word3 .block-word3 .ensures) (start .pre .1 .1 .1) (at-visit-break .visit-break .ensures) 9 (at-visit-break .visit-break .result .count) (at-put .put .result) _ _ (else1 .if1 .left) refl refl (at-put .put .ensures) (sym (at-scheduled-at .scheduled-at .ensures) ∙ else2 .if2 .left) (c .traverse-block .ensures ∙ ap (λ (z : Frame). nesting (at-block-word2 .block-word2 .result) z (start .args .p .depth + 1) (at-put .put .result) (start .args .p .visits) 65535 65535 Nothing) (at-second-part .second-part .ensures ∙ ap second (at-frame-of .frame-of .ensures)))
+    branch-other (start .args .words .now) (start .args .p) (start .pre .0) (start .pre .1 .0) (start .args .scheduled .now) (start .args .catch-handlers .now)
+    (start .args .scopes .now) (start .args .resolved) (at-block-word .block-word .result) (at-block-word2 .block-word2 .result)
+    (at-block-word3 .block-word3 .result) _ (at-visit-break .visit-break .result) _ (at-block-word .block-word .ensures) (at-block-word2 .block-word2 .ensures)
+    (at-block-word3 .block-word3 .ensures) (start .pre .1 .1 .1) (at-visit-break .visit-break .ensures) 9 (at-visit-break .visit-break .result .count)
+    (at-put .put .result) _ _ (else1 .if1 .left) refl refl (at-put .put .ensures) (sym (at-scheduled-at .scheduled-at .ensures) ∙ else2 .if2 .left)
+    (c .traverse-block .ensures ∙ ap (λ (z : Frame). nesting (at-block-word2 .block-word2 .result) z (start .args .p .depth + 1) (at-put .put .result)
+    (start .args .p .visits) 65535 65535 Nothing) (at-second-part .second-part .ensures ∙ ap second (at-frame-of .frame-of .ensures)))
 
 pub branch-break-spec : {M : Type 1} → statement M
 branch-break-spec =

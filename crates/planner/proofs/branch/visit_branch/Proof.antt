@@ -14,15 +14,25 @@ block-word-requires c κs = search needs
 scheduled-at-requires : tie.Need-scheduled-at-requires
 scheduled-at-requires c κs =
     let start : tie.Start = search in
-    few-blocks (start .args .words .now) (start .pre .0 .promise) (c .block-word .result) (rw (c .block-word .ensures) (branch-below (start .args .words .now) (start .args .p) (start .pre .0) (start .pre .1 .0) .0))
+    few-blocks (start .args .words .now) (start .pre .0 .promise) (c .block-word .result)
+    (rw (c .block-word .ensures) (branch-below (start .args .words .now) (start .args .p) (start .pre .0) (start .pre .1 .0) .0))
 
 branch-break-requires : tie.Need-branch-break-requires
 branch-break-requires c κs =
     let then1 : tie.Then1 = search in
     let at-scheduled-at : tie.After-scheduled-at = search in
     let at-block-word : tie.After-block-word = search in
-    let start : tie.Start = search in
-    (start .pre .0, (start .pre .1 .0, (start .pre .1 .1, ap (λ (k : ℕ). has (start .args .scheduled .now) k || has (start .args .catch-handlers .now) k) (sym (at-block-word .block-word .ensures)) ∙ sym (at-scheduled-at .scheduled-at .ensures) ∙ then1 .if1 .taken)))
+    let start : tie.Start = search in (
+      start .pre .0,
+      (
+        start .pre .1 .0,
+        (
+          start .pre .1 .1,
+          ap (λ (k : ℕ). has (start .args .scheduled .now) k || has (start .args .catch-handlers .now) k) (sym (at-block-word .block-word .ensures)) ∙ sym
+              (at-scheduled-at .scheduled-at .ensures) ∙ then1 .if1 .taken,
+        ),
+      ),
+    )
 
 same-length : tie.Need-same-length
 same-length c = search needs
@@ -46,7 +56,9 @@ returns-2 c =
     let at-scheduled-at : tie.After-scheduled-at = search in
     let at-block-word : tie.After-block-word = search in
     let start : tie.Start = search in
-    branch-nested (start .args .words .now) (start .args .p) (start .pre .0) (start .pre .1 .0) (start .args .scheduled .now) (start .args .catch-handlers .now) (start .args .scopes .now) (start .args .resolved) (at-block-word .block-word .result) _ _ (at-block-word .block-word .ensures) (sym (at-scheduled-at .scheduled-at .ensures) ∙ else1 .if1 .left) (rw (← (at-frame-of .frame-of .ensures)) (c .traverse-block .ensures))
+    branch-nested (start .args .words .now) (start .args .p) (start .pre .0) (start .pre .1 .0) (start .args .scheduled .now) (start .args .catch-handlers .now)
+    (start .args .scopes .now) (start .args .resolved) (at-block-word .block-word .result) _ _ (at-block-word .block-word .ensures)
+    (sym (at-scheduled-at .scheduled-at .ensures) ∙ else1 .if1 .left) (rw (← (at-frame-of .frame-of .ensures)) (c .traverse-block .ensures))
 
 pub visit-branch-spec : {M : Type 1} → statement M
 visit-branch-spec =

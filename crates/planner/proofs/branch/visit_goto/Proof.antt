@@ -35,7 +35,10 @@ returns c =
     let at-block-word2 : tie.After-block-word2 = search in
     let at-block-word : tie.After-block-word = search in
     let start : tie.Start = search in
-    goto-break (start .args .words .now) (start .args .p) (start .pre .0) (start .pre .1 .0) (start .args .scopes .now) (start .args .resolved) (at-block-word .block-word .result) (at-block-word3 .block-word3 .result) _ (at-visit-break .visit-break .result) _ _ (sym (at-block-word2 .block-word2 .ensures) ∙ then1 .if1 .taken) (at-block-word .block-word .ensures) (at-block-word3 .block-word3 .ensures) (at-visit-break .visit-break .ensures) (c .after-jump .ensures)
+    goto-break (start .args .words .now) (start .args .p) (start .pre .0) (start .pre .1 .0) (start .args .scopes .now) (start .args .resolved)
+    (at-block-word .block-word .result) (at-block-word3 .block-word3 .result) _ (at-visit-break .visit-break .result) _ _
+    (sym (at-block-word2 .block-word2 .ensures) ∙ then1 .if1 .taken) (at-block-word .block-word .ensures) (at-block-word3 .block-word3 .ensures)
+    (at-visit-break .visit-break .ensures) (c .after-jump .ensures)
 
 visit-continue-requires : tie.Need-visit-continue-requires
 visit-continue-requires c κs = search needs
@@ -58,7 +61,10 @@ returns-2 c =
     let at-block-word2 : tie.After-block-word2 = search in
     let at-block-word : tie.After-block-word = search in
     let start : tie.Start = search in
-    goto-continue (start .args .words .now) (start .args .p) (start .pre .0) (start .pre .1 .0) (start .args .scopes .now) (start .args .resolved) (at-block-word .block-word .result) (at-block-word3 .block-word3 .result) _ (at-visit-continue .visit-continue .result) _ _ (sym (at-block-word2 .block-word2 .ensures) ∙ then2 .if2 .taken) (at-block-word .block-word .ensures) (at-block-word3 .block-word3 .ensures) (at-visit-continue .visit-continue .ensures (start .args .p .visits) (start .args .scopes .now)) (c .after-jump2 .ensures)
+    goto-continue (start .args .words .now) (start .args .p) (start .pre .0) (start .pre .1 .0) (start .args .scopes .now) (start .args .resolved)
+    (at-block-word .block-word .result) (at-block-word3 .block-word3 .result) _ (at-visit-continue .visit-continue .result) _ _
+    (sym (at-block-word2 .block-word2 .ensures) ∙ then2 .if2 .taken) (at-block-word .block-word .ensures) (at-block-word3 .block-word3 .ensures)
+    (at-visit-continue .visit-continue .ensures (start .args .p .visits) (start .args .scopes .now)) (c .after-jump2 .ensures)
 
 leave-requires : tie.Need-leave-requires
 leave-requires c κs = search needs
@@ -69,7 +75,8 @@ returns-3 c =
     let else1 : tie.Else1 = search in
     let at-block-word2 : tie.After-block-word2 = search in
     let start : tie.Start = search in
-    goto-try (start .args .words .now) (start .args .p) (start .pre .0) (start .pre .1 .0) (start .args .scopes .now) (start .args .resolved) _ _ (λ z. else1 .if1 .left (at-block-word2 .block-word2 .ensures ∙ z)) (λ z. else2 .if2 .left (at-block-word2 .block-word2 .ensures ∙ z)) (c .leave .ensures)
+    goto-try (start .args .words .now) (start .args .p) (start .pre .0) (start .pre .1 .0) (start .args .scopes .now) (start .args .resolved) _ _
+    (λ z. else1 .if1 .left (at-block-word2 .block-word2 .ensures ∙ z)) (λ z. else2 .if2 .left (at-block-word2 .block-word2 .ensures ∙ z)) (c .leave .ensures)
 
 pub visit-goto-spec : {M : Type 1} → statement M
 visit-goto-spec =

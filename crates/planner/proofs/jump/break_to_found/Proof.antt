@@ -22,7 +22,8 @@ returns c =
     let at-number : tie.After-number = search in
     let at-block : tie.After-block = search in
     let at-entry : tie.Start = search in
-    break-scope (at-entry .args .p .block) (at-entry .args .id) (at-entry .args .scopes .now) (at-entry .args .p .visits) (at-entry .args .p .rows) (at-entry .args .found) _ _ (rw (at-block .block .ensures) at (at-if1 .if1 .taken)) (sym (at-number .number .ensures) ∙ c .if2 .taken) refl
+    break-scope (at-entry .args .p .block) (at-entry .args .id) (at-entry .args .scopes .now) (at-entry .args .p .visits) (at-entry .args .p .rows)
+    (at-entry .args .found) _ _ (rw (at-block .block .ensures) at (at-if1 .if1 .taken)) (sym (at-number .number .ensures) ∙ c .if2 .taken) refl
 
 refuse-jump-requires : tie.Need-refuse-jump-requires
 refuse-jump-requires c κs = search needs
@@ -34,7 +35,9 @@ returns-2 c =
     let at-number : tie.After-number = search in
     let at-block : tie.After-block = search in
     let at-entry : tie.Start = search in
-    break-out (at-entry .args .p .block) (at-entry .args .id) (at-entry .args .scopes .now) (at-entry .args .p .visits) (at-entry .args .p .rows) (at-entry .args .found) _ _ (rw (at-block .block .ensures) at (at-if1 .if1 .taken)) (λ z. at-if2 .if2 .left (at-number .number .ensures ∙ z)) (c .refuse-jump .ensures)
+    break-out (at-entry .args .p .block) (at-entry .args .id) (at-entry .args .scopes .now) (at-entry .args .p .visits) (at-entry .args .p .rows)
+    (at-entry .args .found) _ _ (rw (at-block .block .ensures) at (at-if1 .if1 .taken)) (λ z. at-if2 .if2 .left (at-number .number .ensures ∙ z))
+    (c .refuse-jump .ensures)
 
 cast-put : tie.Need-cast-put
 cast-put c = search needs
@@ -52,7 +55,9 @@ returns-3 c =
     let at-number : tie.After-number = search in
     let at-block : tie.After-block = search in
     let at-entry : tie.Start = search in
-    break-row (at-entry .args .p .block) (at-entry .args .id) (at-entry .args .scopes .now) (at-entry .args .p .visits) (at-entry .args .p .rows) (at-put .put .result) (at-entry .args .found) 24 (at-block .block .result) (at-number .number .result) _ _ _ (rw (at-block .block .ensures) at (at-if1 .if1 .left)) refl (at-block .block .ensures) (at-number .number .ensures) (at-put .put .ensures) refl
+    break-row (at-entry .args .p .block) (at-entry .args .id) (at-entry .args .scopes .now) (at-entry .args .p .visits) (at-entry .args .p .rows)
+    (at-put .put .result) (at-entry .args .found) 24 (at-block .block .result) (at-number .number .result) _ _ _
+    (rw (at-block .block .ensures) at (at-if1 .if1 .left)) refl (at-block .block .ensures) (at-number .number .ensures) (at-put .put .ensures) refl
 
 pub break-to-found-spec : {M : Type 1} → statement M
 break-to-found-spec =

@@ -25,7 +25,8 @@ returns c =
     let at-number : tie.After-number = search in
     let at-block : tie.After-block = search in
     let start : tie.Start = search in
-    continue-row (start .args .id) (start .args .rows) (at-put .put .result) (start .args .found) 25 (at-block .block .result) (at-number .number .result) _ _ _ refl (at-block .block .ensures) (at-number .number .ensures) (at-put .put .ensures) refl
+    continue-row (start .args .id) (start .args .rows) (at-put .put .result) (start .args .found) 25 (at-block .block .result) (at-number .number .result) _ _ _
+    refl (at-block .block .ensures) (at-number .number .ensures) (at-put .put .ensures) refl
 
 pub continue-to-found-spec : {M : Type 1} → statement M
 continue-to-found-spec =

@@ -1,14 +1,13 @@
 use Rattle.planner.proofs.RowPlanLaws.{return-left}
-use mathlib.Core.Path.{refl}
 use borrow.Author.Needs.{needs}
 use Rattle.planner.proofs.leaf.visit_return.Statement.{statement}
 use Rattle.planner.proofs.leaf.visit_return.Tie as tie
 
-block-word-requires : tie.Need-block-word-requires
-block-word-requires c κs = search needs
+return-at-requires : tie.Need-return-at-requires
+return-at-requires c κs = search needs
 
-block-word-requires-2 : tie.Need-block-word-requires-2
-block-word-requires-2 c κs = search needs
+block-at-requires : tie.Need-block-at-requires
+block-at-requires c κs = search needs
 
 put-requires : tie.Need-put-requires
 put-requires c κs = search needs
@@ -24,18 +23,18 @@ same-length c = search needs
 
 returns : tie.Need-returns
 returns c =
-    let at-put : tie.After-put = search in
-    let at-block-word2 : tie.After-block-word2 = search in
-    let at-block-word : tie.After-block-word = search in
+    let put : tie.After-put = search in
+    let headed : tie.After-block-at = search in
+    let read : tie.After-return-at = search in
     let start : tie.Start = search in
-    return-left (start .args .words .now) (start .args .p) (start .pre .0) _ _ (at-put .put .result) _ _ (at-block-word .block-word .result) (at-block-word2 .block-word2 .result) (start .pre .1) refl (at-block-word .block-word .ensures) (at-block-word2 .block-word2 .ensures) (at-put .put .ensures) (c .leave .ensures)
+    return-left (start .pre .0) (headed .block-at .ensures) (read .return-at .ensures) (put .put .ensures) (c .leave .ensures)
 
 pub visit-return-spec : {M : Type 1} → statement M
 visit-return-spec =
     tie.close
     (tie.spec
-    block-word-requires
-    block-word-requires-2
+    return-at-requires
+    block-at-requires
     put-requires
     add-leave
     leave-requires

@@ -49,7 +49,8 @@ returns-3 c =
     let at-if2 : tie.Else2 = search in
     let at-loop-is-taken : tie.After-loop-is-taken = search in
     let at-if1 : tie.Else1 = search in
-    rw (eq-eqb _ _ (at-if1 .if1 .left), sym (at-loop-is-taken .loop-is-taken .ensures) ∙ at-if2 .if2 .left) (rw (at-frame-of .frame-of .ensures, at-schedule-loop .schedule-loop .ensures) at (c .traverse-block .ensures))
+    rw (eq-eqb _ _ (at-if1 .if1 .left), sym (at-loop-is-taken .loop-is-taken .ensures) ∙ at-if2 .if2 .left)
+    (rw (at-frame-of .frame-of .ensures, at-schedule-loop .schedule-loop .ensures) at (c .traverse-block .ensures))
 
 pub enter-loop-spec : {M : Type 1} → statement M
 enter-loop-spec =

@@ -36,7 +36,10 @@ returns-2 c =
     let at-block-word : tie.After-block-word = search in
     let else1 : tie.Else1 = search in
     let start : tie.Start = search in
-    rw (← (at-block-word .block-word .ensures)) (value-more (start .args .before) (visitValueBlock (tableOf (start .args .words .now)) (127 - start .args .p .depth)) (flatForm (tableOf (start .args .words .now)) (at-block-word .block-word .result)) (start .args .block) (at-block-word .block-word .result) (else1 .if1 .left) (at-visit-value-block .visit-value-block .ensures) _ (c .values-of .ensures) (then2 .if2 .taken))
+    rw (← (at-block-word .block-word .ensures))
+    (value-more (start .args .before) (visitValueBlock (tableOf (start .args .words .now)) (127 - start .args .p .depth))
+    (flatForm (tableOf (start .args .words .now)) (at-block-word .block-word .result)) (start .args .block) (at-block-word .block-word .result)
+    (else1 .if1 .left) (at-visit-value-block .visit-value-block .ensures) _ (c .values-of .ensures) (then2 .if2 .taken))
 
 value-block-result-to-sequence-requires : tie.Need-value-block-result-to-sequence-requires
 value-block-result-to-sequence-requires c κs =
@@ -44,7 +47,22 @@ value-block-result-to-sequence-requires c κs =
     let at-visit-value-block : tie.After-visit-value-block = search in
     let at-slice-known : tie.After-slice-known = search in
     let start : tie.Start = search in
-    record { promise = start .pre .0 .promise; place = at-visit-value-block .visit-value-block .ensures .found (else2 .if2 .left) .place; there = at-visit-value-block .visit-value-block .ensures .found (else2 .if2 .left) .ends .there; more = omega (arith, at-visit-value-block .visit-value-block .ensures .found (else2 .if2 .left) .more); room = omega (arith, at-visit-value-block .visit-value-block .ensures .numbers .paid, at-visit-value-block .visit-value-block .ensures .numbers .visits, start .pre .1 .1 .paid, start .pre .1 .1 .visits, start .pre .0 .rows, start .pre .0 .visits) }
+    record {
+      promise = start .pre .0 .promise;
+      place = at-visit-value-block .visit-value-block .ensures .found (else2 .if2 .left) .place;
+      there = at-visit-value-block .visit-value-block .ensures .found (else2 .if2 .left) .ends .there;
+      more = omega
+          (arith, at-visit-value-block .visit-value-block .ensures .found (else2 .if2 .left) .more);
+      room = omega (
+        arith,
+        at-visit-value-block .visit-value-block .ensures .numbers .paid,
+        at-visit-value-block .visit-value-block .ensures .numbers .visits,
+        start .pre .1 .1 .paid,
+        start .pre .1 .1 .visits,
+        start .pre .0 .rows,
+        start .pre .0 .visits,
+      );
+    }
 
 same-length-2 : tie.Need-same-length-2
 same-length-2 c = search needs
@@ -57,7 +75,13 @@ returns-3 c =
     let at-block-word : tie.After-block-word = search in
     let else1 : tie.Else1 = search in
     let start : tie.Start = search in
-    rw (← (at-block-word .block-word .ensures)) (flat-more (start .args .before) (visitValueBlock (tableOf (start .args .words .now)) (127 - start .args .p .depth)) (flatForm (tableOf (start .args .words .now)) (at-block-word .block-word .result)) (start .args .block) (at-block-word .block-word .result) (else1 .if1 .left) (at-visit-value-block .visit-value-block .ensures) _ _ (else2 .if2 .left) refl refl (at-value-block-result-to-sequence .value-block-result-to-sequence .ensures .most) (λ below h. at-value-block-result-to-sequence .value-block-result-to-sequence .ensures .held (at-visit-value-block .visit-value-block .ensures .value) (at-visit-value-block .visit-value-block .ensures .found (else2 .if2 .left) .ends) below h))
+    rw (← (at-block-word .block-word .ensures))
+    (flat-more (start .args .before) (visitValueBlock (tableOf (start .args .words .now)) (127 - start .args .p .depth))
+    (flatForm (tableOf (start .args .words .now)) (at-block-word .block-word .result)) (start .args .block) (at-block-word .block-word .result)
+    (else1 .if1 .left) (at-visit-value-block .visit-value-block .ensures) _ _ (else2 .if2 .left) refl refl
+    (at-value-block-result-to-sequence .value-block-result-to-sequence .ensures .most)
+    (λ below h. at-value-block-result-to-sequence .value-block-result-to-sequence .ensures .held (at-visit-value-block .visit-value-block .ensures .value)
+    (at-visit-value-block .visit-value-block .ensures .found (else2 .if2 .left) .ends) below h))
 
 pub flat-value-spec : {M : Type 1} → statement M
 flat-value-spec =

@@ -32,7 +32,9 @@ returns-2 c =
     let at-block-word : tie.After-block-word = search in
     let else1 : tie.Else1 = search in
     let start : tie.Start = search in
-    rw (← (at-block-word .block-word .ensures)) (plain-more (start .args .before) (visitValueBlock (tableOf (start .args .words .now)) (127 - start .args .p .depth)) (start .args .block) (at-block-word .block-word .result) (else1 .if1 .left) (at-visit-value-block .visit-value-block .ensures) _ (c .values-of .ensures))
+    rw (← (at-block-word .block-word .ensures))
+    (plain-more (start .args .before) (visitValueBlock (tableOf (start .args .words .now)) (127 - start .args .p .depth)) (start .args .block)
+    (at-block-word .block-word .result) (else1 .if1 .left) (at-visit-value-block .visit-value-block .ensures) _ (c .values-of .ensures))
 
 pub plain-value-spec : {M : Type 1} → statement M
 plain-value-spec =

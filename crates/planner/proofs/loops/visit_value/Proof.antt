@@ -1,5 +1,5 @@
 use Rattle.planner.proofs.LoopLaws.{fallthrough-below, value-statement-refused, value-statement-left}
-use Rattle.planner.proofs.VisitLaws.{few-blocks, taken-most}
+use Rattle.planner.proofs.VisitLaws.{few-blocks, takes-most}
 use native.Mathlib.Omega.{arith}
 use borrow.Author.Needs.{needs}
 use Rattle.planner.proofs.loops.visit_value.Statement.{statement}
@@ -11,7 +11,9 @@ block-word-requires c κs = search needs
 unless-scheduled-requires : tie.Need-unless-scheduled-requires
 unless-scheduled-requires c κs =
     let at-entry : tie.Start = search in
-    few-blocks (at-entry .args .words .now) (at-entry .pre .0 .promise) (c .block-word .result) (rw (c .block-word .ensures) (fallthrough-below (at-entry .args .words .now) (at-entry .args .scheduled .now) (at-entry .args .catch-handlers .now) (at-entry .args .p) (at-entry .pre .0) _ (at-entry .pre .1 .1)))
+    few-blocks (at-entry .args .words .now) (at-entry .pre .0 .promise) (c .block-word .result)
+    (rw (c .block-word .ensures) (fallthrough-below (at-entry .args .words .now) (at-entry .args .scheduled .now) (at-entry .args .catch-handlers .now)
+    (at-entry .args .p) (at-entry .pre .0) _ (at-entry .pre .1 .1)))
 
 block-word-requires-2 : tie.Need-block-word-requires-2
 block-word-requires-2 c κs = search needs
@@ -38,7 +40,9 @@ returns c =
     let at-visit-value-block-terminal : tie.After-visit-value-block-terminal = search in
     let at-slice-known : tie.After-slice-known = search in
     let at-entry : tie.Start = search in
-    value-statement-refused (at-entry .args .words .now) (at-entry .args .scheduled .now) (at-entry .args .catch-handlers .now) (at-entry .args .p) (at-entry .pre .0) _ (at-entry .pre .1 .1) (at-visit-value-block-terminal .visit-value-block-terminal .ensures) _ _ (at-if1 .if1 .taken) (rw (at-advance .advance .ensures) at (c .refuse .ensures))
+    value-statement-refused (at-entry .args .words .now) (at-entry .args .scheduled .now) (at-entry .args .catch-handlers .now) (at-entry .args .p)
+    (at-entry .pre .0) _ (at-entry .pre .1 .1) (at-visit-value-block-terminal .visit-value-block-terminal .ensures) _ _ (at-if1 .if1 .taken)
+    (rw (at-advance .advance .ensures) at (c .refuse .ensures))
 
 put-requires : tie.Need-put-requires
 put-requires c κs =
@@ -61,7 +65,7 @@ schedule-briefly-requires c κs =
     let start : tie.Start = search in
     let below = fallthrough-below (start .args .words .now) (start .args .scheduled .now) (start .args .catch-handlers .now) (start .args .p) (start .pre .0) _ (start .pre .1 .1) in
     let few = few-blocks (start .args .words .now) (start .pre .0 .promise) (at-block-word .block-word .result) (rw (at-block-word .block-word .ensures) below) in
-    taken-most _ _ _ _ (at-unless-scheduled .unless-scheduled .ensures) few
+    takes-most (start .args .scheduled .now) (start .args .catch-handlers .now) (at-block-word .block-word .result) (at-unless-scheduled .unless-scheduled .ensures) few
 
 leave-requires : tie.Need-leave-requires
 leave-requires c κs = search needs
@@ -79,7 +83,11 @@ returns-2 c =
     let at-unless-scheduled : tie.After-unless-scheduled = search in
     let at-block-word : tie.After-block-word = search in
     let at-entry : tie.Start = search in
-    value-statement-left (at-entry .args .words .now) (at-entry .args .scheduled .now) (at-entry .args .catch-handlers .now) (at-entry .args .p) (at-entry .pre .0) _ (at-entry .pre .1 .1) (at-visit-value-block-terminal .visit-value-block-terminal .ensures) (at-unless-scheduled .unless-scheduled .result) _ _ _ (at-if1 .if1 .left) (rw (at-block-word .block-word .ensures) at (at-unless-scheduled .unless-scheduled .ensures)) (rw (at-block-word2 .block-word2 .ensures) at (at-put .put .ensures)) (rw (← (at-schedule-briefly .schedule-briefly .ensures)) (c .leave .ensures))
+    value-statement-left (at-entry .args .words .now) (at-entry .args .scheduled .now) (at-entry .args .catch-handlers .now) (at-entry .args .p)
+    (at-entry .pre .0) _ (at-entry .pre .1 .1) (at-visit-value-block-terminal .visit-value-block-terminal .ensures)
+    (at-unless-scheduled .unless-scheduled .result) _ _ _ (at-if1 .if1 .left)
+    (rw (at-block-word .block-word .ensures) at (at-unless-scheduled .unless-scheduled .ensures))
+    (rw (at-block-word2 .block-word2 .ensures) at (at-put .put .ensures)) (rw (← (at-schedule-briefly .schedule-briefly .ensures)) (c .leave .ensures))
 
 pub visit-value-spec : {M : Type 1} → statement M
 visit-value-spec =

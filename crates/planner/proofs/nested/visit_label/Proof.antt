@@ -1,72 +1,55 @@
-use Rattle.planner.proofs.VisitLaws.{few-blocks, reached-label, label-ranges, label-absent, label-nested}
-use Rattle.planner.proofs.PlanLaws.{label-most}
 use native.Mathlib.Omega.{arith}
-use mathlib.Core.Path.{refl, sym, _∙_}
+use Rattle.planner.proofs.VisitLaws.{reached-most, label-absent, label-nested}
 use borrow.Author.Needs.{needs}
 use Rattle.planner.proofs.nested.visit_label.Statement.{statement}
 use Rattle.planner.proofs.nested.visit_label.Tie as tie
 
-block-word-requires : tie.Need-block-word-requires
-block-word-requires c κs = search needs
+label-at-requires : tie.Need-label-at-requires
+label-at-requires c κs = search needs
 
-block-word-requires-2 : tie.Need-block-word-requires-2
-block-word-requires-2 c κs =
-    let start : tie.Start = search in
-    (start .pre .0 .promise .sized, ((rw (c .block-word .ensures) (label-ranges (start .args .words .now) (start .args .scheduled .now) (start .args .catch-handlers .now) (start .args .p) (start .pre .0) (start .pre .1) .1)), omega arith))
+code-at-requires : tie.Need-code-at-requires
+code-at-requires c κs = search needs
 
 refuse-requires : tie.Need-refuse-requires
 refuse-requires c κs = search needs
 
 returns : tie.Need-returns
-returns c =
-    let then1 : tie.Then1 = search in
-    let at-block-word2 : tie.After-block-word2 = search in
-    let at-block-word : tie.After-block-word = search in
-    let start : tie.Start = search in
-    label-absent (start .args .words .now) (start .args .scheduled .now) (start .args .catch-handlers .now) (start .args .p) (start .pre .0) (start .pre .1) (at-block-word .block-word .result) _ (at-block-word .block-word .ensures) (sym (at-block-word2 .block-word2 .ensures) ∙ then1 .if1 .taken) (c .refuse .ensures)
+returns c = search label-absent
 
 unless-unreachable-requires : tie.Need-unless-unreachable-requires
-unless-unreachable-requires c κs =
-    let at-block-word : tie.After-block-word = search in
-    let start : tie.Start = search in
-    (start .pre .0 .promise, (rw (at-block-word .block-word .ensures) (label-ranges (start .args .words .now) (start .args .scheduled .now) (start .args .catch-handlers .now) (start .args .p) (start .pre .0) (start .pre .1) .1)))
-
-block-word-requires-3 : tie.Need-block-word-requires-3
-block-word-requires-3 c κs = search needs
+unless-unreachable-requires c κs = search needs
 
 scheduled-at-requires : tie.Need-scheduled-at-requires
-scheduled-at-requires c κs =
-    let start : tie.Start = search in
-    few-blocks (start .args .words .now) (start .pre .0 .promise) (c .block-word3 .result) (rw (c .block-word3 .ensures) (label-ranges (start .args .words .now) (start .args .scheduled .now) (start .args .catch-handlers .now) (start .args .p) (start .pre .0) (start .pre .1) .0))
+scheduled-at-requires c κs = search needs
 
 enclose-requires : tie.Need-enclose-requires
 enclose-requires c κs =
-    let at-unless-unreachable : tie.After-unless-unreachable = search in
-    let at-block-word : tie.After-block-word = search in
+    let labelled : tie.After-unless-unreachable = search in
+    let read : tie.After-label-at = search in
     let start : tie.Start = search in
-    ((label-most (at-unless-unreachable .unless-unreachable .result) (reached-label (start .args .words .now) (start .args .scheduled .now) (start .args .catch-handlers .now) (start .args .p) (start .pre .0) (at-block-word .block-word .result) (at-block-word .block-word .result) (at-unless-unreachable .unless-unreachable .result) (rw (at-block-word .block-word .ensures) (label-ranges (start .args .words .now) (start .args .scheduled .now) (start .args .catch-handlers .now) (start .args .p) (start .pre .0) (start .pre .1) .1)) refl (at-unless-unreachable .unless-unreachable .ensures))), start .pre .0 .depth)
+    let most = reached-most (start .args .words .now) (start .args .scheduled .now) (start .args .catch-handlers .now) (read .label-at .result .fallthrough)
+    (labelled .unless-unreachable .ensures) (omega (arith, read .label-at .ensures .named .1, read .label-at .ensures .few)) in
+    search needs
 
 returns-2 : tie.Need-returns-2
 returns-2 c =
-    let at-scheduled-at : tie.After-scheduled-at = search in
-    let at-block-word3 : tie.After-block-word3 = search in
-    let at-unless-unreachable : tie.After-unless-unreachable = search in
-    let else1 : tie.Else1 = search in
-    let at-block-word2 : tie.After-block-word2 = search in
-    let at-block-word : tie.After-block-word = search in
+    let busy : tie.After-scheduled-at = search in
+    let labelled : tie.After-unless-unreachable = search in
+    let left : tie.Else1 = search in
+    let reached : tie.After-code-at = search in
+    let read : tie.After-label-at = search in
     let start : tie.Start = search in
-    label-nested (start .args .words .now) (start .args .scheduled .now) (start .args .catch-handlers .now) (start .args .p) (start .pre .0) (start .pre .1) (at-block-word .block-word .result) (at-unless-unreachable .unless-unreachable .result) (at-block-word3 .block-word3 .result) _ (at-block-word .block-word .ensures) (λ z. else1 .if1 .left (at-block-word2 .block-word2 .ensures ∙ z)) (at-unless-unreachable .unless-unreachable .ensures) (at-block-word3 .block-word3 .ensures) (rw (← (at-scheduled-at .scheduled-at .ensures)) (c .enclose .ensures))
+    label-nested (start .pre .0) (read .label-at .ensures) (reached .code-at .ensures) (left .if1 .left) (labelled .unless-unreachable .ensures) (busy .scheduled-at .ensures) (c .enclose .ensures)
 
 pub visit-label-spec : {M : Type 1} → statement M
 visit-label-spec =
     tie.close
     (tie.spec
-    block-word-requires
-    block-word-requires-2
+    label-at-requires
+    code-at-requires
     refuse-requires
     returns
     unless-unreachable-requires
-    block-word-requires-3
     scheduled-at-requires
     enclose-requires
     returns-2)

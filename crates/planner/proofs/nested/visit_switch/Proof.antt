@@ -1,38 +1,23 @@
-use Rattle.planner.proofs.VisitLaws.{reached-label, switch-ranges, switch-missing, switch-begins}
-use Rattle.planner.proofs.PlanLaws.{label-most}
 use native.Mathlib.Omega.{arith}
-use mathlib.Core.Path.{refl, sym, _∙_}
+use Rattle.planner.proofs.VisitLaws.{reached-most, switch-missing, switch-begins}
 use borrow.Author.Needs.{needs}
 use Rattle.planner.proofs.nested.visit_switch.Statement.{statement}
 use Rattle.planner.proofs.nested.visit_switch.Tie as tie
 
-block-word-requires : tie.Need-block-word-requires
-block-word-requires c κs = search needs
+switch-at-requires : tie.Need-switch-at-requires
+switch-at-requires c κs = search needs
 
-block-word-requires-2 : tie.Need-block-word-requires-2
-block-word-requires-2 c κs =
-    let start : tie.Start = search in
-    (start .pre .0 .promise .sized, ((rw (c .block-word .ensures) (switch-ranges (start .args .words .now) (start .args .scheduled .now) (start .args .catch-handlers .now) (start .args .p) (start .pre .0) (start .pre .1) .2)), omega arith))
+code-at-requires : tie.Need-code-at-requires
+code-at-requires c κs = search needs
 
 refuse-requires : tie.Need-refuse-requires
 refuse-requires c κs = search needs
 
 returns : tie.Need-returns
-returns c =
-    let then1 : tie.Then1 = search in
-    let at-block-word2 : tie.After-block-word2 = search in
-    let at-block-word : tie.After-block-word = search in
-    let start : tie.Start = search in
-    switch-missing (start .args .words .now) (start .args .scheduled .now) (start .args .catch-handlers .now) (start .args .p) (start .pre .0) (start .pre .1) (at-block-word .block-word .result) _ (at-block-word .block-word .ensures) (sym (at-block-word2 .block-word2 .ensures) ∙ then1 .if1 .taken) (c .refuse .ensures)
+returns c = search switch-missing
 
 unless-unreachable-requires : tie.Need-unless-unreachable-requires
-unless-unreachable-requires c κs =
-    let at-block-word : tie.After-block-word = search in
-    let start : tie.Start = search in
-    (start .pre .0 .promise, (rw (at-block-word .block-word .ensures) (switch-ranges (start .args .words .now) (start .args .scheduled .now) (start .args .catch-handlers .now) (start .args .p) (start .pre .0) (start .pre .1) .2)))
-
-block-word-requires-3 : tie.Need-block-word-requires-3
-block-word-requires-3 c κs = search needs
+unless-unreachable-requires c κs = search needs
 
 entries-of-requires : tie.Need-entries-of-requires
 entries-of-requires c κs = search needs
@@ -42,36 +27,37 @@ add-choose c = search needs
 
 schedule-switch-requires : tie.Need-schedule-switch-requires
 schedule-switch-requires c κs =
-    let at-unless-unreachable : tie.After-unless-unreachable = search in
-    let at-block-word : tie.After-block-word = search in
+    let labelled : tie.After-unless-unreachable = search in
+    let read : tie.After-switch-at = search in
     let start : tie.Start = search in
-    (label-most (at-unless-unreachable .unless-unreachable .result) (reached-label (start .args .words .now) (start .args .scheduled .now) (start .args .catch-handlers .now) (start .args .p) (start .pre .0) (at-block-word .block-word .result) (at-block-word .block-word .result) (at-unless-unreachable .unless-unreachable .result) (rw (at-block-word .block-word .ensures) (switch-ranges (start .args .words .now) (start .args .scheduled .now) (start .args .catch-handlers .now) (start .args .p) (start .pre .0) (start .pre .1) .2)) refl (at-unless-unreachable .unless-unreachable .ensures)))
+    let most = reached-most (start .args .words .now) (start .args .scheduled .now) (start .args .catch-handlers .now) (read .switch-at .result .fallthrough)
+    (labelled .unless-unreachable .ensures) (omega (arith, read .switch-at .ensures .named .2, read .switch-at .ensures .few)) in
+    search needs
 
 choose-requires : tie.Need-choose-requires
 choose-requires c κs = search needs
 
 returns-2 : tie.Need-returns-2
 returns-2 c =
-    let at-schedule-switch : tie.After-schedule-switch = search in
-    let at-entries-of : tie.After-entries-of = search in
-    let at-block-word3 : tie.After-block-word3 = search in
-    let at-unless-unreachable : tie.After-unless-unreachable = search in
-    let else1 : tie.Else1 = search in
-    let at-block-word2 : tie.After-block-word2 = search in
-    let at-block-word : tie.After-block-word = search in
+    let change : tie.After-schedule-switch = search in
+    let entries : tie.After-entries-of = search in
+    let labelled : tie.After-unless-unreachable = search in
+    let left : tie.Else1 = search in
+    let reached : tie.After-code-at = search in
+    let read : tie.After-switch-at = search in
     let start : tie.Start = search in
-    switch-begins (start .args .words .now) (start .args .scheduled .now) (start .args .catch-handlers .now) (start .args .p) (start .pre .0) (start .pre .1) (at-block-word .block-word .result) (at-unless-unreachable .unless-unreachable .result) (at-block-word3 .block-word3 .result) _ (at-block-word .block-word .ensures) (λ z. else1 .if1 .left (at-block-word2 .block-word2 .ensures ∙ z)) (at-unless-unreachable .unless-unreachable .ensures) (at-block-word3 .block-word3 .ensures) (rw (← (at-schedule-switch .schedule-switch .ensures), ← (at-entries-of .entries-of .ensures)) (c .choose .ensures))
+    switch-begins (start .pre .0) (read .switch-at .ensures) (reached .code-at .ensures) (left .if1 .left) (labelled .unless-unreachable .ensures)
+    (entries .entries-of .ensures) (change .schedule-switch .ensures) (c .choose .ensures)
 
 pub visit-switch-spec : {M : Type 1} → statement M
 visit-switch-spec =
     tie.close
     (tie.spec
-    block-word-requires
-    block-word-requires-2
+    switch-at-requires
+    code-at-requires
     refuse-requires
     returns
     unless-unreachable-requires
-    block-word-requires-3
     entries-of-requires
     add-choose
     schedule-switch-requires

@@ -18,7 +18,10 @@ returns c =
     let at-close-statement : tie.After-close-statement = search in
     let at-if1 : tie.Then1 = search in
     let at-entry : tie.Start = search in
-    chosen-turn (at-entry .args .words .now) (at-entry .args .p) (at-entry .args .frame) (at-entry .pre .0) (at-entry .pre .1) (choice-closes (at-entry .args .words .now) (at-entry .args .p) (at-entry .args .frame) (choosing-fits (at-entry .args .words .now) (at-entry .args .p) (at-entry .args .frame) (at-entry .pre .0) (at-entry .pre .1)) (at-if1 .if1 .taken) (at-close-statement .close-statement .ensures))
+    chosen-turn (at-entry .args .words .now) (at-entry .args .p) (at-entry .args .frame) (at-entry .pre .0) (at-entry .pre .1)
+    (choice-closes (at-entry .args .words .now) (at-entry .args .p) (at-entry .args .frame)
+    (choosing-fits (at-entry .args .words .now) (at-entry .args .p) (at-entry .args .frame) (at-entry .pre .0) (at-entry .pre .1)) (at-if1 .if1 .taken)
+    (at-close-statement .close-statement .ensures))
 
 sub-left : tie.Need-sub-left
 sub-left c = search needs
@@ -32,13 +35,27 @@ add-case-word : tie.Need-add-case-word
 add-case-word c =
     let at-if1 : tie.Else1 = search in
     let at-entry : tie.Start = search in
-    omega (arith, c .block-word .ensures, last-below (at-entry .args .words .now) (at-entry .args .p) (at-entry .args .frame) (choosing-fits (at-entry .args .words .now) (at-entry .args .p) (at-entry .args .frame) (at-entry .pre .0) (at-entry .pre .1)) (at-entry .args .scheduled .now) (at-entry .args .catch-handlers .now) (at-if1 .if1 .left), at-entry .pre .0 .promise .sized .limited .cases)
+    omega (
+      arith,
+      c .block-word .ensures,
+      last-below (at-entry .args .words .now) (at-entry .args .p) (at-entry .args .frame) (choosing-fits
+          (at-entry .args .words .now) (at-entry .args .p) (at-entry .args .frame) (at-entry .pre .0) (at-entry .pre .1)) (at-entry .args .scheduled .now)
+          (at-entry .args .catch-handlers .now) (at-if1 .if1 .left),
+      at-entry .pre .0 .promise .sized .limited .cases,
+    )
 
 case-word-requires : tie.Need-case-word-requires
 case-word-requires c κs =
     let at-if1 : tie.Else1 = search in
-    let at-entry : tie.Start = search in
-    (at-entry .pre .0 .promise .sized, (rw (c .block-word .ensures) (last-below (at-entry .args .words .now) (at-entry .args .p) (at-entry .args .frame) (choosing-fits (at-entry .args .words .now) (at-entry .args .p) (at-entry .args .frame) (at-entry .pre .0) (at-entry .pre .1)) (at-entry .args .scheduled .now) (at-entry .args .catch-handlers .now) (at-if1 .if1 .left)), omega arith))
+    let at-entry : tie.Start = search in (
+      at-entry .pre .0 .promise .sized,
+      (
+        rw (c .block-word .ensures) (last-below (at-entry .args .words .now) (at-entry .args .p) (at-entry .args .frame)
+            (choosing-fits (at-entry .args .words .now) (at-entry .args .p) (at-entry .args .frame) (at-entry .pre .0) (at-entry .pre .1))
+            (at-entry .args .scheduled .now) (at-entry .args .catch-handlers .now) (at-if1 .if1 .left)),
+        omega arith,
+      ),
+    )
 
 with-counts-requires : tie.Need-with-counts-requires
 with-counts-requires c κs = search needs
@@ -49,7 +66,10 @@ scheduled-at-requires c κs =
     let at-block-word : tie.After-block-word = search in
     let at-if1 : tie.Else1 = search in
     let at-entry : tie.Start = search in
-    rw (at-case-word .case-word .ensures, at-block-word .block-word .ensures) (last-block-below (at-entry .args .words .now) (at-entry .args .p) (at-entry .args .frame) (choosing-fits (at-entry .args .words .now) (at-entry .args .p) (at-entry .args .frame) (at-entry .pre .0) (at-entry .pre .1)) (at-entry .args .scheduled .now) (at-entry .args .catch-handlers .now) (at-if1 .if1 .left))
+    rw (at-case-word .case-word .ensures, at-block-word .block-word .ensures)
+    (last-block-below (at-entry .args .words .now) (at-entry .args .p) (at-entry .args .frame)
+    (choosing-fits (at-entry .args .words .now) (at-entry .args .p) (at-entry .args .frame) (at-entry .pre .0) (at-entry .pre .1))
+    (at-entry .args .scheduled .now) (at-entry .args .catch-handlers .now) (at-if1 .if1 .left))
 
 block-word-requires-2 : tie.Need-block-word-requires-2
 block-word-requires-2 c κs =
@@ -70,7 +90,12 @@ returns-2 c =
     let at-block-word : tie.After-block-word = search in
     let at-if1 : tie.Else1 = search in
     let at-entry : tie.Start = search in
-    chosen-turn (at-entry .args .words .now) (at-entry .args .p) (at-entry .args .frame) (at-entry .pre .0) (at-entry .pre .1) (choice-refused (at-entry .args .words .now) (at-entry .args .p) (at-entry .args .frame) (choosing-fits (at-entry .args .words .now) (at-entry .args .p) (at-entry .args .frame) (at-entry .pre .0) (at-entry .pre .1)) (at-entry .args .scheduled .now) (at-entry .args .catch-handlers .now) (at-if1 .if1 .left) (at-case-word .case-word .result) _ (at-entry .args .tree .now) (rw (← (at-block-word .block-word .ensures)) (at-case-word .case-word .ensures)) (sym (at-scheduled-at .scheduled-at .ensures) ∙ at-if2 .if2 .taken) (λ z. at-if3 .if3 .taken (z ∙ sym (at-block-word2 .block-word2 .ensures))) (c .refuse .ensures))
+    chosen-turn (at-entry .args .words .now) (at-entry .args .p) (at-entry .args .frame) (at-entry .pre .0) (at-entry .pre .1)
+    (choice-refused (at-entry .args .words .now) (at-entry .args .p) (at-entry .args .frame)
+    (choosing-fits (at-entry .args .words .now) (at-entry .args .p) (at-entry .args .frame) (at-entry .pre .0) (at-entry .pre .1))
+    (at-entry .args .scheduled .now) (at-entry .args .catch-handlers .now) (at-if1 .if1 .left) (at-case-word .case-word .result) _ (at-entry .args .tree .now)
+    (rw (← (at-block-word .block-word .ensures)) (at-case-word .case-word .ensures)) (sym (at-scheduled-at .scheduled-at .ensures) ∙ at-if2 .if2 .taken)
+    (λ z. at-if3 .if3 .taken (z ∙ sym (at-block-word2 .block-word2 .ensures))) (c .refuse .ensures))
 
 choose-requires : tie.Need-choose-requires
 choose-requires c κs = search needs
@@ -86,7 +111,12 @@ returns-3 c =
     let at-block-word : tie.After-block-word = search in
     let at-if1 : tie.Else1 = search in
     let at-entry : tie.Start = search in
-    chosen-turn (at-entry .args .words .now) (at-entry .args .p) (at-entry .args .frame) (at-entry .pre .0) (at-entry .pre .1) (choice-skips (at-entry .args .words .now) (at-entry .args .p) (at-entry .args .frame) (choosing-fits (at-entry .args .words .now) (at-entry .args .p) (at-entry .args .frame) (at-entry .pre .0) (at-entry .pre .1)) (at-entry .args .scheduled .now) (at-entry .args .catch-handlers .now) (at-if1 .if1 .left) (at-case-word .case-word .result) _ (at-entry .args .tree .now) (rw (← (at-block-word .block-word .ensures)) (at-case-word .case-word .ensures)) (sym (at-scheduled-at .scheduled-at .ensures) ∙ at-if2 .if2 .taken) (at-if3 .if3 .left ∙ at-block-word2 .block-word2 .ensures) (rw (at-with-counts .with-counts .ensures) at (c .choose .ensures)))
+    chosen-turn (at-entry .args .words .now) (at-entry .args .p) (at-entry .args .frame) (at-entry .pre .0) (at-entry .pre .1)
+    (choice-skips (at-entry .args .words .now) (at-entry .args .p) (at-entry .args .frame)
+    (choosing-fits (at-entry .args .words .now) (at-entry .args .p) (at-entry .args .frame) (at-entry .pre .0) (at-entry .pre .1))
+    (at-entry .args .scheduled .now) (at-entry .args .catch-handlers .now) (at-if1 .if1 .left) (at-case-word .case-word .result) _ (at-entry .args .tree .now)
+    (rw (← (at-block-word .block-word .ensures)) (at-case-word .case-word .ensures)) (sym (at-scheduled-at .scheduled-at .ensures) ∙ at-if2 .if2 .taken)
+    (at-if3 .if3 .left ∙ at-block-word2 .block-word2 .ensures) (rw (at-with-counts .with-counts .ensures) at (c .choose .ensures)))
 
 traverse-block-requires : tie.Need-traverse-block-requires
 traverse-block-requires c κs = search needs
@@ -100,7 +130,12 @@ returns-4 c =
     let at-block-word : tie.After-block-word = search in
     let at-if1 : tie.Else1 = search in
     let at-entry : tie.Start = search in
-    chosen-turn (at-entry .args .words .now) (at-entry .args .p) (at-entry .args .frame) (at-entry .pre .0) (at-entry .pre .1) (choice-visits (at-entry .args .words .now) (at-entry .args .p) (at-entry .args .frame) (choosing-fits (at-entry .args .words .now) (at-entry .args .p) (at-entry .args .frame) (at-entry .pre .0) (at-entry .pre .1)) (at-entry .args .scheduled .now) (at-entry .args .catch-handlers .now) (at-if1 .if1 .left) (at-case-word .case-word .result) _ (at-entry .args .tree .now) (rw (← (at-block-word .block-word .ensures)) (at-case-word .case-word .ensures)) (sym (at-scheduled-at .scheduled-at .ensures) ∙ at-if2 .if2 .left) (rw (at-with-counts .with-counts .ensures) at (c .traverse-block .ensures)))
+    chosen-turn (at-entry .args .words .now) (at-entry .args .p) (at-entry .args .frame) (at-entry .pre .0) (at-entry .pre .1)
+    (choice-visits (at-entry .args .words .now) (at-entry .args .p) (at-entry .args .frame)
+    (choosing-fits (at-entry .args .words .now) (at-entry .args .p) (at-entry .args .frame) (at-entry .pre .0) (at-entry .pre .1))
+    (at-entry .args .scheduled .now) (at-entry .args .catch-handlers .now) (at-if1 .if1 .left) (at-case-word .case-word .result) _ (at-entry .args .tree .now)
+    (rw (← (at-block-word .block-word .ensures)) (at-case-word .case-word .ensures)) (sym (at-scheduled-at .scheduled-at .ensures) ∙ at-if2 .if2 .left)
+    (rw (at-with-counts .with-counts .ensures) at (c .traverse-block .ensures)))
 
 pub choose-case-spec : {M : Type 1} → statement M
 choose-case-spec =

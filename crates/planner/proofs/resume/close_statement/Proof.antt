@@ -17,7 +17,8 @@ returns c =
     let at-with-counts : tie.After-with-counts = search in
     let at-if1 : tie.Then1 = search in
     let at-entry : tie.Start = search in
-    closed-popping (at-entry .args .words .now) (at-entry .args .p) (at-entry .args .frame) (at-entry .pre) _ (at-entry .args .tree .now) (at-if1 .if1 .taken) (rw (at-with-counts .with-counts .ensures) at (c .pop .ensures))
+    closed-popping (at-entry .args .words .now) (at-entry .args .p) (at-entry .args .frame) (at-entry .pre) _ (at-entry .args .tree .now) (at-if1 .if1 .taken)
+    (rw (at-with-counts .with-counts .ensures) at (c .pop .ensures))
 
 closing-row-requires : tie.Need-closing-row-requires
 closing-row-requires c κs = search needs
@@ -47,7 +48,9 @@ returns-2 c =
     let at-closing-row : tie.After-closing-row = search in
     let at-if1 : tie.Else1 = search in
     let at-entry : tie.Start = search in
-    closed-complete (at-entry .args .words .now) (at-entry .args .p) (at-entry .args .frame) (at-entry .pre) _ (at-entry .args .tree .now) (at-put .put .last .0) _ (at-put .put .result) (at-if1 .if1 .left) (at-closing-row .closing-row .ensures) (at-put .put .ensures) (rw (← (at-unschedule-if .unschedule-if .ensures)) (c .leave .ensures))
+    closed-complete (at-entry .args .words .now) (at-entry .args .p) (at-entry .args .frame) (at-entry .pre) _ (at-entry .args .tree .now)
+    (at-put .put .last .0) _ (at-put .put .result) (at-if1 .if1 .left) (at-closing-row .closing-row .ensures) (at-put .put .ensures)
+    (rw (← (at-unschedule-if .unschedule-if .ensures)) (c .leave .ensures))
 
 pub close-statement-spec : {M : Type 1} → statement M
 close-statement-spec =

@@ -18,7 +18,14 @@ visit-value-block-requires : tie.Need-visit-value-block-requires
 visit-value-block-requires c κs =
     let at-block-word : tie.After-block-word = search in
     let at-entry : tie.Start = search in
-    record { promise = at-entry .pre .0 .promise; at = rw (at-block-word .block-word .ensures) (test-below (at-entry .args .words .now) (at-entry .args .p) (at-entry .args .frame) (at-entry .pre .0) (at-entry .pre .1)); visits = at-entry .pre .0 .visits; room = omega (arith, at-entry .pre .0 .rows) }
+    record {
+      promise = at-entry .pre .0 .promise;
+      at = rw (at-block-word .block-word .ensures)
+          (test-below (at-entry .args .words .now) (at-entry .args .p) (at-entry .args .frame) (at-entry .pre .0) (at-entry .pre .1));
+      visits =
+          at-entry .pre .0 .visits;
+      room = omega (arith, at-entry .pre .0 .rows);
+    }
 
 advance-requires : tie.Need-advance-requires
 advance-requires c κs = search needs
@@ -37,7 +44,11 @@ returns c =
     let at-block-word2 : tie.After-block-word2 = search in
     let at-block-word : tie.After-block-word = search in
     let at-entry : tie.Start = search in
-    test-refused (at-entry .args .words .now) (at-entry .args .p) (at-entry .args .frame) (at-entry .pre .0) (at-entry .pre .1) (record { rows = at-entry .args .p .rows; visits = at-entry .args .p .visits }) (at-entry .args .tree .now) _ (at-visit-value-block .visit-value-block .result) (rw (at-block-word .block-word .ensures, at-block-word2 .block-word2 .ensures) at (at-visit-value-block .visit-value-block .ensures)) _ _ refl (at-if1 .if1 .taken) (rw (at-advance .advance .ensures) at (c .refuse .ensures))
+    test-refused (at-entry .args .words .now) (at-entry .args .p) (at-entry .args .frame) (at-entry .pre .0) (at-entry .pre .1)
+    (record { rows = at-entry .args .p .rows; visits = at-entry .args .p .visits }) (at-entry .args .tree .now) _
+    (at-visit-value-block .visit-value-block .result)
+    (rw (at-block-word .block-word .ensures, at-block-word2 .block-word2 .ensures) at (at-visit-value-block .visit-value-block .ensures)) _ _ refl
+    (at-if1 .if1 .taken) (rw (at-advance .advance .ensures) at (c .refuse .ensures))
 
 close-statement-requires : tie.Need-close-statement-requires
 close-statement-requires c κs =
@@ -46,7 +57,14 @@ close-statement-requires c κs =
     let at-visit-value-block : tie.After-visit-value-block = search in
     let at-shared-slice-known : tie.After-shared-slice-known = search in
     let at-entry : tie.Start = search in
-    rw (at-advance .advance .ensures) (record { promise = at-entry .pre .0 .promise; block = at-entry .pre .0 .block; depth = at-entry .pre .0 .depth; rows = omega (arith, at-entry .pre .0, at-visit-value-block .visit-value-block .ensures .numbers); count = omega (arith, at-entry .pre .0 .count, at-visit-value-block .visit-value-block .ensures .found (at-if1 .if1 .left) .more) })
+    rw (at-advance .advance .ensures) (record {
+      promise = at-entry .pre .0 .promise;
+      block = at-entry .pre .0 .block;
+      depth = at-entry .pre .0 .depth;
+      rows = omega (arith, at-entry .pre .0, at-visit-value-block .visit-value-block .ensures .numbers);
+      count = omega
+          (arith, at-entry .pre .0 .count, at-visit-value-block .visit-value-block .ensures .found (at-if1 .if1 .left) .more);
+    })
 
 same-length-2 : tie.Need-same-length-2
 same-length-2 c = search needs
@@ -60,7 +78,11 @@ returns-2 c =
     let at-block-word2 : tie.After-block-word2 = search in
     let at-block-word : tie.After-block-word = search in
     let at-entry : tie.Start = search in
-    test-closed (at-entry .args .words .now) (at-entry .args .p) (at-entry .args .frame) (at-entry .pre .0) (at-entry .pre .1) (record { rows = at-entry .args .p .rows; visits = at-entry .args .p .visits }) (at-entry .args .tree .now) _ (at-visit-value-block .visit-value-block .result) (rw (at-block-word .block-word .ensures, at-block-word2 .block-word2 .ensures) at (at-visit-value-block .visit-value-block .ensures)) _ _ refl (at-if1 .if1 .left) (rw (at-advance .advance .ensures) at (at-close-statement .close-statement .ensures))
+    test-closed (at-entry .args .words .now) (at-entry .args .p) (at-entry .args .frame) (at-entry .pre .0) (at-entry .pre .1)
+    (record { rows = at-entry .args .p .rows; visits = at-entry .args .p .visits }) (at-entry .args .tree .now) _
+    (at-visit-value-block .visit-value-block .result)
+    (rw (at-block-word .block-word .ensures, at-block-word2 .block-word2 .ensures) at (at-visit-value-block .visit-value-block .ensures)) _ _ refl
+    (at-if1 .if1 .left) (rw (at-advance .advance .ensures) at (at-close-statement .close-statement .ensures))
 
 pub resume-do-while-spec : {M : Type 1} → statement M
 resume-do-while-spec =

@@ -18,7 +18,10 @@ returns c =
     let at-close-statement : tie.After-close-statement = search in
     let then1 : tie.Then1 = search in
     let start : tie.Start = search in
-    resumed-seen (start .args .words .now) (start .args .p) (start .args .frame) (resumed-closed (start .args .words .now) (start .args .p) (start .args .frame) (if-second (start .args .words .now) (start .args .p) (start .args .frame) (start .pre .0) (start .pre .1) (then1 .if1 .taken)) (at-close-statement .close-statement .ensures))
+    resumed-seen (start .args .words .now) (start .args .p) (start .args .frame)
+    (resumed-closed (start .args .words .now) (start .args .p) (start .args .frame)
+    (if-second (start .args .words .now) (start .args .p) (start .args .frame) (start .pre .0) (start .pre .1) (then1 .if1 .taken))
+    (at-close-statement .close-statement .ensures))
 
 block-word-requires : tie.Need-block-word-requires
 block-word-requires c κs = search needs
@@ -43,7 +46,10 @@ returns-2 c =
     let at-block-word : tie.After-block-word = search in
     let else1 : tie.Else1 = search in
     let start : tie.Start = search in
-    resumed-seen (start .args .words .now) (start .args .p) (start .args .frame) (resumed-closed (start .args .words .now) (start .args .p) (start .args .frame) (if-without (start .args .words .now) (start .args .p) (start .args .frame) (start .pre .0) (start .pre .1) (else1 .if1 .left) (sym (at-block-word .block-word .ensures) ∙ then2 .if2 .taken ∙ at-block-word2 .block-word2 .ensures)) (at-close-statement2 .close-statement2 .ensures))
+    resumed-seen (start .args .words .now) (start .args .p) (start .args .frame)
+    (resumed-closed (start .args .words .now) (start .args .p) (start .args .frame)
+    (if-without (start .args .words .now) (start .args .p) (start .args .frame) (start .pre .0) (start .pre .1) (else1 .if1 .left)
+    (sym (at-block-word .block-word .ensures) ∙ then2 .if2 .taken ∙ at-block-word2 .block-word2 .ensures)) (at-close-statement2 .close-statement2 .ensures))
 
 alternate-requires : tie.Need-alternate-requires
 alternate-requires c κs =
@@ -58,7 +64,10 @@ returns-3 c =
     let at-block-word : tie.After-block-word = search in
     let else1 : tie.Else1 = search in
     let start : tie.Start = search in
-    resumed-alternate (start .args .words .now) (start .args .p) (start .args .frame) (start .args .scheduled .now) (start .args .catch-handlers .now) _ 13 _ _ (start .args .tree .now) (if-alternate (start .args .words .now) (start .args .p) (start .args .frame) (start .pre .0) (start .pre .1) (else1 .if1 .left) (λ z. else2 .if2 .left (at-block-word .block-word .ensures ∙ z ∙ sym (at-block-word2 .block-word2 .ensures)))) (start .pre .0 .depth) (λ z. omega arith) (rw (← (at-block-word .block-word .ensures)) (c .alternate .ensures))
+    resumed-alternate (start .args .words .now) (start .args .p) (start .args .frame) (start .args .scheduled .now) (start .args .catch-handlers .now) _ 13 _ _
+    (start .args .tree .now) (if-alternate (start .args .words .now) (start .args .p) (start .args .frame) (start .pre .0) (start .pre .1) (else1 .if1 .left)
+    (λ z. else2 .if2 .left (at-block-word .block-word .ensures ∙ z ∙ sym (at-block-word2 .block-word2 .ensures)))) (start .pre .0 .depth) (λ z. omega arith)
+    (rw (← (at-block-word .block-word .ensures)) (c .alternate .ensures))
 
 pub resume-if-spec : {M : Type 1} → statement M
 resume-if-spec =

@@ -75,7 +75,16 @@ returns-6 c =
     let at-match-rest : tie.At-match-rest = search in
     let at-block-word : tie.After-block-word = search in
     let start : tie.Start = search in
-    resumed-seen (start .args .words .now) (start .args .p) (start .args .frame) (resumed-closed (start .args .words .now) (start .args .p) (start .args .frame) (other-closed (start .args .words .now) (start .args .p) (start .args .frame) (start .pre) (subst (Other (start .args .words .now) (start .args .p) (start .args .frame) (start .pre)) (at-block-word .block-word .ensures) (at-match-rest .match .rest .0 .0 .0 .0 .1, at-match-rest .match .rest .0 .0 .0 .1, at-match-rest .match .rest .0 .0 .1, at-match-rest .match .rest .0 .1, at-match-rest .match .rest .1))) (at-close-statement .close-statement .ensures))
+    resumed-seen (start .args .words .now) (start .args .p) (start .args .frame)
+    (resumed-closed (start .args .words .now) (start .args .p) (start .args .frame)
+    (other-closed (start .args .words .now) (start .args .p) (start .args .frame) (start .pre)
+    (subst (Other (start .args .words .now) (start .args .p) (start .args .frame) (start .pre)) (at-block-word .block-word .ensures) (
+      at-match-rest .match .rest .0 .0 .0 .0 .1,
+      at-match-rest .match .rest .0 .0 .0 .1,
+      at-match-rest .match .rest .0 .0 .1,
+      at-match-rest .match .rest .0 .1,
+      at-match-rest .match .rest .1,
+    ))) (at-close-statement .close-statement .ensures))
 
 pub resume-statement-spec : {M : Type 1} → statement M
 resume-statement-spec =

@@ -34,7 +34,12 @@ narrow-requires c κs =
     let at-struct-known : tie.After-struct-known = search in
     let at-block-word : tie.After-block-word = search in
     let at-entry : tie.Start = search in
-    omega (arith, c .case-word2 .ensures, rw (← (at-block-word .block-word .ensures)) at (case-below (at-entry .args .words .now) (at-entry .args .p) (at-entry .args .frame) (at-entry .pre .0) (at-entry .pre .1)))
+    omega (
+      arith,
+      c .case-word2 .ensures,
+      rw (← (at-block-word .block-word .ensures)) at (case-below (at-entry .args .words .now) (at-entry .args .p)
+          (at-entry .args .frame) (at-entry .pre .0) (at-entry .pre .1)),
+    )
 
 add-with-counts : tie.Need-add-with-counts
 add-with-counts c = search needs
@@ -60,7 +65,11 @@ returns c =
     let at-case-word : tie.After-case-word = search in
     let at-block-word : tie.After-block-word = search in
     let at-entry : tie.Start = search in
-    case-built (at-entry .args .words .now) (at-entry .args .p) (at-entry .args .frame) (at-entry .pre .0) (at-entry .pre .1) _ (at-entry .args .tree .now) _ (at-case-word .case-word .result) (at-narrow .narrow .result) (at-put .put .result) (rw (← (at-block-word .block-word .ensures)) (at-case-word .case-word .ensures)) (rw (← (at-block-word .block-word .ensures)) (at-narrow .narrow .ensures ∙ at-case-word2 .case-word2 .ensures)) (at-put .put .ensures) (rw (at-with-counts .with-counts .ensures) at (c .choose .ensures))
+    case-built (at-entry .args .words .now) (at-entry .args .p) (at-entry .args .frame) (at-entry .pre .0) (at-entry .pre .1) _ (at-entry .args .tree .now) _
+    (at-case-word .case-word .result) (at-narrow .narrow .result) (at-put .put .result)
+    (rw (← (at-block-word .block-word .ensures)) (at-case-word .case-word .ensures))
+    (rw (← (at-block-word .block-word .ensures)) (at-narrow .narrow .ensures ∙ at-case-word2 .case-word2 .ensures)) (at-put .put .ensures)
+    (rw (at-with-counts .with-counts .ensures) at (c .choose .ensures))
 
 pub resume-switch-spec : {M : Type 1} → statement M
 resume-switch-spec =

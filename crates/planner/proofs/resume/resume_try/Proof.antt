@@ -16,7 +16,9 @@ returns c =
     let at-close-statement : tie.After-close-statement = search in
     let then1 : tie.Then1 = search in
     let start : tie.Start = search in
-    resumed-closed (start .args .words .now) (start .args .p) (start .args .frame) (try-second (start .args .words .now) (start .args .p) (start .args .frame) (start .pre .0) (start .pre .1) (then1 .if1 .taken)) (at-close-statement .close-statement .ensures)
+    resumed-closed (start .args .words .now) (start .args .p) (start .args .frame)
+    (try-second (start .args .words .now) (start .args .p) (start .args .frame) (start .pre .0) (start .pre .1) (then1 .if1 .taken))
+    (at-close-statement .close-statement .ensures)
 
 block-word-requires : tie.Need-block-word-requires
 block-word-requires c κs = search needs
@@ -33,7 +35,8 @@ returns-2 c =
     let at-block-word : tie.After-block-word = search in
     let else1 : tie.Else1 = search in
     let start : tie.Start = search in
-    try-handler (start .args .words .now) (start .args .p) (start .args .frame) (start .pre .0) (start .pre .1) _ (start .args .tree .now) (else1 .if1 .left) (rw (← (at-block-word .block-word .ensures), ← (at-second-part .second-part .ensures)) (c .traverse-block .ensures))
+    try-handler (start .args .words .now) (start .args .p) (start .args .frame) (start .pre .0) (start .pre .1) _ (start .args .tree .now) (else1 .if1 .left)
+    (rw (← (at-block-word .block-word .ensures), ← (at-second-part .second-part .ensures)) (c .traverse-block .ensures))
 
 pub resume-try-spec : {M : Type 1} → statement M
 resume-try-spec =

@@ -46,7 +46,8 @@ returns-3 c frame =
     let at-if2 : tie.Else2 = search in
     let at-if1 : tie.Else1 = search in
     let at-entry : tie.Start = search in
-    absent-planned _ _ _ _ _ _ _ (at-entry .pre .0) frame (at-if1 .if1 .left) (at-if2 .if2 .left) _ _ _ refl (sym (at-block-word .block-word .ensures) ∙ at-if3 .if3 .taken) (rw (at-advance .advance .ensures) at (c .refuse3 .ensures))
+    absent-planned _ _ _ _ _ _ _ (at-entry .pre .0) frame (at-if1 .if1 .left) (at-if2 .if2 .left) _ _ _ refl
+    (sym (at-block-word .block-word .ensures) ∙ at-if3 .if3 .taken) (rw (at-advance .advance .ensures) at (c .refuse3 .ensures))
 
 cast-if4 : tie.Need-cast-if4
 cast-if4 c = search needs
@@ -67,7 +68,9 @@ returns-4 c frame =
     let at-if2 : tie.Else2 = search in
     let at-if1 : tie.Else1 = search in
     let at-entry : tie.Start = search in
-    emitted-planned _ _ _ _ _ _ _ (at-entry .pre .0) frame (at-if1 .if1 .left) (at-if2 .if2 .left) (λ e. at-if3 .if3 .left (at-block-word .block-word .ensures ∙ e)) _ _ _ refl (at-if4 .if4 .taken) (rw (at-advance .advance .ensures) at (c .refuse4 .ensures))
+    emitted-planned _ _ _ _ _ _ _ (at-entry .pre .0) frame (at-if1 .if1 .left) (at-if2 .if2 .left)
+    (λ e. at-if3 .if3 .left (at-block-word .block-word .ensures ∙ e)) _ _ _ refl (at-if4 .if4 .taken)
+    (rw (at-advance .advance .ensures) at (c .refuse4 .ensures))
 
 block-word-requires-2 : tie.Need-block-word-requires-2
 block-word-requires-2 c κs = search needs
@@ -84,8 +87,14 @@ put-instructions-requires c κs =
     let at-block-word2 : tie.After-block-word2 = search in
     let at-struct-known3 : tie.After-struct-known3 = search in
     let at-shared-slice-known : tie.After-shared-slice-known = search in
-    let at-entry : tie.Start = search in
-    (at-entry .pre .0 .promise, (rw (at-block-word2 .block-word2 .ensures, c .block-word3 .ensures) (run-within _ (at-entry .pre .0 .promise) _ (at-entry .pre .0 .block)), omega (arith, at-entry .pre .0 .rows)))
+    let at-entry : tie.Start = search in (
+      at-entry .pre .0 .promise,
+      (
+        rw (at-block-word2 .block-word2 .ensures, c .block-word3 .ensures) (run-within _ (at-entry .pre .0 .promise) _
+            (at-entry .pre .0 .block)),
+        omega (arith, at-entry .pre .0 .rows),
+      ),
+    )
 
 add-advance : tie.Need-add-advance
 add-advance c =
@@ -93,7 +102,14 @@ add-advance c =
     let at-struct-known3 : tie.After-struct-known3 = search in
     let at-shared-slice-known : tie.After-shared-slice-known = search in
     let at-entry : tie.Start = search in
-    omega (arith, at-block-word2 .block-word2 .ensures, at-entry .pre .0 .rows, at-entry .pre .0 .count, run-within _ (at-entry .pre .0 .promise) _ (at-entry .pre .0 .block), at-entry .pre .0 .promise .sized .limited .instructions)
+    omega (
+      arith,
+      at-block-word2 .block-word2 .ensures,
+      at-entry .pre .0 .rows,
+      at-entry .pre .0 .count,
+      run-within _ (at-entry .pre .0 .promise) _ (at-entry .pre .0 .block),
+      at-entry .pre .0 .promise .sized .limited .instructions,
+    )
 
 advance-requires-2 : tie.Need-advance-requires-2
 advance-requires-2 c κs = search needs
@@ -108,7 +124,25 @@ visit-terminal-requires c κs =
     let at-if2 : tie.Else2 = search in
     let at-if1 : tie.Else1 = search in
     let at-entry : tie.Start = search in
-    rw (at-advance2 .advance2 .ensures) (record { promise = at-entry .pre .0 .promise; block = at-entry .pre .0 .block; depth = at-if1 .if1 .left; visits = omega (arith, at-if2 .if2 .left); rows = omega (arith, at-put-instructions .put-instructions .ensures .more, at-block-word2 .block-word2 .ensures, at-entry .pre .0 .rows, run-within _ (at-entry .pre .0 .promise) _ (at-entry .pre .0 .block), at-entry .pre .0 .promise .sized .limited .instructions); count = omega (arith, at-put-instructions .put-instructions .ensures .more, at-entry .pre .0 .count) }, (at-entry .pre .1, λ e. at-if3 .if3 .left (at-block-word .block-word .ensures ∙ e)))
+    rw (at-advance2 .advance2 .ensures) (
+      record {
+        promise = at-entry .pre .0 .promise;
+        block = at-entry .pre .0 .block;
+        depth = at-if1 .if1 .left;
+        visits = omega (arith, at-if2 .if2 .left);
+        rows = omega (
+          arith,
+          at-put-instructions .put-instructions .ensures .more,
+          at-block-word2 .block-word2 .ensures,
+          at-entry .pre .0 .rows,
+          run-within _ (at-entry .pre .0 .promise) _ (at-entry .pre .0 .block),
+          at-entry .pre .0 .promise .sized .limited .instructions,
+        );
+        count = omega
+            (arith, at-put-instructions .put-instructions .ensures .more, at-entry .pre .0 .count);
+      },
+      (at-entry .pre .1, λ e. at-if3 .if3 .left (at-block-word .block-word .ensures ∙ e)),
+    )
 
 same-length : tie.Need-same-length
 same-length c = search needs
@@ -127,7 +161,11 @@ returns-5 c frame =
     let at-if2 : tie.Else2 = search in
     let at-if1 : tie.Else1 = search in
     let at-entry : tie.Start = search in
-    entered-planned _ _ _ _ _ _ _ (at-entry .pre .0) frame (at-if1 .if1 .left) (at-if2 .if2 .left) (λ e. at-if3 .if3 .left (at-block-word .block-word .ensures ∙ e)) _ _ _ _ _ (at-if4 .if4 .left) refl refl (omega (arith, at-block-word2 .block-word2 .ensures)) refl (rw (at-block-word2 .block-word2 .ensures, at-block-word3 .block-word3 .ensures) at (at-put-instructions .put-instructions .ensures)) (rw (at-advance2 .advance2 .ensures) at (at-visit-terminal .visit-terminal .ensures))
+    entered-planned _ _ _ _ _ _ _ (at-entry .pre .0) frame (at-if1 .if1 .left) (at-if2 .if2 .left)
+    (λ e. at-if3 .if3 .left (at-block-word .block-word .ensures ∙ e)) _ _ _ _ _ (at-if4 .if4 .left) refl refl
+    (omega (arith, at-block-word2 .block-word2 .ensures)) refl
+    (rw (at-block-word2 .block-word2 .ensures, at-block-word3 .block-word3 .ensures) at (at-put-instructions .put-instructions .ensures))
+    (rw (at-advance2 .advance2 .ensures) at (at-visit-terminal .visit-terminal .ensures))
 
 pub visit-block-spec : {M : Type 1} → statement M
 visit-block-spec =
