@@ -19,6 +19,7 @@ use Rattle.definition.specs.Machine as machine
 use Rattle.definition.specs.Tree.{Row, row, orNone, flagOf}
 use Rattle.rows.specs.Rows.{Written}
 use Rattle.rows.specs.Stack as stack
+use Rattle.rows.proofs.RowLaws.{written-held}
 use Rattle.rows.proofs.StackLaws.{push-row-after}
 use Rattle.planner.specs.declared.plan.Position.{Position}
 use Rattle.planner.specs.declared.plan.Frame.{Frame}
@@ -135,7 +136,7 @@ module _ (w : List ℕ) (p : Position) (frame : Frame) (cl : Closing w p frame) 
   unfolding close
   closed-complete plan buffer buffer′ last rows h r put e = subst (λ (y : Plan). PlannedClose w p frame buffer y buffer′) (sym e) (record {
     out = closingRowAt w frame ∷ [];
-    held = λ _ before k. rw (← r, ← (push-row-after last before)) (put .kept (stack.pushed before []) k);
+    held = λ _ before k. rw (← r, ← (push-row-after last before)) (written-held put (stack.pushed before []) k);
     same = same;
     fitting = λ _. record { change = named (frame .entries) h; handler = rw no-number tt; scope = rw no-number tt; deep = λ z. absurd (let o : _≡_ {A = ℕ} 0 1 = cc in omega arith); next = omega arith; nested = leave-nested (eqb (frame .label) 65535) };
   })

@@ -30,6 +30,7 @@ use Rattle.control.specs.Contract.{continueScheduled}
 use Rattle.rows.specs.Rows.{Holds, Written}
 use Rattle.rows.specs.Stack.{pushValue}
 use Rattle.rows.specs.Stack as stack
+use Rattle.rows.proofs.RowLaws.{written-held}
 use Rattle.rows.proofs.StackLaws.{push-value-after, push-row-after}
 use Rattle.value.specs.declared.result.Tally.{Tally}
 use Rattle.value.specs.declared.result.ValueResult.{ValueResult}
@@ -569,7 +570,7 @@ module _ (w : List ℕ) (S H : Flags) (p : Position) (en : Entered w p) (f : ℕ
         → plan ≡ leaving n (p .depth) (p .count + 1) rows (r .tally .visits) (takeIdIf (eqb n 65535)) → PlannedRows w S H p b plan b′
     value-statement-left n rows plan b′ z o put e = subst (λ (y : Plan). PlannedRows w S H p b y b′) (sym e) (record {
       out = valueOut (v .value) ++ (last ∷ []);
-      held = λ _ R h. rw (← (append-assoc R (valueOut (v .value)) (last ∷ [])), ← (push-row-after last (R ++ valueOut (v .value))), ← (push-value-after (v .value) R)) (put .kept _ (v .found z .held _ h));
+      held = λ _ R h. rw (← (append-assoc R (valueOut (v .value)) (last ∷ [])), ← (push-row-after last (R ++ valueOut (v .value))), ← (push-value-after (v .value) R)) (written-held put _ (v .found z .held _ h));
       same = same;
       fitting = λ _. record { change = named (eqb n 65535); handler = rw no-number tt; scope = rw no-number tt; deep = λ y. absurd (let o : _≡_ {A = ℕ} 0 1 = cc in omega arith); next = omega arith; nested = leave-nested (eqb n 65535) };
     })

@@ -27,6 +27,7 @@ use Rattle.definition.specs.Tree.{Row, row}
 use Rattle.definition.specs.Framed.{Below}
 use Rattle.rows.specs.Rows.{Holds, Written}
 use Rattle.rows.specs.Stack as stack
+use Rattle.rows.proofs.RowLaws.{written-held}
 use Rattle.rows.proofs.StackLaws.{push-row-after}
 use Rattle.planner.specs.declared.plan.Position.{Position}
 use Rattle.planner.specs.declared.plan.Frame.{Frame}
@@ -130,7 +131,7 @@ left-planned w p out b b′ rows′ count′ plan held same e = subst (λ (z : P
 })
 
 pub row-held : (b b′ : List ℕ) (n n′ : ℕ) (r : Row) → Written b n r b′ n′ → (before : List Row) → Holds b n (stack.pushed before []) → Holds b′ n′ (stack.pushed (before ++ (r ∷ [])) [])
-row-held b b′ n n′ r h before k = rw (push-row-after) at (h .kept (stack.pushed before []) k)
+row-held b b′ n n′ r h before k = rw (push-row-after) at (written-held h (stack.pushed before []) k)
 
 module _ (w : List ℕ) (p : Position) (en : Entered w p) (b b′ : List ℕ) (rows′ : ℕ) (plan : Plan) where
   pub return-left : (op v id : ℕ) → blockWord w (p .block) 2 ≡ 3 → op ≡ 22 → v ≡ blockWord w (p .block) 3 → id ≡ blockWord w (p .block) 8 → Written b (p .rows) (row op v id 0 0 0) b′ rows′
