@@ -22,6 +22,7 @@ use Rattle.definition.specs.Result.{ok}
 use Rattle.definition.specs.Tree.{Row, row, orNone, flagOf}
 use Rattle.rows.specs.Rows.{Written}
 use Rattle.rows.specs.Stack as stack
+use Rattle.rows.proofs.RowLaws.{written-held}
 use Rattle.rows.proofs.StackLaws.{push-row-after}
 use Rattle.planner.specs.declared.plan.Position.{Position}
 use Rattle.planner.specs.declared.plan.Frame.{Frame}
@@ -152,7 +153,7 @@ module _ (w : List ℕ) (p : Position) (frame : Frame) (cl : Closing w p frame) 
   unfolding close
   closed-complete plan buffer buffer′ last rows h r put e = subst (λ (y : Plan). PlannedClose w p frame buffer y buffer′) (sym e) (record {
     out = closingRowAt w frame ∷ [];
-    held = λ _ before k. rw (← r, ← (push-row-after last before)) (put .kept (stack.pushed before []) k);
+    held = λ _ before k. rw (← r, ← (push-row-after last before)) (written-held put (stack.pushed before []) k);
     same = same;
     fitting =
         λ _. record {

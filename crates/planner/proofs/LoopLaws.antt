@@ -31,6 +31,7 @@ use Rattle.control.specs.Contract.{continueScheduled}
 use Rattle.rows.specs.Rows.{Holds, Written}
 use Rattle.rows.specs.Stack.{pushValue}
 use Rattle.rows.specs.Stack as stack
+use Rattle.rows.proofs.RowLaws.{written-held}
 use Rattle.rows.proofs.StackLaws.{push-value-after, push-row-after}
 use Rattle.value.specs.declared.result.Tally.{Tally}
 use Rattle.value.specs.declared.result.ValueResult.{ValueResult}
@@ -613,7 +614,7 @@ module _ (w : List ℕ) (S H : Flags) (p : Position) (en : Entered w p) (f : ℕ
             ← (append-assoc R (valueOut (v .value)) (last ∷ [])),
             ← (push-row-after last (R ++ valueOut (v .value))),
             ← (push-value-after (v .value) R),
-          ) (put .kept _ (v .found z .held _ h));
+          ) (written-held put _ (v .found z .held _ h));
       same = same;
       fitting =
           λ _. record {

@@ -27,6 +27,7 @@ use Rattle.definition.specs.Framed.{isSwitch}
 use Rattle.control.specs.declared.ControlFlowTarget.the-variants.{Case as CaseTarget}
 use Rattle.rows.specs.Rows.{Holds, Written}
 use Rattle.rows.specs.Stack as stack
+use Rattle.rows.proofs.RowLaws.{written-held}
 use Rattle.rows.proofs.StackLaws.{push-row-after, push-value-after}
 use Rattle.value.specs.declared.result.Tally.{Tally}
 use Rattle.value.specs.declared.result.ValueResult.{ValueResult}
@@ -250,7 +251,7 @@ module _ (w : List ℕ) (p : Position) (frame : Frame) where
           → plan ≡ casePlan rows block → PlannedOn w p frame buffer plan buffer′
       case-built plan buffer buffer′ test block rows e u put q = subst (λ (y : Plan). PlannedOn w p frame buffer y buffer′) (sym (q ∙ ap (casePlan rows) u)) (record {
         out = caseRow ∷ [];
-        held = λ _ before h. rw (← e, ← (push-row-after (row 11 test 0 0 0 0) before)) (put .kept (stack.pushed before []) h);
+        held = λ _ before h. rw (← e, ← (push-row-after (row 11 test 0 0 0 0) before)) (written-held put (stack.pushed before []) h);
         same =
             λ F R C d on. ap turn (case-goes-on F R C) ∙ turn-asked _ _ ∙ sym
             (choose-asked (oneBuilt frame) (p .depth) rows (p .visits) (Schedule (CaseTarget (caseWord w number 1))) (frameOf frame ∷ F) (R ++ (caseRow ∷ [])) C
@@ -510,7 +511,7 @@ module _ (w : List ℕ) (p : Position) (frame : Frame) where
   unfolding step
   ended-root plan On buffer buffer′ rows e z on put q = rw q (record {
     out = blockRow (p .count) ∷ [];
-    held = λ _ before h. rw (← (push-row-after (blockRow (p .count)) before)) (put .kept (stack.pushed before []) h);
+    held = λ _ before h. rw (← (push-row-after (blockRow (p .count)) before)) (written-held put (stack.pushed before []) h);
     same = λ F R C. rw (e, z) (λ l o. root F R C l o);
     fitting =
         λ _. rw (e, z) (record {
@@ -535,7 +536,7 @@ module _ (w : List ℕ) (p : Position) (frame : Frame) where
   ended-nested plan S H buffer buffer₁ buffer′ rows e deep put m =
       turn-planned Ended (frameOf frame ∷ []) e (hand-ended (p .depth) frame deep) (λ F R C l. ap (λ (n : ℕ). turn (resumed n F R C)) (levels F l)) (λ C. refl)
       (planned-after (blockRow (p .count) ∷ []) (λ C. C)
-      (λ before h. rw (← (push-row-after (blockRow (p .count)) before)) (put .kept (stack.pushed before []) h))
+      (λ before h. rw (← (push-row-after (blockRow (p .count)) before)) (written-held put (stack.pushed before []) h))
       (λ F R C on. refl) (λ C on. on) (λ F R C. refl) m)
     where
       resumed : ℕ → List machine.Frame → List Row → definition.Context → Result State

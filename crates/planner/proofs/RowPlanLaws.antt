@@ -23,6 +23,7 @@ use Rattle.definition.specs.Tree.{Row, row}
 use Rattle.definition.specs.Framed.{Below}
 use Rattle.rows.specs.Rows.{Holds, Written}
 use Rattle.rows.specs.Stack as stack
+use Rattle.rows.proofs.RowLaws.{written-held}
 use Rattle.rows.proofs.StackLaws.{push-row-after}
 use Rattle.planner.specs.declared.plan.Position.{Position}
 use Rattle.planner.specs.declared.plan.Frame.{Frame}
@@ -137,7 +138,7 @@ left-planned w p out b b′ rows′ count′ plan held same e = subst (λ (z : P
 })
 
 pub row-held : (b b′ : List ℕ) (n n′ : ℕ) (r : Row) → Written b n r b′ n′ → (before : List Row) → Holds b n (stack.pushed before []) → Holds b′ n′ (stack.pushed (before ++ (r ∷ [])) [])
-row-held b b′ n n′ r h before k = rw (push-row-after) at (h .kept (stack.pushed before []) k)
+row-held b b′ n n′ r h before k = rw (push-row-after) at (written-held h (stack.pushed before []) k)
 
 module _ {w : List ℕ} {p : Position} {plan : Plan} {b b′ : List ℕ} {rows′ v first count id span : ℕ} (en : Entered w p) (heads : Heads w (p .block) first count id span) where
   pub return-left : Ends w (p .block) (return v) → Written b (p .rows) (row 22 v id 0 0 0) b′ rows′ → plan ≡ leaving 65535 (p .depth) (p .count + 1) rows′ (p .visits) Nothing

@@ -10,7 +10,7 @@ use lib.Seq.{sets, sets-eq, length-sets, length-take-le, getD-take, getD-drop, g
 use borrow.Author.Tests.{ltb-true, ltb-false}
 use Rattle.definition.specs.Tree.{Row, row}
 use Rattle.definition.specs.Build.{wordsOf}
-use Rattle.rows.specs.Rows.{cells, placed, Rows, RowAt, Holds}
+use Rattle.rows.specs.Rows.{cells, placed, Rows, RowAt, Holds, Written}
 use Rattle.rows.specs.Stack.{pushed}
 
 -- the rows stay where the words that they stand on stay
@@ -68,6 +68,10 @@ module _ (b : List ℕ) (n : ℕ) (r : Row) where
   -- a row more
   pub holds-put : (stack : List Row) → Holds b n stack → Holds (placed b n r) (n + 1) (r ∷ stack)
   holds-put stack h = put-by stack h (ltb n (length b / 6)) refl
+
+-- a row was written: whatever rows the buffer held, it holds them and this one
+pub written-held : {b b′ : List ℕ} {n n′ : ℕ} {r : Row} → Written b n r b′ n′ → (stack : List Row) → Holds b n stack → Holds b′ n′ (r ∷ stack)
+written-held {b} {n = n} {r = r} w stack h = rw (w .words, w .count) (holds-put b n r stack h)
 
 -- a row less
 pub holds-pop : (b : List ℕ) (n : ℕ) (r : Row) (stack : List Row) → Holds b n (r ∷ stack) → Holds b (n - 1) stack

@@ -34,7 +34,7 @@ pub record Holds (buffer : List ℕ) (n : ℕ) (stack : List Row) : Type 0 where
   pub count : length stack ≡ n
   pub rows : Rows buffer stack
 
--- a row was written, if it fits, and counted: whatever rows the buffer held, it holds them and this one
+-- a row was written behind n rows, if it fits, and counted
 pub record Written (buffer : List ℕ) (n : ℕ) (r : Row) (buffer′ : List ℕ) (n′ : ℕ) : Type 0 where
+  pub words : buffer′ ≡ placed buffer n r
   pub count : n′ ≡ n + 1
-  pub kept : (stack : List Row) → Holds buffer n stack → Holds buffer′ n′ (r ∷ stack)

@@ -15,6 +15,7 @@ use Rattle.definition.specs.Tree.{Row, Value, SEQ, Instructions, no-instruction
 use Rattle.definition.specs.Value.{ValueBlockResult, instructionsOf, wrapWithSequence}
 use Rattle.rows.specs.Rows.{Holds}
 use Rattle.rows.specs.Stack.{pushValue, pushInstructions, pushInstructionRows}
+use Rattle.rows.proofs.RowLaws.{written-held}
 use Rattle.rows.proofs.StackLaws.{push-instructions-of}
 use Rattle.table.proofs.BlockLaws.{length-rows}
 use Rattle.value.specs.declared.result.Tally.{Tally}
@@ -87,6 +88,10 @@ accepted {of = of} {a = a} {r = r} h = by (eqb (r .code) 0) refl (h .same)
 
 -- ---- a value that is one row
 
+-- whatever rows the buffer held, it holds them and the one that was put
+pub row-kept : {b b′ : List ℕ} {x y : Tally} {r : Row} → RowPut b x r b′ y → (stack : List Row) → Holds b (x .rows) stack → Holds b′ (y .rows) (r ∷ stack)
+row-kept put = written-held (record { words = put .words; count = put .rows })
+
 pub one-row : {ws b b′ : List ℕ} {start tally : Tally} {m block place id loaded : ℕ} {t : Trailing} {r : ValueResult} {v : Row}
     (value : Value) → ((stack : List Row) → pushValue value stack ≡ v ∷ stack)
     → Fit ws start (suc m) block → place < placeCount ws → Ends ws value (loads loaded) → RowPut b start v b′ tally → t ≡ loads loaded → r ≡ finished block place id tally t
@@ -95,7 +100,7 @@ one-row value pushes fit there ends put et er =
     rw (er, et, ← (put .visits)) (record {
       value = value;
       same = refl;
-      found = λ _. record { held = λ stack h. rw (pushes stack) (put .kept stack h); block = fit .at; place = there; ends = ends; more = omega (arith, put .rows) };
+      found = λ _. record { held = λ stack h. rw (pushes stack) (row-kept put stack h); block = fit .at; place = there; ends = ends; more = omega (arith, put .rows) };
       numbers = omega (arith, put .rows, put .visits, fit .visits);
     })
 

@@ -10,7 +10,7 @@ use Rattle.table.specs.Promise.{Promise}
 use Rattle.definition.specs.Result.{Result, ok, refused}
 use Rattle.definition.specs.Tree.{Row, row, Value, PLAIN, LOAD, UNDEF, SEQ, LOGICAL, COND, OPTIONAL, countInstructions}
 use Rattle.definition.specs.Value.{ValueBlockResult, ValueTerminalResult, TestBlockResult, storedToNamed, innermostValue, loadedPlace, loadedBy, valueBlockResultToSequence}
-use Rattle.rows.specs.Rows.{Holds}
+use Rattle.rows.specs.Rows.{placed, Holds}
 use Rattle.rows.specs.Stack.{pushValue, pushInstructionRows}
 use Rattle.value.specs.declared.result.Tally.{Tally}
 use Rattle.value.specs.declared.result.Trailing.{Trailing}
@@ -117,11 +117,11 @@ pub record TestMet (words : List ℕ) (outcome : Result TestBlockResult) (start 
 
 -- ---- the helpers
 
--- a row was put: whatever rows the buffer held, it holds them and this one
+-- a row was put behind those that were out
 pub record RowPut (buffer : List ℕ) (tally : Tally) (r : Row) (buffer′ : List ℕ) (tally′ : Tally) : Type 0 where
   pub rows : tally′ .rows ≡ tally .rows + 1
   pub visits : tally′ .visits ≡ tally .visits
-  pub kept : (stack : List Row) → Holds buffer (tally .rows) stack → Holds buffer′ (tally′ .rows) (r ∷ stack)
+  pub words : buffer′ ≡ placed buffer (tally .rows) r
 
 -- a block's instruction rows were written, two rows for each
 pub record InstructionsPut (words : List ℕ) (first count : ℕ) (buffer : List ℕ) (rows : ℕ) (buffer′ : List ℕ) (rows′ : ℕ) : Type 0 where

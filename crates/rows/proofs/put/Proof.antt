@@ -1,5 +1,4 @@
 use borrow.Author.Needs.{needs}
-use Rattle.rows.proofs.RowLaws.{holds-put}
 use Rattle.rows.proofs.put.Statement.{statement}
 use Rattle.rows.proofs.put.Tie as tie
 
@@ -13,7 +12,7 @@ same-length : tie.Need-same-length
 same-length c = search needs
 
 returns : tie.Need-returns
-returns c = record { count = search needs; kept = λ stack h. rw (c .before .before .put-at .ensures) (holds-put _ _ _ stack h) }
+returns c = search needs
 
 pub put-spec : {M : Type 1} → statement M
 put-spec = tie.close (tie.spec put-at-requires add-result same-length returns)

@@ -1,3 +1,4 @@
+use Rattle.value.proofs.MetLaws.{row-kept}
 use native.Mathlib.Omega.{arith}
 use mathlib.Core.Path.{refl}
 use borrow.Author.Needs.{needs}
@@ -42,7 +43,7 @@ returns-2 c =
       same = λ v. rw (seq .visits);
       none = λ e. absurd (some .if1 .left e);
       some = λ _. (refl, seq .rows);
-      kept = λ _. seq .kept;
+      kept = λ _. row-kept seq;
       visits = seq .visits;
       most = omega (arith, seq .rows);
     })

@@ -1,3 +1,4 @@
+use Rattle.rows.proofs.RowLaws.{written-held}
 use Rattle.rows.proofs.StackLaws.{push-next-row}
 use Rattle.rows.specs.Stack.{pushInstructionRows}
 use Rattle.rows.specs.Rows.{Holds}
@@ -84,7 +85,7 @@ loop-again c =
       long = put2 .put2 .kept .0 ∙ put1 .put .kept .0 ∙ l .inv .long;
       more = omega (arith, instr .count, plain .count, l .inv .more);
       kept = λ stack h. rw (add-one (l .k), push-next-row (tableOf (start .args .words .now)) (start .args .first) (l .k) stack, head .is-id, head .is-lvalue, head .is-span)
-          (instr .kept _ (plain .kept _ (l .inv .kept stack h)));
+          (written-held instr _ (written-held plain _ (l .inv .kept stack h)));
     }
 
 same-length : tie.Need-same-length Inv-loop μ-loop

@@ -1,5 +1,6 @@
 use Rattle.value.proofs.FlattenLaws.{leading, holds-open, holds-load, flatten-same, flatten-other}
 use Rattle.value.specs.Met.{blockResult}
+use Rattle.rows.proofs.RowLaws.{written-held}
 use Rattle.definition.specs.Value.{innermostValue}
 use Rattle.table.specs.Table.{tableOf}
 use native.Mathlib.Omega.{arith}
@@ -41,7 +42,7 @@ returns c =
           let drops = rw (ends .loaded) at same in
           let opened = rw (← (ends .sequences)) at (holds-open _ value (r .tally .rows) stack h) in
           let dropped = holds-load t _ (r .place) (innermostValue value) _ (leading value stack) drops opened in
-          rw (flatten-same t (blockResult r value) (start .args .span) stack drops, ← (ends .instructions)) (seq .put2 .ensures .kept _ (undef .put .ensures .kept _ dropped));
+          rw (flatten-same t (blockResult r value) (start .args .span) stack drops, ← (ends .instructions)) (written-held (seq .put2 .ensures) _ (written-held (undef .put .ensures) _ dropped));
       most = omega (arith, undef .put .ensures .count, seq .put2 .ensures .count);
     }
 
@@ -75,7 +76,7 @@ returns-2 c =
       held = λ value ends stack h.
           let opened = rw (← (ends .sequences)) at (holds-open _ value (r .tally .rows) stack h) in
           rw (flatten-other t (blockResult r value) (start .args .span) stack (rw (ends .loaded) at other), ← (ends .instructions))
-          (seq .put5 .ensures .kept _ (undef .put4 .ensures .kept _ (instr .put3 .ensures .kept _ opened)));
+          (written-held (seq .put5 .ensures) _ (written-held (undef .put4 .ensures) _ (written-held (instr .put3 .ensures) _ opened)));
       most = omega (arith, instr .put3 .ensures .count, undef .put4 .ensures .count, seq .put5 .ensures .count);
     }
 

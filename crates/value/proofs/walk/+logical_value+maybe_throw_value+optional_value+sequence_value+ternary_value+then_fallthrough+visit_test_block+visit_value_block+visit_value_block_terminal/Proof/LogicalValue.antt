@@ -1,6 +1,6 @@
 -- The answers of `logical_value`.
 use Rattle.value.proofs.WalkLaws.{some-block, terminal-by}
-use Rattle.value.proofs.MetLaws.{pass, goes, named, defined}
+use Rattle.value.proofs.MetLaws.{row-kept, pass, goes, named, defined}
 use Rattle.rows.specs.Stack.{pushValue}
 use Rattle.definition.specs.Value.{visitValueBlockTerminal, singleInstruction}
 use Rattle.definition.specs.Tree.{LOGICAL, SEQ}
@@ -274,7 +274,7 @@ module _ (t : ℕ) where
         value = LOGICAL _ (SEQ (singleInstruction (tested-by .id) (tested-by .place) _ (test .value)) _ (left .value)) (right .value);
         same = refl;
         found = λ _. record {
-          held = λ stack h. row .kept _ (right-found .held _ (sequence .kept _ (left-found .held _ (put .kept _ (test-found .held stack h)))));
+          held = λ stack h. row-kept row _ (right-found .held _ (row-kept sequence _ (left-found .held _ (row-kept put _ (test-found .held stack h)))));
           block = read .logical-at .ensures .named .2;
           place = left-found .place;
           ends = record { sequences = refl; instructions = refl; loaded = no-number; there = λ f. absurd (f refl) };

@@ -1,6 +1,6 @@
 -- The answers of `ternary_value`.
 use Rattle.value.proofs.WalkLaws.{some-block, terminal-by}
-use Rattle.value.proofs.MetLaws.{pass, goes, named, defined}
+use Rattle.value.proofs.MetLaws.{row-kept, pass, goes, named, defined}
 use Rattle.rows.specs.Stack.{pushValue}
 use Rattle.definition.specs.Value.{visitValueBlockTerminal}
 use Rattle.definition.specs.Tree.{COND}
@@ -215,7 +215,7 @@ module _ (t : ℕ) where
         value = COND (test .value) (one .value) (other .value);
         same = refl;
         found = λ _. record {
-          held = λ stack h. row .kept _ (other-found .held _ (one-found .held _ (test-found .held stack h)));
+          held = λ stack h. row-kept row _ (other-found .held _ (one-found .held _ (test-found .held stack h)));
           block = read .ternary-at .ensures .named .1;
           place = one-found .place;
           ends = record { sequences = refl; instructions = refl; loaded = no-number; there = λ f. absurd (f refl) };

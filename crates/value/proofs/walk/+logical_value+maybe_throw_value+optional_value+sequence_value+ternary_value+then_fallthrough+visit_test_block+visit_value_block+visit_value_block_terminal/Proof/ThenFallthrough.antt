@@ -1,5 +1,5 @@
 -- The answers of `then_fallthrough`.
-use Rattle.value.proofs.MetLaws.{pass, goes, count-rows, found-seq}
+use Rattle.value.proofs.MetLaws.{row-kept, pass, goes, count-rows, found-seq}
 use Rattle.table.proofs.ColumnLaws.{head-rows}
 use Rattle.rows.proofs.StackLaws.{push-instructions-of}
 use Rattle.rows.specs.Stack.{pushValue}
@@ -224,7 +224,7 @@ module _ (t : ℕ) where
         same = rw (eq-eqb (wrapped .wrap-with-sequence .result .code) 0 (w .code)) (ap ok (sym (w .same _)));
         found = λ _. found-seq {x = record { rows = instr .put-instr .result .rows; visits = init-by .tally .visits }} (instructionsOf table (rowsFrom first count) single) (count + 1)
             (count-rows table first count single) (λ e. omega arith)
-            (λ stack h. rw (push-instructions-of table (rowsFrom first count) single stack) (row .kept _ (init-found .held _ (rows .kept stack h))))
+            (λ stack h. rw (push-instructions-of table (rowsFrom first count) single stack) (row-kept row _ (init-found .held _ (rows .kept stack h))))
             (omega (arith, row .rows, init-found .more, rows .more)) (v .found (found2 .if2 .left)) w;
         numbers = omega (arith, w .most, w .visits, v .numbers, init .numbers, row .rows, row .visits, rows .more, own .there, own .few);
       })))
