@@ -1,8 +1,9 @@
 // The control stack's methods in loops, exported for bench/control to time. Each turn puts an entry on the stack and takes it off again.
-ghost use Prim.Native.Nat.{_+_, _≤_, _<_};
+ghost use mathlib.Core.Path.{_≡_};
+ghost use Prim.Native.Nat.{_+_, _<_};
+ghost use Rattle.definition.specs.Tree.{flagOf};
 use control::Context;
 use control::ControlFlowTarget;
-use control::Resolved;
 use control::is_scheduled;
 
 // A walk through the 1,024 blocks.
@@ -16,22 +17,15 @@ fn next_block(block: u16) -> u16
 // One more, if so.
 fn count(seen: u16, more: bool) -> u16
     requires { ⌜ seen < 65535 ⌝ }
-    ensures { λ r. ⌜ r ≤ seen + 1 ⌝ }
+    ensures { λ r. ⌜ r ≡ seen + flagOf more ⌝ }
 {
     if more { seen + 1 } else { seen }
 }
 
-fn is_found(resolved: Resolved) -> bool {
-    match resolved {
-        Resolved::Nothing => false,
-        Resolved::Found(_) => true,
-    }
-}
-
-// `schedule` and `unschedule`. The result, at most one for each turn, counts how often the next block is scheduled.
+// `schedule` and `unschedule`. The result counts how often the block is scheduled in between: in every turn.
 #[no_mangle]
 pub extern "C" fn control_turns_schedule(turns: u16) -> u16
-    ensures { λ r. ⌜ r ≤ turns ⌝ }
+    ensures { λ r. ⌜ r ≡ turns ⌝ }
 {
     let mut cx = Context::new();
     let mut block: u16 = 0;
@@ -55,7 +49,7 @@ pub extern "C" fn control_turns_schedule(turns: u16) -> u16
 // The same with loops.
 #[no_mangle]
 pub extern "C" fn control_turns_schedule_loop(turns: u16) -> u16
-    ensures { λ r. ⌜ r ≤ turns ⌝ }
+    ensures { λ r. ⌜ r ≡ turns ⌝ }
 {
     let mut cx = Context::new();
     let mut block: u16 = 0;
@@ -81,30 +75,6 @@ pub extern "C" fn control_turns_schedule_loop(turns: u16) -> u16
         let last = cx.stack[at];
         cx = cx.unschedule(last);
         block = continue_block;
-        turn += 1;
-    }
-    seen
-}
-
-// The same as the first, with the search for a break's target by the method, which is handed the Context by value.
-#[no_mangle]
-pub extern "C" fn control_turns_get_break_target(turns: u16) -> u16
-    ensures { λ r. ⌜ r ≤ turns ⌝ }
-{
-    let mut cx = Context::new();
-    let mut block: u16 = 0;
-    let mut seen: u16 = 0;
-    let mut turn: u16 = 0;
-    while turn < turns {
-        block = next_block(block);
-        cx = cx.schedule(ControlFlowTarget::If { block: block });
-        let at = cx.len - 1;
-        let entry = cx.pushed;
-        cx.stack[at] = entry;
-        cx.pending = false;
-        seen = count(seen, is_found(cx.get_break_target(block)));
-        let last = cx.stack[at];
-        cx = cx.unschedule(last);
         turn += 1;
     }
     seen
