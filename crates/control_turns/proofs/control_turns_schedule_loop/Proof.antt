@@ -17,7 +17,7 @@ new-requires : tie.Need-new-requires Inv-loop μ-loop
 new-requires c κs = search needs
 
 loop-holds : tie.Need-loop-holds Inv-loop μ-loop
-loop-holds c = record { named = omega arith; all = refl; most = omega arith; empty = c .new .ensures .len; settled = c .new .ensures .settled; ids = omega (arith, c .new .ensures .id); bounded = c .new .ensures .bounded }
+loop-holds c = record { named = omega arith; few = omega arith; most = omega arith; empty = c .new .ensures .len; settled = c .new .ensures .settled; ids = omega (arith, c .new .ensures .id); bounded = c .new .ensures .bounded }
 
 next-block-requires : tie.Need-next-block-requires Inv-loop μ-loop
 next-block-requires c κs = c .before .loop .inv .named
@@ -41,7 +41,7 @@ is-scheduled-requires : tie.Need-is-scheduled-requires Inv-loop μ-loop
 is-scheduled-requires c κs = c .before .before .before .before .before .next-block2 .ensures
 
 count-requires : tie.Need-count-requires Inv-loop μ-loop
-count-requires c κs = omega (arith, c .before .before .before .before .before .before .before .before .before .loop .inv .all, c .before .before .before .before .before .before .before .before .loop-test .taken, c .before .before .before .before .before .before .before .before .before .before .before .fits .turns)
+count-requires c κs = omega (arith, c .before .before .before .before .before .before .before .before .before .loop .inv .few, c .before .before .before .before .before .before .before .before .loop-test .taken, c .before .before .before .before .before .before .before .before .before .before .before .fits .turns)
 
 mul-last : tie.Need-mul-last Inv-loop μ-loop
 mul-last c = scaled-fits _ 1152 _ (omega (arith, c .before .before .before .before .before .before .schedule .ensures .len, c .before .before .before .before .before .before .before .before .before .before .loop .inv .empty)) (lit< tt)
@@ -76,7 +76,7 @@ loop-again c =
     }
 
 returns : tie.Need-returns Inv-loop μ-loop
-returns c = omega (arith, c .before .loop .inv .all, c .before .loop .inv .most)
+returns c = omega (arith, c .before .loop .inv .few, c .before .loop .inv .most)
 
 pub control-turns-schedule-loop-spec : {M : Type 1} → statement M
 control-turns-schedule-loop-spec =
