@@ -1,5 +1,7 @@
 // The control stack's methods in loops, exported for bench/control to time. Each turn puts an entry on the stack and takes it off again.
-ghost use Prim.Native.Nat.{_+_, _≤_, _<_};
+ghost use mathlib.Core.Path.{_≡_};
+ghost use Prim.Native.Nat.{_+_, _<_};
+ghost use Rattle.definition.specs.Tree.{flagOf};
 use control::Context;
 use control::ControlFlowTarget;
 use control::is_scheduled;
@@ -15,15 +17,15 @@ fn next_block(block: u16) -> u16
 // One more, if so.
 fn count(seen: u16, more: bool) -> u16
     requires { ⌜ seen < 65535 ⌝ }
-    ensures { λ r. ⌜ r ≤ seen + 1 ⌝ }
+    ensures { λ r. ⌜ r ≡ seen + flagOf more ⌝ }
 {
     if more { seen + 1 } else { seen }
 }
 
-// `schedule` and `unschedule`. The result, at most one for each turn, counts how often the next block is scheduled.
+// `schedule` and `unschedule`. The result counts how often the block is scheduled in between: in every turn.
 #[no_mangle]
 pub extern "C" fn control_turns_schedule(turns: u16) -> u16
-    ensures { λ r. ⌜ r ≤ turns ⌝ }
+    ensures { λ r. ⌜ r ≡ turns ⌝ }
 {
     let mut cx = Context::new();
     let mut block: u16 = 0;
@@ -47,7 +49,7 @@ pub extern "C" fn control_turns_schedule(turns: u16) -> u16
 // The same with loops.
 #[no_mangle]
 pub extern "C" fn control_turns_schedule_loop(turns: u16) -> u16
-    ensures { λ r. ⌜ r ≤ turns ⌝ }
+    ensures { λ r. ⌜ r ≡ turns ⌝ }
 {
     let mut cx = Context::new();
     let mut block: u16 = 0;

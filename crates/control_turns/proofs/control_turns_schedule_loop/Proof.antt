@@ -3,7 +3,7 @@ use Prim.Native.Nat.{_-_, _<_}
 use native.Mathlib.Omega.{arith}
 use lib.Dec.{lit<}
 use borrow.Author.Needs.{needs, scaled-fits}
-use Rattle.control_turns.proofs.Turn.{Turn}
+use Rattle.control_turns.proofs.Turn.{Turn, size-new, size-begun, size-ended, one-more, loop-added}
 use Rattle.control_turns.proofs.control_turns_schedule_loop.Statement.{statement}
 use Rattle.control_turns.proofs.control_turns_schedule_loop.Tie as tie
 
@@ -17,7 +17,7 @@ new-requires : tie.Need-new-requires Inv-loop μ-loop
 new-requires c κs = search needs
 
 loop-holds : tie.Need-loop-holds Inv-loop μ-loop
-loop-holds c = record { named = omega arith; few = omega arith; most = omega arith; empty = c .new .ensures .len; settled = c .new .ensures .settled; ids = omega (arith, c .new .ensures .id); bounded = c .new .ensures .bounded }
+loop-holds c = record { named = omega arith; all = refl; most = omega arith; empty = c .new .ensures .len; settled = c .new .ensures .settled; ids = omega (arith, c .new .ensures .id); size = size-new _ (c .new .ensures .context); bounded = c .new .ensures .bounded }
 
 next-block-requires : tie.Need-next-block-requires Inv-loop μ-loop
 next-block-requires c κs = c .before .loop .inv .named
@@ -41,7 +41,7 @@ is-scheduled-requires : tie.Need-is-scheduled-requires Inv-loop μ-loop
 is-scheduled-requires c κs = c .before .before .before .before .before .next-block2 .ensures
 
 count-requires : tie.Need-count-requires Inv-loop μ-loop
-count-requires c κs = omega (arith, c .before .before .before .before .before .before .before .before .before .loop .inv .few, c .before .before .before .before .before .before .before .before .loop-test .taken, c .before .before .before .before .before .before .before .before .before .before .before .fits .turns)
+count-requires c κs = omega (arith, c .before .before .before .before .before .before .before .before .before .loop .inv .all, c .before .before .before .before .before .before .before .before .loop-test .taken, c .before .before .before .before .before .before .before .before .before .before .before .fits .turns)
 
 mul-last : tie.Need-mul-last Inv-loop μ-loop
 mul-last c = scaled-fits _ 1152 _ (omega (arith, c .before .before .before .before .before .before .schedule .ensures .len, c .before .before .before .before .before .before .before .before .before .before .loop .inv .empty)) (lit< tt)
@@ -63,20 +63,29 @@ loop-less c = omega (arith, c .before .before .before .before .before .before .b
 
 loop-again : tie.Need-loop-again Inv-loop μ-loop
 loop-again c =
-    let inv = c .before .before .before .before .before .before .before .before .before .before .before .before .loop .inv in
-    let done = c .before .before .before .before .before .before .before .before .schedule .ensures in
+    let ended : tie.After-unschedule Inv-loop μ-loop = search in
+    let told : tie.After-count Inv-loop μ-loop = search in
+    let asked : tie.After-is-scheduled Inv-loop μ-loop = search in
+    let begun : tie.After-schedule Inv-loop μ-loop = search in
+    let second : tie.After-next-block2 Inv-loop μ-loop = search in
+    let named : tie.After-next-block Inv-loop μ-loop = search in
+    let round : tie.In-loop Inv-loop μ-loop = search in
+    let head : tie.At-loop Inv-loop μ-loop = search in
+    let inv = head .loop .inv in
+    let seen = one-more _ _ _ _ _ (begun .schedule .ensures) (loop-added (head .loop .cx .scheduled) _ _ _ (inv .size) (second .next-block2 .ensures)) (asked .is-scheduled .ensures) (told .count .ensures) in
     record {
-      named = c .before .before .before .before .before .before .before .before .before .before .next-block .ensures;
-      few = omega (arith, inv .few, c .before .before .count .ensures);
-      most = omega (arith, c .before .before .before .before .before .before .before .before .before .before .before .loop-test .taken);
-      settled = c .unschedule .ensures .settled;
-      empty = omega (arith, inv .empty, done .len, c .unschedule .ensures .len);
-      ids = omega (arith, inv .ids, done .id, c .unschedule .ensures .id);
-      bounded = c .unschedule .ensures .bounded (done .bounded (inv .bounded));
+      named = named .next-block .ensures;
+      all = omega (arith, inv .all, seen);
+      most = omega (arith, round .loop-test .taken);
+      settled = ended .unschedule .ensures .settled;
+      empty = omega (arith, inv .empty, begun .schedule .ensures .len, ended .unschedule .ensures .len);
+      ids = omega (arith, inv .ids, begun .schedule .ensures .id, ended .unschedule .ensures .id);
+      size = size-ended (ended .unschedule .ensures) (size-begun (begun .schedule .ensures) (inv .size));
+      bounded = ended .unschedule .ensures .bounded (begun .schedule .ensures .bounded (inv .bounded));
     }
 
 returns : tie.Need-returns Inv-loop μ-loop
-returns c = omega (arith, c .before .loop .inv .few, c .before .loop .inv .most)
+returns c = omega (arith, c .before .loop .inv .all, c .before .loop .inv .most)
 
 pub control-turns-schedule-loop-spec : {M : Type 1} → statement M
 control-turns-schedule-loop-spec =
