@@ -3,6 +3,7 @@
 use libc::STDIN_FILENO;
 use libc::STDOUT_FILENO;
 ghost use Prim.Native.Nat.{_<_, _≤_};
+ghost use mathlib.Core.Path.{_≡_};
 ghost use lib.ListN.{length};
 ghost use Rattle.table_cases.specs.Text.{Read, Line};
 
@@ -116,9 +117,22 @@ fn differs(words: &[u32], code: u64, place: u64) -> u64
     0
 }
 
+// Arrays by functions that tell their length alone: a proof that has the zeros in sight counts them.
+fn text_bytes() -> [u8; 262144]
+    ensures { λ r. ⌜ 262144 ≡ length r ⌝ }
+{
+    [0; 262144]
+}
+
+fn no_words() -> [u32; 45200]
+    ensures { λ r. ⌜ 45200 ≡ length r ⌝ }
+{
+    [0; 45200]
+}
+
 fn main() {
-    let mut text = [0u8; 262144];
-    let mut words = [0u32; 45200];
+    let mut text = text_bytes();
+    let mut words = no_words();
     let n = io::read_full(STDIN_FILENO, &mut text);
     let tally = run(&text[..n], &mut words);
     io::print_decimal(STDOUT_FILENO, tally.lists);

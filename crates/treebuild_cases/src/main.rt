@@ -1,4 +1,6 @@
 // Runs treebuild's function on the files of data/, from 00 on, and prints what it writes of each.
+ghost use mathlib.Core.Path.{_≡_};
+ghost use lib.ListN.{length};
 use libc::STDOUT_FILENO;
 use text::write::Written;
 use treefile::build_file;
@@ -10,8 +12,15 @@ fn send(out: &[u8], count: usize) {
     }
 }
 
+// An array by a function that tells its length alone: a proof that has the zeros in sight counts them.
+fn printed_bytes() -> [u8; 135245]
+    ensures { λ r. ⌜ 135245 ≡ length r ⌝ }
+{
+    [0; 135245]
+}
+
 fn run(file: &[u8]) {
-    let mut out = [0u8; 135245];
+    let mut out = printed_bytes();
     let written = build_file(file, &mut out);
     match written {
         Written::Bytes(count) => send(&out, count),

@@ -8,6 +8,7 @@ use value::result::ValueResult;
 use value::sequence::value_block_result_to_sequence;
 use value::walk::visit_value_block;
 use value::walk::visit_value_block_terminal;
+ghost use mathlib.Core.Path.{_≡_};
 ghost use mathlib.Core.Bool.{true};
 ghost use Prim.Native.Nat.{_<_, _≤_};
 ghost use lib.ListN.{length};
@@ -284,9 +285,22 @@ fn run(numbers: &[u32], buffer: &mut [u32]) -> Counts
     Counts { cases, differences }
 }
 
+// Arrays by functions that tell their length alone: a proof that has the zeros in sight counts them.
+fn text_bytes() -> [u8; 262144]
+    ensures { λ r. ⌜ 262144 ≡ length r ⌝ }
+{
+    [0; 262144]
+}
+
+fn no_numbers() -> [u32; 120000]
+    ensures { λ r. ⌜ 120000 ≡ length r ⌝ }
+{
+    [0; 120000]
+}
+
 fn main() {
-    let mut text = [0u8; 262144];
-    let mut numbers = [0u32; 120000];
+    let mut text = text_bytes();
+    let mut numbers = no_numbers();
     let mut buffer = [0u32; 600];
     let n = io::read_full(STDIN_FILENO, &mut text);
     let read = read(&text[..n], &mut numbers);

@@ -5,6 +5,12 @@ use borrow.Author.Needs.{needs}
 use Rattle.value_cases.proofs.main.Statement.{statement}
 use Rattle.value_cases.proofs.main.Tie as tie
 
+text-bytes-requires : tie.Need-text-bytes-requires
+text-bytes-requires c κs = search needs
+
+no-numbers-requires : tie.Need-no-numbers-requires
+no-numbers-requires c κs = search needs
+
 slice-aggregate-read-full : tie.Need-slice-aggregate-read-full
 slice-aggregate-read-full c = search needs
 
@@ -24,16 +30,23 @@ read-requires : tie.Need-read-requires
 read-requires c κs = search needs
 
 array-share-prefix-numbers : tie.Need-array-share-prefix-numbers
-array-share-prefix-numbers c = omega (arith, c .before .read .ensures)
+array-share-prefix-numbers c =
+    let at-numbers : tie.After-no-numbers = search in
+    omega (arith, c .before .read .ensures, at-numbers .no-numbers .ensures)
 
 slice-aggregate-run : tie.Need-slice-aggregate-run
-slice-aggregate-run c = sym (length-take-le _ _ (omega (arith, c .before .before .read .ensures, c .before .before .read .kept)))
+slice-aggregate-run c =
+    let at-read : tie.After-read = search in
+    sym (length-take-le _ _ (omega (arith, at-read .read .ensures, at-read .read .kept)))
 
 slice-aggregate-run-2 : tie.Need-slice-aggregate-run-2
 slice-aggregate-run-2 c = search needs
 
 run-requires : tie.Need-run-requires
-run-requires c κs = rw (length-take-le (c .before .before .before .read .result) (c .before .before .before .read .last .1 .0) (omega (arith, c .before .before .before .read .ensures, c .before .before .before .read .kept))) (omega (arith, c .before .before .before .read .ensures))
+run-requires c κs =
+    let at-read : tie.After-read = search in
+    let at-numbers : tie.After-no-numbers = search in
+    rw (length-take-le (at-read .read .result) (at-read .read .last .1 .0) (omega (arith, at-read .read .ensures, at-read .read .kept))) (omega (arith, at-read .read .ensures, at-numbers .no-numbers .ensures))
 
 print-decimal-requires : tie.Need-print-decimal-requires
 print-decimal-requires c κs = search needs
@@ -60,6 +73,8 @@ pub main-spec : {M : Type 1} → statement M
 main-spec =
     tie.close
     (tie.spec
+    text-bytes-requires
+    no-numbers-requires
     slice-aggregate-read-full
     read-full-requires
     array-share-prefix-text
