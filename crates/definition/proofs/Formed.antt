@@ -8,12 +8,20 @@ use mathlib.Core.Option.{Option, none, some}
 use mathlib.Core.Bool.{Bool, true, false}
 use lib.Dec.{eqb}
 use Rattle.table.specs.Words.{largest}
-use Rattle.table.specs.Table.{Table, Block, Case, Terminal, absent, unreachable, throw, return, goto, if, branch, switch, do-while, while, for, for-of, for-in, logical, ternary, optional, label, sequence, maybe-throw, try, scope, Variant, Break, Continue, Try, blockAt, terminalAt, instructionRowsAt, isAbsent, isUnreachable}
+use Rattle.table.specs.Table.{Table, Block, Case, Terminal, absent, unreachable, throw, return, goto, if, branch, switch, do-while, while, for, for-of, for-in}
+use Rattle.table.specs.Table.{logical, ternary, optional, label, sequence, maybe-throw, try, scope, Variant, Break, Continue, Try, blockAt, terminalAt}
+use Rattle.table.specs.Table.{instructionRowsAt, isAbsent, isUnreachable}
 use Rattle.definition.specs.Tree.{Kind, implicit, labeled, unlabeled, Statement, WHILE, LABEL, SCOPE, Statements, done}
 use Rattle.definition.specs.Result.{Result, ok, refused}
-use Rattle.definition.specs.Context.{has, ControlFlowTarget, blockAsked, blockedCode, target-if, target-switch, target-case, loopsOf, Entry, loopsOn, Context, start, isScheduled, withVisits, markScopeFallthrough, scheduleCatchHandler, target-loop, pushed, schedule, unschedule, Resolution, getBreakTarget, getContinueTarget}
+use Rattle.definition.specs.Context.{has, ControlFlowTarget, blockAsked, blockedCode, target-if, target-switch, target-case, loopsOf, Entry, loopsOn, Context, start, isScheduled, withVisits, markScopeFallthrough, scheduleCatchHandler, target-loop, pushed, schedule, unschedule}
+use Rattle.definition.specs.Context.{Resolution, getBreakTarget, getContinueTarget}
 use Rattle.definition.specs.Value.{VisitValueBlock, visitValueBlockTerminal, visitValueBlock}
-use Rattle.definition.specs.Statement.{BlockResult, TerminalResult, TraverseBlock, enterBlock, unlessScheduled, unlessUnreachable, scheduleIf, scheduleSwitch, unscheduleIf, markScopeFallthroughIf, breakToScope, breakResolved, visitBreak, continueResolved, visitContinue, visitGoto, traverseUnscheduled, AlternateResult, traverseAlternate, traverseConsequent, traverseEnclosed, traverseLoop, continueBlockOf, visitUpdate, casesLastFirst, traverseCases, unscheduleAll, scheduleIds, visitValueStatement, visitTerminal, instructionStatements, followedBy, thenNext, visitBlock, traverseBlock, buildTree}
+use Rattle.definition.specs.Statement.{BlockResult, TerminalResult, TraverseBlock, enterBlock, unlessScheduled, unlessUnreachable, scheduleIf}
+use Rattle.definition.specs.Statement.{scheduleSwitch, unscheduleIf, markScopeFallthroughIf, breakToScope, breakResolved, visitBreak, continueResolved}
+use Rattle.definition.specs.Statement.{visitContinue, visitGoto, traverseUnscheduled, AlternateResult, traverseAlternate, traverseConsequent}
+use Rattle.definition.specs.Statement.{traverseEnclosed, traverseLoop, continueBlockOf, visitUpdate, casesLastFirst, traverseCases, unscheduleAll}
+use Rattle.definition.specs.Statement.{scheduleIds, visitValueStatement, visitTerminal, instructionStatements, followedBy, thenNext, visitBlock}
+use Rattle.definition.specs.Statement.{traverseBlock, buildTree}
 use Rattle.definition.specs.Plain.{fallthroughOf}
 use Rattle.definition.specs.Reading.{BelowNone, EmptyUnless, WellFormedStatement, WellFormed, WellFormedCases}
 use Rattle.definition.proofs.Steps.{Any, Good, good-bind, good-unless, good-pick, good-any, Fine, fine-good}
@@ -242,7 +250,8 @@ module _ (t : Table) (values : VisitValueBlock) (d : ℕ) (inner : TraverseBlock
       good-bind (Low d) FormedStep _ _ (loop-low f (continueBlockOf u x) l c n₀) (λ c₁ n₁.
       good-bind Any FormedStep _ _ (good-any (values i none (k .span) (c₁ .visits))) (λ n _.
       good-bind Any FormedStep _ _ (good-any (values x none (k .span) (n .visits))) (λ v _.
-      good-bind Any FormedStep _ _ (good-any (visitUpdate values u (k .span) (v .visits))) (λ w _. loop-formed at l _ (w .visits) (c .nextId) c₁ _ _ n₁ (λ z h. (scheduled-formed c f (s .0 f refl), h))))))
+      good-bind Any FormedStep _ _ (good-any (visitUpdate values u (k .span) (v .visits)))
+      (λ w _. loop-formed at l _ (w .visits) (c .nextId) c₁ _ _ n₁ (λ z h. (scheduled-formed c f (s .0 f refl), h))))))
   terminal-formed (for-of i x l f) at k c s n₀ =
       good-bind (Low d) FormedStep _ _ (loop-low f i l c n₀) (λ c₁ n₁.
       good-bind Any FormedStep _ _ (good-any (values i none (k .span) (c₁ .visits))) (λ n _.

@@ -38,13 +38,13 @@ sample-formed = record {
   identifiers = omega arith;
 }
 
-sample-good : Good
+pub sample-good : Good
     (ascii "entry blocks instructions cases places identifiers\n0 1 0 0 1 1\nfirst count code a b c d e id span\n0 0 3 0 0 0 0 0 7 0\nid lvalue code p q span\ntest block\nidentifier\n0\nnamed\n1\n")
     (0 ∷ 1 ∷ 0 ∷ 0 ∷ 1 ∷ 1 ∷ 0 ∷ 0 ∷ 3 ∷ 0 ∷ 0 ∷ 0 ∷ 0 ∷ 0 ∷ 7 ∷ 0 ∷ 0 ∷ 1 ∷ [])
 unfolding sample line lines flat decimal digitsOf
 sample-good = record { tables = sample; formed = sample-formed; text = refl; word = refl }
 
-sample-printed : printed 0 0 2 1 (22 ∷ 0 ∷ 7 ∷ 0 ∷ 0 ∷ 0 ∷ 9 ∷ 1 ∷ 0 ∷ 0 ∷ 0 ∷ 0 ∷ []) ≡ ascii "code at rows visits\n0 0 2 1\nop a b c d e\n22 0 7 0 0 0\n9 1 0 0 0 0\n"
+pub sample-printed : printed 0 0 2 1 (22 ∷ 0 ∷ 7 ∷ 0 ∷ 0 ∷ 0 ∷ 9 ∷ 1 ∷ 0 ∷ 0 ∷ 0 ∷ 0 ∷ []) ≡ ascii "code at rows visits\n0 0 2 1\nop a b c d e\n22 0 7 0 0 0\n9 1 0 0 0 0\n"
 unfolding printed treeLines rowsOf line lines decimal digitsOf
 sample-printed = refl
 
