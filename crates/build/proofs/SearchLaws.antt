@@ -8,7 +8,8 @@ use mathlib.Core.Option.{Option, none}
 use borrow.Author.Tests.{eqb-true, eqb-false}
 use Rattle.table.specs.Words.{blockCount, placeCount, caseCount, blockWord}
 use Rattle.table.specs.Promise.{Promise, InRange}
-use Rattle.table.specs.Table.{Terminal, absent, unreachable, throw, return, goto, if, branch, switch, do-while, while, for, for-of, for-in, logical, ternary, optional, label, sequence, maybe-throw, try, scope, Break, Continue, Try, codeOf, tableOf, terminalOf, terminalAt, variantOf}
+use Rattle.table.specs.Table.{Terminal, absent, unreachable, throw, return, goto, if, branch, switch, do-while, while, for, for-of, for-in, logical, ternary}
+use Rattle.table.specs.Table.{optional, label, sequence, maybe-throw, try, scope, Break, Continue, Try, codeOf, tableOf, terminalOf, terminalAt, variantOf}
 use Rattle.table.proofs.RangeLaws.{in-range}
 use Rattle.table.proofs.BlockLaws.{end-by, code-at, goto-at, branch-at, try-variant}
 use Rattle.definition.specs.Context.{Flags, has, isScheduled, loopsOf, breakTargetFrom, continueTargetFrom, getBreakTarget, getContinueTarget}
@@ -50,12 +51,15 @@ quiet (scope pruned body fallthrough number) cx found f g = tt
 module _ (w : List ℕ) (b : ℕ) (pr : Promise w) (below : b < blockCount w) where
   pub goto-target : blockWord w b 2 ≡ 4 → blockWord w b 3 < 1024
   unfolding terminalOf
-  goto-target code = let r : blockWord w b 3 < blockCount w = subst (λ (z : Terminal). InRange (blockCount w) (placeCount w) (caseCount w) z) (end-by w b below 4 code) (in-range w pr b below) in omega (arith, r, pr .sized .limited .blocks)
+  goto-target code =
+      let r : blockWord w b 3 < blockCount w = subst (λ (z : Terminal). InRange (blockCount w) (placeCount w) (caseCount w) z) (end-by w b below 4 code)
+      (in-range w pr b below) in omega (arith, r, pr .sized .limited .blocks)
 
   pub branch-consequent : blockWord w b 2 ≡ 6 → blockWord w b 4 < 1024
   unfolding terminalOf
   branch-consequent code =
-      let r : InRange (blockCount w) (placeCount w) (caseCount w) (branch (blockWord w b 3) (blockWord w b 4) (blockWord w b 5)) = subst (λ (z : Terminal). InRange (blockCount w) (placeCount w) (caseCount w) z) (end-by w b below 6 code) (in-range w pr b below) in
+      let r : InRange (blockCount w) (placeCount w) (caseCount w) (branch (blockWord w b 3) (blockWord w b 4) (blockWord w b 5)) = subst
+      (λ (z : Terminal). InRange (blockCount w) (placeCount w) (caseCount w) z) (end-by w b below 6 code) (in-range w pr b below) in
       omega (arith, r .1, pr .sized .limited .blocks)
 
 module _ (w : List ℕ) (S H : Flags) (b : ℕ) (pr : Promise w) (below : b < blockCount w) where
@@ -71,7 +75,11 @@ module _ (w : List ℕ) (S H : Flags) (b : ℕ) (pr : Promise w) (below : b < bl
 
     pub goto-continues : (n : ℕ) → n ≡ blockWord w b 3 → blockWord w b 4 ≡ 1 → Searches w S H b (jump.Continue n)
     unfolding variantOf
-    goto-continues n s e = record { resolves = λ cx _ _. subst (λ (z : Terminal). Resolves z cx (getContinueTarget cx n)) (sym (goto-at w b below code Continue (ap variantOf e))) (ap (getContinueTarget cx) s) }
+    goto-continues n s e =
+        record {
+          resolves = λ cx _ _. subst (λ (z : Terminal). Resolves z cx (getContinueTarget cx n)) (sym
+              (goto-at w b below code Continue (ap variantOf e))) (ap (getContinueTarget cx) s);
+        }
 
     pub goto-tries : (blockWord w b 4 ≡ 0 → ⊥) → (blockWord w b 4 ≡ 1 → ⊥) → Searches w S H b Nothing
     goto-tries f g = record { resolves = λ cx _ _. subst (λ (z : Terminal). Resolves z cx none) (sym (goto-at w b below code Try (try-variant (blockWord w b 4) f g))) tt }
@@ -121,7 +129,8 @@ module _ (cx : Context) (at : ℕ) (top : Bool) (above : ℕ) where
   search-none (jump.Break b) h e visits = rw (h .settled) (sym (h .rest ∙ break-none _ _ _ _ _ e))
   search-none (jump.Continue b) h e visits = rw (h .settled) (sym (h .rest ∙ continue-none _ _ _ _ _ e))
 
-  pub search-found : (sought : Jump) → Searching sought cx at top above → (at ≡ 0 → ⊥) → isMet sought (lastTarget (cx .stack) at) ≡ true → (visits : ℕ) → resolvedAt sought (lastTarget (cx .stack) at) top above ≡ foundBy sought (contextOf visits cx)
+  pub search-found : (sought : Jump) → Searching sought cx at top above → (at ≡ 0 → ⊥) → isMet sought (lastTarget (cx .stack) at) ≡ true → (visits : ℕ)
+      → resolvedAt sought (lastTarget (cx .stack) at) top above ≡ foundBy sought (contextOf visits cx)
   unfolding getBreakTarget getContinueTarget contextOf
   search-found Nothing h f m visits = refl
   search-found (jump.Break b) h f m visits = rw (h .settled) (sym (h .rest ∙ break-found _ _ _ _ _ f (eqb-true _ _ m)))

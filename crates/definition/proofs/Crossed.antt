@@ -8,7 +8,9 @@ use mathlib.Core.Option.{Option, none, some}
 use mathlib.Core.Bool.{Bool, true, false}
 use lib.Dec.{eqb}
 use borrow.Author.Tests.{eqb-true}
-use Rattle.definition.specs.Context.{target-if, target-switch, target-case, target-loop, ControlFlowTarget, targetBlock, isLoop, loopsOf, continuesAt, Entry, loopsOn, Context, Resolution, breakKind, breakTargetFrom, getBreakTarget, continueKind, continueTargetFrom, getContinueTarget}
+use Rattle.definition.specs.Context.{target-if, target-switch, target-case, target-loop, ControlFlowTarget, targetBlock, isLoop, loopsOf, continuesAt}
+use Rattle.definition.specs.Context.{Entry, loopsOn, Context, Resolution, breakKind, breakTargetFrom, getBreakTarget, continueKind, continueTargetFrom}
+use Rattle.definition.specs.Context.{getContinueTarget}
 use Rattle.definition.specs.Tree.{Kind, implicit, labeled, unlabeled}
 use Rattle.definition.proofs.Steps.{true-false, none-some, some-eq}
 
@@ -81,8 +83,13 @@ unfolding breakTargetFrom
 break-from [] g top n r e = absurd (none-some e)
 break-from (x ∷ S) g top n r e = at (eqb (targetBlock (x .target)) g) refl e (λ h. break-from S g false (loopsOf (x .target) + n) r h)
   where
-    at : (y : Bool) → eqb (targetBlock (x .target)) g ≡ y → elim y [ true ↦ some (record { target = g; kind = breakKind (isLoop (x .target)) top n; loops = n }) | false ↦ breakTargetFrom S g false (loopsOf (x .target) + n) ] ≡ some r
-        → (breakTargetFrom S g false (loopsOf (x .target) + n) ≡ some r → From (λ target. eqb (targetBlock target) g) (loopsOf (x .target) + n) S r) → From (λ target. eqb (targetBlock target) g) n (x ∷ S) r
+    at : (y : Bool) → eqb (targetBlock (x .target)) g ≡ y
+        → elim y [
+          | true ↦ some (record { target = g; kind = breakKind (isLoop (x .target)) top n; loops = n })
+          | false ↦ breakTargetFrom S g false (loopsOf (x .target) + n)
+        ] ≡ some r
+        → (breakTargetFrom S g false (loopsOf (x .target) + n) ≡ some r → From (λ target. eqb (targetBlock target) g) (loopsOf (x .target) + n) S r)
+        → From (λ target. eqb (targetBlock target) g) n (x ∷ S) r
     at true q e k = record {
       above = [];
       entry = x;
@@ -100,7 +107,11 @@ unfolding continueTargetFrom
 continue-from [] g top n r e = absurd (none-some e)
 continue-from (x ∷ S) g top n r e = at (continuesAt (x .target) g) refl e (λ h. continue-from S g false (loopsOf (x .target) + n) r h)
   where
-    at : (y : Bool) → continuesAt (x .target) g ≡ y → elim y [ true ↦ some (record { target = targetBlock (x .target); kind = continueKind top n; loops = n }) | false ↦ continueTargetFrom S g false (loopsOf (x .target) + n) ] ≡ some r
+    at : (y : Bool) → continuesAt (x .target) g ≡ y
+        → elim y [
+          | true ↦ some (record { target = targetBlock (x .target); kind = continueKind top n; loops = n })
+          | false ↦ continueTargetFrom S g false (loopsOf (x .target) + n)
+        ] ≡ some r
         → (continueTargetFrom S g false (loopsOf (x .target) + n) ≡ some r → From (λ target. continuesAt target g) (loopsOf (x .target) + n) S r) → From (λ target. continuesAt target g) n (x ∷ S) r
     at true q e k = record {
       above = [];

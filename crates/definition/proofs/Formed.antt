@@ -13,7 +13,9 @@ use Rattle.table.specs.Table.{logical, ternary, optional, label, sequence, mayb
 use Rattle.table.specs.Table.{instructionRowsAt, isAbsent, isUnreachable}
 use Rattle.definition.specs.Tree.{Kind, implicit, labeled, unlabeled, Statement, WHILE, LABEL, SCOPE, Statements, done}
 use Rattle.definition.specs.Result.{Result, ok, refused}
-use Rattle.definition.specs.Context.{has, ControlFlowTarget, blockAsked, blockedCode, target-if, target-switch, target-case, loopsOf, Entry, loopsOn, Context, start, isScheduled, withVisits, markScopeFallthrough, scheduleCatchHandler, target-loop, pushed, schedule, unschedule}
+use Rattle.definition.specs.Context.{has, ControlFlowTarget, blockAsked, blockedCode, target-if, target-switch, target-case, loopsOf, Entry, loopsOn}
+use Rattle.definition.specs.Context.{Context, start, isScheduled, withVisits, markScopeFallthrough, scheduleCatchHandler, target-loop, pushed, schedule}
+use Rattle.definition.specs.Context.{unschedule}
 use Rattle.definition.specs.Context.{Resolution, getBreakTarget, getContinueTarget}
 use Rattle.definition.specs.Value.{VisitValueBlock, visitValueBlockTerminal, visitValueBlock}
 use Rattle.definition.specs.Statement.{BlockResult, TerminalResult, TraverseBlock, enterBlock, unlessScheduled, unlessUnreachable, scheduleIf}
@@ -181,14 +183,16 @@ module _ (t : Table) (values : VisitValueBlock) (d : ℕ) (inner : TraverseBlock
       → Good FormedStep (traverseEnclosed inner b code at g c c₁ make)
   unfolding traverseEnclosed
   enclosed-formed b code at g c c₁ make n mk =
-      good-bind LowBlock FormedStep _ _ (unscheduled-formed b code at c₁ n) (λ r h. good-bind Any FormedStep _ _ (good-any (unscheduleIf g (c .nextId) (r .context))) (λ c₂ _. mk (r .statements) (h .0)))
+      good-bind LowBlock FormedStep _ _ (unscheduled-formed b code at c₁ n)
+      (λ r h. good-bind Any FormedStep _ _ (good-any (unscheduleIf g (c .nextId) (r .context))) (λ c₂ _. mk (r .statements) (h .0)))
 
   loop-formed : (at l : ℕ) (taken : Bool) (v i : ℕ) (c : Context) (g : Option ℕ) (make : Statements → Statement) → Low d c → ((s : Statements) → WellFormed s → WellFormedStatement (make s))
       → Good FormedStep (traverseLoop inner at l taken v i c g make)
   unfolding traverseLoop
   loop-formed at l taken v i c g make n mk =
       good-unless FormedStep taken 16 at v _ (λ _.
-      good-bind LowBlock FormedStep _ _ (inner-formed l (withVisits v c) (visits-low v c n)) (λ r h. good-bind Any FormedStep _ _ (good-any (unschedule i (r .context))) (λ c₂ _. mk (r .statements) (h .0))))
+      good-bind LowBlock FormedStep _ _ (inner-formed l (withVisits v c) (visits-low v c n))
+      (λ r h. good-bind Any FormedStep _ _ (good-any (unschedule i (r .context))) (λ c₂ _. mk (r .statements) (h .0))))
 
   cases-formed : (at f : ℕ) (ks : List Case) (ids : List ℕ) (c : Context) → Low d c → Good (λ r. WellFormedCases (r .cases)) (traverseCases inner at f ks ids c)
   unfolding traverseCases WellFormed
@@ -284,7 +288,8 @@ unfolding instructionStatements WellFormed
 instructions-formed t [] k h = h
 instructions-formed t (r ∷ rs) k h = (tt, instructions-formed t rs k h)
 
-next-formed : (t : Table) (at : ℕ) (again : TraverseBlock) (s : Option Statement) (n : Option ℕ) (d : ℕ) (c : Context) → WalkFormed d again → Low d c → FormedOption s → Good FormedBlock (thenNext t at again s n c)
+next-formed : (t : Table) (at : ℕ) (again : TraverseBlock) (s : Option Statement) (n : Option ℕ) (d : ℕ) (c : Context) → WalkFormed d again → Low d c
+    → FormedOption s → Good FormedBlock (thenNext t at again s n c)
 unfolding thenNext WalkFormed WellFormed
 next-formed t at again s none d c w m h = instructions-formed t (instructionRowsAt t at) (followedBy s done) (followed-formed s done h tt)
 next-formed t at again s (some n) d c w m h =
@@ -294,7 +299,8 @@ module _ (t : Table) (rg : Ranged t) where
   small : (b : ℕ) → ((f : ℕ) → fallthroughOf (terminalAt t b) ≡ some f → f < largest) × ((x h f n : ℕ) → terminalAt t b ≡ try x h f (some n) → n < largest)
   small b = ((λ f e. omega (arith, rg .fallthroughs b f e, rg .few)), rg .bindings b)
 
-  visit-block-formed : (values : VisitValueBlock) → VisitTook t values → (d : ℕ) (inner : TraverseBlock) → WalkFormed d inner → WalkFine inner → (n : ℕ) → WalkFormed (suc d) (visitBlock t values inner n)
+  visit-block-formed : (values : VisitValueBlock) → VisitTook t values → (d : ℕ) (inner : TraverseBlock) → WalkFormed d inner → WalkFine inner → (n : ℕ)
+      → WalkFormed (suc d) (visitBlock t values inner n)
   unfolding visitBlock WalkFormed
   visit-block-formed values took d inner w wa zero b c m = tt
   visit-block-formed values took d inner w wa (suc n) b c m =

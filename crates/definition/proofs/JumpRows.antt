@@ -4,7 +4,10 @@ use Prim.Native.Nat.{ℕ}
 use mathlib.Core.List.{List, [], _∷_}
 use mathlib.Core.Option.{Option, none, some}
 use mathlib.Core.Bool.{Bool, true, false}
-use Rattle.definition.specs.Tree.{Value, PLAIN, LOAD, UNDEF, SEQ, LOGICAL, COND, OPTIONAL, Instructions, no-instructions, instruction, Statement, INSTR, IF, SWITCH, DOWHILE, WHILE, FOR, FOROF, FORIN, LABEL, TRY, SCOPE, RETURN, THROW, BREAK, CONTINUE, Statements, done, _▸_, Cases, no-cases, CASE, Row, row, orNone, valueRows, instructionsRows, updateRows, statementRows, statementsRows, blockRows, casesRows, rows}
+use Rattle.definition.specs.Tree.{Value, PLAIN, LOAD, UNDEF, SEQ, LOGICAL, COND, OPTIONAL, Instructions, no-instructions, instruction, Statement, INSTR}
+use Rattle.definition.specs.Tree.{IF, SWITCH, DOWHILE, WHILE, FOR, FOROF, FORIN, LABEL, TRY, SCOPE, RETURN, THROW, BREAK, CONTINUE, Statements, done, _▸_}
+use Rattle.definition.specs.Tree.{Cases, no-cases, CASE, Row, row, orNone, valueRows, instructionsRows, updateRows, statementRows, statementsRows}
+use Rattle.definition.specs.Tree.{blockRows, casesRows, rows}
 use Rattle.definition.specs.Build.{built}
 use Rattle.definition.specs.Reading.{WellFormedStatement, WellFormed, WellFormedCases, JumpsWithin}
 use Rattle.definition.proofs.Law.{one-tree}

@@ -8,7 +8,8 @@ use mathlib.Core.Bool.{Bool, true, false, not, cond}
 use lib.Dec.{eqb, T}
 use borrow.Author.Tests.{eqb-true, eqb-false}
 use Rattle.table.specs.Table.{Table, while, terminalAt}
-use Rattle.definition.specs.Context.{Flags, has, target-if, target-loop, Entry, targetBlock, isLoop, loopsOf, continuesAt, breakKind, breakTargetFrom, Resolution, continueKind, continueTargetFrom}
+use Rattle.definition.specs.Context.{Flags, has, target-if, target-loop, Entry, targetBlock, isLoop, loopsOf, continuesAt, breakKind, breakTargetFrom}
+use Rattle.definition.specs.Context.{Resolution, continueKind, continueTargetFrom}
 use Rattle.definition.specs.Plain.{fallthroughOf}
 use Rattle.definition.specs.Completion.{break, continue}
 use Rattle.definition.specs.TreeRun.{jumpCompletion}
@@ -58,12 +59,14 @@ module _ (t : Table) where
   unfolding breakTargetFrom
   break-at no-frame g top above c n e = absurd (none-some e)
   break-at {scopes} (label-framed {F} {S} i f p) g top above c n e =
-      found f g (eqb f g) (record { target = g; kind = breakKind false top above; loops = above }) c (breakTargetFrom S g false (0 + above)) (breakAt F g) refl e (λ h. break-at p g false (0 + above) c n h)
+      found f g (eqb f g) (record { target = g; kind = breakKind false top above; loops = above }) c (breakTargetFrom S g false (0 + above)) (breakAt F g) refl
+      e (λ h. break-at p g false (0 + above) c n h)
   break-at {scopes} (scope-framed {F} {S} i f s p) g top above c n e =
       passed f g (eqb f g) (record { target = g; kind = breakKind false top above; loops = above }) c (breakTargetFrom S g false (0 + above)) (breakAt F g) refl e
       (λ h. true-false (sym s ∙ ap (has scopes) h ∙ n)) (λ h. break-at p g false (0 + above) c n h)
   break-at {scopes} (loop-framed {F} {S} i f x w l ll o s p) g top above c n e =
-      found f g (eqb f g) (record { target = g; kind = breakKind true top above; loops = above }) c (breakTargetFrom S g false (1 + above)) (breakAt F g) refl e (λ h. break-at p g false (1 + above) c n h)
+      found f g (eqb f g) (record { target = g; kind = breakKind true top above; loops = above }) c (breakTargetFrom S g false (1 + above)) (breakAt F g) refl e
+      (λ h. break-at p g false (1 + above) c n h)
 
   apart : (k k′ : Kind) → T (not (eqb (kindNumber k) (kindNumber k′))) → k ≡ k′ → ⊥
   apart implicit k′ h e = subst (λ (z : Kind). T (not (eqb 0 (kindNumber z)))) (sym e) h
@@ -137,7 +140,8 @@ module _ (t : Table) where
   unfolding breakTargetFrom
   break-names [] g top above c e = absurd (none-some e)
   break-names (x ∷ S) g top above c e =
-      either (eqb (targetBlock (x .target)) g) (record { target = g; kind = breakKind (isLoop (x .target)) top above; loops = above }) c (breakTargetFrom S g false (loopsOf (x .target) + above)) (c .target ≡ g) e
+      either (eqb (targetBlock (x .target)) g) (record { target = g; kind = breakKind (isLoop (x .target)) top above; loops = above }) c
+      (breakTargetFrom S g false (loopsOf (x .target) + above)) (c .target ≡ g) e
       (λ h. sym (ap (λ (z : Resolution). z .target) h)) (λ h. break-names S g false (loopsOf (x .target) + above) c h)
 
   -- the break's row goes to its block
@@ -164,7 +168,8 @@ module _ (t : Table) where
   unfolding continueTargetFrom
   continue-above-never [] g top above c l e = absurd (none-some e)
   continue-above-never (x ∷ S) g top above c l e =
-      either (continuesAt (x .target) g) (record { target = targetBlock (x .target); kind = continueKind top above; loops = above }) c (continueTargetFrom S g false (loopsOf (x .target) + above)) (c .kind ≡ labeled) e
+      either (continuesAt (x .target) g) (record { target = targetBlock (x .target); kind = continueKind top above; loops = above }) c
+      (continueTargetFrom S g false (loopsOf (x .target) + above)) (c .kind ≡ labeled) e
       (λ h. sym (kind-of h) ∙ continue-above top above l) (λ h. continue-above-never S g false (loopsOf (x .target) + above) c (omega (arith, l)) h)
 
   continue-below-never : (S : List Entry) (g above : ℕ) (c : Resolution) → continueTargetFrom S g false above ≡ some c → c .kind ≡ implicit → ⊥
@@ -205,7 +210,8 @@ module _ (t : Table) where
       (w, l, s ∙ ap (λ (z : ℕ). while z l f) (eqb-true x g h) ∙ ap (λ (z : Resolution). while g l (z .target)) (some-eq e))
   found-of x g f w l k n false c q h s e r = r e
 
-  continue-of : {scopes : Flags} {F : List Frame} {S : List Entry} → Framed scopes F S → (g : ℕ) (top : Bool) (above : ℕ) (c : Resolution) → continueTargetFrom S g top above ≡ some c → Of g (c .target)
+  continue-of : {scopes : Flags} {F : List Frame} {S : List Entry} → Framed scopes F S → (g : ℕ) (top : Bool) (above : ℕ) (c : Resolution)
+      → continueTargetFrom S g top above ≡ some c → Of g (c .target)
   unfolding continueTargetFrom
   continue-of no-frame g top above c e = absurd (none-some e)
   continue-of (label-framed {F} {S} i f p) g top above c e = continue-of p g false (0 + above) c e
