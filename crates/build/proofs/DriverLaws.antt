@@ -229,9 +229,15 @@ break-below entries (suc n) b top above named r e =
     (λ t a h. break-below entries n b t a (λ k l. named k (omega arith)) r h)
   where
     at : (y : Bool) → eqb (definition.targetBlock (targetOf (getD entries n noEntry .target))) b ≡ y
-        → elim y [ true ↦ some (record { target = b; kind = definition.breakKind (definition.isLoop (targetOf (getD entries n noEntry .target))) top above;
-        loops = above }) | false ↦ definition.breakTargetFrom (stackOf entries n) b false
-        (definition.loopsOf (targetOf (getD entries n noEntry .target)) + above) ] ≡ some r
+        → elim y [
+          | true ↦ some (record {
+            target = b;
+            kind = definition.breakKind (definition.isLoop (targetOf (getD entries n noEntry .target))) top above;
+            loops = above;
+          })
+          | false ↦ definition.breakTargetFrom (stackOf entries n) b false
+              (definition.loopsOf (targetOf (getD entries n noEntry .target)) + above)
+        ] ≡ some r
         → ((t : Bool) (a : ℕ) → definition.breakTargetFrom (stackOf entries n) b t a ≡ some r → r .target < 1024) → r .target < 1024
     at true q h again =
         let t : b ≡ r .target = ap target-or (h) in let same : definition.targetBlock (targetOf (getD entries n noEntry .target)) ≡ b = eqb-true _ _ q in omega
@@ -246,9 +252,15 @@ continue-below entries (suc n) b top above named r e =
     at (definition.continuesAt (targetOf (getD entries n noEntry .target)) b) e (λ t a h. continue-below entries n b t a (λ k l. named k (omega arith)) r h)
   where
     at : (y : Bool)
-        → elim y [ true ↦ some (record { target = definition.targetBlock (targetOf (getD entries n noEntry .target)); kind = definition.continueKind top above;
-        loops = above }) | false ↦ definition.continueTargetFrom (stackOf entries n) b false
-        (definition.loopsOf (targetOf (getD entries n noEntry .target)) + above) ] ≡ some r
+        → elim y [
+          | true ↦ some (record {
+            target = definition.targetBlock (targetOf (getD entries n noEntry .target));
+            kind = definition.continueKind top above;
+            loops = above;
+          })
+          | false ↦ definition.continueTargetFrom (stackOf entries n) b false
+              (definition.loopsOf (targetOf (getD entries n noEntry .target)) + above)
+        ] ≡ some r
         → ((t : Bool) (a : ℕ) → definition.continueTargetFrom (stackOf entries n) b t a ≡ some r → r .target < 1024) → r .target < 1024
     at true h again =
         let t : definition.targetBlock (targetOf (getD entries n noEntry .target)) ≡ r .target = ap target-or (h) in omega

@@ -47,7 +47,8 @@ module _ (entries : List Entry) (block : ℕ) (top : Bool) (above n : ℕ) where
   pub break-found : (n ≡ 0 → ⊥) → targetBlock (lastTarget entries n) ≡ block → breakTargetFrom (stackOf entries n) block top above ≡ some (breakTo (lastTarget entries n) top above)
   break-found f found = ap (λ (stack : List definition.Entry). breakTargetFrom stack block top above) (top-first entries n f) ∙ break-at _ _ block top above found
 
-  pub break-missed : (n ≡ 0 → ⊥) → (targetBlock (lastTarget entries n) ≡ block → ⊥) → breakTargetFrom (stackOf entries n) block top above ≡ breakTargetFrom (stackOf entries (n - 1)) block false (loopsOf (lastTarget entries n) + above)
+  pub break-missed : (n ≡ 0 → ⊥) → (targetBlock (lastTarget entries n) ≡ block → ⊥)
+      → breakTargetFrom (stackOf entries n) block top above ≡ breakTargetFrom (stackOf entries (n - 1)) block false (loopsOf (lastTarget entries n) + above)
   break-missed f missed = ap (λ (stack : List definition.Entry). breakTargetFrom stack block top above) (top-first entries n f) ∙ break-below _ _ block top above missed
 
   pub continue-none : n ≡ 0 → continueTargetFrom (stackOf entries n) block top above ≡ none
@@ -57,7 +58,9 @@ module _ (entries : List Entry) (block : ℕ) (top : Bool) (above n : ℕ) where
   pub continue-found : (n ≡ 0 → ⊥) → continuesAt (lastTarget entries n) block ≡ true → continueTargetFrom (stackOf entries n) block top above ≡ some (continueTo (lastTarget entries n) top above)
   continue-found f found = ap (λ (stack : List definition.Entry). continueTargetFrom stack block top above) (top-first entries n f) ∙ continue-at _ _ block top above found
 
-  pub continue-missed : (n ≡ 0 → ⊥) → continuesAt (lastTarget entries n) block ≡ false → continueTargetFrom (stackOf entries n) block top above ≡ continueTargetFrom (stackOf entries (n - 1)) block false (loopsOf (lastTarget entries n) + above)
+  pub continue-missed : (n ≡ 0 → ⊥) → continuesAt (lastTarget entries n) block ≡ false
+      → continueTargetFrom (stackOf entries n) block top above ≡ continueTargetFrom (stackOf entries (n - 1)) block false
+      (loopsOf (lastTarget entries n) + above)
   continue-missed f missed = ap (λ (stack : List definition.Entry). continueTargetFrom stack block top above) (top-first entries n f) ∙ continue-below _ _ block top above missed
 
 -- ---- the kind, by the number of loops above

@@ -34,8 +34,10 @@ scoped-break : (at id : ℕ) (O : Flags) (v : ℕ) (found : Resolution) (block :
     → breakOutcome at block id (Found found) C ≡ breakToScope (kindOf (found .kind)) at (C .visits)
 unfolding breakResolved has
 scoped-break at id O v found block C h s =
-    ap (λ (y : Bool). elim y [ true ↦ breakToScope (kindOf (found .kind)) at (C .visits)
-    | false ↦ ok (some (BREAK (foundBlock found) id (kindOf (found .kind)) (found .loops))) ])
+    ap (λ (y : Bool). elim y [
+      | true ↦ breakToScope (kindOf (found .kind)) at (C .visits)
+      | false ↦ ok (some (BREAK (foundBlock found) id (kindOf (found .kind)) (found .loops)))
+    ])
     (ap (λ (l : Flags). getD l (foundBlock found) false) (s .scopeFallthroughs) ∙ h)
 
 pub break-scope : (at id : ℕ) (O : Flags) (v n : ℕ) (found : Resolution) (b : List ℕ) (r : Jumped) → getD O (foundBlock found) false ≡ true → kindNumber (kindOf (found .kind)) ≡ 0
@@ -72,8 +74,10 @@ unfolding breakResolved has statementOut
 break-row at id O v n n′ found op target number b b′ r h o t k w e block = subst (λ (z : Jumped). JumpMet (breakOutcome at block id (Found found)) O v n b z b′) (sym e) (record {
   statement = some (BREAK (foundBlock found) id (kindOf (found .kind)) (found .loops));
   same =
-      λ C s. ap (λ (y : Bool). elim y [ true ↦ breakToScope (kindOf (found .kind)) at (C .visits)
-      | false ↦ ok (some (BREAK (foundBlock found) id (kindOf (found .kind)) (found .loops))) ])
+      λ C s. ap (λ (y : Bool). elim y [
+        | true ↦ breakToScope (kindOf (found .kind)) at (C .visits)
+        | false ↦ ok (some (BREAK (foundBlock found) id (kindOf (found .kind)) (found .loops)))
+      ])
       (ap (λ (l : Flags). getD l (foundBlock found) false) (s .scopeFallthroughs) ∙ h);
   held = λ _. row-held b b′ n n′ (row 24 (foundBlock found) id (kindNumber (kindOf (found .kind))) (found .loops) 0) (rw (o, t, k) at w);
   count = λ _. refl;

@@ -5,6 +5,7 @@ use mathlib.Core.Path.{_≡_, sym, subst}
 use mathlib.Core.List.{List, map}
 use mathlib.Core.Logic.{_⊎_}
 use mathlib.Core.Bool.{_||_}
+use mathlib.Core.Option.{some}
 use lib.ListN.{length}
 use lib.Dec.{T, eqb}
 use contract.Lifetimes.{Lfts}
@@ -14,7 +15,7 @@ use Rattle.table.specs.Table.{Table, tableOf}
 use Rattle.table.proofs.PromiseLaws.{promised}
 use Rattle.definition.specs.Result.{alreadyScheduled, unscheduleOutOfOrder, maybeThrowInValueTerminal}
 use Rattle.definition.specs.Tree.{Statements, rows}
-use Rattle.definition.specs.Context.{ControlFlowTarget, target-if, target-switch, target-case, target-loop, Context}
+use Rattle.definition.specs.Context.{ControlFlowTarget, target-if, target-switch, target-case, target-loop, targetBlock, continuesAt, Context, Resolution, getBreakTarget, getContinueTarget}
 use Rattle.definition.specs.Value.{mostVisits, visitValueBlock}
 use Rattle.definition.specs.Statement.{visitBlock, traverseBlock}
 use Rattle.definition.specs.Build.{rejected, report, refusal, built}
@@ -23,7 +24,7 @@ use Rattle.definition.specs.Machine.{State, begin, Gives, run}
 use Rattle.definition.specs.Run.{Answers, Reason, stopped}
 use Rattle.definition.specs.BlockRun.{blockRun}
 use Rattle.definition.specs.Plain.{Plain}
-use Rattle.definition.specs.Reading.{OneTree}
+use Rattle.definition.specs.Reading.{OneTree, JumpsWithin}
 use Rattle.definition.specs.RunLaw.{RunLaw}
 use Rattle.definition.proofs.Outcomes.{ofInput, acceptance, outcome-code, refused-form, refused-rows, accepted-form}
 use Rattle.definition.proofs.Visits.{visits-most}
@@ -32,7 +33,9 @@ use Rattle.definition.proofs.Simulation.{machine-builds}
 use Rattle.definition.proofs.Invariant.{Reached, contextOf, framesOf, Small, sound-small, reached-going, stack-bound, machine-turns}
 use Rattle.definition.proofs.Enough.{blocks-enough}
 use Rattle.definition.proofs.PlainEnough.{PlainEnough}
-use Rattle.definition.proofs.Law.{run-law-enough, more-steps}
+use Rattle.definition.proofs.Law.{run-law-enough, more-steps, one-tree}
+use Rattle.definition.proofs.Crossed.{Found, break-found, continue-found}
+use Rattle.definition.proofs.JumpRows.{built-within}
 use Rattle.definition.proofs.Example.{W, loops, W-law, loops-law}
 use Rattle.definition.proofs.Samples.{Sample, samples, builtFor, the-samples}
 use Rattle.text.specs.Ascii.{ascii}
@@ -175,6 +178,20 @@ pub the-depth-is-at-most-128 : (words : List ℕ) → checked words ≡ accepted
 the-depth-is-at-most-128 words passed s reached =
     let checks = checked-table words (promised words passed) in
     let small : Small s = sound-small (tableOf words) s (reached-going (tableOf words) checks s reached .sound) in small .frames
+
+-- ---- M-107: how many loops a jump leaves
+
+-- the number is that of the loops on the stack above the entry found; where that is a loop, the jump is Labeled exactly when the number is above 0
+pub a-break-gives-the-loops-above-its-entry : (cx : Context) (block : ℕ) (found : Resolution) → getBreakTarget cx block ≡ some found
+    → Found (λ target. eqb (targetBlock target) block) (cx .stack) found
+a-break-gives-the-loops-above-its-entry = break-found
+
+pub a-continue-gives-the-loops-above-its-loop : (cx : Context) (block : ℕ) (found : Resolution) → getContinueTarget cx block ≡ some found
+    → Found (λ target. continuesAt target block) (cx .stack) found
+a-continue-gives-the-loops-above-its-loop = continue-found
+
+pub no-row-has-more-than-128-loops : (words : List ℕ) (lent : ℕ) → (accepts : built words lent .code ≡ 0) → JumpsWithin (rows (one-tree words lent accepts .tree))
+no-row-has-more-than-128-loops = built-within
 
 -- ---- samples
 
