@@ -14,7 +14,9 @@ use native.Mathlib.Decide.{ℕ-discrete}
 use borrow.Author.Tests.{eq-eqb, ne-eqb}
 use Rattle.definition.specs.Result.{ok, refused, _>>=_, refuseIf}
 use Rattle.definition.specs.Context as definition
-use Rattle.definition.specs.Context.{Flags, has, add, noFlags, start, isScheduled, emit, markScopeFallthrough, scheduleCatchHandler, targetBlock, target-if, target-switch, target-case, target-loop, isBlocked, blockAsked, blockedCode, pushed, popped, schedule, unscheduledBy, unschedule, unscheduleTop}
+use Rattle.definition.specs.Context.{Flags, has, add, noFlags, start, isScheduled, emit, markScopeFallthrough, scheduleCatchHandler, targetBlock, target-if}
+use Rattle.definition.specs.Context.{target-switch, target-case, target-loop, isBlocked, blockAsked, blockedCode, pushed, popped, schedule, unscheduledBy}
+use Rattle.definition.specs.Context.{unschedule, unscheduleTop}
 use Rattle.definition.specs.Machine as machine
 use Rattle.control.specs.declared.ControlFlowTarget.{ControlFlowTarget}
 use Rattle.control.specs.declared.ControlFlowTarget.the-variants.{If, Switch, Case, Loop}
@@ -72,15 +74,53 @@ stack-length entries (suc n) = ap suc (stack-length entries n)
 -- ---- what the sets' own functions do to a Context
 
 module _ (visits block : ℕ) (cx : Context) where
-  pub emits : contextOf visits (record { emitted = add (cx .emitted) block; «catch_handlers» = cx .«catch_handlers»; «scope_fallthroughs» = cx .«scope_fallthroughs»; len = cx .len; scheduled = cx .scheduled; pushed = cx .pushed; pending = cx .pending; refused = cx .refused; «next_schedule_id» = cx .«next_schedule_id»; stack = cx .stack }) ≡ emit block (contextOf visits cx)
+  pub emits : contextOf visits (record {
+    emitted = add (cx .emitted) block;
+    «catch_handlers» = cx .«catch_handlers»;
+    «scope_fallthroughs» = cx .«scope_fallthroughs»;
+    len = cx .len;
+    scheduled = cx .scheduled;
+    pushed = cx .pushed;
+    pending = cx .pending;
+    refused =
+        cx .refused;
+    «next_schedule_id» = cx .«next_schedule_id»;
+    stack = cx .stack;
+  }) ≡ emit block (contextOf visits cx)
   unfolding contextOf emit
   emits = refl
 
-  pub marks-scope-fallthrough : contextOf visits (record { emitted = cx .emitted; «catch_handlers» = cx .«catch_handlers»; «scope_fallthroughs» = add (cx .«scope_fallthroughs») block; len = cx .len; scheduled = cx .scheduled; pushed = cx .pushed; pending = cx .pending; refused = cx .refused; «next_schedule_id» = cx .«next_schedule_id»; stack = cx .stack }) ≡ markScopeFallthrough block (contextOf visits cx)
+  pub marks-scope-fallthrough : contextOf visits
+      (record {
+        emitted = cx .emitted;
+        «catch_handlers» = cx .«catch_handlers»;
+        «scope_fallthroughs» = add (cx .«scope_fallthroughs») block;
+        len = cx .len;
+        scheduled = cx .scheduled;
+        pushed = cx .pushed;
+        pending = cx .pending;
+        refused = cx .refused;
+        «next_schedule_id» = cx .«next_schedule_id»;
+        stack =
+            cx .stack;
+      }) ≡ markScopeFallthrough block (contextOf visits cx)
   unfolding contextOf markScopeFallthrough
   marks-scope-fallthrough = refl
 
-  pub schedules-catch-handler : contextOf visits (record { emitted = cx .emitted; «catch_handlers» = add (cx .«catch_handlers») block; «scope_fallthroughs» = cx .«scope_fallthroughs»; len = cx .len; scheduled = cx .scheduled; pushed = cx .pushed; pending = cx .pending; refused = cx .refused; «next_schedule_id» = cx .«next_schedule_id»; stack = cx .stack }) ≡ scheduleCatchHandler block (contextOf visits cx)
+  pub schedules-catch-handler : contextOf visits
+      (record {
+        emitted = cx .emitted;
+        «catch_handlers» = add (cx .«catch_handlers») block;
+        «scope_fallthroughs» = cx .«scope_fallthroughs»;
+        len = cx .len;
+        scheduled = cx .scheduled;
+        pushed = cx .pushed;
+        pending = cx .pending;
+        refused = cx .refused;
+        «next_schedule_id» = cx .«next_schedule_id»;
+        stack =
+            cx .stack;
+      }) ≡ scheduleCatchHandler block (contextOf visits cx)
   unfolding contextOf scheduleCatchHandler
   schedules-catch-handler = refl
 
@@ -90,9 +130,28 @@ module _ (visits block : ℕ) (cx : Context) where
 
 -- ---- the steps
 
-pub created : Created (record { emitted = replicate 1024 false; «catch_handlers» = replicate 1024 false; «scope_fallthroughs» = replicate 1024 false; len = 0; scheduled = replicate 1024 false; pushed = noEntry; pending = false; refused = 0; «next_schedule_id» = 0; stack = replicate 1152 noEntry })
+pub created : Created (record {
+  emitted = replicate 1024 false;
+  «catch_handlers» = replicate 1024 false;
+  «scope_fallthroughs» = replicate 1024 false;
+  len = 0;
+  scheduled = replicate 1024 false;
+  pushed = noEntry;
+  pending = false;
+  refused = 0;
+  «next_schedule_id» = 0;
+  stack = replicate 1152 noEntry;
+})
 unfolding contextOf start noFlags stackOf
-created = record { context = refl; len = refl; id = refl; settled = refl; stack = refl; bounded = record { most = omega arith; named = λ k below. let absurd-below : ⊥ = omega arith in absurd absurd-below } }
+created =
+    record {
+      context = refl;
+      len = refl;
+      id = refl;
+      settled = refl;
+      stack = refl;
+      bounded = record { most = omega arith; named = λ k below. let absurd-below : ⊥ = omega arith in absurd absurd-below };
+    }
 
 -- settling changes the form of a Context, and not what it stands for
 pub settles : (visits : ℕ) (cx : Context) → cx .pending ≡ true → 0 < cx .len → cx .len ≤ length (cx .stack) → contextOf visits (settled cx) ≡ contextOf visits cx
@@ -102,10 +161,20 @@ settles visits cx e h k =
     let l : cx .len ≡ suc n = omega arith in
     let s : stackOf (set (cx .stack) n (cx .pushed)) (cx .len) ≡ entriesOf (cx .pending) (cx .pushed) (cx .stack) (cx .len) =
     ap (stackOf (set (cx .stack) n (cx .pushed))) l ∙ stack-stored (cx .stack) n (cx .pushed) (omega arith) ∙ sym (ap (λ (pending : Bool). entriesOf pending (cx .pushed) (cx .stack) (cx .len)) e) in
-    ap (λ (stack : List definition.Entry). record { nextId = cx .«next_schedule_id»; emitted = cx .emitted; scopeFallthroughs = cx .«scope_fallthroughs»; scheduled = cx .scheduled; catchHandlers = cx .«catch_handlers»; stack = stack; visits = visits }) s
+    ap (λ (stack : List definition.Entry). record {
+      nextId = cx .«next_schedule_id»;
+      emitted = cx .emitted;
+      scopeFallthroughs = cx .«scope_fallthroughs»;
+      scheduled = cx .scheduled;
+      catchHandlers = cx .«catch_handlers»;
+      stack = stack;
+      visits = visits;
+    }) s
 
 -- a refusal that is asked as a number
-asked : (blocked : Bool) (code at visits : ℕ) (next : definition.Context) → (code ≡ 0 → ⊥) → (refuseIf blocked code at visits >>= λ _. ok next) ≡ elim (eqb (refusalIf blocked code) 0) [ true ↦ ok next | false ↦ refused (refusalIf blocked code) at visits ]
+asked : (blocked : Bool) (code at visits : ℕ) (next : definition.Context) → (code ≡ 0 → ⊥)
+    → (refuseIf blocked code at visits >>= λ _. ok next) ≡ elim (eqb (refusalIf blocked code) 0)
+    [ true ↦ ok next | false ↦ refused (refusalIf blocked code) at visits ]
 unfolding refuseIf _>>=_
 asked true code at visits next h = rw (ne-eqb code 0 h)
 asked false code at visits next h = refl
@@ -122,7 +191,8 @@ pushes visits target cx e =
     let l : cx .len + 1 - 1 ≡ cx .len = omega arith in
     rw (l, add-one, e)
 
-named-stored : (entries : List Entry) (n k : ℕ) (entry : Entry) → Named (entry .target) → n < length entries → k ≤ n → ((j : ℕ) → j < n → Named (getD entries j noEntry .target)) → Named (getD (set entries n entry) k noEntry .target)
+named-stored : (entries : List Entry) (n k : ℕ) (entry : Entry) → Named (entry .target) → n < length entries → k ≤ n
+    → ((j : ℕ) → j < n → Named (getD entries j noEntry .target)) → Named (getD (set entries n entry) k noEntry .target)
 named-stored entries n k entry named h below all =
     ⊎-elim
     (λ same. subst (λ (e : Entry). Named (e .target)) (sym (ap (λ (j : ℕ). getD (set entries n entry) j noEntry) same ∙ getD-set-same entries n entry noEntry h)) named)
@@ -134,7 +204,9 @@ bounded-stored entries n entry named h small bounded =
     let e : n + 1 - 1 ≡ n = omega arith in
     record { most = omega arith; named = λ k below. rw e (named-stored entries n k entry named h (omega arith) (bounded .named)) }
 
-by-definition : (visits : ℕ) (target : definition.ControlFlowTarget) (cx : Context) → schedule target (contextOf visits cx) ≡ (refuseIf (isBlocked target (cx .scheduled)) (blockedCode target) (blockAsked target) visits >>= λ _. ok (pushed target (contextOf visits cx)))
+by-definition : (visits : ℕ) (target : definition.ControlFlowTarget) (cx : Context)
+    → schedule target (contextOf visits cx) ≡
+    (refuseIf (isBlocked target (cx .scheduled)) (blockedCode target) (blockAsked target) visits >>= λ _. ok (pushed target (contextOf visits cx)))
 unfolding schedule contextOf
 by-definition visits target cx = refl
 
@@ -142,8 +214,12 @@ module _ (target : ControlFlowTarget) (cx : Context) (named : Named target) (roo
   pub scheduled : Scheduled target cx (withEntry target cx)
   scheduled = record {
     state = refl;
-    context = λ visits. by-definition visits (targetOf target) cx ∙ ap (λ (next : definition.Context). refuseIf (isBlocked (targetOf target) (cx .scheduled)) (blockedCode (targetOf target)) (blockAsked (targetOf target)) visits >>= λ _. ok next) (sym (pushes visits target cx (room .settled)))
-        ∙ asked (isBlocked (targetOf target) (cx .scheduled)) (blockedCode (targetOf target)) (blockAsked (targetOf target)) visits (contextOf visits (withEntry target cx)) (blocked-code (targetOf target));
+    context =
+        λ visits. by-definition visits (targetOf target) cx ∙ ap
+        (λ (next : definition.Context). refuseIf (isBlocked (targetOf target) (cx .scheduled)) (blockedCode (targetOf target)) (blockAsked (targetOf target))
+        visits >>= λ _. ok next) (sym (pushes visits target cx (room .settled)))
+        ∙ asked (isBlocked (targetOf target) (cx .scheduled)) (blockedCode (targetOf target)) (blockAsked (targetOf target)) visits
+        (contextOf visits (withEntry target cx)) (blocked-code (targetOf target));
     len = refl;
     id = refl;
     pending = refl;
@@ -152,11 +228,13 @@ module _ (target : ControlFlowTarget) (cx : Context) (named : Named target) (roo
 
 -- ---- unschedule
 
-unschedule-top : (cx : definition.Context) (top : definition.Entry) (below : List definition.Entry) → cx .stack ≡ top ∷ below → unschedule (top .id) cx ≡ ok (popped below (unscheduledBy (top .target) (top .ownsLoop) (cx .scheduled)) cx)
+unschedule-top : (cx : definition.Context) (top : definition.Entry) (below : List definition.Entry) → cx .stack ≡ top ∷ below
+    → unschedule (top .id) cx ≡ ok (popped below (unscheduledBy (top .target) (top .ownsLoop) (cx .scheduled)) cx)
 unfolding unschedule unscheduleTop
 unschedule-top cx top below e = ap (λ (stack : List definition.Entry). unscheduleTop stack (top .id) cx) e ∙ rw (unscheduleTop, eq-eqb (top .id) (top .id) refl)
 
-unscheduled-top : (cx : definition.Context) (top : definition.Entry) (below : List definition.Entry) → cx .stack ≡ top ∷ below → machine.unscheduled cx ≡ popped below (unscheduledBy (top .target) (top .ownsLoop) (cx .scheduled)) cx
+unscheduled-top : (cx : definition.Context) (top : definition.Entry) (below : List definition.Entry) → cx .stack ≡ top ∷ below
+    → machine.unscheduled cx ≡ popped below (unscheduledBy (top .target) (top .ownsLoop) (cx .scheduled)) cx
 unfolding machine.unscheduled machine.unscheduledTop
 unscheduled-top cx top below e = ap (λ (stack : List definition.Entry). machine.unscheduledTop stack cx) e
 
@@ -165,7 +243,8 @@ module _ (cx : Context) (last : Entry) (top : Last cx last) where
   unfolding contextOf
   on-top visits = ap (λ (pending : Bool). entriesOf pending (cx .pushed) (cx .stack) (cx .len)) (top .settled) ∙ stack-last (cx .stack) (cx .len) last (top .nonempty) (top .read)
 
-  off : (visits : ℕ) → popped (stackOf (cx .stack) (cx .len - 1)) (unscheduledBy (targetOf (last .target)) (last .«owns_loop») (contextOf visits cx .scheduled)) (contextOf visits cx) ≡ contextOf visits (withoutLast (unscheduledBy (targetOf (last .target)) (last .«owns_loop») (cx .scheduled)) cx)
+  off : (visits : ℕ) → popped (stackOf (cx .stack) (cx .len - 1)) (unscheduledBy (targetOf (last .target)) (last .«owns_loop») (contextOf visits cx .scheduled))
+      (contextOf visits cx) ≡ contextOf visits (withoutLast (unscheduledBy (targetOf (last .target)) (last .«owns_loop») (cx .scheduled)) cx)
   unfolding contextOf popped
   off visits = rw (top .settled)
 
@@ -176,7 +255,9 @@ module _ (cx : Context) (last : Entry) (top : Last cx last) where
   pub unscheduled : Unscheduled last cx (withoutLast (unscheduledBy (targetOf (last .target)) (last .«owns_loop») (cx .scheduled)) cx)
   unscheduled = record {
     state = refl;
-    context = λ visits. unschedule-top (contextOf visits cx) (entryOf last) (stackOf (cx .stack) (cx .len - 1)) (on-top visits) ∙ ap ok (sym (unscheduled-top (contextOf visits cx) (entryOf last) (stackOf (cx .stack) (cx .len - 1)) (on-top visits)) ∙ pops visits);
+    context =
+        λ visits. unschedule-top (contextOf visits cx) (entryOf last) (stackOf (cx .stack) (cx .len - 1)) (on-top visits) ∙ ap ok
+        (sym (unscheduled-top (contextOf visits cx) (entryOf last) (stackOf (cx .stack) (cx .len - 1)) (on-top visits)) ∙ pops visits);
     pops = λ visits. sym (pops visits);
     len = refl;
     id = refl;

@@ -30,7 +30,8 @@ mutual
   value-pushed (SEQ is id v) after below = instructions-pushed is (valueRows v (row 5 (countInstructions is) id 0 0 0 ∷ after)) below ∙ value-pushed v _ (pushInstructions is below)
   value-pushed (LOGICAL o l r) after below = value-pushed l (valueRows r (row 6 o 0 0 0 0 ∷ after)) below ∙ value-pushed r _ (pushValue l below)
   value-pushed (COND x y z) after below =
-      value-pushed x (valueRows y (valueRows z (row 7 0 0 0 0 0 ∷ after))) below ∙ value-pushed y (valueRows z (row 7 0 0 0 0 0 ∷ after)) (pushValue x below) ∙ value-pushed z _ (pushValue y (pushValue x below))
+      value-pushed x (valueRows y (valueRows z (row 7 0 0 0 0 0 ∷ after))) below ∙ value-pushed y (valueRows z (row 7 0 0 0 0 0 ∷ after)) (pushValue x below) ∙
+      value-pushed z _ (pushValue y (pushValue x below))
   value-pushed (OPTIONAL f v) after below = value-pushed v (row 8 f 0 0 0 0 ∷ after) below
 
   instructions-pushed : (is : Instructions) (after below : List Row) → pushed (instructionsRows is after) below ≡ pushed after (pushInstructions is below)
@@ -60,7 +61,8 @@ push-instruction-rows t (i ∷ rows) below = push-instruction-rows t rows _
 pub push-instruction-rows-after : (t : Table) (is : List ℕ) (rows : List Row) → pushInstructionRows t is (pushed rows []) ≡ pushed (rows ++ instructionsOut t is) []
 push-instruction-rows-after t is rows = push-instruction-rows t is (pushed rows []) ∙ sym (pushed-append rows (instructionsOut t is) [])
 
-pub push-instructions-of : (t : Table) (rows : List ℕ) (more : Instructions) (below : List Row) → pushInstructions (instructionsOf t rows more) below ≡ pushInstructions more (pushInstructionRows t rows below)
+pub push-instructions-of : (t : Table) (rows : List ℕ) (more : Instructions) (below : List Row)
+    → pushInstructions (instructionsOf t rows more) below ≡ pushInstructions more (pushInstructionRows t rows below)
 unfolding pushInstructionRows pushValue instructionsOf
 push-instructions-of t [] more below = refl
 push-instructions-of t (i ∷ rows) more below = push-instructions-of t rows more _
@@ -68,7 +70,8 @@ push-instructions-of t (i ∷ rows) more below = push-instructions-of t rows mor
 -- one row more, at the end
 pub push-next-row : (t : Table) (first count : ℕ) (below : List Row)
     → pushInstructionRows t (rowsFrom first (suc count)) below
-    ≡ row 4 (instructionAt t (first + count) .id) (instructionAt t (first + count) .lvalue) (instructionAt t (first + count) .span) 0 0 ∷ row 1 (first + count) 0 0 0 0 ∷ pushInstructionRows t (rowsFrom first count) below
+    ≡ row 4 (instructionAt t (first + count) .id) (instructionAt t (first + count) .lvalue) (instructionAt t (first + count) .span) 0 0 ∷ row 1 (first + count)
+    0 0 0 0 ∷ pushInstructionRows t (rowsFrom first count) below
 unfolding pushInstructionRows
 push-next-row t first zero below =
     let e : first + 0 ≡ first = omega arith in rw e

@@ -17,13 +17,30 @@ new-requires : tie.Need-new-requires Inv-loop μ-loop
 new-requires c κs = search needs
 
 loop-holds : tie.Need-loop-holds Inv-loop μ-loop
-loop-holds c = record { named = omega arith; all = refl; most = omega arith; empty = c .new .ensures .len; settled = c .new .ensures .settled; ids = omega (arith, c .new .ensures .id); size = size-new _ (c .new .ensures .context); bounded = c .new .ensures .bounded }
+loop-holds c =
+    record {
+      named = omega arith;
+      all = refl;
+      most = omega arith;
+      empty = c .new .ensures .len;
+      settled = c .new .ensures .settled;
+      ids = omega (arith, c .new .ensures .id);
+      size = size-new _ (c .new .ensures .context);
+      bounded = c .new .ensures .bounded;
+    }
 
 next-block-requires : tie.Need-next-block-requires Inv-loop μ-loop
 next-block-requires c κs = c .before .loop .inv .named
 
 schedule-requires : tie.Need-schedule-requires Inv-loop μ-loop
-schedule-requires c κs = (c .next-block .ensures, record { len = omega (arith, c .before .before .loop .inv .empty); settled = c .before .before .loop .inv .settled; id = omega (arith, c .before .before .loop .inv .ids, c .before .loop-test .taken, c .before .before .before .before .fits .turns) })
+schedule-requires c κs = (
+  c .next-block .ensures,
+  record {
+    len = omega (arith, c .before .before .loop .inv .empty);
+    settled = c .before .before .loop .inv .settled;
+    id = omega (arith, c .before .before .loop .inv .ids, c .before .loop-test .taken, c .before .before .before .before .fits .turns);
+  },
+)
 
 sub-at : tie.Need-sub-at Inv-loop μ-loop
 sub-at c = omega (arith, c .schedule .ensures .len, c .before .before .before .loop .inv .empty)
@@ -38,22 +55,45 @@ is-scheduled-requires : tie.Need-is-scheduled-requires Inv-loop μ-loop
 is-scheduled-requires c κs = c .before .before .before .before .before .next-block .ensures
 
 count-requires : tie.Need-count-requires Inv-loop μ-loop
-count-requires c κs = omega (arith, c .before .before .before .before .before .before .before .before .loop .inv .all, c .before .before .before .before .before .before .before .loop-test .taken, c .before .before .before .before .before .before .before .before .before .before .fits .turns)
+count-requires c κs =
+    omega (
+      arith,
+      c .before .before .before .before .before .before .before .before .loop .inv .all,
+      c .before .before .before .before .before .before .before .loop-test .taken,
+      c .before .before .before .before .before .before .before .before .before .before .fits .turns,
+    )
 
 mul-last : tie.Need-mul-last Inv-loop μ-loop
-mul-last c = scaled-fits _ 1152 _ (omega (arith, c .before .before .before .before .before .before .schedule .ensures .len, c .before .before .before .before .before .before .before .before .before .loop .inv .empty)) (lit< tt)
+mul-last c =
+    scaled-fits _ 1152 _ (omega (
+      arith,
+      c .before .before .before .before .before .before .schedule .ensures .len,
+      c .before .before .before .before .before .before .before .before .before .loop .inv .empty,
+    )) (lit< tt)
 
 element-copy-out-last : tie.Need-element-copy-out-last Inv-loop μ-loop
-element-copy-out-last c = omega (arith, c .before .before .before .before .before .before .schedule .ensures .len, c .before .before .before .before .before .before .before .before .before .loop .inv .empty)
+element-copy-out-last c =
+    omega (
+      arith,
+      c .before .before .before .before .before .before .schedule .ensures .len,
+      c .before .before .before .before .before .before .before .before .before .loop .inv .empty,
+    )
 
 unschedule-requires : tie.Need-unschedule-requires Inv-loop μ-loop
 unschedule-requires c κs =
-    let stored = c .before .before .before .before .before .before .before .schedule .ensures .bounded (c .before .before .before .before .before .before .before .before .before .before .loop .inv .bounded) in
-    let some : 0 < c .before .before .before .before .before .before .before .schedule .result .len = omega (arith, c .before .before .before .before .before .before .before .schedule .ensures .len) in
+    let stored = c .before .before .before .before .before .before .before .schedule .ensures .bounded
+    (c .before .before .before .before .before .before .before .before .before .before .loop .inv .bounded) in
+    let some : 0 < c .before .before .before .before .before .before .before .schedule .result .len = omega
+    (arith, c .before .before .before .before .before .before .before .schedule .ensures .len) in
     record { nonempty = some; settled = refl; read = refl; named = stored .named (c .before .before .before .before .before .before .before .schedule .result .len - 1) (omega arith) }
 
 add-turn : tie.Need-add-turn Inv-loop μ-loop
-add-turn c = omega (arith, c .before .before .before .before .before .before .before .before .before .before .loop-test .taken, c .before .before .before .before .before .before .before .before .before .before .before .before .before .fits .turns)
+add-turn c =
+    omega (
+      arith,
+      c .before .before .before .before .before .before .before .before .before .before .loop-test .taken,
+      c .before .before .before .before .before .before .before .before .before .before .before .before .before .fits .turns,
+    )
 
 loop-less : tie.Need-loop-less Inv-loop μ-loop
 loop-less c = omega (arith, c .before .before .before .before .before .before .before .before .before .before .loop-test .taken)

@@ -49,7 +49,15 @@ loop-less : tie.Need-loop-less Inv-loop μ-loop
 loop-less c = omega (arith, c .before .before .before .before .before .before .before .number .ensures, c .before .before .before .before .before .number2 .ensures)
 
 loop-again : tie.Need-loop-again Inv-loop μ-loop
-loop-again c = omega (arith, c .before .before .before .before .before .before .before .before .before .before .before .loop .inv, c .before .before .before .before .before .before .before .number .ensures, c .before .before .before .before .before .number2 .ensures, c .before .before .fill .ensures, c .before .before .fill .kept .0)
+loop-again c =
+    omega (
+      arith,
+      c .before .before .before .before .before .before .before .before .before .before .before .loop .inv,
+      c .before .before .before .before .before .before .before .number .ensures,
+      c .before .before .before .before .before .number2 .ensures,
+      c .before .before .fill .ensures,
+      c .before .before .fill .kept .0,
+    )
 
 same-length-3 : tie.Need-same-length-3 Inv-loop μ-loop
 same-length-3 c = omega arith

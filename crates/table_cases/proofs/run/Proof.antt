@@ -42,16 +42,44 @@ differs-requires : tie.Need-differs-requires Inv-loop μ-loop
 differs-requires c κs = search needs
 
 add-differences : tie.Need-add-differences Inv-loop μ-loop
-add-differences c = omega (arith, c .before .before .before .before .before .before .before .before .before .before .loop .inv, c .before .before .before .before .before .before .before .before .before .loop-test .taken, c .differs .ensures)
+add-differences c =
+    omega (
+      arith,
+      c .before .before .before .before .before .before .before .before .before .before .loop .inv,
+      c .before .before .before .before .before .before .before .before .before .loop-test .taken,
+      c .differs .ensures,
+    )
 
 add-lists : tie.Need-add-lists Inv-loop μ-loop
-add-lists c = omega (arith, c .before .before .before .before .before .before .before .before .before .before .loop .inv, c .before .before .before .before .before .before .before .before .before .loop-test .taken)
+add-lists c =
+    omega (
+      arith,
+      c .before .before .before .before .before .before .before .before .before .before .loop .inv,
+      c .before .before .before .before .before .before .before .before .before .loop-test .taken,
+    )
 
 loop-less : tie.Need-loop-less Inv-loop μ-loop
-loop-less c = omega (arith, c .before .before .before .before .before .before .before .before .before .loop-test .taken, c .before .before .before .before .before .before .before .before .number .ensures, c .before .before .before .before .before .before .number2 .ensures, c .before .before .before .before .list .ensures)
+loop-less c =
+    omega (
+      arith,
+      c .before .before .before .before .before .before .before .before .before .loop-test .taken,
+      c .before .before .before .before .before .before .before .before .number .ensures,
+      c .before .before .before .before .before .before .number2 .ensures,
+      c .before .before .before .before .list .ensures,
+    )
 
 loop-again : tie.Need-loop-again Inv-loop μ-loop
-loop-again c = omega (arith, c .before .before .before .before .before .before .before .before .before .before .loop .inv, c .before .before .before .before .before .before .before .before .before .loop-test .taken, c .before .before .before .before .before .before .before .before .number .ensures, c .before .before .before .before .before .before .number2 .ensures, c .before .before .before .before .list .ensures, c .before .before .before .before .list .kept, c .differs .ensures)
+loop-again c =
+    omega (
+      arith,
+      c .before .before .before .before .before .before .before .before .before .before .loop .inv,
+      c .before .before .before .before .before .before .before .before .before .loop-test .taken,
+      c .before .before .before .before .before .before .before .before .number .ensures,
+      c .before .before .before .before .before .before .number2 .ensures,
+      c .before .before .before .before .list .ensures,
+      c .before .before .before .before .list .kept,
+      c .differs .ensures,
+    )
 
 same-length-2 : tie.Need-same-length-2 Inv-loop μ-loop
 same-length-2 c = omega arith

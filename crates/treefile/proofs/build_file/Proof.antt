@@ -44,7 +44,8 @@ same-length c = search needs
 returns : tie.Need-returns
 returns c =
     let w = c .before .before .build-words .ensures in
-    tree-built _ _ _ _ _ _ _ (rw (c .before .before .before .before .before .before .answer .given .1) at (c .before .before .before .before .before .before .before .before .before .read .ensures)) (w .0) (w .1 .0) (w .1 .1)
+    tree-built _ _ _ _ _ _ _ (rw (c .before .before .before .before .before .before .answer .given .1) at
+    (c .before .before .before .before .before .before .before .before .before .read .ensures)) (w .0) (w .1 .0) (w .1 .1)
 
 same-length-2 : tie.Need-same-length-2
 same-length-2 c = search needs
@@ -52,7 +53,8 @@ same-length-2 c = search needs
 returns-2 : tie.Need-returns-2
 returns-2 c =
     let w = c .before .before .write-result .ensures in
-    refusal-built _ _ _ _ _ _ _ ((rw (c .before .before .before .before .before .before .answer2 .given .1) at (c .before .before .before .before .before .before .before .before .before .read .ensures)) .0) (w .0) (w .1 .0) (w .1 .1 (omega arith))
+    refusal-built _ _ _ _ _ _ _ ((rw (c .before .before .before .before .before .before .answer2 .given .1) at
+    (c .before .before .before .before .before .before .before .before .before .read .ensures)) .0) (w .0) (w .1 .0) (w .1 .1 (omega arith))
 
 returns-3 : tie.Need-returns-3
 returns-3 c = never-short _ _ _ _ _ _ (omega (arith, length-replicate {A = ℕ} 16384 0)) (rw (c .enum-told .given .1) at (c .before .before .before .read .ensures))

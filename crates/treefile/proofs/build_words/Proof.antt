@@ -32,8 +32,15 @@ returns c =
     let b = c .before .before .before .before .before .before .before .before .build-reactive-function in
     let h = b .ensures in
     let w = c .before .before .write-result .ensures in
-    let e = refusal-lines _ _ _ _ _ _ (c .before .before .before .before .before .if1 .taken) ∙ built-printed (c .before .before .before .before .before .before .before .before .before .before .before .before .args .words .now) lentWords (b .result) (b .last .1 .0) (length-replicate {A = ℕ} 12288 0) h in
-    (w .0 ∙ ap (writtenOf _) e, (w .1 .0 ∙ ap (lentOf _) e, λ p. w .1 .1 (omega (arith, c .before .before .before .before .before .before .before .tree2 .given)) p ∙ ap (λ (text : List ℕ). Bytes (length text)) e))
+    let e = refusal-lines _ _ _ _ _ _ (c .before .before .before .before .before .if1 .taken) ∙ built-printed
+    (c .before .before .before .before .before .before .before .before .before .before .before .before .args .words .now) lentWords (b .result) (b .last .1 .0)
+    (length-replicate {A = ℕ} 12288 0) h in (
+      w .0 ∙ ap (writtenOf _) e,
+      (
+        w .1 .0 ∙ ap (lentOf _) e,
+        λ p. w .1 .1 (omega (arith, c .before .before .before .before .before .before .before .tree2 .given)) p ∙ ap (λ (text : List ℕ). Bytes (length text)) e,
+      ),
+    )
 
 cast-end : tie.Need-cast-end
 cast-end c = search needs
@@ -63,8 +70,19 @@ returns-2 c =
     let h = b .ensures in
     let fits : b .result .rows * 6 ≤ length (b .last .1 .0) = omega (arith, built-within _ _ _ _ h (c .before .before .before .before .before .before .if1 .left), b .kept .1 .0) in
     let w = c .before .before .write-result2 .ensures in
-    let e = built-printed (c .before .before .before .before .before .before .before .before .before .before .before .before .before .args .words .now) lentWords (b .result) (b .last .1 .0) (length-replicate {A = ℕ} 12288 0) h in
-    (w .0 ∙ ap (writtenOf _) e, (w .1 .0 ∙ ap (lentOf _) e, λ p. w .1 .1 (omega (arith, length-take-le (b .result .rows * 6) (b .last .1 .0) fits, fits, c .before .before .before .before .before .before .before .before .tree2 .given)) p ∙ ap (λ (text : List ℕ). Bytes (length text)) e))
+    let e = built-printed (c .before .before .before .before .before .before .before .before .before .before .before .before .before .args .words .now)
+    lentWords (b .result) (b .last .1 .0) (length-replicate {A = ℕ} 12288 0) h in (
+      w .0 ∙ ap (writtenOf _) e,
+      (
+        w .1 .0 ∙ ap (lentOf _) e,
+        λ p. w .1 .1 (omega (
+          arith,
+          length-take-le (b .result .rows * 6) (b .last .1 .0) fits,
+          fits,
+          c .before .before .before .before .before .before .before .before .tree2 .given,
+        )) p ∙ ap (λ (text : List ℕ). Bytes (length text)) e,
+      ),
+    )
 
 pub build-words-spec : {M : Type 1} → statement M
 build-words-spec =

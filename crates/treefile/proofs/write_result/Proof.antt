@@ -21,7 +21,11 @@ returns c =
     let a = c .before .before .before .before .before .before .args in
     let f = c .before .before .before .before .before .before .fits in
     let narrow : Narrow (a .tree .now) = λ i. omega (arith, c .before .before .before .before .shared-slice-known .given i) in
-    let fits : length (a .tree .now) ≤ 12288 → 135245 ≤ length (a .out .now) → writtenOf (length (a .out .now)) (printed (a .code) (a .at) (a .rows) (a .visits) (a .tree .now)) ≡ Bytes (length (printed (a .code) (a .at) (a .rows) (a .visits) (a .tree .now))) = λ p q. written-fits (length (a .out .now)) (a .code) (a .at) (a .rows) (a .visits) (a .tree .now) (omega (arith, f .code), (omega (arith, f .at), (omega (arith, f .rows), (omega (arith, f .visits), tt)))) narrow (omega (arith, p, q)) in
+    let fits : length (a .tree .now) ≤ 12288 → 135245 ≤ length (a .out .now)
+    → writtenOf (length (a .out .now)) (printed (a .code) (a .at) (a .rows) (a .visits) (a .tree .now)) ≡ Bytes
+    (length (printed (a .code) (a .at) (a .rows) (a .visits) (a .tree .now))) = λ p q. written-fits (length (a .out .now)) (a .code) (a .at) (a .rows)
+    (a .visits) (a .tree .now) (omega (arith, f .code), (omega (arith, f .at), (omega (arith, f .rows), (omega (arith, f .visits), tt)))) narrow
+    (omega (arith, p, q)) in
     (w .0, (w .1, λ p q. w .0 ∙ fits p q))
 
 pub write-result-spec : {M : Type 1} → statement M

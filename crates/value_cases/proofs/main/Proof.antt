@@ -46,7 +46,8 @@ run-requires : tie.Need-run-requires
 run-requires c κs =
     let at-read : tie.After-read = search in
     let at-numbers : tie.After-no-numbers = search in
-    rw (length-take-le (at-read .read .result) (at-read .read .last .1 .0) (omega (arith, at-read .read .ensures, at-read .read .kept))) (omega (arith, at-read .read .ensures, at-numbers .no-numbers .ensures))
+    rw (length-take-le (at-read .read .result) (at-read .read .last .1 .0) (omega (arith, at-read .read .ensures, at-read .read .kept)))
+    (omega (arith, at-read .read .ensures, at-numbers .no-numbers .ensures))
 
 print-decimal-requires : tie.Need-print-decimal-requires
 print-decimal-requires c κs = search needs

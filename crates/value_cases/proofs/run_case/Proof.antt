@@ -46,8 +46,10 @@ terminal-answer-requires c κs =
     let at-if2 = at-if3 .before .before in
     let at-block-count = at-if2 .before in
     let at-if1 = at-block-count .before .before in
-    let at-promises = at-if1 .before in
-    (at-promises .promises .ensures .promise (not-false _ (at-if1 .if1 .left)), (omega (arith, at-if2 .if2 .left, at-block-count .block-count .ensures), record { rows = omega arith; visits = omega (arith, at-if3 .if3 .left) }))
+    let at-promises = at-if1 .before in (
+      at-promises .promises .ensures .promise (not-false _ (at-if1 .if1 .left)),
+      (omega (arith, at-if2 .if2 .left, at-block-count .block-count .ensures), record { rows = omega arith; visits = omega (arith, at-if3 .if3 .left) }),
+    )
 
 same-length : tie.Need-same-length
 same-length c = search needs
@@ -61,8 +63,10 @@ block-answer-requires c κs =
     let at-if2 = at-if3 .before .before in
     let at-block-count = at-if2 .before in
     let at-if1 = at-block-count .before .before in
-    let at-promises = at-if1 .before in
-    (at-promises .promises .ensures .promise (not-false _ (at-if1 .if1 .left)), (omega (arith, at-if2 .if2 .left, at-block-count .block-count .ensures), record { rows = omega arith; visits = omega (arith, at-if3 .if3 .left) }))
+    let at-promises = at-if1 .before in (
+      at-promises .promises .ensures .promise (not-false _ (at-if1 .if1 .left)),
+      (omega (arith, at-if2 .if2 .left, at-block-count .block-count .ensures), record { rows = omega arith; visits = omega (arith, at-if3 .if3 .left) }),
+    )
 
 same-length-2 : tie.Need-same-length-2
 same-length-2 c = search needs

@@ -25,7 +25,14 @@ returns c =
     let start = c .before .before .before .before .before .before .before .before in
     let long = simp length-map at (start .good .0 .1 .1 .1 .1 .1 .1 .1 .1 .1 .1 .1 .0 .1 .0 .1) in
     let flags = simp length-map at (start .good .0 .1 .1 .1 .1 .1 .1 .0 .1 .0 .1) in
-    rw (c .before .before .refusal .ensures, c .before .before .before .before .before .is-blocked .ensures, blocked-asked (start .args .target) (start .args .self .scheduled) (start .pre .0) (omega (arith, flags)), c .before .before .before .add-target .ensures .0, c .before .before .before .add-target .ensures .1) (scheduled (start .args .target) (start .args .self) (start .pre .0) (start .pre .1) (omega (arith, long, start .pre .1 .len)))
+    rw (
+      c .before .before .refusal .ensures,
+      c .before .before .before .before .before .is-blocked .ensures,
+      blocked-asked (start .args .target) (start .args .self .scheduled) (start .pre .0) (omega (arith, flags)),
+      c .before .before .before .add-target .ensures .0,
+      c .before .before .before .add-target .ensures .1,
+    )
+    (scheduled (start .args .target) (start .args .self) (start .pre .0) (start .pre .1) (omega (arith, long, start .pre .1 .len)))
 
 pub schedule-spec : {M : Type 1} → statement M
 schedule-spec =
