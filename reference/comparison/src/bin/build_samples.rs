@@ -1,7 +1,7 @@
 //! `build_samples`: what the program build_samples prints, by the reference. The tables are made here
 //! once more; those that come from paper 01 are told so.
 
-use comparison::model::table::LIMITS;
+use comparison::model::table::{BlockRow, LIMITS};
 use comparison::reference;
 use comparison::vector::Vector;
 
@@ -10,12 +10,12 @@ use comparison::vector::Vector;
 struct Blocks {
     entry: u32,
     instructions: u32,
-    rows: Vec<[u32; 10]>,
+    rows: Vec<BlockRow>,
 }
 
 impl Blocks {
     fn add(&mut self, count: u32, code: u32, operands: &[u32], id: u32) -> u32 {
-        let mut row = [0, count, code, 0, 0, 0, 0, 0, id, 0];
+        let mut row = [0, count, code, 0, 0, 0, 0, 0, id, 0, 0];
         row[3..3 + operands.len()].copy_from_slice(operands);
         self.rows.push(row);
         self.rows.len() as u32 - 1
@@ -25,7 +25,7 @@ impl Blocks {
         assert!(self.rows.len() <= LIMITS[0] as usize);
         let mut words = vec![self.entry, self.rows.len() as u32, self.instructions, 0, 1, 1];
         words.extend(self.rows.as_flattened());
-        words.extend([1, 0, 0, 0, 0, 0].repeat(self.instructions as usize));
+        words.extend([1, 0, 0, 0, 0, 0, 0].repeat(self.instructions as usize));
         words.extend([0, 1]);
         words
     }
