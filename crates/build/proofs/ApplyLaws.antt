@@ -1,27 +1,30 @@
 -- A plan, applied to the Context: what it asks, and what it does to the definition's Context. For the driver's loop.
 use Prim.Native.Nat.{ℕ, _+_, _-_, _<_}
 use native.Mathlib.Omega.{arith}
-use native.Mathlib.Numerals.{add-one}
 use mathlib.Core.Path.{_≡_, refl, sym, ap, _∙_, subst}
-use mathlib.Core.Bool.{true, false}
+use mathlib.Core.Bool.{Bool, true, false}
 use mathlib.Core.Option.{Option, none, some}
 use lib.ListN.{length, getD, set, length-set}
+use lib.Seq.{getD-set-same}
+use lib.Dec.{eqb}
+use borrow.Author.Tests.{eq-eqb, ne-eqb}
 use Rattle.table.specs.Table.{unlessNone}
 use Rattle.table.proofs.BlockLaws.{no-number, some-number}
-use Rattle.definition.specs.Context.{Flags, add, emit, remove, targetBlock, pushed, scheduleCatchHandler, markScopeFallthrough, unscheduledBy, ControlFlowTarget, target-if, target-switch, target-case, target-loop}
+use Rattle.definition.specs.Context.{Flags, add, emit, remove, blockAsked, scheduledBy, scheduleCatchHandler, markScopeFallthrough, unscheduledBy, ControlFlowTarget, target-if, target-switch, target-case, target-loop}
 use Rattle.definition.specs.Context as definition
-use Rattle.definition.specs.Machine.{scheduled}
+use Rattle.definition.specs.Machine.{unscheduled}
+use Rattle.definition.specs.Result.{Result, ok, refused, _>>=_}
 use Rattle.control.specs.declared.ControlFlowTarget as code
 use Rattle.control.specs.declared.Context.{Context}
 use Rattle.control.specs.declared.Entry.{Entry}
-use Rattle.control.specs.Abstraction.{targetOf, noEntry, contextOf, stored}
-use Rattle.control.specs.Contract.{Named, Room, Bounded, Last, withEntry, loopTarget, loopScheduled, Scheduled, ScheduledLoop, Unscheduled}
-use Rattle.control.proofs.ContextLaws.{stored-pushed, pops}
+use Rattle.control.specs.Abstraction.{targetOf, noEntry, contextOf, resultOf, settled}
+use Rattle.control.specs.Contract.{Named, Room, Bounded, Last, Scheduled, Unscheduled}
+use Rattle.control.proofs.ContextLaws.{settles}
 use Rattle.definition.specs.Framed.{Below}
 use Rattle.planner.specs.declared.plan.Change.{Change}
-use Rattle.planner.specs.declared.plan.Change.the-variants.{Nothing, Schedule, ScheduleLoop, TakeId, Unschedule}
+use Rattle.planner.specs.declared.plan.Change.the-variants.{Nothing, Schedule, ScheduleBriefly, Unschedule}
 use Rattle.planner.specs.declared.plan.Plan.{Plan}
-use Rattle.planner.specs.Plans.{changed, handled, scoped, idTaken, scheduledLoop}
+use Rattle.planner.specs.Plans.{changed, handled, scoped}
 use Rattle.build.specs.Driver.{marked}
 
 -- ---- what applying a plan asks, and what it leaves
@@ -39,6 +42,8 @@ withMarks visited handler fallthrough cx = record {
   len = cx .len;
   scheduled = cx .scheduled;
   pushed = cx .pushed;
+  pending = cx .pending;
+  refused = cx .refused;
   «next_schedule_id» = cx .«next_schedule_id»;
   stack = cx .stack;
 }
@@ -47,19 +52,24 @@ withMarks visited handler fallthrough cx = record {
 abbrev pub Changeable : Change → Context → Type 0
 Changeable Nothing cx = Unit {0}
 Changeable (Schedule target) cx = Named target × Room cx
-Changeable (ScheduleLoop fallthrough continueBlock loopBlock) cx = ((fallthrough < 1024) × (continueBlock < 1024) × (loopBlock < 1024)) × Room cx
-Changeable TakeId cx = cx .«next_schedule_id» < 65535
+Changeable (ScheduleBriefly target) cx = Named target × Room cx
 Changeable Unschedule cx = 0 < cx .len
 
--- what the driver carries along: the stack's bound, the blocks of its entries, and the arrays' lengths
+-- what the driver carries along: nothing is pending, the stack's bound, the blocks of its entries, and the arrays' lengths
 pub record Whole (cx : Context) : Type 0 where
+  pub settled : cx .pending ≡ false
   pub bounded : Bounded (cx .stack) (cx .len)
   pub wide : length (cx .scheduled) ≡ 1024
   pub tall : length (cx .stack) ≡ 1152
 
 pub record Changed (change : Change) (cx r : Context) : Type 0 where
-  pub context : (visits : ℕ) → contextOf visits r ≡ changed change (contextOf visits cx)
+  pub context : (visits : ℕ) → changed change (contextOf visits cx) ≡ ok (contextOf visits r)
   pub whole : Whole r
+
+-- a change that `schedule` refuses
+pub record Blocked (change : Change) (cx : Context) (code at : ℕ) : Type 0 where
+  pub context : (visits : ℕ) → changed change (contextOf visits cx) ≡ refused code at visits
+  pub refuses : code ≡ 0 → ⊥
 
 pub record Applicable (visited : ℕ) (plan : Plan) (cx : Context) : Type 0 where
   pub block : Below 1024 (unlessNone visited)
@@ -69,7 +79,7 @@ pub record Applicable (visited : ℕ) (plan : Plan) (cx : Context) : Type 0 wher
   pub whole : Whole cx
 
 pub record Applied (visited : ℕ) (plan : Plan) (cx r : Context) : Type 0 where
-  pub context : (visits : ℕ) → contextOf visits r ≡ changed (plan .change) (scoped (unlessNone (plan .scope)) (handled (unlessNone (plan .handler)) (emitted (unlessNone visited) (contextOf visits cx))))
+  pub context : (visits : ℕ) → changed (plan .change) (contextOf visits (withMarks visited (plan .handler) (plan .scope) cx)) ≡ ok (contextOf visits r)
   pub whole : Whole r
 
 -- ---- the stack
@@ -77,56 +87,75 @@ pub record Applied (visited : ℕ) (plan : Plan) (cx r : Context) : Type 0 where
 pub nothing-changed : (cx : Context) → Whole cx → Changed Nothing cx cx
 nothing-changed cx w = record { context = λ visits. refl; whole = w }
 
-pub schedule-changed : (target : code.ControlFlowTarget) (cx r s : Context) → Scheduled target cx r → s ≡ stored r → cx .len < 1152 → Whole cx
+length-scheduled : (target : ControlFlowTarget) (flags : Flags) → length (scheduledBy target flags) ≡ length flags
+unfolding add
+length-scheduled (target-if b) s = length-set s b true
+length-scheduled (target-switch b) s = length-set s b true
+length-scheduled (target-case b) s = length-set s b true
+length-scheduled (target-loop b c l) s = length-set (set (set s b true) c true) l true ∙ length-set (set s b true) c true ∙ length-set s b true
+
+result-by : (at visits : ℕ) (r : Context) (y : Bool) → eqb (r .refused) 0 ≡ y → resultOf at visits r ≡ elim y [ true ↦ ok (contextOf visits r) | false ↦ refused (r .refused) at visits ]
+result-by at visits r y e = ap (λ (z : Bool). elim z [ true ↦ ok (contextOf visits r) | false ↦ refused (r .refused) at visits ]) e
+
+pub schedule-blocked : (target : code.ControlFlowTarget) (cx r : Context) → Scheduled target cx r → (r .refused ≡ 0 → ⊥) → Blocked (Schedule target) cx (r .refused) (blockAsked (targetOf target))
+schedule-blocked target cx r h z = record { context = λ visits. h .context visits ∙ result-by _ visits r false (ne-eqb (r .refused) 0 z); refuses = z }
+
+pub briefly-blocked : (target : code.ControlFlowTarget) (cx r : Context) → Scheduled target cx r → (r .refused ≡ 0 → ⊥) → Blocked (ScheduleBriefly target) cx (r .refused) (blockAsked (targetOf target))
+unfolding _>>=_
+briefly-blocked target cx r h z = record { context = λ visits. ap (λ (m : Result definition.Context). m >>= λ inside. ok (unscheduled inside)) (schedule-blocked target cx r h z .context visits); refuses = z }
+
+pub schedule-changed : (target : code.ControlFlowTarget) (cx r s : Context) → Scheduled target cx r → r .refused ≡ 0 → s ≡ settled r → cx .len < 1152 → Whole cx
     → Changed (Schedule target) cx s
-unfolding scheduled contextOf stored add
-schedule-changed target cx r s h e small w = rw (e, h .state) (record {
-  context = stored-pushed′;
-  whole = record {
-    bounded = subst (λ (z : Context). Bounded (set (z .stack) (z .len - 1) (z .pushed)) (z .len)) (h .state) (h .bounded (w .bounded));
-    wide = length-set (cx .scheduled) (targetBlock (targetOf target)) true ∙ w .wide;
-    tall = length-set (cx .stack) (cx .len + 1 - 1) _ ∙ w .tall;
+schedule-changed target cx r s h z e small w = rw e (record {
+  context = λ visits. h .context visits ∙ result-by _ visits r true (eq-eqb (r .refused) 0 z) ∙ ap ok (sym (settles visits r (h .pending) (omega (arith, h .len)) (omega (arith, h .len, long))));
+  whole = unfold settled in record {
+    settled = refl;
+    bounded = h .bounded (w .bounded);
+    wide = ap (λ (z : Context). length (z .scheduled)) (h .state) ∙ length-scheduled (targetOf target) (cx .scheduled) ∙ w .wide;
+    tall = length-set (r .stack) (r .len - 1) (r .pushed) ∙ long;
   };
 })
   where
-    stored-pushed′ : (visits : ℕ) → contextOf visits (stored (withEntry target (add (cx .scheduled) (targetBlock (targetOf target))) cx)) ≡ pushed (targetOf target) (add (cx .scheduled) (targetBlock (targetOf target))) (contextOf visits cx)
-    stored-pushed′ visits = stored-pushed visits target (add (cx .scheduled) (targetBlock (targetOf target))) cx (omega (arith, w .tall))
+    long : length (r .stack) ≡ 1152
+    long = ap (λ (z : Context). length (z .stack)) (h .state) ∙ w .tall
 
-pub loop-changed : (f k l : ℕ) (cx r s : Context) → ScheduledLoop f k l cx r → s ≡ stored r → cx .len < 1152 → Whole cx
-    → Changed (ScheduleLoop f k l) cx s
-unfolding scheduledLoop contextOf stored add
-loop-changed f k l cx r s h e small w = rw (e, h .state) (record {
-  context = λ visits. stored-pushed visits (loopTarget (cx .scheduled) f k l) (loopScheduled (cx .scheduled) f k l) cx (omega (arith, w .tall));
-  whole = record {
-    bounded = subst (λ (z : Context). Bounded (set (z .stack) (z .len - 1) (z .pushed)) (z .len)) (h .state) (h .bounded (w .bounded));
-    wide = length-set (set (set (cx .scheduled) f true) k true) l true ∙ length-set (set (cx .scheduled) f true) k true ∙ length-set (cx .scheduled) f true ∙ w .wide;
-    tall = length-set (cx .stack) (cx .len + 1 - 1) _ ∙ w .tall;
-  };
-})
-
-length-removed : (target : ControlFlowTarget) (flags : Flags) → length (unscheduledBy target flags) ≡ length flags
+length-removed : (target : ControlFlowTarget) (owner : Bool) (flags : Flags) → length (unscheduledBy target owner flags) ≡ length flags
 unfolding unscheduledBy remove
-length-removed (target-if b) s = length-set s b false
-length-removed (target-switch b) s = length-set s b false
-length-removed (target-case b) s = length-set s b false
-length-removed (target-loop b c l false) s = length-set (set s b false) c false ∙ length-set s b false
-length-removed (target-loop b c none true) s = length-set (set s b false) c false ∙ length-set s b false
-length-removed (target-loop b c (some l) true) s = length-set (set (set s b false) c false) l false ∙ length-set (set s b false) c false ∙ length-set s b false
+length-removed (target-if b) o s = length-set s b false
+length-removed (target-switch b) o s = length-set s b false
+length-removed (target-case b) o s = length-set s b false
+length-removed (target-loop b c l) false s = length-set (set s b false) c false ∙ length-set s b false
+length-removed (target-loop b c l) true s = length-set (set (set s b false) c false) l false ∙ length-set (set s b false) c false ∙ length-set s b false
 
 pub unschedule-changed : (cx r : Context) (last : Entry) → Last cx last → Unscheduled last cx r → Whole cx → Changed Unschedule cx r
 unschedule-changed cx r last top h w = record {
-  context = λ visits. ap (contextOf visits) (h .state) ∙ sym (pops cx last top visits);
+  context = λ visits. ap ok (sym (h .pops visits));
   whole = record {
+    settled = h .settled;
     bounded = h .bounded (w .bounded);
-    wide = ap (λ (z : Context). length (z .scheduled)) (h .state) ∙ length-removed (targetOf (last .target)) (cx .scheduled) ∙ w .wide;
+    wide = ap (λ (z : Context). length (z .scheduled)) (h .state) ∙ length-removed (targetOf (last .target)) (last .«owns_loop») (cx .scheduled) ∙ w .wide;
     tall = ap (λ (z : Context). length (z .stack)) (h .state) ∙ w .tall;
   };
 }
 
-pub id-changed : (cx : Context) → Whole cx
-    → Changed TakeId cx (record { emitted = cx .emitted; «catch_handlers» = cx .«catch_handlers»; «scope_fallthroughs» = cx .«scope_fallthroughs»; len = cx .len; scheduled = cx .scheduled; pushed = cx .pushed; «next_schedule_id» = cx .«next_schedule_id» + 1; stack = cx .stack })
-unfolding contextOf idTaken
-id-changed cx w = record { context = λ visits. rw add-one refl; whole = record { bounded = w .bounded; wide = w .wide; tall = w .tall } }
+-- pushed, settled and popped
+pub last-scheduled : (target : code.ControlFlowTarget) (cx r : Context) → Scheduled target cx r → Named target → cx .len < 1152 → Whole cx → Last (settled r) (r .pushed)
+unfolding settled
+last-scheduled target cx r h named small w = record {
+  nonempty = omega (arith, h .len);
+  settled = refl;
+  read = sym (getD-set-same (r .stack) (r .len - 1) (r .pushed) noEntry (omega (arith, h .len, small, long)));
+  named = rw (h .state) named;
+}
+  where
+    long : length (r .stack) ≡ 1152
+    long = ap (λ (z : Context). length (z .stack)) (h .state) ∙ w .tall
+
+pub briefly-changed : (target : code.ControlFlowTarget) (cx s r : Context) (last : Entry) → Changed (Schedule target) cx s → Last s last → Unscheduled last s r → Changed (ScheduleBriefly target) cx r
+unfolding _>>=_
+briefly-changed target cx s r last h top u =
+    let off : Changed Unschedule s r = unschedule-changed s r last top u (h .whole) in
+    record { context = λ visits. ap (λ (m : Result definition.Context). m >>= λ inside. ok (unscheduled inside)) (h .context visits) ∙ off .context visits; whole = off .whole }
 
 -- ---- the sets
 
@@ -137,6 +166,8 @@ marks-by : (visited handler fallthrough : Option ℕ) (cx : Context) (visits : �
   len = cx .len;
   scheduled = cx .scheduled;
   pushed = cx .pushed;
+  pending = cx .pending;
+  refused = cx .refused;
   «next_schedule_id» = cx .«next_schedule_id»;
   stack = cx .stack;
 }) ≡ scoped fallthrough (handled handler (emitted visited (contextOf visits cx)))
@@ -156,16 +187,12 @@ marks visited handler fallthrough cx visits = marks-by (unlessNone visited) (unl
 
 pub changeable-marked : (change : Change) (visited handler fallthrough : ℕ) (cx : Context) → Changeable change cx → Changeable change (withMarks visited handler fallthrough cx)
 changeable-marked Nothing visited handler fallthrough cx h = tt
-changeable-marked (Schedule target) visited handler fallthrough cx (n, r) = (n, record { len = r .len; id = r .id })
-changeable-marked (ScheduleLoop f k l) visited handler fallthrough cx (n, r) = (n, record { len = r .len; id = r .id })
-changeable-marked TakeId visited handler fallthrough cx h = h
+changeable-marked (Schedule target) visited handler fallthrough cx (n, r) = (n, record { len = r .len; id = r .id; settled = r .settled })
+changeable-marked (ScheduleBriefly target) visited handler fallthrough cx (n, r) = (n, record { len = r .len; id = r .id; settled = r .settled })
 changeable-marked Unschedule visited handler fallthrough cx h = h
 
 pub plan-applied : (visited : ℕ) (plan : Plan) (cx m r : Context) → m ≡ withMarks visited (plan .handler) (plan .scope) cx → Changed (plan .change) m r → Applied visited plan cx r
-plan-applied visited plan cx m r e h = record {
-  context = λ visits. h .context visits ∙ ap (λ (z : Context). changed (plan .change) (contextOf visits z)) e ∙ ap (changed (plan .change)) (marks visited (plan .handler) (plan .scope) cx visits);
-  whole = h .whole;
-}
+plan-applied visited plan cx m r e h = record { context = λ visits. ap (λ (z : Context). changed (plan .change) (contextOf visits z)) (sym e) ∙ h .context visits; whole = h .whole }
 
 -- ---- one mark
 
@@ -179,9 +206,9 @@ pub below-block : (n : ℕ) → Below 1024 (unlessNone n) → (n ≡ 65535 → �
 below-block n b h = subst (λ (o : Option ℕ). Below 1024 o) (some-number n h) b
 
 pub whole-marked : (visited handler fallthrough : ℕ) (cx : Context) → Whole cx → Whole (withMarks visited handler fallthrough cx)
-whole-marked visited handler fallthrough cx w = record { bounded = w .bounded; wide = w .wide; tall = w .tall }
+whole-marked visited handler fallthrough cx w = record { settled = w .settled; bounded = w .bounded; wide = w .wide; tall = w .tall }
 
 -- ---- what the methods ask
 
 pub last-entry : (cx : Context) → 0 < cx .len → Whole cx → Last cx (getD (cx .stack) (cx .len - 1) noEntry)
-last-entry cx h w = record { nonempty = h; read = refl; named = w .bounded .named (cx .len - 1) (omega arith) }
+last-entry cx h w = record { nonempty = h; settled = w .settled; read = refl; named = w .bounded .named (cx .len - 1) (omega arith) }

@@ -21,6 +21,7 @@ use Rattle.definition.specs.Context.{emit, withVisits}
 use Rattle.definition.specs.Context as definition
 use Rattle.definition.specs.Machine.{State, visiting, ended, choosing, popping, going, halt, step}
 use Rattle.definition.specs.Machine as machine
+use Rattle.definition.specs.Result.{ok, refused}
 use Rattle.definition.specs.Tree.{Row}
 use Rattle.definition.specs.Framed.{Below, Framed}
 use Rattle.definition.proofs.Invariant.{Checked, Sound, Going, going-start, going-step, going-lower, going-halt, entriesOf, marks-below, potential}
@@ -29,8 +30,9 @@ use Rattle.control.specs.declared.Context.{Context}
 use Rattle.control.specs.declared.Resolved.{Resolved}
 use Rattle.control.specs.declared.Entry.{Entry}
 use Rattle.control.specs.declared.Resolved.the-variants as resolved
+use Rattle.control.specs.Abstraction as control
 use Rattle.control.specs.Abstraction.{contextOf, resolvedOf, resolutionOf, targetOf, stackOf, noEntry}
-use Rattle.control.specs.Contract.{Named, Created}
+use Rattle.control.specs.Contract.{Named, Room, Created}
 use Rattle.definition.proofs.Flags.{length-none}
 use Rattle.control.proofs.ContextLaws.{stack-length, named-block}
 use Rattle.rows.specs.Rows.{Holds}
@@ -41,16 +43,16 @@ use Rattle.planner.specs.declared.plan.Stage.the-variants.{Visit, Ended, Choose
 use Rattle.planner.specs.declared.plan.Position.{Position}
 use Rattle.planner.specs.declared.plan.Frame.{Frame}
 use Rattle.planner.specs.declared.plan.Change.{Change}
-use Rattle.planner.specs.declared.plan.Change.the-variants.{Nothing, Schedule, ScheduleLoop, TakeId, Unschedule}
+use Rattle.planner.specs.declared.plan.Change.the-variants.{Nothing, Schedule, ScheduleBriefly, Unschedule}
 use Rattle.planner.specs.declared.plan.Plan.{Plan}
 use Rattle.build.specs.declared.search.Jump.{Jump}
 use Rattle.build.specs.declared.search.Jump.the-variants as search
-use Rattle.planner.specs.Plans.{frameOf, noFrame, framesOf, stateAt, scheduledLoop, idTaken, changed, handled, scoped, within, kept, contextAfter, onward, applied}
+use Rattle.planner.specs.Plans.{frameOf, noFrame, framesOf, stateAt, changed, handled, scoped, within, kept, contextAfter, onward, applied}
 use Rattle.planner.specs.Planned.{NamedChange, entriesOnTop, deepest, Nested, Fitting}
 use Rattle.planner.specs.Jumps.{FoundBelow}
 use Rattle.planner.specs.Turn.{Resolves, Shown, inHand, FrameFits, StageFits, Ready, emitting, PlannedTurn}
-use Rattle.build.specs.Driver.{foundBy, Searches, visitedBlock, slot, isHalt, planEnds, startingAt, walkedBy, Reported}
-use Rattle.build.proofs.ApplyLaws.{emitted, withMarks, Whole, Changeable, Applicable, Applied, marks}
+use Rattle.build.specs.Driver.{foundBy, Searches, visitedBlock, slot, isHalt, planEnds, startingAt, walkedBy, blockedBy, Reported}
+use Rattle.build.proofs.ApplyLaws.{emitted, withMarks, Whole, Changeable, Blocked, Applicable, Applied, marks}
 use Rattle.build.proofs.CheckedLaws.{checked-table}
 
 abbrev target-or : Option definition.Resolution → ℕ
@@ -235,8 +237,8 @@ pub found-below : (cx : Context) (jump : Jump) (found : Resolved) → Whole cx �
 unfolding contextOf definition.getBreakTarget definition.getContinueTarget
 found-below cx jump resolved.Nothing h e = tt
 found-below cx search.Nothing (resolved.Found r) h e = absurd (none-some (sym (e 0)))
-found-below cx (search.Break b) (resolved.Found r) h e = break-below (cx .stack) (cx .len) b true false (h .bounded .named) (resolutionOf r) (sym (e 0))
-found-below cx (search.Continue b) (resolved.Found r) h e = continue-below (cx .stack) (cx .len) b true false (h .bounded .named) (resolutionOf r) (sym (e 0))
+found-below cx (search.Break b) (resolved.Found r) h e = break-below (cx .stack) (cx .len) b true false (h .bounded .named) (resolutionOf r) (sym (rw (h .settled) at (e 0)))
+found-below cx (search.Continue b) (resolved.Found r) h e = continue-below (cx .stack) (cx .len) b true false (h .bounded .named) (resolutionOf r) (sym (rw (h .settled) at (e 0)))
 
 module _ (w : List ℕ) (pr : Promise w) (ck : Checked (tableOf w)) where
   -- where the loop begins
@@ -247,7 +249,7 @@ module _ (w : List ℕ) (pr : Promise w) (ck : Checked (tableOf w)) where
     going = subst (λ (C : definition.Context). Going (tableOf w) (visiting (entryWord w) [] [] 0 C)) (sym (new .context)) (subst (λ (b : ℕ). Going (tableOf w) (visiting b [] [] 0 definition.start)) entry-word (going-start (tableOf w) ck));
     held = record { count = refl; rows = tt };
     live = tt;
-    whole = record { bounded = new .bounded; wide = flags; tall = ap length (new .stack) ∙ length-replicate 1152 noEntry };
+    whole = record { settled = new .settled; bounded = new .bounded; wide = flags; tall = ap length (new .stack) ∙ length-replicate 1152 noEntry };
     frames = l;
   })
     where
@@ -341,7 +343,7 @@ module _ (w : List ℕ) (pr : Promise w) (ck : Checked (tableOf w)) where
       refused-reported z = subst (λ (a : Report). Reported a (walkedBy plan) buffer′) (sym (refused-report z)) (refl, z, refl, refl)
 
       module _ (fine : plan .code ≡ 0) where
-        ahead : applied plan (framesOf A (p .depth)) after entering ≡ onward (plan .position .stage) plan (framesOf A (p .depth)) after entering
+        ahead : applied plan (framesOf A (p .depth)) after entering ≡ onward (plan .position .stage) plan (framesOf A (p .depth)) after (contextAfter plan entering)
         unfolding applied
         ahead = rw (eq-eqb (plan .code) 0 fine, applied)
 
@@ -356,7 +358,7 @@ module _ (w : List ℕ) (pr : Promise w) (ck : Checked (tableOf w)) where
         accepted-report : isHalt (plan .position .stage) ≡ true → report (tableOf w) ≡ accepted after (plan .position .visits)
         accepted-report z = going-halt (tableOf w) (stateOf p A (I .rows) cx) _ (I .going) (stepped ∙ ahead ∙ at (plan .position .stage) z)
           where
-            at : (s : Stage) → isHalt s ≡ true → onward s plan (framesOf A (p .depth)) after entering ≡ halt (accepted after (plan .position .visits))
+            at : (s : Stage) → isHalt s ≡ true → onward s plan (framesOf A (p .depth)) after (contextAfter plan entering) ≡ halt (accepted after (plan .position .visits))
             at Visit e = absurd (true-false (sym e))
             at Ended e = absurd (true-false (sym e))
             at Choose e = absurd (true-false (sym e))
@@ -384,38 +386,6 @@ module _ (w : List ℕ) (pr : Promise w) (ck : Checked (tableOf w)) where
               at Choose e n = fit .deep n
               at Pop e n = fit .deep n
               at Halt e n = absurd (true-false e)
-
-          next : State
-          next = stateAt (plan .position .stage) (plan .position .block) K after (plan .position .count) (contextAfter plan entering)
-
-          leads : step (tableOf w) (stateOf p A (I .rows) cx) ≡ going next
-          unfolding next K
-          leads = stepped ∙ ahead ∙ at (plan .position .stage) on next-live
-            where
-              choose-same : (F : List machine.Frame) (D : definition.Context) → 1 ≤ length F → stateAt Choose 0 F after 0 D ≡ stateAt Choose (plan .position .block) F after (plan .position .count) D
-              choose-same [] D h = absurd (omega arith)
-              choose-same (g ∷ F) D h = refl
-
-              pop-same : (F : List machine.Frame) (D : definition.Context) → 1 ≤ length F → stateAt Pop 0 F after 0 D ≡ stateAt Pop (plan .position .block) F after (plan .position .count) D
-              pop-same [] D h = absurd (omega arith)
-              pop-same (g ∷ F) D h = refl
-
-              at : (s : Stage) → isHalt s ≡ false → Live s (plan .position .depth) → onward s plan (framesOf A (p .depth)) after entering ≡ going (stateAt s (plan .position .block) K after (plan .position .count) (contextAfter plan entering))
-              at Visit e l = refl
-              at Ended e l = refl
-              at Choose e l = ap going (choose-same K (contextAfter plan entering) (omega (arith, kept-deep)))
-              at Pop e l = ap going (pop-same K (contextAfter plan entering) (omega (arith, kept-deep)))
-              at Halt e l = absurd (true-false e)
-
-          next-going : Going (tableOf w) next
-          next-going = going-step (tableOf w) ck (stateOf p A (I .rows) cx) next (I .going) leads
-
-          next-numbers : Numbers K after (contextAfter plan entering)
-          unfolding next
-          next-numbers = numbers (tableOf w) (plan .position .stage) (plan .position .block) K after (plan .position .count) (contextAfter plan entering) (rw kept-deep next-live) (next-going .sound)
-
-          next-shallow : plan .position .depth ≤ 128
-          next-shallow = omega (arith, next-numbers .frames, kept-deep)
 
           -- ---- the Context
 
@@ -451,25 +421,24 @@ module _ (w : List ℕ) (pr : Promise w) (ck : Checked (tableOf w)) where
           -- ---- what applying the plan asks
 
           changeable : Changeable (plan .change) cx
-          unfolding contextOf machine.scheduled definition.pushed scheduledLoop idTaken
-          changeable = at (plan .change) (subst (λ (D : definition.Context). length (D .stack) ≤ 1024) marked-context (next-numbers .stack)) (subst (λ (D : definition.Context). D .nextId ≤ 16384) marked-context (next-numbers .ids)) (fit .change)
+          unfolding contextOf
+          changeable = at (plan .change) (fit .change)
             where
-              D : definition.Context
-              D = contextOf (plan .position .visits) (withMarks visited (plan .handler) (plan .scope) cx)
+              len : length (control.entriesOf (cx .pending) (cx .pushed) (cx .stack) (cx .len)) ≡ cx .len
+              len = rw (I .whole .settled) (stack-length (cx .stack) (cx .len))
 
-              len : length (stackOf (cx .stack) (cx .len)) ≡ cx .len
-              len = stack-length (cx .stack) (cx .len)
+              room : Room cx
+              room = record { len = omega (arith, len, numbered .stack); id = omega (arith, numbered .ids); settled = I .whole .settled }
 
               filled : entriesOnTop (inHand (p .stage) (p .depth) f) ≤ cx .len
-              filled = let z : length (stackOf (cx .stack) (cx .len)) ≡ entriesOf (inHand (p .stage) (p .depth) f ++ restOf A (p .stage) (p .depth)) = numbered .entries ∙ ap entriesOf (sym together) in
+              filled = let z : length (control.entriesOf (cx .pending) (cx .pushed) (cx .stack) (cx .len)) ≡ entriesOf (inHand (p .stage) (p .depth) f ++ restOf A (p .stage) (p .depth)) = numbered .entries ∙ ap entriesOf (sym together) in
                   omega (arith, entries-top (p .stage) (p .depth) f (restOf A (p .stage) (p .depth)), len, z)
 
-              at : (ch : Change) → length (changed ch D .stack) ≤ 1024 → changed ch D .nextId ≤ 16384 → NamedChange (entriesOnTop (inHand (p .stage) (p .depth) f)) ch → Changeable ch cx
-              at Nothing s i n = tt
-              at (Schedule target) s i n = (n, record { len = omega (arith, len, s); id = omega arith })
-              at (ScheduleLoop g k l) s i n = (n, record { len = omega (arith, len, s); id = omega arith })
-              at TakeId s i n = omega arith
-              at Unschedule s i n = omega (arith, n, filled)
+              at : (ch : Change) → NamedChange (entriesOnTop (inHand (p .stage) (p .depth) f)) ch → Changeable ch cx
+              at Nothing n = tt
+              at (Schedule target) n = (n, room)
+              at (ScheduleBriefly target) n = (n, room)
+              at Unschedule n = omega (arith, n, filled)
 
           pub applicable : Applicable visited plan cx
           applicable = record { block = at (p .stage) visit-below; handler = fit .handler; scope = fit .scope; change = changeable; whole = I .whole }
@@ -482,11 +451,28 @@ module _ (w : List ℕ) (pr : Promise w) (ck : Checked (tableOf w)) where
               at Halt h = subst (λ (o : Option ℕ). Below 1024 o) (sym no-number) tt
 
           pub slot-below : slot (plan .keep) (plan .position .depth) < 129
-          slot-below = at (plan .keep)
+          slot-below = at (plan .keep) (fit .next)
             where
-              at : (keep : Bool) → slot keep (plan .position .depth) < 129
-              at true = omega (arith, next-shallow)
-              at false = omega (arith, next-shallow)
+              at : (keep : Bool) → plan .position .depth ≤ deepest keep (p .depth) → slot keep (plan .position .depth) < 129
+              at true h = omega (arith, shallow)
+              at false h = omega (arith, shallow)
+
+          -- ---- a change that is refused
+
+          module _ (code at : ℕ) (E : Blocked (plan .change) (withMarks visited (plan .handler) (plan .scope) cx) code at) where
+            blocked-report : report (tableOf w) ≡ rejected code at (plan .position .visits)
+            blocked-report = going-halt (tableOf w) (stateOf p A (I .rows) cx) _ (I .going)
+                (stepped ∙ ahead ∙ ap (onward (plan .position .stage) plan (framesOf A (p .depth)) after) (marked-context ∙ E .context (plan .position .visits)) ∙ ends (plan .position .stage) on)
+              where
+                ends : (s : Stage) → isHalt s ≡ false → onward s plan (framesOf A (p .depth)) after (refused code at (plan .position .visits)) ≡ halt (rejected code at (plan .position .visits))
+                ends Visit e = refl
+                ends Ended e = refl
+                ends Choose e = refl
+                ends Pop e = refl
+                ends Halt e = absurd (true-false e)
+
+            pub blocked-reported : Reported (report (tableOf w)) (blockedBy code at (plan .position)) buffer′
+            blocked-reported = subst (λ (a : Report). Reported a (blockedBy code at (plan .position)) buffer′) (sym blocked-report) (refl, E .refuses, refl, refl)
 
           -- ---- and the next turn
 
@@ -494,12 +480,38 @@ module _ (w : List ℕ) (pr : Promise w) (ck : Checked (tableOf w)) where
             abbrev pub A′ : List Frame
             A′ = set A (slot (plan .keep) (plan .position .depth)) (plan .frame)
 
+            next : State
+            next = stateAt (plan .position .stage) (plan .position .block) K after (plan .position .count) (contextOf (plan .position .visits) r)
+
+            leads : step (tableOf w) (stateOf p A (I .rows) cx) ≡ going next
+            unfolding next K
+            leads = stepped ∙ ahead ∙ ap (onward (plan .position .stage) plan (framesOf A (p .depth)) after) (marked-context ∙ E .context (plan .position .visits)) ∙ at (plan .position .stage) on next-live
+              where
+                D : definition.Context
+                D = contextOf (plan .position .visits) r
+
+                choose-same : (F : List machine.Frame) → 1 ≤ length F → stateAt Choose 0 F after 0 D ≡ stateAt Choose (plan .position .block) F after (plan .position .count) D
+                choose-same [] h = absurd (omega arith)
+                choose-same (g ∷ F) h = refl
+
+                pop-same : (F : List machine.Frame) → 1 ≤ length F → stateAt Pop 0 F after 0 D ≡ stateAt Pop (plan .position .block) F after (plan .position .count) D
+                pop-same [] h = absurd (omega arith)
+                pop-same (g ∷ F) h = refl
+
+                at : (s : Stage) → isHalt s ≡ false → Live s (plan .position .depth) → onward s plan (framesOf A (p .depth)) after (ok D) ≡ going (stateAt s (plan .position .block) K after (plan .position .count) D)
+                at Visit e l = refl
+                at Ended e l = refl
+                at Choose e l = ap going (choose-same K (omega (arith, kept-deep)))
+                at Pop e l = ap going (pop-same K (omega (arith, kept-deep)))
+                at Halt e l = absurd (true-false e)
+
+            next-going : Going (tableOf w) next
+            next-going = going-step (tableOf w) ck (stateOf p A (I .rows) cx) next (I .going) leads
+
             arrived : next ≡ stateOf (plan .position) A′ after r
             unfolding next K
-            arrived = ap (λ (F : List machine.Frame). stateAt (plan .position .stage) (plan .position .block) F after (plan .position .count) (contextAfter plan entering))
+            arrived = ap (λ (F : List machine.Frame). stateAt (plan .position .stage) (plan .position .block) F after (plan .position .count) (contextOf (plan .position .visits) r))
                 (frames-kept A (p .depth) (plan .position .depth) (plan .keep) (plan .frame) (fit .deep) (fit .next) (rw (I .frames) slot-below))
-                ∙ ap (λ (D : definition.Context). stateAt (plan .position .stage) (plan .position .block) (framesOf (set A (slot (plan .keep) (plan .position .depth)) (plan .frame)) (plan .position .depth)) after (plan .position .count) D)
-                (marked-context ∙ ap (changed (plan .change)) (marks visited (plan .handler) (plan .scope) cx (plan .position .visits)) ∙ sym (E .context (plan .position .visits)))
 
             pub walking-again : Walking w buffer′ r A′ (plan .position)
             walking-again = record {
@@ -558,6 +570,10 @@ module _ {w buffer : List ℕ} {cx : Context} {A : List Frame} {p : Position} {b
 
     pub turn-slot : slot (plan .keep) (plan .position .depth) < 129
     turn-slot = slot-below w (t .promise) ck buffer cx A p (t .walking) (t .frame) (t .read) (t .found) buffer′ plan (t .planned) (t .jump) (fine-on .0) (fine-on .1)
+
+    pub turn-blocked : {code at : ℕ} → Blocked (plan .change) (withMarks (visitedBlock (p .stage) (p .block)) (plan .handler) (plan .scope) cx) code at
+        → Reported (report (tableOf w)) (blockedBy code at (plan .position)) buffer′
+    turn-blocked {code} {at} E = blocked-reported w (t .promise) ck buffer cx A p (t .walking) (t .frame) (t .read) (t .found) buffer′ plan (t .planned) (t .jump) (fine-on .0) (fine-on .1) code at E
 
     module _ {r : Context} (E : Applied (visitedBlock (p .stage) (p .block)) plan cx r) {i : ℕ} (stored : i ≡ slot (plan .keep) (plan .position .depth)) where
       pub turn-again : Walking w buffer′ r (set A i (plan .frame)) (plan .position)

@@ -98,28 +98,29 @@ foundAmong (jump.Continue block) entries top loopAbove = continueTargetFrom entr
 
 -- the first so many entries give what all give
 pub record Searching (sought : Jump) (cx : Context) (at : ℕ) (top loopAbove : Bool) : Type 0 where
+  pub settled : cx .pending ≡ false
   pub within : at ≤ cx .len
   pub rest : foundAmong sought (stackOf (cx .stack) (cx .len)) true false ≡ foundAmong sought (stackOf (cx .stack) at) top loopAbove
 
-pub search-start : (sought : Jump) (cx : Context) (n : ℕ) → n ≡ searchedFrom sought (cx .len) → Searching sought cx n true false
-search-start Nothing cx n e = record { within = omega (arith, e); rest = refl }
-search-start (jump.Break b) cx n e = record { within = omega (arith, e); rest = rw e refl }
-search-start (jump.Continue b) cx n e = record { within = omega (arith, e); rest = rw e refl }
+pub search-start : (sought : Jump) (cx : Context) (n : ℕ) → cx .pending ≡ false → n ≡ searchedFrom sought (cx .len) → Searching sought cx n true false
+search-start Nothing cx n s e = record { settled = s; within = omega (arith, e); rest = refl }
+search-start (jump.Break b) cx n s e = record { settled = s; within = omega (arith, e); rest = rw e refl }
+search-start (jump.Continue b) cx n s e = record { settled = s; within = omega (arith, e); rest = rw e refl }
 
 module _ (cx : Context) (at : ℕ) (top above : Bool) where
   pub search-on : (sought : Jump) → Searching sought cx at top above → (at ≡ 0 → ⊥) → isMet sought (lastTarget (cx .stack) at) ≡ false → Searching sought cx (at - 1) false (above || isLoop (lastTarget (cx .stack) at))
-  search-on Nothing h f m = record { within = omega (arith, h .within); rest = refl }
-  search-on (jump.Break b) h f m = record { within = omega (arith, h .within); rest = h .rest ∙ break-missed _ _ _ _ _ f (eqb-false _ _ m) }
-  search-on (jump.Continue b) h f m = record { within = omega (arith, h .within); rest = h .rest ∙ continue-missed _ _ _ _ _ f m }
+  search-on Nothing h f m = record { settled = h .settled; within = omega (arith, h .within); rest = refl }
+  search-on (jump.Break b) h f m = record { settled = h .settled; within = omega (arith, h .within); rest = h .rest ∙ break-missed _ _ _ _ _ f (eqb-false _ _ m) }
+  search-on (jump.Continue b) h f m = record { settled = h .settled; within = omega (arith, h .within); rest = h .rest ∙ continue-missed _ _ _ _ _ f m }
 
   pub search-none : (sought : Jump) → Searching sought cx at top above → at ≡ 0 → (visits : ℕ) → none ≡ foundBy sought (contextOf visits cx)
   unfolding getBreakTarget getContinueTarget contextOf
   search-none Nothing h e visits = refl
-  search-none (jump.Break b) h e visits = sym (h .rest ∙ break-none _ _ _ _ _ e)
-  search-none (jump.Continue b) h e visits = sym (h .rest ∙ continue-none _ _ _ _ _ e)
+  search-none (jump.Break b) h e visits = rw (h .settled) (sym (h .rest ∙ break-none _ _ _ _ _ e))
+  search-none (jump.Continue b) h e visits = rw (h .settled) (sym (h .rest ∙ continue-none _ _ _ _ _ e))
 
   pub search-found : (sought : Jump) → Searching sought cx at top above → (at ≡ 0 → ⊥) → isMet sought (lastTarget (cx .stack) at) ≡ true → (visits : ℕ) → resolvedAt sought (lastTarget (cx .stack) at) top above ≡ foundBy sought (contextOf visits cx)
   unfolding getBreakTarget getContinueTarget contextOf
   search-found Nothing h f m visits = refl
-  search-found (jump.Break b) h f m visits = sym (h .rest ∙ break-found _ _ _ _ _ f (eqb-true _ _ m))
-  search-found (jump.Continue b) h f m visits = sym (h .rest ∙ continue-found _ _ _ _ _ f m)
+  search-found (jump.Break b) h f m visits = rw (h .settled) (sym (h .rest ∙ break-found _ _ _ _ _ f (eqb-true _ _ m)))
+  search-found (jump.Continue b) h f m visits = rw (h .settled) (sym (h .rest ∙ continue-found _ _ _ _ _ f m))

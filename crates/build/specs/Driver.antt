@@ -88,6 +88,10 @@ startingAt entry = record { block = entry; depth = 0; count = 0; rows = 0; visit
 abbrev pub walkedBy : Plan → Walked
 walkedBy plan = record { code = plan .code; at = plan .at; rows = plan .position .rows; visits = plan .position .visits }
 
+-- what `schedule` itself refuses
+abbrev pub blockedBy : (code at : ℕ) → Position → Walked
+blockedBy code at p = record { code = code; at = at; rows = p .rows; visits = p .visits }
+
 -- its answer is the table's report, and an accepted table's rows are held
 abbrev pub Reported : Report → Walked → (buffer : List ℕ) → Type 0
 Reported (accepted rows visits) r buffer = (r .code ≡ 0) × (r .visits ≡ visits) × Holds buffer (r .rows) (pushed rows [])

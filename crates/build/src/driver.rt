@@ -4,6 +4,7 @@ use crate::search::meets;
 use crate::search::resolve;
 use crate::search::search_from;
 use control::Context;
+use control::ControlFlowTarget;
 use control::Resolved;
 use control::insert;
 use control::or_loop;
@@ -23,7 +24,9 @@ ghost use Rattle.table.specs.Table.{tableOf, unlessNone};
 ghost use Rattle.table.specs.Promise.{Promise};
 ghost use Rattle.definition.specs.Build.{report};
 ghost use Rattle.definition.specs.Framed.{Below};
-ghost use Rattle.build.specs.Driver.{visitedBlock, marked, startingAt, planEnds, isHalt, slot, walkedBy, Reported};
+ghost use Rattle.definition.specs.Context.{blockAsked};
+ghost use Rattle.control.specs.Abstraction.{targetOf};
+ghost use Rattle.build.specs.Driver.{visitedBlock, marked, startingAt, planEnds, isHalt, slot, walkedBy, blockedBy, Reported};
 
 // Where the walk ended: a refusal, or the rows that are out.
 pub struct Walked {
@@ -106,6 +109,18 @@ fn answer(plan: Plan) -> Walked
     }
 }
 
+// What `schedule` itself refuses, at the block that it asked about.
+fn blocked(code: u16, target: ControlFlowTarget, p: Position) -> Walked
+    ensures { λ r. ⌜ r ≡ blockedBy code (blockAsked (targetOf target)) p ⌝ }
+{
+    Walked {
+        code: code as u32,
+        at: target.block_asked() as u32,
+        rows: p.rows,
+        visits: p.visits,
+    }
+}
+
 // The innermost frame; where there is none, any.
 fn innermost(depth: u32) -> usize
     ensures { λ r. ⌜ r ≡ depth - 1 ⌝ }
@@ -180,19 +195,23 @@ pub fn walk(words: &[u32], tree: &mut [u32]) -> Walked
             Change::Nothing => {}
             Change::Schedule(target) => {
                 cx = cx.schedule(target);
+                if cx.refused != 0 {
+                    return blocked(cx.refused, target, p);
+                }
                 let entry = cx.pushed;
                 cx.stack[cx.len - 1] = entry;
+                cx.pending = false;
             }
-            Change::ScheduleLoop {
-                fallthrough,
-                continue_block,
-                loop_block,
-            } => {
-                cx = cx.schedule_loop(fallthrough, continue_block, loop_block);
+            Change::ScheduleBriefly(target) => {
+                cx = cx.schedule(target);
+                if cx.refused != 0 {
+                    return blocked(cx.refused, target, p);
+                }
                 let entry = cx.pushed;
                 cx.stack[cx.len - 1] = entry;
+                cx.pending = false;
+                cx = cx.unschedule(entry);
             }
-            Change::TakeId => cx.next_schedule_id += 1,
             Change::Unschedule => {
                 let entry = cx.stack[cx.len - 1];
                 cx = cx.unschedule(entry);

@@ -5,43 +5,46 @@ use native.Mathlib.Nat.{eq-or-lt-of-le}
 use native.Mathlib.Omega.{arith}
 use native.Mathlib.Numerals.{add-one}
 use mathlib.Core.List.{List, _∷_}
-use mathlib.Core.Bool.{true, false, _||_}
+use mathlib.Core.Bool.{Bool, true, false, _||_}
 use mathlib.Core.Logic.{⊎-elim}
 use lib.ListN.{getD, set, length, replicate}
 use lib.Seq.{getD-set-same, getD-set-other}
 use lib.Dec.{eqb}
-use borrow.Author.Tests.{eq-eqb, eqb-true, eqb-false}
-use Rattle.definition.proofs.Flags.{has-new}
-use Rattle.definition.specs.Result.{ok, _>>=_, refuseIf, alreadyScheduled}
+use native.Mathlib.Decide.{ℕ-discrete}
+use borrow.Author.Tests.{eq-eqb, ne-eqb}
+use Rattle.definition.specs.Result.{ok, refused, _>>=_, refuseIf}
 use Rattle.definition.specs.Context as definition
-use Rattle.definition.specs.Context.{Flags, has, add, noFlags, start, isScheduled, emit, markScopeFallthrough, scheduleCatchHandler, targetBlock, pushed, popped, schedule, scheduleLoop, unscheduledBy, unschedule, unscheduleTop}
+use Rattle.definition.specs.Context.{Flags, has, add, noFlags, start, isScheduled, emit, markScopeFallthrough, scheduleCatchHandler, targetBlock, target-if, target-switch, target-case, target-loop, isBlocked, blockAsked, blockedCode, pushed, popped, schedule, unscheduledBy, unschedule, unscheduleTop}
 use Rattle.definition.specs.Machine as machine
 use Rattle.control.specs.declared.ControlFlowTarget.{ControlFlowTarget}
 use Rattle.control.specs.declared.ControlFlowTarget.the-variants.{If, Switch, Case, Loop}
 use Rattle.control.specs.declared.Entry.{Entry}
 use Rattle.control.specs.declared.Context.{Context}
-use Rattle.control.specs.Abstraction.{targetOf, entryOf, noEntry, stackOf, contextOf, stored}
-use Rattle.control.specs.Contract.{continueScheduled, Named, Bounded, Room, Last, withEntry, withoutLast, loopTarget, loopScheduled, Created, Scheduled, ScheduledLoop, Unscheduled}
+use Rattle.control.specs.Abstraction.{targetOf, entryOf, noEntry, stackOf, entriesOf, contextOf, settled}
+use Rattle.control.specs.Contract.{continueScheduled, blockedIn, Named, Bounded, Room, Last, refusalIf, withEntry, withoutLast, Created, Scheduled, Unscheduled}
 
--- ---- sets of blocks
-
-pub has-other : (flags : Flags) (added block : ℕ) → (block ≡ added → ⊥) → has (add flags added) block ≡ has flags block
-unfolding has add
-has-other flags added block h = getD-set-other flags added block true false h
-
--- the continue block, tested once the fallthrough is inserted
-pub continue-scheduled : (flags : Flags) (fallthrough continueBlock : ℕ) → continueBlock < length flags → has (add flags fallthrough) continueBlock ≡ continueScheduled flags fallthrough continueBlock
-continue-scheduled flags fallthrough continueBlock h =
-    elim (eqb continueBlock fallthrough) as (λ y. eqb continueBlock fallthrough ≡ y → has (add flags fallthrough) continueBlock ≡ (y || has flags continueBlock)) [
-      | true ↦ λ same. ap (λ (block : ℕ). has (add flags block) continueBlock) (sym (eqb-true _ _ same)) ∙ has-new flags continueBlock h
-      | false ↦ λ other. has-other flags fallthrough continueBlock (eqb-false _ _ other)
-    ] refl
+-- ---- targets
 
 pub named-block : (target : ControlFlowTarget) → Named target → targetBlock (targetOf target) < 1024
 named-block (If block) h = h
 named-block (Switch block) h = h
 named-block (Case block) h = h
-named-block (Loop block continueBlock loopBlock ownsLoop) h = h .0
+named-block (Loop block continueBlock loopBlock) h = h .0
+
+-- the continue block, tested once the fallthrough is inserted
+pub continue-scheduled : (flags : Flags) (fallthrough continueBlock : ℕ) → fallthrough < length flags → continueScheduled flags fallthrough continueBlock ≡ has (add flags fallthrough) continueBlock
+unfolding has add
+continue-scheduled flags fallthrough continueBlock h = at (ℕ-discrete continueBlock fallthrough)
+  where
+    at : Dec (continueBlock ≡ fallthrough) → eqb continueBlock fallthrough || getD flags continueBlock false ≡ getD (set flags fallthrough true) continueBlock false
+    at (yes e) = rw (e, eq-eqb fallthrough fallthrough refl, getD-set-same flags fallthrough true false h)
+    at (no e) = rw (ne-eqb continueBlock fallthrough e, getD-set-other flags fallthrough continueBlock true false e)
+
+pub blocked-asked : (target : ControlFlowTarget) (flags : Flags) → Named target → 1024 ≤ length flags → blockedIn (targetOf target) flags ≡ isBlocked (targetOf target) flags
+blocked-asked (If block) flags named wide = refl
+blocked-asked (Switch block) flags named wide = refl
+blocked-asked (Case block) flags named wide = refl
+blocked-asked (Loop block continueBlock loopBlock) flags named wide = continue-scheduled flags block continueBlock (omega (arith, named .0, wide))
 
 -- ---- the stack
 
@@ -51,11 +54,9 @@ unfolding stackOf
 stack-above entries zero k entry h = refl
 stack-above entries (suc n) k entry h = rw (getD-set-other entries k n entry noEntry (omega arith), stack-above entries n k entry (omega arith))
 
-stack-stored : (entries : List Entry) (n : ℕ) (entry : Entry) → n < length entries → stackOf (set entries (n + 1 - 1) entry) (n + 1) ≡ entryOf entry ∷ stackOf entries n
+stack-stored : (entries : List Entry) (n : ℕ) (entry : Entry) → n < length entries → stackOf (set entries n entry) (suc n) ≡ entryOf entry ∷ stackOf entries n
 unfolding stackOf
-stack-stored entries n entry h =
-    let e : n + 1 - 1 ≡ n = omega arith in
-    rw (e, add-one, getD-set-same entries n entry noEntry h, stack-above entries n n entry (omega arith))
+stack-stored entries n entry h = rw (getD-set-same entries n entry noEntry h, stack-above entries n n entry (omega arith))
 
 pub stack-last : (entries : List Entry) (n : ℕ) (last : Entry) → 0 < n → last ≡ getD entries (n - 1) noEntry → stackOf entries n ≡ entryOf last ∷ stackOf entries (n - 1)
 unfolding stackOf
@@ -71,15 +72,15 @@ stack-length entries (suc n) = ap suc (stack-length entries n)
 -- ---- what the sets' own functions do to a Context
 
 module _ (visits block : ℕ) (cx : Context) where
-  pub emits : contextOf visits (record { emitted = add (cx .emitted) block; «catch_handlers» = cx .«catch_handlers»; «scope_fallthroughs» = cx .«scope_fallthroughs»; len = cx .len; scheduled = cx .scheduled; pushed = cx .pushed; «next_schedule_id» = cx .«next_schedule_id»; stack = cx .stack }) ≡ emit block (contextOf visits cx)
+  pub emits : contextOf visits (record { emitted = add (cx .emitted) block; «catch_handlers» = cx .«catch_handlers»; «scope_fallthroughs» = cx .«scope_fallthroughs»; len = cx .len; scheduled = cx .scheduled; pushed = cx .pushed; pending = cx .pending; refused = cx .refused; «next_schedule_id» = cx .«next_schedule_id»; stack = cx .stack }) ≡ emit block (contextOf visits cx)
   unfolding contextOf emit
   emits = refl
 
-  pub marks-scope-fallthrough : contextOf visits (record { emitted = cx .emitted; «catch_handlers» = cx .«catch_handlers»; «scope_fallthroughs» = add (cx .«scope_fallthroughs») block; len = cx .len; scheduled = cx .scheduled; pushed = cx .pushed; «next_schedule_id» = cx .«next_schedule_id»; stack = cx .stack }) ≡ markScopeFallthrough block (contextOf visits cx)
+  pub marks-scope-fallthrough : contextOf visits (record { emitted = cx .emitted; «catch_handlers» = cx .«catch_handlers»; «scope_fallthroughs» = add (cx .«scope_fallthroughs») block; len = cx .len; scheduled = cx .scheduled; pushed = cx .pushed; pending = cx .pending; refused = cx .refused; «next_schedule_id» = cx .«next_schedule_id»; stack = cx .stack }) ≡ markScopeFallthrough block (contextOf visits cx)
   unfolding contextOf markScopeFallthrough
   marks-scope-fallthrough = refl
 
-  pub schedules-catch-handler : contextOf visits (record { emitted = cx .emitted; «catch_handlers» = add (cx .«catch_handlers») block; «scope_fallthroughs» = cx .«scope_fallthroughs»; len = cx .len; scheduled = cx .scheduled; pushed = cx .pushed; «next_schedule_id» = cx .«next_schedule_id»; stack = cx .stack }) ≡ scheduleCatchHandler block (contextOf visits cx)
+  pub schedules-catch-handler : contextOf visits (record { emitted = cx .emitted; «catch_handlers» = add (cx .«catch_handlers») block; «scope_fallthroughs» = cx .«scope_fallthroughs»; len = cx .len; scheduled = cx .scheduled; pushed = cx .pushed; pending = cx .pending; refused = cx .refused; «next_schedule_id» = cx .«next_schedule_id»; stack = cx .stack }) ≡ scheduleCatchHandler block (contextOf visits cx)
   unfolding contextOf scheduleCatchHandler
   schedules-catch-handler = refl
 
@@ -89,13 +90,37 @@ module _ (visits block : ℕ) (cx : Context) where
 
 -- ---- the steps
 
-pub created : Created (record { emitted = replicate 1024 false; «catch_handlers» = replicate 1024 false; «scope_fallthroughs» = replicate 1024 false; len = 0; scheduled = replicate 1024 false; pushed = noEntry; «next_schedule_id» = 0; stack = replicate 1152 noEntry })
+pub created : Created (record { emitted = replicate 1024 false; «catch_handlers» = replicate 1024 false; «scope_fallthroughs» = replicate 1024 false; len = 0; scheduled = replicate 1024 false; pushed = noEntry; pending = false; refused = 0; «next_schedule_id» = 0; stack = replicate 1152 noEntry })
 unfolding contextOf start noFlags stackOf
-created = record { context = refl; len = refl; id = refl; stack = refl; bounded = record { most = omega arith; named = λ k below. let absurd-below : ⊥ = omega arith in absurd absurd-below } }
+created = record { context = refl; len = refl; id = refl; settled = refl; stack = refl; bounded = record { most = omega arith; named = λ k below. let absurd-below : ⊥ = omega arith in absurd absurd-below } }
 
-pub stored-pushed : (visits : ℕ) (target : ControlFlowTarget) (flags : Flags) (cx : Context) → cx .len < length (cx .stack) → contextOf visits (stored (withEntry target flags cx)) ≡ pushed (targetOf target) flags (contextOf visits cx)
-unfolding contextOf stored pushed
-stored-pushed visits target flags cx h = rw (stack-stored (cx .stack) (cx .len) (record { id = cx .«next_schedule_id»; target = target }) h, add-one)
+-- settling changes the form of a Context, and not what it stands for
+pub settles : (visits : ℕ) (cx : Context) → cx .pending ≡ true → 0 < cx .len → cx .len ≤ length (cx .stack) → contextOf visits (settled cx) ≡ contextOf visits cx
+unfolding contextOf settled
+settles visits cx e h k =
+    let n : ℕ = cx .len - 1 in
+    let l : cx .len ≡ suc n = omega arith in
+    let s : stackOf (set (cx .stack) n (cx .pushed)) (cx .len) ≡ entriesOf (cx .pending) (cx .pushed) (cx .stack) (cx .len) =
+    ap (stackOf (set (cx .stack) n (cx .pushed))) l ∙ stack-stored (cx .stack) n (cx .pushed) (omega arith) ∙ sym (ap (λ (pending : Bool). entriesOf pending (cx .pushed) (cx .stack) (cx .len)) e) in
+    ap (λ (stack : List definition.Entry). record { nextId = cx .«next_schedule_id»; emitted = cx .emitted; scopeFallthroughs = cx .«scope_fallthroughs»; scheduled = cx .scheduled; catchHandlers = cx .«catch_handlers»; stack = stack; visits = visits }) s
+
+-- a refusal that is asked as a number
+asked : (blocked : Bool) (code at visits : ℕ) (next : definition.Context) → (code ≡ 0 → ⊥) → (refuseIf blocked code at visits >>= λ _. ok next) ≡ elim (eqb (refusalIf blocked code) 0) [ true ↦ ok next | false ↦ refused (refusalIf blocked code) at visits ]
+unfolding refuseIf _>>=_
+asked true code at visits next h = rw (ne-eqb code 0 h)
+asked false code at visits next h = refl
+
+blocked-code : (target : definition.ControlFlowTarget) → blockedCode target ≡ 0 → ⊥
+blocked-code (target-if block) e = omega (arith, e)
+blocked-code (target-switch block) e = omega (arith, e)
+blocked-code (target-case block) e = omega (arith, e)
+blocked-code (target-loop block continueBlock loopBlock) e = omega (arith, e)
+
+pub pushes : (visits : ℕ) (target : ControlFlowTarget) (cx : Context) → cx .pending ≡ false → contextOf visits (withEntry target cx) ≡ pushed (targetOf target) (contextOf visits cx)
+unfolding contextOf pushed
+pushes visits target cx e =
+    let l : cx .len + 1 - 1 ≡ cx .len = omega arith in
+    rw (l, add-one, e)
 
 named-stored : (entries : List Entry) (n k : ℕ) (entry : Entry) → Named (entry .target) → n < length entries → k ≤ n → ((j : ℕ) → j < n → Named (getD entries j noEntry .target)) → Named (getD (set entries n entry) k noEntry .target)
 named-stored entries n k entry named h below all =
@@ -109,53 +134,52 @@ bounded-stored entries n entry named h small bounded =
     let e : n + 1 - 1 ≡ n = omega arith in
     record { most = omega arith; named = λ k below. rw e (named-stored entries n k entry named h (omega arith) (bounded .named)) }
 
+by-definition : (visits : ℕ) (target : definition.ControlFlowTarget) (cx : Context) → schedule target (contextOf visits cx) ≡ (refuseIf (isBlocked target (cx .scheduled)) (blockedCode target) (blockAsked target) visits >>= λ _. ok (pushed target (contextOf visits cx)))
+unfolding schedule contextOf
+by-definition visits target cx = refl
+
 module _ (target : ControlFlowTarget) (cx : Context) (named : Named target) (room : Room cx) (inside : cx .len < length (cx .stack)) where
-  pub scheduled : Scheduled target cx (withEntry target (add (cx .scheduled) (targetBlock (targetOf target))) cx)
-  unfolding schedule contextOf machine.scheduled
+  pub scheduled : Scheduled target cx (withEntry target cx)
   scheduled = record {
     state = refl;
-    context = λ visits. ap (λ x. refuseIf (has (cx .scheduled) (targetBlock (targetOf target))) alreadyScheduled (targetBlock (targetOf target)) visits >>= λ _. ok x) (sym (stored-pushed visits target _ cx inside));
-    pushes = λ visits. stored-pushed visits target _ cx inside;
+    context = λ visits. by-definition visits (targetOf target) cx ∙ ap (λ (next : definition.Context). refuseIf (isBlocked (targetOf target) (cx .scheduled)) (blockedCode (targetOf target)) (blockAsked (targetOf target)) visits >>= λ _. ok next) (sym (pushes visits target cx (room .settled)))
+        ∙ asked (isBlocked (targetOf target) (cx .scheduled)) (blockedCode (targetOf target)) (blockAsked (targetOf target)) visits (contextOf visits (withEntry target cx)) (blocked-code (targetOf target));
     len = refl;
     id = refl;
-    bounded = bounded-stored _ _ _ named inside (room .len);
-  }
-
-module _ (fallthrough continueBlock loopBlock : ℕ) (cx : Context) (named : (fallthrough < 1024) × (continueBlock < 1024) × (loopBlock < 1024)) (room : Room cx) (inside : cx .len < length (cx .stack)) (flags : continueBlock < length (cx .scheduled)) where
-  pub scheduled-loop : ScheduledLoop fallthrough continueBlock loopBlock cx (withEntry (loopTarget (cx .scheduled) fallthrough continueBlock loopBlock) (loopScheduled (cx .scheduled) fallthrough continueBlock loopBlock) cx)
-  unfolding scheduleLoop contextOf
-  scheduled-loop = record {
-    state = refl;
-    context = λ visits. rw (← (continue-scheduled (cx .scheduled) fallthrough continueBlock flags)) (ap (λ x. refuseIf (has (add (cx .scheduled) fallthrough) continueBlock) 15 continueBlock visits >>= λ _. ok x) (sym (stored-pushed visits (loopTarget (cx .scheduled) fallthrough continueBlock loopBlock) _ cx inside)));
-    pushes = λ visits. stored-pushed visits (loopTarget (cx .scheduled) fallthrough continueBlock loopBlock) _ cx inside;
-    len = refl;
-    id = refl;
+    pending = refl;
     bounded = bounded-stored _ _ _ named inside (room .len);
   }
 
 -- ---- unschedule
 
-unschedule-top : (cx : definition.Context) (top : definition.Entry) (below : List definition.Entry) → cx .stack ≡ top ∷ below → unschedule (top .id) cx ≡ ok (popped below (unscheduledBy (top .target) (cx .scheduled)) cx)
+unschedule-top : (cx : definition.Context) (top : definition.Entry) (below : List definition.Entry) → cx .stack ≡ top ∷ below → unschedule (top .id) cx ≡ ok (popped below (unscheduledBy (top .target) (top .ownsLoop) (cx .scheduled)) cx)
 unfolding unschedule unscheduleTop
 unschedule-top cx top below e = ap (λ (stack : List definition.Entry). unscheduleTop stack (top .id) cx) e ∙ rw (unscheduleTop, eq-eqb (top .id) (top .id) refl)
 
-unscheduled-top : (cx : definition.Context) (top : definition.Entry) (below : List definition.Entry) → cx .stack ≡ top ∷ below → machine.unscheduled cx ≡ popped below (unscheduledBy (top .target) (cx .scheduled)) cx
+unscheduled-top : (cx : definition.Context) (top : definition.Entry) (below : List definition.Entry) → cx .stack ≡ top ∷ below → machine.unscheduled cx ≡ popped below (unscheduledBy (top .target) (top .ownsLoop) (cx .scheduled)) cx
 unfolding machine.unscheduled machine.unscheduledTop
 unscheduled-top cx top below e = ap (λ (stack : List definition.Entry). machine.unscheduledTop stack cx) e
 
 module _ (cx : Context) (last : Entry) (top : Last cx last) where
-  pub unscheduled : Unscheduled last cx (withoutLast (unscheduledBy (targetOf (last .target)) (cx .scheduled)) cx)
+  on-top : (visits : ℕ) → contextOf visits cx .stack ≡ entryOf last ∷ stackOf (cx .stack) (cx .len - 1)
+  unfolding contextOf
+  on-top visits = ap (λ (pending : Bool). entriesOf pending (cx .pushed) (cx .stack) (cx .len)) (top .settled) ∙ stack-last (cx .stack) (cx .len) last (top .nonempty) (top .read)
+
+  off : (visits : ℕ) → popped (stackOf (cx .stack) (cx .len - 1)) (unscheduledBy (targetOf (last .target)) (last .«owns_loop») (contextOf visits cx .scheduled)) (contextOf visits cx) ≡ contextOf visits (withoutLast (unscheduledBy (targetOf (last .target)) (last .«owns_loop») (cx .scheduled)) cx)
   unfolding contextOf popped
-  unscheduled = record {
-    state = refl;
-    context = λ visits. unschedule-top (contextOf visits cx) (entryOf last) (stackOf (cx .stack) (cx .len - 1)) (stack-last (cx .stack) (cx .len) last (top .nonempty) (top .read));
-    pops = λ visits. sym (unscheduled-top (contextOf visits cx) (entryOf last) (stackOf (cx .stack) (cx .len - 1)) (stack-last (cx .stack) (cx .len) last (top .nonempty) (top .read)));
-    len = refl;
-    id = refl;
-    bounded = λ bounded. record { most = omega (arith, bounded .most); named = λ k below. bounded .named k (omega arith) };
-  }
+  off visits = rw (top .settled)
 
   -- the machine takes the last entry off whatever its id
-  pub pops : (visits : ℕ) → machine.unscheduled (contextOf visits cx) ≡ contextOf visits (withoutLast (unscheduledBy (targetOf (last .target)) (cx .scheduled)) cx)
-  unfolding contextOf popped
-  pops visits = unscheduled-top (contextOf visits cx) (entryOf last) (stackOf (cx .stack) (cx .len - 1)) (stack-last (cx .stack) (cx .len) last (top .nonempty) (top .read))
+  pub pops : (visits : ℕ) → machine.unscheduled (contextOf visits cx) ≡ contextOf visits (withoutLast (unscheduledBy (targetOf (last .target)) (last .«owns_loop») (cx .scheduled)) cx)
+  pops visits = unscheduled-top (contextOf visits cx) (entryOf last) (stackOf (cx .stack) (cx .len - 1)) (on-top visits) ∙ off visits
+
+  pub unscheduled : Unscheduled last cx (withoutLast (unscheduledBy (targetOf (last .target)) (last .«owns_loop») (cx .scheduled)) cx)
+  unscheduled = record {
+    state = refl;
+    context = λ visits. unschedule-top (contextOf visits cx) (entryOf last) (stackOf (cx .stack) (cx .len - 1)) (on-top visits) ∙ ap ok (sym (unscheduled-top (contextOf visits cx) (entryOf last) (stackOf (cx .stack) (cx .len - 1)) (on-top visits)) ∙ pops visits);
+    pops = λ visits. sym (pops visits);
+    len = refl;
+    id = refl;
+    settled = top .settled;
+    bounded = λ bounded. record { most = omega (arith, bounded .most); named = λ k below. bounded .named k (omega arith) };
+  }

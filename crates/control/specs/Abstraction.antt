@@ -2,7 +2,10 @@
 use Prim.Native.Nat.{ℕ, zero, suc, _-_}
 use mathlib.Core.List.{List, [], _∷_}
 use mathlib.Core.Option.{Option, none, some}
+use mathlib.Core.Bool.{Bool, true, false}
+use lib.Dec.{eqb}
 use lib.ListN.{getD, set}
+use Rattle.definition.specs.Result.{Result, ok, refused}
 use Rattle.definition.specs.Tree.{Kind, implicit, labeled, unlabeled}
 use Rattle.definition.specs.Context as definition
 use Rattle.definition.specs.Context.{target-if, target-switch, target-case, target-loop}
@@ -16,32 +19,40 @@ use Rattle.control.specs.declared.Resolution.{Resolution}
 use Rattle.control.specs.declared.Resolved.{Resolved}
 use Rattle.control.specs.declared.Resolved.the-variants.{Nothing, Found}
 
--- every caller of the Rust's `schedule_loop` gives a loop block
 abbrev pub targetOf : ControlFlowTarget → definition.ControlFlowTarget
 targetOf (If block) = target-if block
 targetOf (Switch block) = target-switch block
 targetOf (Case block) = target-case block
-targetOf (Loop block continueBlock loopBlock ownsLoop) = target-loop block continueBlock (some loopBlock) ownsLoop
+targetOf (Loop block continueBlock loopBlock) = target-loop block continueBlock loopBlock
 
 abbrev pub entryOf : Entry → definition.Entry
-entryOf entry = record { id = entry .id; target = targetOf (entry .target) }
+entryOf entry = record { id = entry .id; target = targetOf (entry .target); ownsLoop = entry .«owns_loop» }
 
 -- what a read past an array's end gives in the logic
 abbrev pub noEntry : Entry
-noEntry = record { id = 0; target = If 0 }
+noEntry = record { id = 0; target = If 0; «owns_loop» = false }
 
 -- the first so many entries of the array, the last of them first
 unfoldable pub stackOf : List Entry → ℕ → List definition.Entry
 stackOf entries zero = []
 stackOf entries (suc n) = entryOf (getD entries n noEntry) ∷ stackOf entries n
 
--- The visits are counted outside the code's Context. Entries above the length, and `pushed`, are not looked at.
-unfoldable pub contextOf : (visits : ℕ) → Context → definition.Context
-contextOf visits cx = record { nextId = cx .«next_schedule_id»; emitted = cx .emitted; scopeFallthroughs = cx .«scope_fallthroughs»; scheduled = cx .scheduled; catchHandlers = cx .«catch_handlers»; stack = stackOf (cx .stack) (cx .len); visits = visits }
+-- so many entries, of which the last may be pending: then it is not yet in the array
+abbrev pub entriesOf : (pending : Bool) → (pushed : Entry) → List Entry → (len : ℕ) → List definition.Entry
+entriesOf true pushed entries len = entryOf pushed ∷ stackOf entries (len - 1)
+entriesOf false pushed entries len = stackOf entries len
 
--- what the caller's store makes: the entry that `schedule` or `schedule_loop` left in `pushed` is the stack's last
-unfoldable pub stored : Context → Context
-stored cx = record { emitted = cx .emitted; «catch_handlers» = cx .«catch_handlers»; «scope_fallthroughs» = cx .«scope_fallthroughs»; len = cx .len; scheduled = cx .scheduled; pushed = cx .pushed; «next_schedule_id» = cx .«next_schedule_id»; stack = set (cx .stack) (cx .len - 1) (cx .pushed) }
+-- The visits are counted outside the code's Context. Entries of the array above the length are not looked at.
+unfoldable pub contextOf : (visits : ℕ) → Context → definition.Context
+contextOf visits cx = record { nextId = cx .«next_schedule_id»; emitted = cx .emitted; scopeFallthroughs = cx .«scope_fallthroughs»; scheduled = cx .scheduled; catchHandlers = cx .«catch_handlers»; stack = entriesOf (cx .pending) (cx .pushed) (cx .stack) (cx .len); visits = visits }
+
+-- what `schedule` gives: the next Context, or a refusal at the block that the target asks about
+abbrev pub resultOf : (at visits : ℕ) → Context → Result definition.Context
+resultOf at visits cx = elim (eqb (cx .refused) 0) [ true ↦ ok (contextOf visits cx) | false ↦ refused (cx .refused) at visits ]
+
+-- the pending entry in its place in the array, as the caller stores it
+unfoldable pub settled : Context → Context
+settled cx = record { emitted = cx .emitted; «catch_handlers» = cx .«catch_handlers»; «scope_fallthroughs» = cx .«scope_fallthroughs»; len = cx .len; scheduled = cx .scheduled; pushed = cx .pushed; pending = false; refused = cx .refused; «next_schedule_id» = cx .«next_schedule_id»; stack = set (cx .stack) (cx .len - 1) (cx .pushed) }
 
 abbrev pub kindOf : ReactiveTerminalTargetKind → Kind
 kindOf Implicit = implicit

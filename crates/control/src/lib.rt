@@ -1,19 +1,20 @@
 // The Rust's ControlFlowTarget and Context: which blocks are emitted, scheduled, catch handlers or scope fallthroughs, and the stack of the
 // statements that a jump can leave. Each step takes the Context and hands the next one back.
 //
-// No step indexes the array of entries: inside a method that is handed the Context, a store into it or a read from it would copy the whole array.
-// `schedule` and `schedule_loop` leave the new entry in `pushed`, and the caller stores it at `len - 1`; `unschedule` is handed the entry that the
-// caller reads there. For the same reason a step copies the set that it changes into a local and back, and the scalars stand between the arrays.
-// (docs/PERFORMANCE.md has the times, also of the two searches, which do read it.)
+// The stack has `len` entries: those of the array, and where the last one is `pending`, `pushed` in its place. A step never indexes the array: inside a
+// method that is handed the Context, a store into it or a read from it would copy the whole array. So `schedule` leaves its entry pending, and the
+// caller settles it at `len - 1`, which changes the form of the Context alone (`settles`); `unschedule` is handed the entry that the caller reads there.
+// For the same reason a step copies the set that it changes into a local and back, each step writes `len`, and the scalars stand between the arrays.
+// (docs/PERFORMANCE.md has the times.)
 ghost use mathlib.Core.Path.{_≡_};
 ghost use Prim.Native.Nat.{ℕ, _≤_, _<_};
-ghost use mathlib.Core.Bool.{_||_};
-ghost use Rattle.definition.specs.Context.{add, has, targetBlock, isLoop, continuesAt, breakKind, continueKind, unscheduledBy, getBreakTarget, getContinueTarget};
+ghost use mathlib.Core.Bool.{Bool, _||_};
+ghost use Rattle.definition.specs.Context.{add, has, targetBlock, isLoop, continuesAt, blockAsked, blockedCode, scheduledBy, owns, breakKind, continueKind, unscheduledBy, getBreakTarget, getContinueTarget};
 ghost use Rattle.definition.specs.Tree.{kindNumber};
 ghost use Rattle.control.specs.Abstraction.{targetOf, kindOf, resolutionOf, resolvedOf, contextOf};
-ghost use Rattle.control.specs.Contract.{continueScheduled, Named, Room, Last, Created, Scheduled, ScheduledLoop, Unscheduled, breakTo, continueTo};
+ghost use Rattle.control.specs.Contract.{Named, Room, Last, blockedIn, refusalIf, Created, Scheduled, Unscheduled, breakTo, continueTo};
 
-// What an entry of the control stack stands for. A loop's `block` is its fallthrough. `owns_loop` is whether the loop block was free before.
+// What an entry of the control stack stands for. A loop's `block` is its fallthrough.
 pub enum ControlFlowTarget {
     If {
         block: u16,
@@ -28,13 +29,14 @@ pub enum ControlFlowTarget {
         block: u16,
         continue_block: u16,
         loop_block: u16,
-        owns_loop: bool,
     },
 }
 
+// `owns_loop`: the target is a loop, and its loop block was free before.
 pub struct Entry {
     pub id: u16,
     pub target: ControlFlowTarget,
+    pub owns_loop: bool,
 }
 
 pub enum ReactiveTerminalTargetKind {
@@ -61,6 +63,8 @@ pub struct Context {
     pub len: usize,
     pub scheduled: [bool; 1024],
     pub pushed: Entry,
+    pub pending: bool,
+    pub refused: u16,
     pub next_schedule_id: u16,
     pub stack: [Entry; 1152],
 }
@@ -77,7 +81,6 @@ impl ControlFlowTarget {
                 block,
                 continue_block: _,
                 loop_block: _,
-                owns_loop: _,
             } => block,
         }
     }
@@ -93,7 +96,6 @@ impl ControlFlowTarget {
                 block: _,
                 continue_block: _,
                 loop_block: _,
-                owns_loop: _,
             } => true,
         }
     }
@@ -110,9 +112,43 @@ impl ControlFlowTarget {
                 block: _,
                 continue_block,
                 loop_block: _,
-                owns_loop: _,
             } => continue_block == wanted,
         }
+    }
+
+    // The block that is refused where the target cannot be scheduled.
+    pub fn block_asked(self) -> u16
+        ensures { λ r. ⌜ r ≡ blockAsked (targetOf self) ⌝ }
+    {
+        match self {
+            ControlFlowTarget::If { block } => block,
+            ControlFlowTarget::Switch { block } => block,
+            ControlFlowTarget::Case { block } => block,
+            ControlFlowTarget::Loop {
+                block: _,
+                continue_block,
+                loop_block: _,
+            } => continue_block,
+        }
+    }
+
+    // What it is refused with, if it is: the Rust's message for a break block that is scheduled (it never occurs), and 15.
+    fn refusal(self, blocked: bool) -> u16
+        ensures { λ r. ⌜ r ≡ refusalIf blocked (blockedCode (targetOf self)) ⌝ }
+    {
+        if blocked {
+            return match self {
+                ControlFlowTarget::If { block: _ } => 90,
+                ControlFlowTarget::Switch { block: _ } => 90,
+                ControlFlowTarget::Case { block: _ } => 90,
+                ControlFlowTarget::Loop {
+                    block: _,
+                    continue_block: _,
+                    loop_block: _,
+                } => 15,
+            };
+        }
+        0
     }
 }
 
@@ -156,27 +192,65 @@ pub fn is_scheduled<'a>(
     catch_handlers[at]
 }
 
-// Refusal 15, asked before `schedule_loop`, which inserts the fallthrough without a test and only then tests the continue block.
-pub fn continue_block_is_scheduled(
-    scheduled: &[bool; 1024],
-    fallthrough: u16,
-    continue_block: u16,
-) -> bool
-    requires { ⌜ «continue_block» < 1024 ⌝ }
-    ensures { λ r. ⌜ r ≡ continueScheduled (now (scheduled .entry)) fallthrough «continue_block» ⌝ }
+// Whether a target cannot be scheduled. Of a loop the fallthrough goes in without a test, and only then the continue block is tested.
+pub fn is_blocked(scheduled: &[bool; 1024], target: ControlFlowTarget) -> bool
+    requires { ⌜ Named target ⌝ }
+    ensures { λ r. ⌜ r ≡ blockedIn (targetOf target) (now (scheduled .entry)) ⌝ }
 {
-    if continue_block == fallthrough {
-        return true; // it has just been inserted
+    match target {
+        ControlFlowTarget::If { block } => scheduled[block as usize],
+        ControlFlowTarget::Switch { block } => scheduled[block as usize],
+        ControlFlowTarget::Case { block } => scheduled[block as usize],
+        ControlFlowTarget::Loop {
+            block,
+            continue_block,
+            loop_block: _,
+        } => {
+            if continue_block == block {
+                return true; // it goes in before the test
+            }
+            scheduled[continue_block as usize]
+        }
     }
-    let at = continue_block as usize;
-    scheduled[at]
+}
+
+// Puts a target's blocks into the scheduled set. Gives whether the target owns its loop block.
+fn add_target(scheduled: &mut [bool; 1024], target: ControlFlowTarget) -> bool
+    requires { ⌜ Named target ⌝ }
+    ensures { λ r. ⌜ (now (scheduled .exit) ≡ scheduledBy (targetOf target) (now (scheduled .entry))) × (r ≡ owns (targetOf target) (now (scheduled .entry))) ⌝ }
+{
+    match target {
+        ControlFlowTarget::If { block } => {
+            scheduled[block as usize] = true;
+            false
+        }
+        ControlFlowTarget::Switch { block } => {
+            scheduled[block as usize] = true;
+            false
+        }
+        ControlFlowTarget::Case { block } => {
+            scheduled[block as usize] = true;
+            false
+        }
+        ControlFlowTarget::Loop {
+            block,
+            continue_block,
+            loop_block,
+        } => {
+            scheduled[block as usize] = true;
+            scheduled[continue_block as usize] = true;
+            let owns_loop = !scheduled[loop_block as usize];
+            scheduled[loop_block as usize] = true;
+            owns_loop
+        }
+    }
 }
 
 // What a target's statement takes out of the scheduled set where it ends: a loop its fallthrough and continue block, whoever put them there, and
 // its loop block only if it owns it.
-fn remove_target(scheduled: &mut [bool; 1024], target: ControlFlowTarget)
+fn remove_target(scheduled: &mut [bool; 1024], target: ControlFlowTarget, owns_loop: bool)
     requires { ⌜ Named target ⌝ }
-    ensures { λ _. ⌜ now (scheduled .exit) ≡ unscheduledBy (targetOf target) (now (scheduled .entry)) ⌝ }
+    ensures { λ _. ⌜ now (scheduled .exit) ≡ unscheduledBy (targetOf target) «owns_loop» (now (scheduled .entry)) ⌝ }
 {
     match target {
         ControlFlowTarget::If { block } => {
@@ -192,7 +266,6 @@ fn remove_target(scheduled: &mut [bool; 1024], target: ControlFlowTarget)
             block,
             continue_block,
             loop_block,
-            owns_loop,
         } => {
             scheduled[block as usize] = false;
             scheduled[continue_block as usize] = false;
@@ -275,6 +348,7 @@ impl Context {
         let entry = Entry {
             id: 0,
             target: ControlFlowTarget::If { block: 0 },
+            owns_loop: false,
         };
         Context {
             emitted: [false; 1024],
@@ -283,59 +357,32 @@ impl Context {
             len: 0,
             scheduled: [false; 1024],
             pushed: entry,
+            pending: false,
+            refused: 0,
             next_schedule_id: 0,
             stack: [entry; 1152],
         }
     }
 
-    // A target that is no loop. The caller stores `pushed` at `len - 1`.
+    // The one way to schedule: any target, a loop with its three blocks. The entry is pending. `refused` is 15 where a loop's continue block is
+    // scheduled, and such a Context goes no further.
     pub fn schedule(mut self, target: ControlFlowTarget) -> Context
         requires { ⌜ Named target ⌝ }
         requires { ⌜ Room self ⌝ }
         ensures { λ r. ⌜ Scheduled target self r ⌝ }
     {
-        let at = target.block() as usize;
         let mut scheduled = self.scheduled;
-        scheduled[at] = true;
+        let blocked = is_blocked(&scheduled, target);
+        let owns_loop = add_target(&mut scheduled, target);
         self.scheduled = scheduled;
+        self.refused = target.refusal(blocked);
         let entry = Entry {
             id: self.next_schedule_id,
             target: target,
-        };
-        self.pushed = entry;
-        self.next_schedule_id = self.next_schedule_id + 1;
-        self.len = self.len + 1;
-        self
-    }
-
-    // A loop whose continue block is not scheduled. The caller stores `pushed` at `len - 1`.
-    pub fn schedule_loop(
-        mut self,
-        fallthrough: u16,
-        continue_block: u16,
-        loop_block: u16,
-    ) -> Context
-        requires { ⌜ (fallthrough < 1024) × («continue_block» < 1024) × («loop_block» < 1024) ⌝ }
-        requires { ⌜ Room self ⌝ }
-        ensures { λ r. ⌜ ScheduledLoop fallthrough «continue_block» «loop_block» self r ⌝ }
-    {
-        let mut scheduled = self.scheduled;
-        scheduled[fallthrough as usize] = true;
-        scheduled[continue_block as usize] = true;
-        let owns_loop = !scheduled[loop_block as usize];
-        scheduled[loop_block as usize] = true;
-        self.scheduled = scheduled;
-        let target = ControlFlowTarget::Loop {
-            block: fallthrough,
-            continue_block: continue_block,
-            loop_block: loop_block,
             owns_loop: owns_loop,
         };
-        let entry = Entry {
-            id: self.next_schedule_id,
-            target: target,
-        };
         self.pushed = entry;
+        self.pending = true;
         self.next_schedule_id = self.next_schedule_id + 1;
         self.len = self.len + 1;
         self
@@ -348,7 +395,7 @@ impl Context {
     {
         let target = last.target;
         let mut scheduled = self.scheduled;
-        remove_target(&mut scheduled, target);
+        remove_target(&mut scheduled, target, last.owns_loop);
         self.scheduled = scheduled;
         self.len = self.len - 1;
         self
@@ -357,6 +404,7 @@ impl Context {
     // The innermost entry whose block is the target: the search goes from the stack's top.
     pub fn get_break_target(self, block: u16) -> Resolved
         requires { ⌜ self .len ≤ 1152 ⌝ }
+        requires { ⌜ self .pending ≡ Bool.false ⌝ }
         ensures { λ r. ⌜ ((visits : ℕ) → resolvedOf r ≡ getBreakTarget (contextOf visits self) block) ⌝ }
     {
         let mut at = self.len; // the innermost entry first
@@ -380,6 +428,7 @@ impl Context {
     // The innermost loop with that continue block.
     pub fn get_continue_target(self, block: u16) -> Resolved
         requires { ⌜ self .len ≤ 1152 ⌝ }
+        requires { ⌜ self .pending ≡ Bool.false ⌝ }
         ensures { λ r. ⌜ ((visits : ℕ) → resolvedOf r ≡ getContinueTarget (contextOf visits self) block) ⌝ }
     {
         let mut at = self.len;

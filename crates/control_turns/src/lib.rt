@@ -43,6 +43,7 @@ pub extern "C" fn control_turns_schedule(turns: u16) -> u16
         let at = cx.len - 1;
         let entry = cx.pushed;
         cx.stack[at] = entry;
+        cx.pending = false;
         seen = count(seen, is_scheduled(&cx.scheduled, &cx.catch_handlers, block));
         let last = cx.stack[at];
         cx = cx.unschedule(last);
@@ -51,7 +52,7 @@ pub extern "C" fn control_turns_schedule(turns: u16) -> u16
     seen
 }
 
-// `schedule_loop` and `unschedule`.
+// The same with loops.
 #[no_mangle]
 pub extern "C" fn control_turns_schedule_loop(turns: u16) -> u16
     ensures { λ r. ⌜ r ≤ turns ⌝ }
@@ -63,10 +64,16 @@ pub extern "C" fn control_turns_schedule_loop(turns: u16) -> u16
     while turn < turns {
         let continue_block = next_block(block);
         let loop_block = next_block(continue_block);
-        cx = cx.schedule_loop(block, continue_block, loop_block);
+        let target = ControlFlowTarget::Loop {
+            block: block,
+            continue_block: continue_block,
+            loop_block: loop_block,
+        };
+        cx = cx.schedule(target);
         let at = cx.len - 1;
         let entry = cx.pushed;
         cx.stack[at] = entry;
+        cx.pending = false;
         seen = count(
             seen,
             is_scheduled(&cx.scheduled, &cx.catch_handlers, loop_block),
@@ -94,6 +101,7 @@ pub extern "C" fn control_turns_get_break_target(turns: u16) -> u16
         let at = cx.len - 1;
         let entry = cx.pushed;
         cx.stack[at] = entry;
+        cx.pending = false;
         seen = count(seen, is_found(cx.get_break_target(block)));
         let last = cx.stack[at];
         cx = cx.unschedule(last);

@@ -7,7 +7,7 @@ use Rattle.table.specs.Words.{word, entryWord, blockCount, instructionCount, ca
 use Rattle.table.specs.Table.{unlessNone, variantOf, terminalOf, blockOf, operationOf, instructionOf, caseOf, tabulate, tableOf}
 use Rattle.table.specs.Check.{fits, block, block-or-none, place, place-or-none, terminalRules, blockRules, operandRules, instructionRules, caseRules, placeRules, identifierRules, andThen, rowVerdict, rowsVerdict, wordsVerdict, countsVerdict, checked}
 use Rattle.definition.specs.Result.{_>>=_, refuseIf}
-use Rattle.definition.specs.Context.{noFlags, has, add, remove, start, isScheduled, emit, withVisits, markScopeFallthrough, scheduleCatchHandler, pushed, schedule, scheduleLoop, unscheduledBy, popped, unscheduleTop, unschedule, breakKind, breakTargetFrom, getBreakTarget, continueKind, continueTargetFrom, getContinueTarget}
+use Rattle.definition.specs.Context.{noFlags, has, add, remove, start, isScheduled, emit, withVisits, markScopeFallthrough, scheduleCatchHandler, pushed, schedule, unscheduledBy, popped, unscheduleTop, unschedule, breakKind, breakTargetFrom, getBreakTarget, continueKind, continueTargetFrom, getContinueTarget}
 use Rattle.definition.specs.Value.{beginVisit, instructionsOf, wrapWithSequence, finalValue, finalPlace, storedToNamed, allButLast, last, extractValueBlockResult, extractOrRefuse, testBlockEnded, visitTestBlock, visitValueBlockTerminal, thenFallthrough, branchValue, isEmptyGoto, maybeThrowValue, visitValueBlockAt, visitValueBlock, appended, sameIdentifier, unlessSame, valueBlockResultToSequence}
 use Rattle.definition.specs.Statement.{enterBlock, unlessScheduled, unlessUnreachable, scheduleIf, scheduleSwitch, unscheduleIf, markScopeFallthroughIf, breakToScope, breakResolved, visitBreak, continueResolved, visitContinue, visitGoto, traverseUnscheduled, traverseAlternate, traverseConsequent, traverseEnclosed, loopIsTaken, traverseLoop, visitUpdate, casesLastFirst, traverseCases, unscheduleAll, visitValueStatement, visitTerminal, instructionStatements, thenNext, visitBlock, traverseBlock, buildTree}
 use Rattle.definition.specs.Build.{reported, report, refusal, wordsOf, placed, outcomeOf, afterCheck, built}
@@ -82,22 +82,22 @@ W-runs :
     Both W (1 ∷ 7 ∷ 0 ∷ []) (stopped (0 ∷ 1 ∷ 2 ∷ 3 ∷ 1 ∷ 2 ∷ 3 ∷ 1 ∷ 2 ∷ 4 ∷ []) [] (returned 0 4))
     × Both W (0 ∷ 1 ∷ 1 ∷ []) (stopped (0 ∷ 1 ∷ 2 ∷ 4 ∷ []) (1 ∷ 1 ∷ []) (returned 0 4))
     × Both W (1 ∷ []) (stopped (0 ∷ 1 ∷ 2 ∷ 3 ∷ 1 ∷ 2 ∷ []) [] no-answer-left)
-unfolding word entryWord blockCount instructionCount caseCount placeCount identifierCount blocksBegin instructionsBegin casesBegin placesBegin identifiersBegin wordsNeeded blockWord instructionWord caseWord placeWord identifierWord unlessNone variantOf terminalOf blockOf operationOf instructionOf caseOf tabulate tableOf fits block block-or-none place place-or-none terminalRules blockRules operandRules instructionRules caseRules placeRules identifierRules andThen rowVerdict rowsVerdict wordsVerdict countsVerdict checked _>>=_ refuseIf noFlags has add remove start isScheduled emit withVisits markScopeFallthrough scheduleCatchHandler pushed schedule scheduleLoop unscheduledBy popped unscheduleTop unschedule breakKind breakTargetFrom getBreakTarget continueKind continueTargetFrom getContinueTarget beginVisit instructionsOf wrapWithSequence finalValue finalPlace storedToNamed allButLast last extractValueBlockResult extractOrRefuse testBlockEnded visitTestBlock visitValueBlockTerminal thenFallthrough branchValue isEmptyGoto maybeThrowValue visitValueBlockAt visitValueBlock appended sameIdentifier unlessSame valueBlockResultToSequence enterBlock unlessScheduled unlessUnreachable scheduleIf scheduleSwitch unscheduleIf markScopeFallthroughIf breakToScope breakResolved visitBreak continueResolved visitContinue visitGoto traverseUnscheduled traverseAlternate traverseConsequent traverseEnclosed loopIsTaken traverseLoop visitUpdate casesLastFirst traverseCases unscheduleAll visitValueStatement visitTerminal instructionStatements thenNext visitBlock traverseBlock buildTree reported report refusal wordsOf placed outcomeOf afterCheck built performing move byAnswer blockRun loopContinues breakable labelled completed completing prefix thenOn then choose afterBody whileRounds whileLoop loop jumpCompletion runStatement reasonOf treeRun
+unfolding word entryWord blockCount instructionCount caseCount placeCount identifierCount blocksBegin instructionsBegin casesBegin placesBegin identifiersBegin wordsNeeded blockWord instructionWord caseWord placeWord identifierWord unlessNone variantOf terminalOf blockOf operationOf instructionOf caseOf tabulate tableOf fits block block-or-none place place-or-none terminalRules blockRules operandRules instructionRules caseRules placeRules identifierRules andThen rowVerdict rowsVerdict wordsVerdict countsVerdict checked _>>=_ refuseIf noFlags has add remove start isScheduled emit withVisits markScopeFallthrough scheduleCatchHandler pushed schedule unscheduledBy popped unscheduleTop unschedule breakKind breakTargetFrom getBreakTarget continueKind continueTargetFrom getContinueTarget beginVisit instructionsOf wrapWithSequence finalValue finalPlace storedToNamed allButLast last extractValueBlockResult extractOrRefuse testBlockEnded visitTestBlock visitValueBlockTerminal thenFallthrough branchValue isEmptyGoto maybeThrowValue visitValueBlockAt visitValueBlock appended sameIdentifier unlessSame valueBlockResultToSequence enterBlock unlessScheduled unlessUnreachable scheduleIf scheduleSwitch unscheduleIf markScopeFallthroughIf breakToScope breakResolved visitBreak continueResolved visitContinue visitGoto traverseUnscheduled traverseAlternate traverseConsequent traverseEnclosed loopIsTaken traverseLoop visitUpdate casesLastFirst traverseCases unscheduleAll visitValueStatement visitTerminal instructionStatements thenNext visitBlock traverseBlock buildTree reported report refusal wordsOf placed outcomeOf afterCheck built performing move byAnswer blockRun loopContinues breakable labelled completed completing prefix thenOn then choose afterBody whileRounds whileLoop loop jumpCompletion runStatement reasonOf treeRun
 W-runs = ((refl, refl), (refl, refl), (refl, refl))
 
 -- yes, yes, yes: the outer loop is continued from the inner; then its inner loop ends, and then the outer
 loops-run : Both loops (1 ∷ 1 ∷ 1 ∷ 1 ∷ 0 ∷ 0 ∷ 5 ∷ []) (stopped (0 ∷ 1 ∷ 2 ∷ 4 ∷ 5 ∷ 1 ∷ 2 ∷ 4 ∷ 6 ∷ 1 ∷ 3 ∷ []) (5 ∷ []) (threw 0 9))
-unfolding word entryWord blockCount instructionCount caseCount placeCount identifierCount blocksBegin instructionsBegin casesBegin placesBegin identifiersBegin wordsNeeded blockWord instructionWord caseWord placeWord identifierWord unlessNone variantOf terminalOf blockOf operationOf instructionOf caseOf tabulate tableOf fits block block-or-none place place-or-none terminalRules blockRules operandRules instructionRules caseRules placeRules identifierRules andThen rowVerdict rowsVerdict wordsVerdict countsVerdict checked _>>=_ refuseIf noFlags has add remove start isScheduled emit withVisits markScopeFallthrough scheduleCatchHandler pushed schedule scheduleLoop unscheduledBy popped unscheduleTop unschedule breakKind breakTargetFrom getBreakTarget continueKind continueTargetFrom getContinueTarget beginVisit instructionsOf wrapWithSequence finalValue finalPlace storedToNamed allButLast last extractValueBlockResult extractOrRefuse testBlockEnded visitTestBlock visitValueBlockTerminal thenFallthrough branchValue isEmptyGoto maybeThrowValue visitValueBlockAt visitValueBlock appended sameIdentifier unlessSame valueBlockResultToSequence enterBlock unlessScheduled unlessUnreachable scheduleIf scheduleSwitch unscheduleIf markScopeFallthroughIf breakToScope breakResolved visitBreak continueResolved visitContinue visitGoto traverseUnscheduled traverseAlternate traverseConsequent traverseEnclosed loopIsTaken traverseLoop visitUpdate casesLastFirst traverseCases unscheduleAll visitValueStatement visitTerminal instructionStatements thenNext visitBlock traverseBlock buildTree reported report refusal wordsOf placed outcomeOf afterCheck built performing move byAnswer blockRun loopContinues breakable labelled completed completing prefix thenOn then choose afterBody whileRounds whileLoop loop jumpCompletion runStatement reasonOf treeRun
+unfolding word entryWord blockCount instructionCount caseCount placeCount identifierCount blocksBegin instructionsBegin casesBegin placesBegin identifiersBegin wordsNeeded blockWord instructionWord caseWord placeWord identifierWord unlessNone variantOf terminalOf blockOf operationOf instructionOf caseOf tabulate tableOf fits block block-or-none place place-or-none terminalRules blockRules operandRules instructionRules caseRules placeRules identifierRules andThen rowVerdict rowsVerdict wordsVerdict countsVerdict checked _>>=_ refuseIf noFlags has add remove start isScheduled emit withVisits markScopeFallthrough scheduleCatchHandler pushed schedule unscheduledBy popped unscheduleTop unschedule breakKind breakTargetFrom getBreakTarget continueKind continueTargetFrom getContinueTarget beginVisit instructionsOf wrapWithSequence finalValue finalPlace storedToNamed allButLast last extractValueBlockResult extractOrRefuse testBlockEnded visitTestBlock visitValueBlockTerminal thenFallthrough branchValue isEmptyGoto maybeThrowValue visitValueBlockAt visitValueBlock appended sameIdentifier unlessSame valueBlockResultToSequence enterBlock unlessScheduled unlessUnreachable scheduleIf scheduleSwitch unscheduleIf markScopeFallthroughIf breakToScope breakResolved visitBreak continueResolved visitContinue visitGoto traverseUnscheduled traverseAlternate traverseConsequent traverseEnclosed loopIsTaken traverseLoop visitUpdate casesLastFirst traverseCases unscheduleAll visitValueStatement visitTerminal instructionStatements thenNext visitBlock traverseBlock buildTree reported report refusal wordsOf placed outcomeOf afterCheck built performing move byAnswer blockRun loopContinues breakable labelled completed completing prefix thenOn then choose afterBody whileRounds whileLoop loop jumpCompletion runStatement reasonOf treeRun
 loops-run = (refl, refl)
 
 -- ---- the law
 
 W-accepted : built W 600 .code ≡ 0
-unfolding word entryWord blockCount instructionCount caseCount placeCount identifierCount blocksBegin instructionsBegin casesBegin placesBegin identifiersBegin wordsNeeded blockWord instructionWord caseWord placeWord identifierWord unlessNone variantOf terminalOf blockOf operationOf instructionOf caseOf tabulate tableOf fits block block-or-none place place-or-none terminalRules blockRules operandRules instructionRules caseRules placeRules identifierRules andThen rowVerdict rowsVerdict wordsVerdict countsVerdict checked _>>=_ refuseIf noFlags has add remove start isScheduled emit withVisits markScopeFallthrough scheduleCatchHandler pushed schedule scheduleLoop unscheduledBy popped unscheduleTop unschedule breakKind breakTargetFrom getBreakTarget continueKind continueTargetFrom getContinueTarget beginVisit instructionsOf wrapWithSequence finalValue finalPlace storedToNamed allButLast last extractValueBlockResult extractOrRefuse testBlockEnded visitTestBlock visitValueBlockTerminal thenFallthrough branchValue isEmptyGoto maybeThrowValue visitValueBlockAt visitValueBlock appended sameIdentifier unlessSame valueBlockResultToSequence enterBlock unlessScheduled unlessUnreachable scheduleIf scheduleSwitch unscheduleIf markScopeFallthroughIf breakToScope breakResolved visitBreak continueResolved visitContinue visitGoto traverseUnscheduled traverseAlternate traverseConsequent traverseEnclosed loopIsTaken traverseLoop visitUpdate casesLastFirst traverseCases unscheduleAll visitValueStatement visitTerminal instructionStatements thenNext visitBlock traverseBlock buildTree reported report refusal wordsOf placed outcomeOf afterCheck built
+unfolding word entryWord blockCount instructionCount caseCount placeCount identifierCount blocksBegin instructionsBegin casesBegin placesBegin identifiersBegin wordsNeeded blockWord instructionWord caseWord placeWord identifierWord unlessNone variantOf terminalOf blockOf operationOf instructionOf caseOf tabulate tableOf fits block block-or-none place place-or-none terminalRules blockRules operandRules instructionRules caseRules placeRules identifierRules andThen rowVerdict rowsVerdict wordsVerdict countsVerdict checked _>>=_ refuseIf noFlags has add remove start isScheduled emit withVisits markScopeFallthrough scheduleCatchHandler pushed schedule unscheduledBy popped unscheduleTop unschedule breakKind breakTargetFrom getBreakTarget continueKind continueTargetFrom getContinueTarget beginVisit instructionsOf wrapWithSequence finalValue finalPlace storedToNamed allButLast last extractValueBlockResult extractOrRefuse testBlockEnded visitTestBlock visitValueBlockTerminal thenFallthrough branchValue isEmptyGoto maybeThrowValue visitValueBlockAt visitValueBlock appended sameIdentifier unlessSame valueBlockResultToSequence enterBlock unlessScheduled unlessUnreachable scheduleIf scheduleSwitch unscheduleIf markScopeFallthroughIf breakToScope breakResolved visitBreak continueResolved visitContinue visitGoto traverseUnscheduled traverseAlternate traverseConsequent traverseEnclosed loopIsTaken traverseLoop visitUpdate casesLastFirst traverseCases unscheduleAll visitValueStatement visitTerminal instructionStatements thenNext visitBlock traverseBlock buildTree reported report refusal wordsOf placed outcomeOf afterCheck built
 W-accepted = refl
 
 loops-accepted : built loops 600 .code ≡ 0
-unfolding word entryWord blockCount instructionCount caseCount placeCount identifierCount blocksBegin instructionsBegin casesBegin placesBegin identifiersBegin wordsNeeded blockWord instructionWord caseWord placeWord identifierWord unlessNone variantOf terminalOf blockOf operationOf instructionOf caseOf tabulate tableOf fits block block-or-none place place-or-none terminalRules blockRules operandRules instructionRules caseRules placeRules identifierRules andThen rowVerdict rowsVerdict wordsVerdict countsVerdict checked _>>=_ refuseIf noFlags has add remove start isScheduled emit withVisits markScopeFallthrough scheduleCatchHandler pushed schedule scheduleLoop unscheduledBy popped unscheduleTop unschedule breakKind breakTargetFrom getBreakTarget continueKind continueTargetFrom getContinueTarget beginVisit instructionsOf wrapWithSequence finalValue finalPlace storedToNamed allButLast last extractValueBlockResult extractOrRefuse testBlockEnded visitTestBlock visitValueBlockTerminal thenFallthrough branchValue isEmptyGoto maybeThrowValue visitValueBlockAt visitValueBlock appended sameIdentifier unlessSame valueBlockResultToSequence enterBlock unlessScheduled unlessUnreachable scheduleIf scheduleSwitch unscheduleIf markScopeFallthroughIf breakToScope breakResolved visitBreak continueResolved visitContinue visitGoto traverseUnscheduled traverseAlternate traverseConsequent traverseEnclosed loopIsTaken traverseLoop visitUpdate casesLastFirst traverseCases unscheduleAll visitValueStatement visitTerminal instructionStatements thenNext visitBlock traverseBlock buildTree reported report refusal wordsOf placed outcomeOf afterCheck built
+unfolding word entryWord blockCount instructionCount caseCount placeCount identifierCount blocksBegin instructionsBegin casesBegin placesBegin identifiersBegin wordsNeeded blockWord instructionWord caseWord placeWord identifierWord unlessNone variantOf terminalOf blockOf operationOf instructionOf caseOf tabulate tableOf fits block block-or-none place place-or-none terminalRules blockRules operandRules instructionRules caseRules placeRules identifierRules andThen rowVerdict rowsVerdict wordsVerdict countsVerdict checked _>>=_ refuseIf noFlags has add remove start isScheduled emit withVisits markScopeFallthrough scheduleCatchHandler pushed schedule unscheduledBy popped unscheduleTop unschedule breakKind breakTargetFrom getBreakTarget continueKind continueTargetFrom getContinueTarget beginVisit instructionsOf wrapWithSequence finalValue finalPlace storedToNamed allButLast last extractValueBlockResult extractOrRefuse testBlockEnded visitTestBlock visitValueBlockTerminal thenFallthrough branchValue isEmptyGoto maybeThrowValue visitValueBlockAt visitValueBlock appended sameIdentifier unlessSame valueBlockResultToSequence enterBlock unlessScheduled unlessUnreachable scheduleIf scheduleSwitch unscheduleIf markScopeFallthroughIf breakToScope breakResolved visitBreak continueResolved visitContinue visitGoto traverseUnscheduled traverseAlternate traverseConsequent traverseEnclosed loopIsTaken traverseLoop visitUpdate casesLastFirst traverseCases unscheduleAll visitValueStatement visitTerminal instructionStatements thenNext visitBlock traverseBlock buildTree reported report refusal wordsOf placed outcomeOf afterCheck built
 loops-accepted = refl
 
 W-law : RunLaw W (built W 600)

@@ -11,7 +11,7 @@ use Rattle.table.specs.Words.{largest}
 use Rattle.table.specs.Table.{Table, Block, Case, Terminal, absent, unreachable, throw, return, goto, if, branch, switch, do-while, while, for, for-of, for-in, logical, ternary, optional, label, sequence, maybe-throw, try, scope, Variant, Break, Continue, Try, blockAt, terminalAt, instructionRowsAt, isUnreachable}
 use Rattle.definition.specs.Tree.{Kind, implicit, labeled, unlabeled, Statement, WHILE, LABEL, SCOPE, Statements, done}
 use Rattle.definition.specs.Result.{Result, ok}
-use Rattle.definition.specs.Context.{has, Context, start, isScheduled, withVisits, scheduleCatchHandler, target-case, schedule, scheduleLoop, unschedule, Resolution, getBreakTarget, getContinueTarget}
+use Rattle.definition.specs.Context.{has, Context, start, isScheduled, withVisits, scheduleCatchHandler, target-case, target-loop, schedule, unschedule, Resolution, getBreakTarget, getContinueTarget}
 use Rattle.definition.specs.Value.{VisitValueBlock, visitValueBlockTerminal, visitValueBlock}
 use Rattle.definition.specs.Statement.{BlockResult, TerminalResult, TraverseBlock, enterBlock, unlessScheduled, unlessUnreachable, scheduleIf, scheduleSwitch, unscheduleIf, markScopeFallthroughIf, breakToScope, breakResolved, visitBreak, continueResolved, visitContinue, visitGoto, traverseUnscheduled, AlternateResult, traverseAlternate, traverseConsequent, traverseEnclosed, traverseLoop, continueBlockOf, visitUpdate, casesLastFirst, traverseCases, unscheduleAll, scheduleIds, visitValueStatement, visitTerminal, instructionStatements, followedBy, thenNext, visitBlock, traverseBlock, buildTree}
 use Rattle.definition.specs.Plain.{fallthroughOf}
@@ -163,26 +163,26 @@ module _ (t : Table) (values : VisitValueBlock) (inner : TraverseBlock) (wf : Wa
       good-bind (λ r. WellFormedCases (r .cases)) FormedStep _ _ (cases-formed at f (casesLastFirst t i n) (scheduleIds g (c .nextId)) c₁) (λ r h.
       good-bind Any FormedStep _ _ (good-any (unscheduleAll (r .ids) (r .context))) (λ c₂ _. (l, h)))))
   terminal-formed (do-while l x f) at k c s =
-      good-bind Any FormedStep _ _ (good-any (scheduleLoop f x (some l) c)) (λ c₁ _.
+      good-bind Any FormedStep _ _ (good-any (schedule (target-loop f x l) c)) (λ c₁ _.
       good-unless FormedStep _ 16 at (c₁ .visits) _ (λ _.
       good-bind FormedBlock FormedStep _ _ (wf l c₁) (λ r h.
       good-bind Any FormedStep _ _ (good-any (values x none (k .span) (r .context .visits))) (λ v _.
       good-bind Any FormedStep _ _ (good-any (unschedule (c .nextId) (withVisits (v .visits) (r .context)))) (λ c₂ _. (scheduled-formed c f (s .0 f refl), h))))))
   terminal-formed (while x l f) at k c s =
       good-bind BelowNone FormedStep _ _ (reachable-formed t c f (s .0 f refl)) (λ g q.
-      good-bind Any FormedStep _ _ (good-any (scheduleLoop f x (some l) c)) (λ c₁ _.
+      good-bind Any FormedStep _ _ (good-any (schedule (target-loop f x l) c)) (λ c₁ _.
       good-bind Any FormedStep _ _ (good-any (values x none (k .span) (c₁ .visits))) (λ v _. loop-formed at l _ (v .visits) (c .nextId) c₁ g (WHILE (k .id) g (v .value)) (λ z h. (q, h)))))
   terminal-formed (for i x u l f) at k c s =
-      good-bind Any FormedStep _ _ (good-any (scheduleLoop f (continueBlockOf u x) (some l) c)) (λ c₁ _.
+      good-bind Any FormedStep _ _ (good-any (schedule (target-loop f (continueBlockOf u x) l) c)) (λ c₁ _.
       good-bind Any FormedStep _ _ (good-any (values i none (k .span) (c₁ .visits))) (λ n _.
       good-bind Any FormedStep _ _ (good-any (values x none (k .span) (n .visits))) (λ v _.
       good-bind Any FormedStep _ _ (good-any (visitUpdate values u (k .span) (v .visits))) (λ w _. loop-formed at l _ (w .visits) (c .nextId) c₁ _ _ (λ z h. (scheduled-formed c f (s .0 f refl), h))))))
   terminal-formed (for-of i x l f) at k c s =
-      good-bind Any FormedStep _ _ (good-any (scheduleLoop f i (some l) c)) (λ c₁ _.
+      good-bind Any FormedStep _ _ (good-any (schedule (target-loop f i l) c)) (λ c₁ _.
       good-bind Any FormedStep _ _ (good-any (values i none (k .span) (c₁ .visits))) (λ n _.
       good-bind Any FormedStep _ _ (good-any (values x none (k .span) (n .visits))) (λ v _. loop-formed at l _ (v .visits) (c .nextId) c₁ _ _ (λ z h. (scheduled-formed c f (s .0 f refl), h)))))
   terminal-formed (for-in i l f) at k c s =
-      good-bind Any FormedStep _ _ (good-any (scheduleLoop f i (some l) c)) (λ c₁ _.
+      good-bind Any FormedStep _ _ (good-any (schedule (target-loop f i l) c)) (λ c₁ _.
       good-bind Any FormedStep _ _ (good-any (values i none (k .span) (c₁ .visits))) (λ n _. loop-formed at l _ (n .visits) (c .nextId) c₁ _ _ (λ z h. (scheduled-formed c f (s .0 f refl), h))))
   terminal-formed (logical o x f) at k c s = value-formed (logical o x f) at k f c
   terminal-formed (ternary x f) at k c s = value-formed (ternary x f) at k f c

@@ -13,8 +13,8 @@ use borrow.Author.Tests.{leb-false}
 use Rattle.table.specs.Table.{Table, Terminal, absent, unreachable, throw, return, goto, if, branch, switch, do-while, while, for, for-of, for-in, logical, ternary, optional, sequence, maybe-throw, try, scope, Variant, Break, Continue, Try, blockAt, terminalAt, instructionRowsAt, isUnreachable, label}
 use Rattle.definition.specs.Build.{Report, report}
 use Rattle.definition.specs.Framed.{Below, isSwitch, Framed}
-use Rattle.definition.specs.Context.{getBreakTarget, getContinueTarget, Resolution, Flags, has, add, ControlFlowTarget, target-if, target-switch, target-case, Entry, Context, start, isScheduled, emit, withVisits, scheduleCatchHandler, markScopeFallthrough, pushed, scheduleLoop, popped}
-use Rattle.definition.specs.Machine.{Frame, State, visiting, ended, choosing, popping, Turn, going, halt, turn, leave, blockRow, valueOut, updateOut, statementOut, jumpOut, added, instructionsOut, closingRow, scheduled, scheduledIf, scheduledSwitch, unscheduledTop, unscheduled, unscheduledIf, opens, frameOf, secondPart, withLeft, caseBuilt, into, intoLoop, closeBy, close, caseAt, numberOfCases, chooseCase, switchColumns, resumeAt, resume, branchTurn, valueTurn, terminalTurn, depthLeft, visitTurn, step, begin, Gives, run}
+use Rattle.definition.specs.Context.{getBreakTarget, getContinueTarget, Resolution, Flags, has, add, ControlFlowTarget, target-if, target-switch, target-case, target-loop, blockedCode, blockAsked, Entry, Context, start, isScheduled, emit, withVisits, scheduleCatchHandler, markScopeFallthrough, pushed, schedule, target-loop, popped}
+use Rattle.definition.specs.Machine.{Frame, State, visiting, ended, choosing, popping, Turn, going, halt, turn, leave, blockRow, valueOut, updateOut, statementOut, jumpOut, added, instructionsOut, closingRow, scheduledIf, scheduledSwitch, unscheduledTop, unscheduled, unscheduledIf, opens, frameOf, secondPart, withLeft, caseBuilt, into, intoLoop, closeBy, close, caseAt, numberOfCases, chooseCase, switchColumns, resumeAt, resume, branchTurn, valueTurn, terminalTurn, depthLeft, visitTurn, step, begin, Gives, run}
 use Rattle.definition.specs.Result.{refused, Result, ok, refuseIf}
 use Rattle.definition.specs.Statement.{breakToScope, visitBreak, visitContinue, breakResolved, continueResolved, visitUpdate, OptionalValue, continueBlockOf, TerminalResult, enterBlock, unlessScheduled, unlessUnreachable, markScopeFallthroughIf, visitGoto, loopIsTaken}
 use Rattle.definition.specs.Tree.{Kind, implicit, labeled, unlabeled, Statement, Row, row, BREAK, CONTINUE}
@@ -144,22 +144,22 @@ record Held (c : Context) (up n : ℕ) (d : Context) : Type 0 where
 held : (c : Context) → Held c 0 (length (c .stack)) c
 held c = record { ids = omega arith; seen = refl; marked = refl; flags = refl; stack = refl }
 
-scheduled-held : (g : ControlFlowTarget) (c : Context) → Held c 1 (suc (length (c .stack))) (scheduled g c)
-unfolding scheduled pushed
+scheduled-held : (g : ControlFlowTarget) (c : Context) → Held c 1 (suc (length (c .stack))) (pushed g c)
+unfolding pushed
 scheduled-held g c = record { ids = omega arith; seen = refl; marked = refl; flags = refl; stack = refl }
 
-loop-held : (f k l : ℕ) (c : Context) → Good (Held c 1 (suc (length (c .stack)))) (scheduleLoop f k (some l) c)
-unfolding scheduleLoop pushed
-loop-held f k l c = good-unless (Held c 1 (suc (length (c .stack)))) _ 15 k (c .visits) _ (λ h. record { ids = omega arith; seen = refl; marked = refl; flags = refl; stack = refl })
+schedule-held : (g : ControlFlowTarget) (c : Context) → Good (Held c 1 (suc (length (c .stack)))) (schedule g c)
+unfolding schedule
+schedule-held g c = good-unless (Held c 1 (suc (length (c .stack)))) _ (blockedCode g) (blockAsked g) (c .visits) _ (λ h. scheduled-held g c)
 
 if-held : (g : Option ℕ) (c : Context) → Held c 1 (opens g + length (c .stack)) (scheduledIf g c)
 if-held none c = record { ids = omega arith; seen = refl; marked = refl; flags = refl; stack = omega arith }
-if-held (some f) c = let h : Held c 1 (suc (length (c .stack))) (scheduled (target-if f) c) = scheduled-held (target-if f) c in
+if-held (some f) c = let h : Held c 1 (suc (length (c .stack))) (pushed (target-if f) c) = scheduled-held (target-if f) c in
     record { ids = h .ids; seen = h .seen; marked = h .marked; flags = h .flags; stack = omega arith }
 
 switch-held : (g : Option ℕ) (c : Context) → Held c 1 (opens g + length (c .stack)) (scheduledSwitch g c)
 switch-held none c = record { ids = omega arith; seen = refl; marked = refl; flags = refl; stack = omega arith }
-switch-held (some f) c = let h : Held c 1 (suc (length (c .stack))) (scheduled (target-switch f) c) = scheduled-held (target-switch f) c in
+switch-held (some f) c = let h : Held c 1 (suc (length (c .stack))) (pushed (target-switch f) c) = scheduled-held (target-switch f) c in
     record { ids = h .ids; seen = h .seen; marked = h .marked; flags = h .flags; stack = omega arith }
 
 unscheduled-held : (c : Context) (n : ℕ) → length (c .stack) ≡ suc n → Held c 0 n (unscheduled c)
@@ -412,9 +412,10 @@ module _ (t : Table) (ck : Checked t) (d : ℕ) where
       at (if x y a g) q n = good-pick (Fit t p) (fr .second) _ _ (closed R c h) (good-pick (Fit t p) (eqb a g) _ _ (closed R c h) (into-again a 13 a (n .1)))
       at (branch x y a) q n = good-pick (Fit t p) (fr .second) _ _ (closed R c h) (into-again a 19 (fr .block) (n .1))
       at (switch x i m g) q n =
+          good-bind (Held c 1 (suc (length (c .stack)))) (Fit t p) _ _ (schedule-held (target-case (caseAt t (i + fr .left) .block)) c) (λ c₁ k.
           choose-fit t (caseBuilt fr)
-          (inside-held t c 1 (inside-out t (row 11 (caseAt t (i + fr .left) .test) 0 0 0 0 ∷ []) (fr .count) 3 h (omega arith) (omega (arith, h .tallied))) (scheduled-held (target-case (caseAt t (i + fr .left) .block)) c) (omega arith) (omega (arith, h .stack)))
-          (omega arith) (omega arith) refl (le-refl _) (omega arith) (ap isSwitch q) (record { block = o .block; label = o .label; entries = omega (arith, o .entries); case = λ z. omega (arith, o .case z) }) f
+          (inside-held t c 1 (inside-out t (row 11 (caseAt t (i + fr .left) .test) 0 0 0 0 ∷ []) (fr .count) 3 h (omega arith) (omega (arith, h .tallied))) k (omega arith) (omega (arith, h .stack)))
+          (omega arith) (omega arith) refl (le-refl _) (omega arith) (ap isSwitch q) (record { block = o .block; label = o .label; entries = omega (arith, o .entries); case = λ z. omega (arith, o .case z) }) f)
       at (do-while l x g) q n = good-bind (BlockTaken (c .visits)) (Fit t p) _ _ (values x none (blockAt t (fr .block) .span) (c .visits) (h .visits)) (λ w k.
           closed _ _ (inside-visited t (valueOut (w .value)) (w .visits) 4 h (k .0) (k .1) (omega (arith, value-out-size (w .value), k .0, k .2))))
       at (while x l g) q n = closed R c h
@@ -504,11 +505,11 @@ module _ (t : Table) (ck : Checked t) (d : ℕ) where
             → Fit t p (leave g F ((R ++ valueOut (w .value)) ++ (row 4 (w .id) (w .place) (blockAt t b .span) 0 0 ∷ [])) (suc m) (unscheduledIf g (withVisits (w .visits) (scheduledIf g c))))
         at none k w q = leaving none w (withVisits (w .visits) c) q k (inside-visited t (valueOut (w .value)) (w .visits) 5 (inside-held t c 1 h (held c) (omega arith) (omega (arith, h .stack))) (q .0) (q .1) (omega (arith, value-out-size (w .value), q .0, q .2)))
         at (some x) k w q =
-            let s : Held c 1 (suc (length (c .stack))) (scheduled (target-if x) c) = scheduled-held (target-if x) c in
-            let y : Inside p 2052 1 1 0 5 F (R ++ valueOut (w .value)) m (withVisits (w .visits) (scheduled (target-if x) c)) =
+            let s : Held c 1 (suc (length (c .stack))) (pushed (target-if x) c) = scheduled-held (target-if x) c in
+            let y : Inside p 2052 1 1 0 5 F (R ++ valueOut (w .value)) m (withVisits (w .visits) (pushed (target-if x) c)) =
             inside-visited t (valueOut (w .value)) (w .visits) 5 (inside-held t c {e₁ = 1} 1 h s (omega arith) (omega (arith, h .stack))) (omega (arith, q .0, s .seen)) (q .1) (omega (arith, value-out-size (w .value), q .0, q .2, s .seen)) in
-            leaving (some x) w (unscheduled (withVisits (w .visits) (scheduled (target-if x) c))) q k
-            (inside-held t (withVisits (w .visits) (scheduled (target-if x) c)) {e₁ = 0} 1 y (unscheduled-held (withVisits (w .visits) (scheduled (target-if x) c)) (entriesOf F) (omega (arith, y .stack))) (omega arith) (omega arith))
+            leaving (some x) w (unscheduled (withVisits (w .visits) (pushed (target-if x) c))) q k
+            (inside-held t (withVisits (w .visits) (pushed (target-if x) c)) {e₁ = 0} 1 y (unscheduled-held (withVisits (w .visits) (pushed (target-if x) c)) (entriesOf F) (omega (arith, y .stack))) (omega arith) (omega arith))
 
     branch-fit : (x y a : ℕ) → isSwitch (terminalAt t b) ≡ false → y < length (t .blocks) → a < length (t .blocks) → Good (Fit t p) (branchTurn b y a (blockAt t b .id) F R m c)
     unfolding branchTurn
@@ -536,7 +537,7 @@ module _ (t : Table) (ck : Checked t) (d : ℕ) where
       where
         fits : numberOfCases t i k ≤ length (t .cases) - i → numberOfCases t i k < 1 + (length (t .cases) - switchColumns (terminalAt t b) .first)
         fits u = rw q (omega (arith, u))
-    terminal-fit (do-while l x g) q n = good-bind (Held c 1 (suc (length (c .stack)))) (Fit t p) _ _ (loop-held g x l c) (λ c₁ k. at c₁ k)
+    terminal-fit (do-while l x g) q n = good-bind (Held c 1 (suc (length (c .stack)))) (Fit t p) _ _ (schedule-held (target-loop g x l) c) (λ c₁ k. at c₁ k)
       where
         none-out : (c₁ : Context) → Good (Fit t p) (intoLoop b l (loopIsTaken c l g) (c₁ .visits) (frameOf b (unlessScheduled c g) 1 m) F (R ++ []) c₁) → Good (Fit t p) (intoLoop b l (loopIsTaken c l g) (c₁ .visits) (frameOf b (unlessScheduled c g) 1 m) F R c₁)
         none-out c₁ w = subst (λ (z : List Row). Good (Fit t p) (intoLoop b l (loopIsTaken c l g) (c₁ .visits) (frameOf b (unlessScheduled c g) 1 m) F z c₁)) (append-nil R) w
@@ -544,10 +545,10 @@ module _ (t : Table) (ck : Checked t) (d : ℕ) where
         at : (c₁ : Context) → Held c 1 (suc (length (c .stack))) c₁ → Good (Fit t p) (intoLoop b l (loopIsTaken c l g) (c₁ .visits) (frameOf b (unlessScheduled c g) 1 m) F R c₁)
         at c₁ k = none-out c₁ (loop-fit (unlessScheduled c g) l (loopIsTaken c l g) (c₁ .visits) [] c₁ k (taken-below c g (n .2)) (ap isSwitch q) (n .0) (le-refl _) (omega (arith, k .seen, h .visits)) (omega arith))
     terminal-fit (while x l g) q n = good-bind (Below (length (t .blocks))) (Fit t p) _ _ (reach-below c g (n .2)) (λ o k.
-        good-bind (Held c 1 (suc (length (c .stack)))) (Fit t p) _ _ (loop-held g x l c) (λ c₁ k₁.
+        good-bind (Held c 1 (suc (length (c .stack)))) (Fit t p) _ _ (schedule-held (target-loop g x l) c) (λ c₁ k₁.
         good-bind (BlockTaken (c₁ .visits)) (Fit t p) _ _ (values x none (blockAt t b .span) (c₁ .visits) (omega (arith, k₁ .seen, h .visits))) (λ w u.
         loop-fit o l _ (w .visits) (valueOut (w .value)) c₁ k₁ k (ap isSwitch q) (n .1) (u .0) (u .1) (omega (arith, value-out-size (w .value), u .0, u .2)))))
-    terminal-fit (for i x v l g) q n = good-bind (Held c 1 (suc (length (c .stack)))) (Fit t p) _ _ (loop-held g (continueBlockOf v x) l c) (λ c₁ k₁.
+    terminal-fit (for i x v l g) q n = good-bind (Held c 1 (suc (length (c .stack)))) (Fit t p) _ _ (schedule-held (target-loop g (continueBlockOf v x) l) c) (λ c₁ k₁.
         good-bind (BlockTaken (c₁ .visits)) (Fit t p) _ _ (values i none (blockAt t b .span) (c₁ .visits) (omega (arith, k₁ .seen, h .visits))) (λ w u.
         good-bind (BlockTaken (w .visits)) (Fit t p) _ _ (values x none (blockAt t b .span) (w .visits) (u .1)) (λ y u₁.
         good-bind (UpdateTaken (y .visits)) (Fit t p) _ _ (updates v (blockAt t b .span) (y .visits) (u₁ .1)) (λ z u₂.
@@ -561,7 +562,7 @@ module _ (t : Table) (ck : Checked t) (d : ℕ) where
         together : (A B C : List Row) (c₁ : Context) (v : ℕ) → Good (Fit t p) (intoLoop b l (loopIsTaken c l g) v (frameOf b (unlessScheduled c g) 1 m) F (R ++ (A ++ (B ++ C))) c₁)
             → Good (Fit t p) (intoLoop b l (loopIsTaken c l g) v (frameOf b (unlessScheduled c g) 1 m) F (((R ++ A) ++ B) ++ C) c₁)
         together A B C c₁ v w = subst (λ (z : List Row). Good (Fit t p) (intoLoop b l (loopIsTaken c l g) v (frameOf b (unlessScheduled c g) 1 m) F z c₁)) (sym (append-assoc (R ++ A) B C ∙ append-assoc R A (B ++ C))) w
-    terminal-fit (for-of i x l g) q n = good-bind (Held c 1 (suc (length (c .stack)))) (Fit t p) _ _ (loop-held g i l c) (λ c₁ k₁.
+    terminal-fit (for-of i x l g) q n = good-bind (Held c 1 (suc (length (c .stack)))) (Fit t p) _ _ (schedule-held (target-loop g i l) c) (λ c₁ k₁.
         good-bind (BlockTaken (c₁ .visits)) (Fit t p) _ _ (values i none (blockAt t b .span) (c₁ .visits) (omega (arith, k₁ .seen, h .visits))) (λ w u.
         good-bind (BlockTaken (w .visits)) (Fit t p) _ _ (values x none (blockAt t b .span) (w .visits) (u .1)) (λ y u₁.
         together (valueOut (valueBlockResultToSequence t w (blockAt t b .span))) (valueOut (valueBlockResultToSequence t y (blockAt t b .span))) c₁ (y .visits)
@@ -571,7 +572,7 @@ module _ (t : Table) (ck : Checked t) (d : ℕ) where
         together : (A B : List Row) (c₁ : Context) (v : ℕ) → Good (Fit t p) (intoLoop b l (loopIsTaken c l g) v (frameOf b (unlessScheduled c g) 1 m) F (R ++ (A ++ B)) c₁)
             → Good (Fit t p) (intoLoop b l (loopIsTaken c l g) v (frameOf b (unlessScheduled c g) 1 m) F ((R ++ A) ++ B) c₁)
         together A B c₁ v w = subst (λ (z : List Row). Good (Fit t p) (intoLoop b l (loopIsTaken c l g) v (frameOf b (unlessScheduled c g) 1 m) F z c₁)) (sym (append-assoc R A B)) w
-    terminal-fit (for-in i l g) q n = good-bind (Held c 1 (suc (length (c .stack)))) (Fit t p) _ _ (loop-held g i l c) (λ c₁ k₁.
+    terminal-fit (for-in i l g) q n = good-bind (Held c 1 (suc (length (c .stack)))) (Fit t p) _ _ (schedule-held (target-loop g i l) c) (λ c₁ k₁.
         good-bind (BlockTaken (c₁ .visits)) (Fit t p) _ _ (values i none (blockAt t b .span) (c₁ .visits) (omega (arith, k₁ .seen, h .visits))) (λ w u.
         loop-fit (unlessScheduled c g) l (loopIsTaken c l g) (w .visits) (valueOut (valueBlockResultToSequence t w (blockAt t b .span))) c₁ k₁ (taken-below c g (n .2)) (ap isSwitch q) (n .1) (u .0) (u .1)
         (omega (arith, value-out-size (valueBlockResultToSequence t w (blockAt t b .span)), sequence-size t w (blockAt t b .span), u .0, u .2))))

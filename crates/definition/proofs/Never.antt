@@ -10,7 +10,7 @@ use mathlib.Core.Bool.{Bool, true, false, not, _&&_, _||_}
 use lib.Dec.{T, eqb, leb, leb→le}
 use borrow.Author.Tests.{eq-eqb}
 use Rattle.table.specs.Table.{Table, Block, Case, Terminal, absent, unreachable, throw, return, goto, if, branch, switch, do-while, while, for, for-of, for-in, logical, ternary, optional, sequence, maybe-throw, try, scope, Variant, Break, Continue, Try, blockAt, terminalAt, isAbsent, isUnreachable, label}
-use Rattle.definition.specs.Context.{Flags, has, add, remove, ControlFlowTarget, target-if, target-switch, target-case, target-loop, targetBlock, Entry, Context, start, isScheduled, emit, withVisits, markScopeFallthrough, scheduleCatchHandler, pushed, schedule, scheduleLoop, unscheduledBy, popped, unscheduleTop, unschedule, Resolution}
+use Rattle.definition.specs.Context.{Flags, has, add, remove, ControlFlowTarget, target-if, target-switch, target-case, target-loop, targetBlock, Entry, Context, start, isScheduled, emit, withVisits, markScopeFallthrough, scheduleCatchHandler, isBlocked, blockedCode, blockAsked, pushed, schedule, unscheduledBy, popped, unscheduleTop, unschedule, Resolution}
 use Rattle.definition.specs.Build.{rejected, report, reported}
 use Rattle.definition.specs.Result.{refused, Result, ok, _>>=_, refuseIf, alreadyScheduled, unscheduleOutOfOrder, maybeThrowInValueTerminal}
 use Rattle.definition.specs.Statement.{breakToScope, visitBreak, visitContinue, breakResolved, continueResolved, TerminalResult, BlockResult, TraverseBlock, enterBlock, unlessScheduled, unlessUnreachable, scheduleIf, unscheduleIf, markScopeFallthroughIf, traverseUnscheduled, traverseAlternate, visitGoto, traverseEnclosed, traverseLoop, traverseCases, unscheduleAll, scheduleSwitch, scheduleIds, casesLastFirst, visitUpdate, traverseConsequent, visitValueStatement, visitTerminal, thenNext, visitBlock, traverseBlock, buildTree}
@@ -78,35 +78,43 @@ reached-fine t c f = fine-unless (λ g. Free g c) _ 10 f (c .visits) _ tt (λ h.
     at true = unfold Free in (λ g e. absurd (none-some e))
     at false = untaken-free c f
 
-pub schedule-free : (g : ControlFlowTarget) (c : Context) → has (c .scheduled) (targetBlock g) ≡ false → schedule g c ≡ ok (pushed g (add (c .scheduled) (targetBlock g)) c)
+pub schedule-free : (g : ControlFlowTarget) (c : Context) → isBlocked g (c .scheduled) ≡ false → schedule g c ≡ ok (pushed g c)
 unfolding schedule refuseIf _>>=_
-schedule-free g c e = ap (λ (y : Bool). refuseIf y 90 (targetBlock g) (c .visits) >>= λ _. ok (pushed g (add (c .scheduled) (targetBlock g)) c)) e
+schedule-free g c e = ap (λ (y : Bool). refuseIf y (blockedCode g) (blockAsked g) (c .visits) >>= λ _. ok (pushed g c)) e
 
-unschedule-top : (i : ℕ) (e : Entry) (S : List Entry) (d : Context) → d .stack ≡ e ∷ S → e .id ≡ i → unschedule i d ≡ ok (popped S (unscheduledBy (e .target) (d .scheduled)) d)
+unschedule-top : (i : ℕ) (e : Entry) (S : List Entry) (d : Context) → d .stack ≡ e ∷ S → e .id ≡ i → unschedule i d ≡ ok (popped S (unscheduledBy (e .target) (e .ownsLoop) (d .scheduled)) d)
 unfolding unschedule unscheduleTop
 unschedule-top i e S d h q =
     ap (λ (z : List Entry). unscheduleTop z i d) h
-    ∙ ap (λ (y : Bool). elim y [ true ↦ ok (popped S (unscheduledBy (e .target) (d .scheduled)) d) | false ↦ refused 91 0 (d .visits) ]) (eq-eqb (e .id) i q)
+    ∙ ap (λ (y : Bool). elim y [ true ↦ ok (popped S (unscheduledBy (e .target) (e .ownsLoop) (d .scheduled)) d) | false ↦ refused 91 0 (d .visits) ]) (eq-eqb (e .id) i q)
 
 not-removed : (s : Flags) (y x : ℕ) → has (remove s y) x ≡ true → x ≡ y → ⊥
 not-removed s y x h e = true-false (sym h ∙ ap (has (remove s y)) e ∙ has-removed s y)
 
 -- c₁ is c with the target g on top, and d came of c₁
 record On (g : ControlFlowTarget) (i : ℕ) (c d : Context) : Type 0 where
-  stack : d .stack ≡ record { id = i; target = g } ∷ c .stack
+  stack : d .stack ≡ record { id = i; target = g; ownsLoop = false } ∷ c .stack
   sub : (x : ℕ) → has (d .scheduled) x ≡ true → (x ≡ targetBlock g) ⊎ (has (c .scheduled) x ≡ true)
 
-on-pushed : (g : ControlFlowTarget) (c : Context) → On g (c .nextId) c (pushed g (add (c .scheduled) (targetBlock g)) c)
+if-on : (f : ℕ) (c : Context) → On (target-if f) (c .nextId) c (pushed (target-if f) c)
 unfolding pushed
-on-pushed g c = record { stack = refl; sub = λ x h. has-add (c .scheduled) (targetBlock g) x h }
+if-on f c = record { stack = refl; sub = has-add (c .scheduled) f }
+
+switch-on : (f : ℕ) (c : Context) → On (target-switch f) (c .nextId) c (pushed (target-switch f) c)
+unfolding pushed
+switch-on f c = record { stack = refl; sub = has-add (c .scheduled) f }
+
+case-on : (f : ℕ) (c : Context) → On (target-case f) (c .nextId) c (pushed (target-case f) c)
+unfolding pushed
+case-on f c = record { stack = refl; sub = has-add (c .scheduled) f }
 
 on-after : {g : ControlFlowTarget} {i : ℕ} {c d e : Context} → On g i c d → After d e → On g i c e
 on-after p q = record { stack = q .same ∙ p .stack; sub = λ x h. p .sub x (q .sub x h) }
 
 abbrev OneBlock : ControlFlowTarget → Type 0
-OneBlock g = (s : Flags) → unscheduledBy g s ≡ remove s (targetBlock g)
+OneBlock g = (s : Flags) → unscheduledBy g false s ≡ remove s (targetBlock g)
 
-popped-after : (g : ControlFlowTarget) (i : ℕ) (c d : Context) → OneBlock g → On g i c d → After c (popped (c .stack) (unscheduledBy g (d .scheduled)) d)
+popped-after : (g : ControlFlowTarget) (i : ℕ) (c d : Context) → OneBlock g → On g i c d → After c (popped (c .stack) (unscheduledBy g false (d .scheduled)) d)
 unfolding popped
 popped-after g i c d u p = record {
   same = refl;
@@ -118,7 +126,7 @@ popped-after g i c d u p = record {
 
 unschedule-fine : (g : ControlFlowTarget) (i : ℕ) (c d : Context) → OneBlock g → On g i c d → Fine (λ e. After c e) (unschedule i d)
 unschedule-fine g i c d u p =
-    subst (λ (r : Result Context). Fine (λ e. After c e) r) (sym (unschedule-top i (record { id = i; target = g }) (c .stack) d (p .stack) refl)) (popped-after g i c d u p)
+    subst (λ (r : Result Context). Fine (λ e. After c e) r) (sym (unschedule-top i (record { id = i; target = g; ownsLoop = false }) (c .stack) d (p .stack) refl)) (popped-after g i c d u p)
 
 if-one-block : (f : ℕ) → OneBlock (target-if f)
 unfolding unscheduledBy
@@ -144,7 +152,7 @@ on-if-after (some f) c p q = on-after p q
 schedule-if-fine : (g : Option ℕ) (c : Context) → Free g c → Fine (λ d. OnIf g c d) (scheduleIf g c)
 unfolding scheduleIf Free
 schedule-if-fine none c h = after-refl c
-schedule-if-fine (some f) c h = subst (λ (r : Result Context). Fine (λ d. On (target-if f) (c .nextId) c d) r) (sym (schedule-free (target-if f) c (h f refl))) (on-pushed (target-if f) c)
+schedule-if-fine (some f) c h = subst (λ (r : Result Context). Fine (λ d. On (target-if f) (c .nextId) c d) r) (sym (schedule-free (target-if f) c (h f refl))) (if-on f c)
 
 unschedule-if-fine : (g : Option ℕ) (c d : Context) → OnIf g c d → Fine (λ e. After c e) (unscheduleIf g (c .nextId) d)
 unfolding unscheduleIf
@@ -155,15 +163,15 @@ unschedule-if-fine (some f) c d p = unschedule-fine (target-if f) (c .nextId) c 
 
 record InLoop (f k l : ℕ) (c d : Context) : Type 0 where
   owns : Bool
-  stack : d .stack ≡ record { id = c .nextId; target = target-loop f k (some l) owns } ∷ c .stack
+  stack : d .stack ≡ record { id = c .nextId; target = target-loop f k l; ownsLoop = owns } ∷ c .stack
   sub : (x : ℕ) → has (d .scheduled) x ≡ true → has (add (add (add (c .scheduled) f) k) l) x ≡ true
   lent : owns ≡ false → has (add (add (c .scheduled) f) k) l ≡ true
 
 loop-after : {f k l : ℕ} {c d e : Context} → InLoop f k l c d → After d e → InLoop f k l c e
 loop-after p q = record { owns = p .owns; stack = q .same ∙ p .stack; sub = λ x h. p .sub x (q .sub x h); lent = p .lent }
 
-schedule-loop-fine : (f k l : ℕ) (c : Context) → Fine (λ d. InLoop f k l c d) (scheduleLoop f k (some l) c)
-unfolding scheduleLoop pushed
+schedule-loop-fine : (f k l : ℕ) (c : Context) → Fine (λ d. InLoop f k l c d) (schedule (target-loop f k l) c)
+unfolding schedule pushed
 schedule-loop-fine f k l c = fine-unless (λ d. InLoop f k l c d) _ 15 k (c .visits) _ tt (λ h. record { owns = _; stack = refl; sub = λ x q. q; lent = lends (has (add (add (c .scheduled) f) k) l) })
   where
     lends : (y : Bool) → not y ≡ false → y ≡ true
@@ -171,7 +179,7 @@ schedule-loop-fine f k l c = fine-unless (λ d. InLoop f k l c d) _ 15 k (c .vis
     lends false e = absurd (true-false e)
 
 loop-unscheduled : (s d : Flags) (f k l : ℕ) (o : Bool) → ((x : ℕ) → has d x ≡ true → has (add (add (add s f) k) l) x ≡ true) → (o ≡ false → has (add (add s f) k) l ≡ true)
-    → (x : ℕ) → has (unscheduledBy (target-loop f k (some l) o) d) x ≡ true → has s x ≡ true
+    → (x : ℕ) → has (unscheduledBy (target-loop f k l) o d) x ≡ true → has s x ≡ true
 unfolding unscheduledBy
 loop-unscheduled s d f k l true sub lent x h =
     let h₁ : has (remove (remove d f) k) x ≡ true = has-remove (remove (remove d f) k) l x h in
@@ -196,7 +204,7 @@ unschedule-loop-fine : (f k l : ℕ) (c d : Context) → InLoop f k l c d → Fi
 unfolding popped
 unschedule-loop-fine f k l c d p =
     subst (λ (r : Result Context). Fine (λ e. After c e) r)
-    (sym (unschedule-top (c .nextId) (record { id = c .nextId; target = target-loop f k (some l) (p .owns) }) (c .stack) d (p .stack) refl))
+    (sym (unschedule-top (c .nextId) (record { id = c .nextId; target = target-loop f k l; ownsLoop = p .owns }) (c .stack) d (p .stack) refl))
     (record { same = refl; sub = loop-unscheduled (c .scheduled) (d .scheduled) f k l (p .owns) (p .sub) (p .lent) })
 
 -- ---- cases
@@ -220,10 +228,10 @@ unfolding scheduleSwitch Free
 schedule-switch-fine none c h = after-refl c
 schedule-switch-fine (some f) c h =
     subst (λ (r : Result Context). Fine (λ d. Tower c (c .nextId ∷ []) d) r) (sym (schedule-free (target-switch f) c (h f refl)))
-    (c, target-switch f, switch-one-block f, on-pushed (target-switch f) c, after-refl c)
+    (c, target-switch f, switch-one-block f, switch-on f c, after-refl c)
 
 schedule-case-fine : (k : ℕ) (c : Context) → has (c .scheduled) k ≡ false → Fine (λ d. On (target-case k) (c .nextId) c d) (schedule (target-case k) c)
-schedule-case-fine k c h = subst (λ (r : Result Context). Fine (λ d. On (target-case k) (c .nextId) c d) r) (sym (schedule-free (target-case k) c h)) (on-pushed (target-case k) c)
+schedule-case-fine k c h = subst (λ (r : Result Context). Fine (λ d. On (target-case k) (c .nextId) c d) r) (sym (schedule-free (target-case k) c h)) (case-on k c)
 
 pub false-of : (y : Bool) → (y ≡ true → ⊥) → y ≡ false
 false-of true h = absurd (h refl)

@@ -19,10 +19,10 @@ module _ (t : Table) where
   -- the frames of a stack: a scope's fallthrough is in the set of those, and a loop is of some While
   pub data Framed (scopes : Flags) : List Frame → List Entry → Type 0 where
     no-frame : Framed scopes [] []
-    label-framed : {F : List Frame} {S : List Entry} (i f : ℕ) → Framed scopes F S → Framed scopes (in-label f ∷ F) (record { id = i; target = target-if f } ∷ S)
-    scope-framed : {F : List Frame} {S : List Entry} (i f : ℕ) → has scopes f ≡ true → Framed scopes F S → Framed scopes (in-scope f ∷ F) (record { id = i; target = target-if f } ∷ S)
-    loop-framed : {F : List Frame} {S : List Entry} (i f x w l : ℕ) (ll : Option ℕ) (o : Bool) → terminalAt t w ≡ while x l f → Framed scopes F S
-        → Framed scopes (in-loop f x ∷ F) (record { id = i; target = target-loop f x ll o } ∷ S)
+    label-framed : {F : List Frame} {S : List Entry} (i f : ℕ) → Framed scopes F S → Framed scopes (in-label f ∷ F) (record { id = i; target = target-if f; ownsLoop = false } ∷ S)
+    scope-framed : {F : List Frame} {S : List Entry} (i f : ℕ) → has scopes f ≡ true → Framed scopes F S → Framed scopes (in-scope f ∷ F) (record { id = i; target = target-if f; ownsLoop = false } ∷ S)
+    loop-framed : {F : List Frame} {S : List Entry} (i f x w l : ℕ) (ll : ℕ) (o : Bool) → terminalAt t w ≡ while x l f → Framed scopes F S
+        → Framed scopes (in-loop f x ∷ F) (record { id = i; target = target-loop f x ll; ownsLoop = o } ∷ S)
 
   -- ---- a step of the search: the entry is the one found, or the search goes on below
 

@@ -7,7 +7,7 @@ use Rattle.table.specs.Words.{word, entryWord, blockCount, instructionCount, ca
 use Rattle.table.specs.Table.{unlessNone, variantOf, terminalOf, blockOf, operationOf, instructionOf, caseOf, tabulate, tableOf}
 use Rattle.table.specs.Check.{fits, block, block-or-none, place, place-or-none, terminalRules, blockRules, operandRules, instructionRules, caseRules, placeRules, identifierRules, andThen, rowVerdict, rowsVerdict, wordsVerdict, countsVerdict, checked}
 use Rattle.definition.specs.Result.{_>>=_, refuseIf}
-use Rattle.definition.specs.Context.{noFlags, has, add, remove, start, isScheduled, emit, withVisits, markScopeFallthrough, scheduleCatchHandler, pushed, schedule, scheduleLoop, unscheduledBy, popped, unscheduleTop, unschedule, breakKind, breakTargetFrom, getBreakTarget, continueKind, continueTargetFrom, getContinueTarget}
+use Rattle.definition.specs.Context.{noFlags, has, add, remove, start, isScheduled, emit, withVisits, markScopeFallthrough, scheduleCatchHandler, pushed, schedule, unscheduledBy, popped, unscheduleTop, unschedule, breakKind, breakTargetFrom, getBreakTarget, continueKind, continueTargetFrom, getContinueTarget}
 use Rattle.definition.specs.Value.{beginVisit, instructionsOf, wrapWithSequence, finalValue, finalPlace, storedToNamed, allButLast, last, extractValueBlockResult, extractOrRefuse, testBlockEnded, visitTestBlock, visitValueBlockTerminal, thenFallthrough, branchValue, isEmptyGoto, maybeThrowValue, visitValueBlockAt, visitValueBlock, appended, sameIdentifier, unlessSame, valueBlockResultToSequence}
 use Rattle.definition.specs.Statement.{enterBlock, unlessScheduled, unlessUnreachable, scheduleIf, scheduleSwitch, unscheduleIf, markScopeFallthroughIf, breakToScope, breakResolved, visitBreak, continueResolved, visitContinue, visitGoto, traverseUnscheduled, traverseAlternate, traverseConsequent, traverseEnclosed, loopIsTaken, traverseLoop, visitUpdate, casesLastFirst, traverseCases, unscheduleAll, visitValueStatement, visitTerminal, instructionStatements, thenNext, visitBlock, traverseBlock, buildTree}
 use Rattle.definition.specs.Build.{Outcome, reported, report, refusal, wordsOf, placed, outcomeOf, afterCheck, built}
@@ -134,5 +134,5 @@ abbrev pub builtFor : Sample → Outcome
 builtFor sample = built (sample .words) (sample .lent)
 
 pub the-samples : map builtFor samples ≡ map (λ sample. sample .outcome) samples
-unfolding word entryWord blockCount instructionCount caseCount placeCount identifierCount blocksBegin instructionsBegin casesBegin placesBegin identifiersBegin wordsNeeded blockWord instructionWord caseWord placeWord identifierWord unlessNone variantOf terminalOf blockOf operationOf instructionOf caseOf tabulate tableOf fits block block-or-none place place-or-none terminalRules blockRules operandRules instructionRules caseRules placeRules identifierRules andThen rowVerdict rowsVerdict wordsVerdict countsVerdict checked _>>=_ refuseIf noFlags has add remove start isScheduled emit withVisits markScopeFallthrough scheduleCatchHandler pushed schedule scheduleLoop unscheduledBy popped unscheduleTop unschedule breakKind breakTargetFrom getBreakTarget continueKind continueTargetFrom getContinueTarget beginVisit instructionsOf wrapWithSequence finalValue finalPlace storedToNamed allButLast last extractValueBlockResult extractOrRefuse testBlockEnded visitTestBlock visitValueBlockTerminal thenFallthrough branchValue isEmptyGoto maybeThrowValue visitValueBlockAt visitValueBlock appended sameIdentifier unlessSame valueBlockResultToSequence enterBlock unlessScheduled unlessUnreachable scheduleIf scheduleSwitch unscheduleIf markScopeFallthroughIf breakToScope breakResolved visitBreak continueResolved visitContinue visitGoto traverseUnscheduled traverseAlternate traverseConsequent traverseEnclosed loopIsTaken traverseLoop visitUpdate casesLastFirst traverseCases unscheduleAll visitValueStatement visitTerminal instructionStatements thenNext visitBlock traverseBlock buildTree reported report refusal wordsOf placed outcomeOf afterCheck built
+unfolding word entryWord blockCount instructionCount caseCount placeCount identifierCount blocksBegin instructionsBegin casesBegin placesBegin identifiersBegin wordsNeeded blockWord instructionWord caseWord placeWord identifierWord unlessNone variantOf terminalOf blockOf operationOf instructionOf caseOf tabulate tableOf fits block block-or-none place place-or-none terminalRules blockRules operandRules instructionRules caseRules placeRules identifierRules andThen rowVerdict rowsVerdict wordsVerdict countsVerdict checked _>>=_ refuseIf noFlags has add remove start isScheduled emit withVisits markScopeFallthrough scheduleCatchHandler pushed schedule unscheduledBy popped unscheduleTop unschedule breakKind breakTargetFrom getBreakTarget continueKind continueTargetFrom getContinueTarget beginVisit instructionsOf wrapWithSequence finalValue finalPlace storedToNamed allButLast last extractValueBlockResult extractOrRefuse testBlockEnded visitTestBlock visitValueBlockTerminal thenFallthrough branchValue isEmptyGoto maybeThrowValue visitValueBlockAt visitValueBlock appended sameIdentifier unlessSame valueBlockResultToSequence enterBlock unlessScheduled unlessUnreachable scheduleIf scheduleSwitch unscheduleIf markScopeFallthroughIf breakToScope breakResolved visitBreak continueResolved visitContinue visitGoto traverseUnscheduled traverseAlternate traverseConsequent traverseEnclosed loopIsTaken traverseLoop visitUpdate casesLastFirst traverseCases unscheduleAll visitValueStatement visitTerminal instructionStatements thenNext visitBlock traverseBlock buildTree reported report refusal wordsOf placed outcomeOf afterCheck built
 the-samples = refl

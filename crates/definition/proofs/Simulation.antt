@@ -12,8 +12,8 @@ use lib.Dec.{eqb, T}
 use borrow.Author.Tests.{lt-leb, le-leb, eq-eqb}
 use Rattle.table.specs.Table.{Table, Block, Case, Terminal, absent, unreachable, throw, return, goto, if, branch, switch, do-while, while, for, for-of, for-in, logical, ternary, optional, sequence, maybe-throw, try, scope, Variant, Break, Continue, Try, blockAt, terminalAt, instructionRowsAt, isAbsent, label}
 use Rattle.definition.specs.Build.{accepted, Report, rejected, reported, report}
-use Rattle.definition.specs.Context.{has, add, target-case, Entry, Context, start, isScheduled, emit, withVisits, scheduleCatchHandler, markScopeFallthrough, pushed, schedule, scheduleLoop, unscheduledBy, popped, unscheduleTop, unschedule}
-use Rattle.definition.specs.Machine.{Frame, State, visiting, ended, choosing, going, halt, turn, leave, blockRow, valueOut, updateOut, statementOut, jumpOut, added, instructionsOut, closingRowOf, closingRow, scheduled, scheduledIf, scheduledSwitch, unscheduledTop, unscheduled, unscheduledIf, opens, frameOf, secondPart, withEntries, into, intoLoop, complete, closeBy, close, noCase, caseAt, numberOfCases, chooseCase, switchColumns, resumeAt, resume, branchTurn, valueTurn, terminalTurn, depthLeft, visitTurn, step, begin, Gives, halts, goes}
+use Rattle.definition.specs.Context.{has, ControlFlowTarget, target-case, target-loop, isBlocked, blockedCode, blockAsked, Entry, Context, start, isScheduled, emit, withVisits, scheduleCatchHandler, markScopeFallthrough, pushed, schedule, unscheduledBy, popped, unscheduleTop, unschedule}
+use Rattle.definition.specs.Machine.{Frame, State, visiting, ended, choosing, going, halt, turn, leave, blockRow, valueOut, updateOut, statementOut, jumpOut, added, instructionsOut, closingRowOf, closingRow, scheduledIf, scheduledSwitch, unscheduledTop, unscheduled, unscheduledIf, opens, frameOf, secondPart, withEntries, into, intoLoop, complete, closeBy, close, noCase, caseAt, numberOfCases, chooseCase, switchColumns, resumeAt, resume, branchTurn, valueTurn, terminalTurn, depthLeft, visitTurn, step, begin, Gives, halts, goes}
 use Rattle.definition.specs.Result.{refused, Result, ok, _>>=_, refuseIf}
 use Rattle.definition.specs.Statement.{visitBreak, visitContinue, OptionalValue, visitUpdate, continueBlockOf, TerminalResult, BlockResult, TraverseBlock, enterBlock, unlessScheduled, unlessUnreachable, scheduleIf, unscheduleIf, markScopeFallthroughIf, traverseUnscheduled, AlternateResult, traverseAlternate, visitGoto, traverseEnclosed, loopIsTaken, traverseLoop, CasesResult, traverseCases, unscheduleAll, scheduleSwitch, scheduleIds, casesLastFirst, traverseConsequent, visitValueStatement, visitTerminal, instructionStatements, followedBy, thenNext, visitBlock, traverseBlock, buildTree}
 use Rattle.definition.specs.Tree.{Statement, Statements, done, Cases, no-cases, CASE, Row, row, orNone, countStatements, countCases, IF, INSTR, SWITCH, rows, updatePresent}
@@ -133,8 +133,8 @@ pop-all (i ∷ is) c h = at (c .stack) refl h (λ e q. pop-all is e q)
     at (e ∷ S) s (q, u) again =
         unfold unschedule unscheduled _>>=_ unscheduleTop unscheduledTop popped in
         (ap (λ (z : List Entry). unscheduleTop z i c >>= λ c1. unscheduleAll is c1) s
-        ∙ ap (λ (y : Bool). elim y [ true ↦ ok (popped S (unscheduledBy (e .target) (c .scheduled)) c) | false ↦ refused 91 0 (c .visits) ] >>= λ c1. unscheduleAll is c1) (eq-eqb (e .id) i q)
-        ∙ again (popped S (unscheduledBy (e .target) (c .scheduled)) c) u
+        ∙ ap (λ (y : Bool). elim y [ true ↦ ok (popped S (unscheduledBy (e .target) (e .ownsLoop) (c .scheduled)) c) | false ↦ refused 91 0 (c .visits) ] >>= λ c1. unscheduleAll is c1) (eq-eqb (e .id) i q)
+        ∙ again (popped S (unscheduledBy (e .target) (e .ownsLoop) (c .scheduled)) c) u
         ∙ ap (λ (z : List Entry). ok (popAll (length is) (unscheduledTop z c))) (sym s))
 
 off-if : (g : Option ℕ) (i : ℕ) (c : Context) → unscheduleIf g i c ≡ unscheduleAll (scheduleIds g i) c
@@ -154,32 +154,32 @@ ids-if none i = refl
 ids-if (some f) i = refl
 
 tops-if : (g : Option ℕ) (c : Context) → Tops (scheduleIds g (c .nextId)) (scheduledIf g c .stack)
-unfolding scheduled pushed
+unfolding pushed
 tops-if none c = tt
 tops-if (some f) c = (refl, tt)
 
 tops-switch : (g : Option ℕ) (c : Context) → Tops (scheduleIds g (c .nextId)) (scheduledSwitch g c .stack)
-unfolding scheduled pushed
+unfolding pushed
 tops-switch none c = tt
 tops-switch (some f) c = (refl, tt)
 
 kept-if : (g : Option ℕ) (c : Context) → scheduledIf g c .visits ≡ c .visits
-unfolding scheduled pushed
+unfolding pushed
 kept-if none c = refl
 kept-if (some f) c = refl
 
 kept-switch : (g : Option ℕ) (c : Context) → scheduledSwitch g c .visits ≡ c .visits
-unfolding scheduled pushed
+unfolding pushed
 kept-switch none c = refl
 kept-switch (some f) c = refl
 
 opened-if : (g : Option ℕ) (c : Context) → Free g c → scheduleIf g c ≡ ok (scheduledIf g c)
-unfolding scheduleIf scheduled Free
+unfolding scheduleIf Free
 opened-if none c h = refl
 opened-if (some f) c h = schedule-free _ c (h f refl)
 
 opened-switch : (g : Option ℕ) (c : Context) → Free g c → scheduleSwitch g c ≡ ok (scheduledSwitch g c)
-unfolding scheduleSwitch scheduled Free
+unfolding scheduleSwitch Free
 opened-switch none c h = refl
 opened-switch (some f) c h = schedule-free _ c (h f refl)
 
@@ -201,12 +201,13 @@ enter-counts t b c =
     (fine-good (λ w. (c .visits < 8192) × (w ≡ suc (c .visits))) (λ w. (c .visits < 8192) × (w ≡ suc (c .visits))) (beginVisit t b (c .visits)) (λ _ h. h) (begin-visit-took t b (c .visits)))
     (λ w q. good-unless (OneMore c) _ 11 b w _ (λ h. q))
 
-abbrev InLoop : Context → Context → Type 0
-InLoop c d = Kept c d × Tops (c .nextId ∷ []) (d .stack)
+-- one entry more on the stack, under the next id
+abbrev Onto : Context → Context → Type 0
+Onto c d = Kept c d × ((ids : List ℕ) → Tops ids (c .stack) → Tops (c .nextId ∷ ids) (d .stack))
 
-loop-pushed : (f k l : ℕ) (c : Context) → Good (InLoop c) (scheduleLoop f k (some l) c)
-unfolding scheduleLoop pushed
-loop-pushed f k l c = good-bind Any (InLoop c) _ _ (good-any (refuseIf (has (add (c .scheduled) f) k) 15 k (c .visits))) (λ _ _. (refl, (refl, tt)))
+onto-scheduled : (g : ControlFlowTarget) (c : Context) → Good (Onto c) (schedule g c)
+unfolding schedule pushed
+onto-scheduled g c = good-bind Any (Onto c) _ _ (good-any (refuseIf (isBlocked g (c .scheduled)) (blockedCode g) (blockAsked g) (c .visits))) (λ _ _. (refl, λ ids u. (refl, u)))
 
 -- ---- closing a statement
 
@@ -432,9 +433,6 @@ module _ (t : Table) (d : ℕ) (inner : TraverseBlock) (ws : Walks t d inner) (w
       K : (Cases → Statement) → CasesResult → Result TerminalResult
       K mk r = unscheduleAll (r .ids) (r .context) >>= λ c2. ok (record { statement = some (mk (r .cases)); next = g; context = c2 })
 
-      free : (r : BlockResult) → isScheduled c blk ≡ false → Past c (r .context) → has (r .context .scheduled) blk ≡ false
-      free r o p = unfold isScheduled in false-of (has (r .context .scheduled) blk) (λ z. true-false (sym (p .1 .sub blk z) ∙ or-false (has (c .scheduled) blk) (has (c .catchHandlers) blk) o))
-
       rows-on : (r : BlockResult) (z : Cases)
           → ((blockOut R₁ (r .statements) ++ (row 11 tst 0 0 0 0 ∷ [])) ++ casesOut z) ++ (row 12 x (suc made + countCases z) (blockAt t b .id) (orNone g) 0 ∷ []) ≡ R ++ statementOut (make (CASE tst (r .statements) z))
       rows-on r z =
@@ -462,10 +460,10 @@ module _ (t : Table) (d : ℕ) (inner : TraverseBlock) (ws : Walks t d inner) (w
       at true o again = sim-assoc (refuseIf (not (eqb blk f)) 14 b (c .visits)) _ (K make) (sim-go _ _ _ (λ _. again ids entries made R₁ c make h k u e))
       at false o again =
           sim-assoc (inner blk c) _ (K make) (sim-inner (switched b g entries j made n) _ blk R₁ c _ q size (λ r p.
-          sim-assoc (schedule (target-case blk) (r .context)) _ (K make) (sim-by _ (schedule-free (target-case blk) (r .context) (free r o p))
-          (sim-map (traverseCases inner b f (casesLastFirst t i j) (r .context .nextId ∷ ids) _) _ (K make)
-          (unfold scheduled pushed in again (r .context .nextId ∷ ids) (suc entries) (suc made) _ _ (λ z. make (CASE tst (r .statements) z)) (omega arith) (omega arith)
-          (refl, tops-same ids c (r .context) (p .1 .same) u) (rows-on r))))))
+          sim-assoc (schedule (target-case blk) (r .context)) _ (K make) (sim-bind (Onto (r .context)) _ _ _ (onto-scheduled (target-case blk) (r .context)) (λ c1 p₁.
+          sim-map (traverseCases inner b f (casesLastFirst t i j) (r .context .nextId ∷ ids) c1) _ (K make)
+          (again (r .context .nextId ∷ ids) (suc entries) (suc made) _ c1 (λ z. make (CASE tst (r .statements) z)) (omega arith) (omega arith)
+          (p₁ .1 ids (tops-same ids c (r .context) (p .1 .same) u)) (rows-on r))))))
 
   -- ---- terminals with no nested list
 
@@ -551,33 +549,33 @@ module _ (t : Table) (d : ℕ) (inner : TraverseBlock) (ws : Walks t d inner) (w
       K : Option ℕ → CasesResult → Result TerminalResult
       K g r = unscheduleAll (r .ids) (r .context) >>= λ c2. ok (record { statement = some (SWITCH x (blockAt t b .id) g (r .cases)); next = g; context = c2 })
   terminal-sim {v} {F} {R} {n} (do-while l x f) b c q size h =
-      sim-bind (InLoop c) _ _ _ (loop-pushed f x l c) (λ c1 p. unfold intoLoop withVisits resumeAt closingRowOf in sim-go _ _ _ (λ _.
+      sim-bind (Onto c) _ _ _ (onto-scheduled (target-loop f x l) c) (λ c1 p. unfold intoLoop withVisits resumeAt closingRowOf in sim-go _ _ _ (λ _.
       sim-inner (frameOf b (unlessScheduled c f) 1 n) _ l _ c1 _ q size (λ r p₁.
       sim-bind (λ w. r .context .visits ≤ w .visits) _ _ _ (values x none (blockAt t b .span) (r .context .visits)) (λ w p₂.
       sim-close (frameOf b (unlessScheduled c f) 1 n) (c .nextId ∷ []) _ _ _ _ (withVisits (w .visits) (r .context)) q (off-loop (c .nextId) (withVisits (w .visits) (r .context))) refl
-      (tops-same (c .nextId ∷ []) c1 (r .context) (p₁ .1 .same) (p .1)) (rows-do-while R (blockAt t b .id) (unlessScheduled c f) (r .statements) (w .value)) (omega arith)))))
+      (tops-same (c .nextId ∷ []) c1 (r .context) (p₁ .1 .same) (p .1 [] tt)) (rows-do-while R (blockAt t b .id) (unlessScheduled c f) (r .statements) (w .value)) (omega arith)))))
   terminal-sim {R = R} (while x l f) b c q size h =
-      sim-go _ _ _ (λ g. sim-bind (InLoop c) _ _ _ (loop-pushed f x l c) (λ c1 p.
+      sim-go _ _ _ (λ g. sim-bind (Onto c) _ _ _ (onto-scheduled (target-loop f x l) c) (λ c1 p.
       sim-bind (λ w. c1 .visits ≤ w .visits) _ _ _ (values x none (blockAt t b .span) (c1 .visits)) (λ w p₁.
-      loop-sim _ b l (loopIsTaken c l f) (w .visits) (c .nextId) c1 g _ _ q (unfold resumeAt in λ _ _ _ _ _. refl) size (omega arith) (p .1) (unfold closingRowOf in rows-while R (blockAt t b .id) g (w .value)))))
+      loop-sim _ b l (loopIsTaken c l f) (w .visits) (c .nextId) c1 g _ _ q (unfold resumeAt in λ _ _ _ _ _. refl) size (omega arith) (p .1 [] tt) (unfold closingRowOf in rows-while R (blockAt t b .id) g (w .value)))))
   terminal-sim {R = R} (for i x u l f) b c q size h =
-      sim-bind (InLoop c) _ _ _ (loop-pushed f (continueBlockOf u x) l c) (λ c1 p.
+      sim-bind (Onto c) _ _ _ (onto-scheduled (target-loop f (continueBlockOf u x) l) c) (λ c1 p.
       sim-bind (λ w. c1 .visits ≤ w .visits) _ _ _ (values i none (blockAt t b .span) (c1 .visits)) (λ n p₁.
       sim-bind (λ w. n .visits ≤ w .visits) _ _ _ (values x none (blockAt t b .span) (n .visits)) (λ w p₂.
       sim-bind (Updated u (w .visits)) _ _ _ (updates u (blockAt t b .span) (w .visits)) (λ z p₃.
-      loop-sim _ b l (loopIsTaken c l f) (z .visits) (c .nextId) c1 (unlessScheduled c f) _ _ q (unfold resumeAt in λ _ _ _ _ _. refl) size (omega arith) (p .1)
+      loop-sim _ b l (loopIsTaken c l f) (z .visits) (c .nextId) c1 (unlessScheduled c f) _ _ q (unfold resumeAt in λ _ _ _ _ _. refl) size (omega arith) (p .1 [] tt)
       (unfold closingRowOf in λ s. ap (λ (y : ℕ). blockOut (((R ++ valueOut (valueBlockResultToSequence t n (blockAt t b .span))) ++ valueOut (w .value)) ++ updateOut (z .value)) s ++ (row 15 (blockAt t b .id) (orNone (unlessScheduled c f)) y 0 0 ∷ [])) (sym (p₃ .1))
       ∙ rows-for R (blockAt t b .id) (unlessScheduled c f) (valueBlockResultToSequence t n (blockAt t b .span)) (w .value) (z .value) s)))))
   terminal-sim {R = R} (for-of i x l f) b c q size h =
-      sim-bind (InLoop c) _ _ _ (loop-pushed f i l c) (λ c1 p.
+      sim-bind (Onto c) _ _ _ (onto-scheduled (target-loop f i l) c) (λ c1 p.
       sim-bind (λ w. c1 .visits ≤ w .visits) _ _ _ (values i none (blockAt t b .span) (c1 .visits)) (λ n p₁.
       sim-bind (λ w. n .visits ≤ w .visits) _ _ _ (values x none (blockAt t b .span) (n .visits)) (λ w p₂.
-      loop-sim _ b l (loopIsTaken c l f) (w .visits) (c .nextId) c1 (unlessScheduled c f) _ _ q (unfold resumeAt in λ _ _ _ _ _. refl) size (omega arith) (p .1)
+      loop-sim _ b l (loopIsTaken c l f) (w .visits) (c .nextId) c1 (unlessScheduled c f) _ _ q (unfold resumeAt in λ _ _ _ _ _. refl) size (omega arith) (p .1 [] tt)
       (unfold closingRowOf in rows-for-of R (blockAt t b .id) (unlessScheduled c f) (blockAt t b .span) (valueBlockResultToSequence t n (blockAt t b .span)) (valueBlockResultToSequence t w (blockAt t b .span))))))
   terminal-sim {R = R} (for-in i l f) b c q size h =
-      sim-bind (InLoop c) _ _ _ (loop-pushed f i l c) (λ c1 p.
+      sim-bind (Onto c) _ _ _ (onto-scheduled (target-loop f i l) c) (λ c1 p.
       sim-bind (λ w. c1 .visits ≤ w .visits) _ _ _ (values i none (blockAt t b .span) (c1 .visits)) (λ n p₁.
-      loop-sim _ b l (loopIsTaken c l f) (n .visits) (c .nextId) c1 (unlessScheduled c f) _ _ q (unfold resumeAt in λ _ _ _ _ _. refl) size (omega arith) (p .1)
+      loop-sim _ b l (loopIsTaken c l f) (n .visits) (c .nextId) c1 (unlessScheduled c f) _ _ q (unfold resumeAt in λ _ _ _ _ _. refl) size (omega arith) (p .1 [] tt)
       (unfold closingRowOf in rows-for-in R (blockAt t b .id) (unlessScheduled c f) (blockAt t b .span) (valueBlockResultToSequence t n (blockAt t b .span)))))
   terminal-sim (logical o x f) b c q size h = value-sim (logical o x f) b (blockAt t b) f c tt h
   terminal-sim (ternary x f) b c q size h = value-sim (ternary x f) b (blockAt t b) f c tt h

@@ -9,7 +9,7 @@ use mathlib.Core.Bool.{Bool, true, false, _||_}
 use lib.ListN.{length}
 use lib.Dec.{eqb}
 use Rattle.table.specs.Table.{Table, while, terminalAt, isAbsent}
-use Rattle.definition.specs.Context.{Flags, has, add, remove, ControlFlowTarget, target-if, target-switch, target-case, target-loop, Entry, Context, start, isScheduled, emit, withVisits, markScopeFallthrough, pushed, schedule, scheduleLoop, unscheduledBy, popped, unscheduleTop, unschedule}
+use Rattle.definition.specs.Context.{Flags, has, add, remove, ControlFlowTarget, target-if, target-switch, target-case, target-loop, Entry, Context, start, isScheduled, emit, withVisits, markScopeFallthrough, pushed, schedule, unscheduledBy, popped, unscheduleTop, unschedule}
 use Rattle.definition.specs.Plain.{Plain, fallthroughOf}
 use Rattle.definition.specs.Result.{refused, ok, refuseIf}
 use Rattle.definition.specs.Statement.{enterBlock, unlessScheduled}
@@ -130,7 +130,7 @@ module _ (t : Table) where
   known-add : (emitted s : Flags) (f : ℕ) → Known emitted f → ((x : ℕ) → has s x ≡ true → Known emitted x) → (x : ℕ) → has (add s f) x ≡ true → Known emitted x
   known-add emitted s f k r x e = elim (has-add s f x e) [ inl h ↦ subst (λ (z : ℕ). Known emitted z) (sym h) k | inr h ↦ r x h ]
 
-  pub push-label-ok : {F : List Frame} {c : Context} (f : ℕ) → StateOk F c → Known (c .emitted) f → StateOk (in-label f ∷ F) (pushed (target-if f) (add (c .scheduled) f) c)
+  pub push-label-ok : {F : List Frame} {c : Context} (f : ℕ) → StateOk F c → Known (c .emitted) f → StateOk (in-label f ∷ F) (pushed (target-if f) c)
   unfolding pushed
   push-label-ok {F} {c} f p k = record {
     wide = p .wide;
@@ -141,7 +141,7 @@ module _ (t : Table) where
   }
 
   pub push-scope-ok : {F : List Frame} {c : Context} (f : ℕ) → f < 1024 → StateOk F c → Known (c .emitted) f
-      → StateOk (in-scope f ∷ F) (markScopeFallthrough f (pushed (target-if f) (add (c .scheduled) f) c))
+      → StateOk (in-scope f ∷ F) (markScopeFallthrough f (pushed (target-if f) c))
   unfolding pushed markScopeFallthrough
   push-scope-ok {F} {c} f h p k = record {
     wide = p .wide;
@@ -151,39 +151,37 @@ module _ (t : Table) where
     framed = scope-framed (c .nextId) f (has-new (c .scopeFallthroughs) f (omega (arith, p .wide-scopes))) (framed-still f (p .framed));
   }
 
-  pub push-loop-ok : {F : List Frame} {c : Context} (w x l f : ℕ) (o : Bool) → StateOk F c → terminalAt t w ≡ while x l f → Known (c .emitted) f
-      → StateOk (in-loop f x ∷ F) (pushed (target-loop f x (some l) o) (add (add (add (c .scheduled) f) x) l) c)
+  pub push-loop-ok : {F : List Frame} {c : Context} (w x l f : ℕ) → StateOk F c → terminalAt t w ≡ while x l f → Known (c .emitted) f
+      → StateOk (in-loop f x ∷ F) (pushed (target-loop f x l) c)
   unfolding pushed
-  push-loop-ok {F} {c} w x l f o p e k = record {
+  push-loop-ok {F} {c} w x l f p e k = record {
     wide = p .wide;
     wide-scopes = p .wide-scopes;
     no-catch = p .no-catch;
     known = known-add (c .emitted) (add (add (c .scheduled) f) x) l (loop-of w x f e)
         (known-add (c .emitted) (add (c .scheduled) f) x (test-of w l f e) (known-add (c .emitted) (c .scheduled) f k (p .known)));
-    framed = loop-framed (c .nextId) f x w l (some l) o e (p .framed);
+    framed = loop-framed (c .nextId) f x w l l _ e (p .framed);
   }
 
-  pub schedule-ok : (f : ℕ) (c c₁ : Context) → schedule (target-if f) c ≡ ok c₁ → pushed (target-if f) (add (c .scheduled) f) c ≡ c₁
+  pub schedule-ok : (f : ℕ) (c c₁ : Context) → schedule (target-if f) c ≡ ok c₁ → pushed (target-if f) c ≡ c₁
   unfolding schedule
   schedule-ok f c c₁ e =
       let (u, h, e₁) = bind-ok (refuseIf (has (c .scheduled) f) 90 f (c .visits)) _ c₁ e in ok-eq e₁
 
-  pub schedule-loop-ok : (f x l : ℕ) (c c₁ : Context) → scheduleLoop f x (some l) c ≡ ok c₁
-      → (o : Bool) × (pushed (target-loop f x (some l) o) (add (add (add (c .scheduled) f) x) l) c ≡ c₁)
-  unfolding scheduleLoop
+  pub schedule-loop-ok : (f x l : ℕ) (c c₁ : Context) → schedule (target-loop f x l) c ≡ ok c₁ → pushed (target-loop f x l) c ≡ c₁
+  unfolding schedule
   schedule-loop-ok f x l c c₁ e =
-      let (u, h, e₁) = bind-ok (refuseIf (has (add (c .scheduled) f) x) 15 x (c .visits)) _ c₁ e in (_, ok-eq e₁)
+      let (u, h, e₁) = bind-ok (refuseIf (has (add (c .scheduled) f) x) 15 x (c .visits)) _ c₁ e in ok-eq e₁
 
   -- ---- and popped
 
-  has-unscheduled : (g : ControlFlowTarget) (s : Flags) (x : ℕ) → has (unscheduledBy g s) x ≡ true → has s x ≡ true
+  has-unscheduled : (g : ControlFlowTarget) (o : Bool) (s : Flags) (x : ℕ) → has (unscheduledBy g o s) x ≡ true → has s x ≡ true
   unfolding unscheduledBy
-  has-unscheduled (target-if b) s x e = has-remove s b x e
-  has-unscheduled (target-switch b) s x e = has-remove s b x e
-  has-unscheduled (target-case b) s x e = has-remove s b x e
-  has-unscheduled (target-loop b k l false) s x e = has-remove s b x (has-remove (remove s b) k x e)
-  has-unscheduled (target-loop b k none true) s x e = has-remove s b x (has-remove (remove s b) k x e)
-  has-unscheduled (target-loop b k (some l) true) s x e = has-remove s b x (has-remove (remove s b) k x (has-remove (remove (remove s b) k) l x e))
+  has-unscheduled (target-if b) o s x e = has-remove s b x e
+  has-unscheduled (target-switch b) o s x e = has-remove s b x e
+  has-unscheduled (target-case b) o s x e = has-remove s b x e
+  has-unscheduled (target-loop b k l) false s x e = has-remove s b x (has-remove (remove s b) k x e)
+  has-unscheduled (target-loop b k l) true s x e = has-remove s b x (has-remove (remove s b) k x (has-remove (remove (remove s b) k) l x e))
 
   framed-tail : {scopes : Flags} {G : Frame} {F : List Frame} {e : Entry} {S : List Entry} → Framed t scopes (G ∷ F) (e ∷ S) → Framed t scopes F S
   framed-tail (label-framed i f p) = p
@@ -195,21 +193,21 @@ module _ (t : Table) where
     pub same : c .stack ≡ S
 
   pop-ok : {G : Frame} {F : List Frame} {e : Entry} {S : List Entry} {c : Context} → StateOk (G ∷ F) c → c .stack ≡ e ∷ S
-      → Closed F S (popped S (unscheduledBy (e .target) (c .scheduled)) c)
+      → Closed F S (popped S (unscheduledBy (e .target) (e .ownsLoop) (c .scheduled)) c)
   unfolding popped
   pop-ok {G} {F} {e} {S} {c} p h = record {
     state = record {
       wide = p .wide;
       wide-scopes = p .wide-scopes;
       no-catch = p .no-catch;
-      known = λ x k. p .known x (has-unscheduled (e .target) (c .scheduled) x k);
+      known = λ x k. p .known x (has-unscheduled (e .target) (e .ownsLoop) (c .scheduled) x k);
       framed = framed-tail (subst (λ (z : List Entry). Framed t (c .scopeFallthroughs) (G ∷ F) z) h (p .framed));
     };
     same = refl;
   }
 
   popped-at : {G : Frame} {F : List Frame} {e : Entry} {S : List Entry} {c : Context} (i : ℕ) (c₂ : Context) (y : Bool) → StateOk (G ∷ F) c → c .stack ≡ e ∷ S
-      → elim y [ true ↦ ok (popped S (unscheduledBy (e .target) (c .scheduled)) c) | false ↦ refused 91 0 (c .visits) ] ≡ ok c₂ → Closed F S c₂
+      → elim y [ true ↦ ok (popped S (unscheduledBy (e .target) (e .ownsLoop) (c .scheduled)) c) | false ↦ refused 91 0 (c .visits) ] ≡ ok c₂ → Closed F S c₂
   popped-at {G} {F} {e} {S} {c} i c₂ true p h k = subst (λ (d : Context). Closed F S d) (ok-eq k) (pop-ok p h)
   popped-at i c₂ false p h k = absurd (refused-ok k)
 

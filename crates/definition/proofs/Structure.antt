@@ -8,7 +8,7 @@ use mathlib.Core.Bool.{Bool, true, false}
 use lib.Dec.{eqb}
 use borrow.Author.Tests.{eqb-true}
 use Rattle.table.specs.Table.{codeOf, Table, Block, Operation, other, load-local, store-local, Terminal, absent, unreachable, throw, return, goto, if, branch, switch, do-while, while, for, for-of, for-in, logical, ternary, optional, sequence, maybe-throw, try, scope, Variant, Break, Continue, Try, blockAt, terminalAt, instructionAt, instructionRowsAt, isAbsent, isUnreachable, label}
-use Rattle.definition.specs.Context.{getBreakTarget, getContinueTarget, Resolution, has, Entry, target-if, target-loop, Context, isScheduled, withVisits, markScopeFallthrough, pushed, scheduleLoop, unschedule, breakTargetFrom, continueTargetFrom}
+use Rattle.definition.specs.Context.{getBreakTarget, getContinueTarget, Resolution, has, Entry, target-if, target-loop, Context, isScheduled, withVisits, markScopeFallthrough, pushed, schedule, unschedule, breakTargetFrom, continueTargetFrom}
 use Rattle.definition.specs.Plain.{Plain, fallthroughOf, plainCodes, isBranch, isStore, endsInStore, NotBranch, otherNames, All}
 use Rattle.definition.specs.Result.{Result, ok, _>>=_, refuseIf}
 use Rattle.definition.specs.Run.{Answers}
@@ -110,20 +110,19 @@ module _ (t : Table) where
   unfolding scheduleIf pushed
   opened-label {F} {c} {c₁} f p k e =
       subst (λ (d : Context). Opened (in-label f) F c d) (schedule-ok t f c c₁ e)
-      (record { state = push-label-ok t f p k; top = record { id = c .nextId; target = target-if f }; stack = refl })
+      (record { state = push-label-ok t f p k; top = record { id = c .nextId; target = target-if f; ownsLoop = false }; stack = refl })
 
   opened-scope : {F : List Frame} {c c₁ : Context} (f : ℕ) → f < 1024 → StateOk t F c → Known t (c .emitted) f → scheduleIf (some f) c ≡ ok c₁ → Opened (in-scope f) F c (markScopeFallthroughIf (some f) c₁)
   unfolding scheduleIf pushed markScopeFallthroughIf markScopeFallthrough
   opened-scope {F} {c} {c₁} f h p k e =
       subst (λ (d : Context). Opened (in-scope f) F c (markScopeFallthrough f d)) (schedule-ok t f c c₁ e)
-      (record { state = push-scope-ok t f h p k; top = record { id = c .nextId; target = target-if f }; stack = refl })
+      (record { state = push-scope-ok t f h p k; top = record { id = c .nextId; target = target-if f; ownsLoop = false }; stack = refl })
 
-  opened-loop : {F : List Frame} {c c₁ : Context} (w x l f : ℕ) → StateOk t F c → terminalAt t w ≡ while x l f → Known t (c .emitted) f → scheduleLoop f x (some l) c ≡ ok c₁ → Opened (in-loop f x) F c c₁
+  opened-loop : {F : List Frame} {c c₁ : Context} (w x l f : ℕ) → StateOk t F c → terminalAt t w ≡ while x l f → Known t (c .emitted) f → schedule (target-loop f x l) c ≡ ok c₁ → Opened (in-loop f x) F c c₁
   unfolding pushed
   opened-loop {F} {c} {c₁} w x l f p h k e =
-      let (o, q) = schedule-loop-ok t f x l c c₁ e in
-      subst (λ (d : Context). Opened (in-loop f x) F c d) q
-      (record { state = push-loop-ok t w x l f o p h k; top = record { id = c .nextId; target = target-loop f x (some l) o }; stack = refl })
+      subst (λ (d : Context). Opened (in-loop f x) F c d) (schedule-loop-ok t f x l c c₁ e)
+      (record { state = push-loop-ok t w x l f p h k; top = record { id = c .nextId; target = target-loop f x l; ownsLoop = _ }; stack = refl })
 
   unscheduled-ok : (inner : TraverseBlock) → WalkOk inner → (F : List Frame) (b code at : ℕ) (c : Context) (r : BlockResult) → StateOk t F c → NotBranch t b
       → traverseUnscheduled inner b code at c ≡ ok r → Made F b (c .stack) r
@@ -283,7 +282,7 @@ module _ (t : Table) where
     unfolding visitTerminal traverseLoop WalkOk TestOk withVisits
     while-ok {F} {c₀} {c} b x l f k s p e h =
         let (g, h₁, k₁) = bind-ok (unlessUnreachable t c f) _ s h in
-        let (c₁, h₂, k₂) = bind-ok (scheduleLoop f x (some l) c) _ s k₁ in
+        let (c₁, h₂, k₂) = bind-ok (schedule (target-loop f x l) c) _ s k₁ in
         let (v, h₃, k₃) = bind-ok (values x none (k .span) (c₁ .visits)) _ s k₂ in
         let (u, h₄, k₄) = bind-ok (refuseIf (loopIsTaken c l f) 16 b (v .visits)) _ s k₃ in
         let (r, h₅, k₅) = bind-ok (inner l (withVisits (v .visits) c₁)) _ s k₄ in
@@ -293,7 +292,7 @@ module _ (t : Table) where
         parts : All (NotBranch t) (otherNames (while x l f))
         parts = subst (λ (m : Terminal). All (NotBranch t) (otherNames m)) e (pl .names b)
 
-        finish : (g : Option ℕ) (c₁ : Context) (v : ValueBlockResult) (r : BlockResult) (c₂ : Context) → g ≡ some f → scheduleLoop f x (some l) c ≡ ok c₁
+        finish : (g : Option ℕ) (c₁ : Context) (v : ValueBlockResult) (r : BlockResult) (c₂ : Context) → g ≡ some f → schedule (target-loop f x l) c ≡ ok c₁
             → values x none (k .span) (c₁ .visits) ≡ ok v → inner l (withVisits (v .visits) c₁) ≡ ok r → unschedule (c .nextId) (r .context) ≡ ok c₂
             → ok (record { statement = some (WHILE (k .id) g (v .value) (r .statements)); next = g; context = c₂ }) ≡ ok s → StepOk F b (c .stack) s
         finish g c₁ v r c₂ q h₂ h₃ h₅ h₆ k₆ =

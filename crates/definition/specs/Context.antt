@@ -27,34 +27,36 @@ remove flags block = set flags block false
 
 -- ---- the control stack
 
--- a loop's `block` is its fallthrough; it owns the loop block if that was not scheduled before
+-- a loop's `block` is its fallthrough
 pub data ControlFlowTarget : Type 0 where
   target-if : (block : ℕ) → ControlFlowTarget
   target-switch : (block : ℕ) → ControlFlowTarget
   target-case : (block : ℕ) → ControlFlowTarget
-  target-loop : (block continueBlock : ℕ) → (loopBlock : Option ℕ) → (ownsLoop : Bool) → ControlFlowTarget
+  target-loop : (block continueBlock loopBlock : ℕ) → ControlFlowTarget
 
 abbrev pub targetBlock : ControlFlowTarget → ℕ
 targetBlock (target-if block) = block
 targetBlock (target-switch block) = block
 targetBlock (target-case block) = block
-targetBlock (target-loop block continueBlock loopBlock ownsLoop) = block
+targetBlock (target-loop block continueBlock loopBlock) = block
 
 abbrev pub isLoop : ControlFlowTarget → Bool
 isLoop (target-if block) = false
 isLoop (target-switch block) = false
 isLoop (target-case block) = false
-isLoop (target-loop block continueBlock loopBlock ownsLoop) = true
+isLoop (target-loop block continueBlock loopBlock) = true
 
 abbrev pub continuesAt : ControlFlowTarget → ℕ → Bool
 continuesAt (target-if block) wanted = false
 continuesAt (target-switch block) wanted = false
 continuesAt (target-case block) wanted = false
-continuesAt (target-loop block continueBlock loopBlock ownsLoop) wanted = eqb continueBlock wanted
+continuesAt (target-loop block continueBlock loopBlock) wanted = eqb continueBlock wanted
 
+-- `ownsLoop`: the target is a loop, and its loop block was not scheduled before
 pub record Entry : Type 0 where
   pub id : ℕ
   pub target : ControlFlowTarget
+  pub ownsLoop : Bool
 
 -- the stack's top comes first
 pub record Context : Type 0 where
@@ -88,38 +90,59 @@ markScopeFallthrough block cx = record { nextId = cx .nextId; emitted = cx .emit
 unfoldable pub scheduleCatchHandler : ℕ → Context → Context
 scheduleCatchHandler block cx = record { nextId = cx .nextId; emitted = cx .emitted; scopeFallthroughs = cx .scopeFallthroughs; scheduled = cx .scheduled; catchHandlers = add (cx .catchHandlers) block; stack = cx .stack; visits = cx .visits }
 
--- ---- schedule, schedule_loop, unschedule
+-- ---- schedule, unschedule
 
--- a target on the stack under the next id, and the scheduled set that it leaves
-unfoldable pub pushed : ControlFlowTarget → Flags → Context → Context
-pushed target scheduled cx = record { nextId = suc (cx .nextId); emitted = cx .emitted; scopeFallthroughs = cx .scopeFallthroughs; scheduled = scheduled; catchHandlers = cx .catchHandlers; stack = record { id = cx .nextId; target = target } ∷ cx .stack; visits = cx .visits }
+-- what a target asks before it is scheduled, at which block, and what it is refused with. "`schedule_loop` inserts the fallthrough without a test
+-- and only then tests the continue block."
+abbrev pub isBlocked : ControlFlowTarget → Flags → Bool
+isBlocked (target-if block) scheduled = has scheduled block
+isBlocked (target-switch block) scheduled = has scheduled block
+isBlocked (target-case block) scheduled = has scheduled block
+isBlocked (target-loop block continueBlock loopBlock) scheduled = has (add scheduled block) continueBlock
 
--- a target that is no loop
+abbrev pub blockAsked : ControlFlowTarget → ℕ
+blockAsked (target-if block) = block
+blockAsked (target-switch block) = block
+blockAsked (target-case block) = block
+blockAsked (target-loop block continueBlock loopBlock) = continueBlock
+
+abbrev pub blockedCode : ControlFlowTarget → ℕ
+blockedCode (target-if block) = alreadyScheduled
+blockedCode (target-switch block) = alreadyScheduled
+blockedCode (target-case block) = alreadyScheduled
+blockedCode (target-loop block continueBlock loopBlock) = 15
+
+-- the scheduled set with a target's blocks
+abbrev pub scheduledBy : ControlFlowTarget → Flags → Flags
+scheduledBy (target-if block) scheduled = add scheduled block
+scheduledBy (target-switch block) scheduled = add scheduled block
+scheduledBy (target-case block) scheduled = add scheduled block
+scheduledBy (target-loop block continueBlock loopBlock) scheduled = add (add (add scheduled block) continueBlock) loopBlock
+
+abbrev pub owns : ControlFlowTarget → Flags → Bool
+owns (target-if block) scheduled = false
+owns (target-switch block) scheduled = false
+owns (target-case block) scheduled = false
+owns (target-loop block continueBlock loopBlock) scheduled = not (has (add (add scheduled block) continueBlock) loopBlock)
+
+-- a target on the stack under the next id, and its blocks in the scheduled set
+unfoldable pub pushed : ControlFlowTarget → Context → Context
+pushed target cx = record { nextId = suc (cx .nextId); emitted = cx .emitted; scopeFallthroughs = cx .scopeFallthroughs; scheduled = scheduledBy target (cx .scheduled); catchHandlers = cx .catchHandlers; stack = record { id = cx .nextId; target = target; ownsLoop = owns target (cx .scheduled) } ∷ cx .stack; visits = cx .visits }
+
+-- the one way to schedule: any target, a loop with its three blocks
 unfoldable pub schedule : ControlFlowTarget → Context → Result Context
 schedule target cx =
-    refuseIf (has (cx .scheduled) (targetBlock target)) alreadyScheduled (targetBlock target) (cx .visits) >>= λ _.
-    ok (pushed target (add (cx .scheduled) (targetBlock target)) cx)
-
--- "`schedule_loop` inserts the fallthrough without a test and only then tests the continue block."
-unfoldable pub scheduleLoop : (fallthrough continueBlock : ℕ) → Option ℕ → Context → Result Context
-scheduleLoop fallthrough continueBlock none cx =
-    let inserted : Flags = add (cx .scheduled) fallthrough in
-    refuseIf (has inserted continueBlock) 15 continueBlock (cx .visits) >>= λ _.
-    ok (pushed (target-loop fallthrough continueBlock none false) (add inserted continueBlock) cx)
-scheduleLoop fallthrough continueBlock (some loopBlock) cx =
-    let inserted : Flags = add (cx .scheduled) fallthrough in
-    refuseIf (has inserted continueBlock) 15 continueBlock (cx .visits) >>= λ _.
-    ok (pushed (target-loop fallthrough continueBlock (some loopBlock) (not (has (add inserted continueBlock) loopBlock))) (add (add inserted continueBlock) loopBlock) cx)
+    refuseIf (isBlocked target (cx .scheduled)) (blockedCode target) (blockAsked target) (cx .visits) >>= λ _.
+    ok (pushed target cx)
 
 -- "`unschedule` of a loop removes its fallthrough and continue block from the scheduled set even where an outer statement put them there.
 -- The loop block is removed only if this loop owns it."
-unfoldable pub unscheduledBy : ControlFlowTarget → Flags → Flags
-unscheduledBy (target-if block) scheduled = remove scheduled block
-unscheduledBy (target-switch block) scheduled = remove scheduled block
-unscheduledBy (target-case block) scheduled = remove scheduled block
-unscheduledBy (target-loop block continueBlock loopBlock false) scheduled = remove (remove scheduled block) continueBlock
-unscheduledBy (target-loop block continueBlock none true) scheduled = remove (remove scheduled block) continueBlock
-unscheduledBy (target-loop block continueBlock (some loopBlock) true) scheduled = remove (remove (remove scheduled block) continueBlock) loopBlock
+unfoldable pub unscheduledBy : ControlFlowTarget → (ownsLoop : Bool) → Flags → Flags
+unscheduledBy (target-if block) ownsLoop scheduled = remove scheduled block
+unscheduledBy (target-switch block) ownsLoop scheduled = remove scheduled block
+unscheduledBy (target-case block) ownsLoop scheduled = remove scheduled block
+unscheduledBy (target-loop block continueBlock loopBlock) false scheduled = remove (remove scheduled block) continueBlock
+unscheduledBy (target-loop block continueBlock loopBlock) true scheduled = remove (remove (remove scheduled block) continueBlock) loopBlock
 
 unfoldable pub popped : List Entry → Flags → Context → Context
 popped stack scheduled cx = record { nextId = cx .nextId; emitted = cx .emitted; scopeFallthroughs = cx .scopeFallthroughs; scheduled = scheduled; catchHandlers = cx .catchHandlers; stack = stack; visits = cx .visits }
@@ -128,7 +151,7 @@ unfoldable pub unscheduleTop : List Entry → ℕ → Context → Result Context
 unscheduleTop [] id cx = refused unscheduleOutOfOrder 0 (cx .visits)
 unscheduleTop (top ∷ below) id cx =
     elim (eqb (top .id) id) [
-      | true ↦ ok (popped below (unscheduledBy (top .target) (cx .scheduled)) cx)
+      | true ↦ ok (popped below (unscheduledBy (top .target) (top .ownsLoop) (cx .scheduled)) cx)
       | false ↦ refused unscheduleOutOfOrder 0 (cx .visits)
     ]
 

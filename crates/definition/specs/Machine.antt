@@ -9,7 +9,7 @@ use lib.ListN.{length, getD}
 use lib.Dec.{eqb, leb}
 use Rattle.table.specs.Table.{Table, Block, Case, Terminal, absent, unreachable, throw, return, goto, if, branch, switch, do-while, while, for, for-of, for-in, logical, ternary, optional, sequence, maybe-throw, try, scope, blockAt, terminalAt, instructionAt, instructionRowsAt, label}
 use Rattle.definition.specs.Build.{accepted, Report, rejected}
-use Rattle.definition.specs.Context.{add, ControlFlowTarget, targetBlock, target-if, target-switch, target-case, Entry, Context, start, isScheduled, withVisits, scheduleCatchHandler, pushed, scheduleLoop, unscheduledBy, popped}
+use Rattle.definition.specs.Context.{target-if, target-switch, target-case, target-loop, Entry, Context, start, isScheduled, withVisits, scheduleCatchHandler, pushed, schedule, unscheduledBy, popped}
 use Rattle.definition.specs.Result.{refused, Result, ok, _>>=_, refuseIf}
 use Rattle.definition.specs.Statement.{visitUpdate, continueBlockOf, enterBlock, unlessScheduled, unlessUnreachable, markScopeFallthroughIf, visitBreak, visitGoto, loopIsTaken, casesLastFirst}
 use Rattle.definition.specs.Tree.{Value, Statement, Row, row, orNone, flagOf, updatePresent, valueRows, statementRows}
@@ -109,22 +109,19 @@ closingRowOf (scope pruned body fallthrough number) block second taken built = s
 abbrev pub closingRow : Table → (block : ℕ) → (second : Bool) → (label : Option ℕ) → (built : ℕ) → Row
 closingRow t block second taken built = closingRowOf (terminalAt t block) (blockAt t block) second taken built
 
--- ---- the control stack. The refusals 90 and 91 are not asked: they never occur
-
-unfoldable pub scheduled : ControlFlowTarget → Context → Context
-scheduled target cx = pushed target (add (cx .scheduled) (targetBlock target)) cx
+-- ---- the control stack. A label is free where it is taken, so 90 is not asked of it; nor is 91: they never occur
 
 abbrev pub scheduledIf : Option ℕ → Context → Context
 scheduledIf none cx = cx
-scheduledIf (some fallthrough) cx = scheduled (target-if fallthrough) cx
+scheduledIf (some fallthrough) cx = pushed (target-if fallthrough) cx
 
 abbrev pub scheduledSwitch : Option ℕ → Context → Context
 scheduledSwitch none cx = cx
-scheduledSwitch (some fallthrough) cx = scheduled (target-switch fallthrough) cx
+scheduledSwitch (some fallthrough) cx = pushed (target-switch fallthrough) cx
 
 unfoldable pub unscheduledTop : List Entry → Context → Context
 unscheduledTop [] cx = cx
-unscheduledTop (top ∷ below) cx = popped below (unscheduledBy (top .target) (cx .scheduled)) cx
+unscheduledTop (top ∷ below) cx = popped below (unscheduledBy (top .target) (top .ownsLoop) (cx .scheduled)) cx
 
 -- the top entry is taken off, whatever its id
 unfoldable pub unscheduled : Context → Context
@@ -252,7 +249,8 @@ resumeAt t visit (branch test consequent alternate) block frame frames rows cx =
     ]
 resumeAt t visit (switch test first number fallthrough) block frame frames rows cx =
     let case : Case = caseAt t (first + frame .left) in
-    ok (choosing (caseBuilt frame) frames (rows ++ (row 11 (case .test) 0 0 0 0 ∷ [])) (scheduled (target-case (case .block)) cx))
+    schedule (target-case (case .block)) cx >>= λ inside.
+    ok (choosing (caseBuilt frame) frames (rows ++ (row 11 (case .test) 0 0 0 0 ∷ [])) inside)
 resumeAt t visit (do-while loop test fallthrough) block frame frames rows cx =
     visit test none (block .span) (cx .visits) >>= λ tested. ok (close t frame frames (rows ++ valueOut (tested .value)) (withVisits (tested .visits) cx))
 resumeAt t visit (while test loop fallthrough) block frame frames rows cx = ok (close t frame frames rows cx)
@@ -311,16 +309,16 @@ terminalTurn t visit (switch test first number fallthrough) at block frames rows
     ok (choosing (withLeft (numberOfCases t first number) (frameOf at taken (opens taken) count)) frames rows (scheduledSwitch taken cx))
 terminalTurn t visit (do-while loop test fallthrough) at block frames rows count cx =
     let taken : Option ℕ = unlessScheduled cx fallthrough in
-    scheduleLoop fallthrough test (some loop) cx >>= λ inside.
+    schedule (target-loop fallthrough test loop) cx >>= λ inside.
     intoLoop at loop (loopIsTaken cx loop fallthrough) (inside .visits) (frameOf at taken 1 count) frames rows inside
 terminalTurn t visit (while test loop fallthrough) at block frames rows count cx =
     unlessUnreachable t cx fallthrough >>= λ taken.
-    scheduleLoop fallthrough test (some loop) cx >>= λ inside.
+    schedule (target-loop fallthrough test loop) cx >>= λ inside.
     visit test none (block .span) (inside .visits) >>= λ tested.
     intoLoop at loop (loopIsTaken cx loop fallthrough) (tested .visits) (frameOf at taken 1 count) frames (rows ++ valueOut (tested .value)) inside
 terminalTurn t visit (for init test update loop fallthrough) at block frames rows count cx =
     let taken : Option ℕ = unlessScheduled cx fallthrough in
-    scheduleLoop fallthrough (continueBlockOf update test) (some loop) cx >>= λ inside.
+    schedule (target-loop fallthrough (continueBlockOf update test) loop) cx >>= λ inside.
     visit init none (block .span) (inside .visits) >>= λ first.
     visit test none (block .span) (first .visits) >>= λ tested.
     visitUpdate visit update (block .span) (tested .visits) >>= λ updated.
@@ -328,14 +326,14 @@ terminalTurn t visit (for init test update loop fallthrough) at block frames row
     (((rows ++ valueOut (valueBlockResultToSequence t first (block .span))) ++ valueOut (tested .value)) ++ updateOut (updated .value)) inside
 terminalTurn t visit (for-of init test loop fallthrough) at block frames rows count cx =
     let taken : Option ℕ = unlessScheduled cx fallthrough in
-    scheduleLoop fallthrough init (some loop) cx >>= λ inside.
+    schedule (target-loop fallthrough init loop) cx >>= λ inside.
     visit init none (block .span) (inside .visits) >>= λ first.
     visit test none (block .span) (first .visits) >>= λ tested.
     intoLoop at loop (loopIsTaken cx loop fallthrough) (tested .visits) (frameOf at taken 1 count) frames
     ((rows ++ valueOut (valueBlockResultToSequence t first (block .span))) ++ valueOut (valueBlockResultToSequence t tested (block .span))) inside
 terminalTurn t visit (for-in init loop fallthrough) at block frames rows count cx =
     let taken : Option ℕ = unlessScheduled cx fallthrough in
-    scheduleLoop fallthrough init (some loop) cx >>= λ inside.
+    schedule (target-loop fallthrough init loop) cx >>= λ inside.
     visit init none (block .span) (inside .visits) >>= λ first.
     intoLoop at loop (loopIsTaken cx loop fallthrough) (first .visits) (frameOf at taken 1 count) frames (rows ++ valueOut (valueBlockResultToSequence t first (block .span))) inside
 terminalTurn t visit (logical operator test fallthrough) at block frames rows count cx = valueTurn t visit (logical operator test fallthrough) at block fallthrough frames rows count cx

@@ -6,7 +6,7 @@ use mathlib.Core.Bool.{Bool, true, false, not, _||_}
 use lib.ListN.{take, drop}
 use lib.Dec.{eqb}
 use Rattle.table.specs.Table.{Table, Block, Case, Terminal, Variant, absent, unreachable, throw, return, goto, if, branch, switch, do-while, while, for, for-of, for-in, logical, ternary, optional, sequence, maybe-throw, try, scope, Break, Continue, Try, isAbsent, isUnreachable, blockAt, terminalAt, instructionAt, instructionRowsAt, label}
-use Rattle.definition.specs.Context.{has, target-if, target-switch, target-case, Context, start, isScheduled, emit, withVisits, markScopeFallthrough, scheduleCatchHandler, schedule, scheduleLoop, unschedule, Resolution, getBreakTarget, getContinueTarget}
+use Rattle.definition.specs.Context.{has, target-if, target-switch, target-case, target-loop, Context, start, isScheduled, emit, withVisits, markScopeFallthrough, scheduleCatchHandler, schedule, unschedule, Resolution, getBreakTarget, getContinueTarget}
 use Rattle.definition.specs.Result.{Result, ok, refused, _>>=_, refuseIf}
 use Rattle.definition.specs.Tree.{Kind, implicit, labeled, unlabeled, Value, PLAIN, Statement, INSTR, IF, SWITCH, DOWHILE, WHILE, FOR, FOROF, FORIN, LABEL, TRY, SCOPE, RETURN, THROW, BREAK, CONTINUE, Statements, done, _▸_, Cases, no-cases, CASE}
 use Rattle.definition.specs.Value.{mostDepth, mostVisits, beginVisit, VisitValueBlock, visitValueBlockTerminal, visitValueBlock, valueBlockResultToSequence}
@@ -230,7 +230,7 @@ visitTerminal t visit traverse (switch test first number fallthrough) at block c
     ok (record { statement = some (SWITCH test (block .id) label (built .cases)); next = label; context = after })
 visitTerminal t visit traverse (do-while loop test fallthrough) at block cx =
     let label : Option ℕ = unlessScheduled cx fallthrough in
-    scheduleLoop fallthrough test (some loop) cx >>= λ inside.
+    schedule (target-loop fallthrough test loop) cx >>= λ inside.
     refuseIf (loopIsTaken cx loop fallthrough) 16 at (inside .visits) >>= λ _.
     traverse loop inside >>= λ body.
     visit test none (block .span) (body .context .visits) >>= λ tested.
@@ -238,12 +238,12 @@ visitTerminal t visit traverse (do-while loop test fallthrough) at block cx =
     ok (record { statement = some (DOWHILE (block .id) label (body .statements) (tested .value)); next = label; context = after })
 visitTerminal t visit traverse (while test loop fallthrough) at block cx =
     unlessUnreachable t cx fallthrough >>= λ label.
-    scheduleLoop fallthrough test (some loop) cx >>= λ inside.
+    schedule (target-loop fallthrough test loop) cx >>= λ inside.
     visit test none (block .span) (inside .visits) >>= λ tested.
     traverseLoop traverse at loop (loopIsTaken cx loop fallthrough) (tested .visits) (cx .nextId) inside label (WHILE (block .id) label (tested .value))
 visitTerminal t visit traverse (for init test update loop fallthrough) at block cx =
     let label : Option ℕ = unlessScheduled cx fallthrough in
-    scheduleLoop fallthrough (continueBlockOf update test) (some loop) cx >>= λ inside.
+    schedule (target-loop fallthrough (continueBlockOf update test) loop) cx >>= λ inside.
     visit init none (block .span) (inside .visits) >>= λ first.
     visit test none (block .span) (first .visits) >>= λ tested.
     visitUpdate visit update (block .span) (tested .visits) >>= λ updated.
@@ -251,14 +251,14 @@ visitTerminal t visit traverse (for init test update loop fallthrough) at block 
     (FOR (block .id) label (valueBlockResultToSequence t first (block .span)) (tested .value) (updated .value))
 visitTerminal t visit traverse (for-of init test loop fallthrough) at block cx =
     let label : Option ℕ = unlessScheduled cx fallthrough in
-    scheduleLoop fallthrough init (some loop) cx >>= λ inside.
+    schedule (target-loop fallthrough init loop) cx >>= λ inside.
     visit init none (block .span) (inside .visits) >>= λ first.
     visit test none (block .span) (first .visits) >>= λ tested.
     traverseLoop traverse at loop (loopIsTaken cx loop fallthrough) (tested .visits) (cx .nextId) inside label
     (FOROF (block .id) label (block .span) (valueBlockResultToSequence t first (block .span)) (valueBlockResultToSequence t tested (block .span)))
 visitTerminal t visit traverse (for-in init loop fallthrough) at block cx =
     let label : Option ℕ = unlessScheduled cx fallthrough in
-    scheduleLoop fallthrough init (some loop) cx >>= λ inside.
+    schedule (target-loop fallthrough init loop) cx >>= λ inside.
     visit init none (block .span) (inside .visits) >>= λ first.
     traverseLoop traverse at loop (loopIsTaken cx loop fallthrough) (first .visits) (cx .nextId) inside label
     (FORIN (block .id) label (block .span) (valueBlockResultToSequence t first (block .span)))

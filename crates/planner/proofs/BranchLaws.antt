@@ -1,7 +1,7 @@
 -- Branch.
 use Prim.Native.Nat.{ℕ, _+_, _-_, _<_}
 use native.Mathlib.Omega.{arith}
-use mathlib.Core.Path.{_≡_, sym, ap, _∙_, subst}
+use mathlib.Core.Path.{_≡_, refl, sym, ap, _∙_, subst}
 use mathlib.Core.Bool.{Bool, true, false, _||_}
 use mathlib.Core.List.{List, [], _∷_, _++_, append-nil, append-assoc}
 use mathlib.Core.Option.{Option, none}
@@ -66,7 +66,7 @@ module _ (w : List ℕ) (p : Position) (en : Entered w p) (code : blockWord w (p
       held = λ _ before h. rw (append-nil before) h;
       same = λ F R C d o. rw (append-nil R) (ap turn (branch-is false F R C (seen-scheduled S H (p .visits) C (o .sets) (col 4) ∙ ap (λ (k : ℕ). has S k || has H k) (sym t) ∙ f)) ∙ turn-ok _
           ∙ ap (λ (k : ℕ). going (visiting k (machine.frameOf (p .block) none 0 (p .count) ∷ F) R 0 C)) (sym t)
-          ∙ sym (nest-applied x (openFrame p 65535 0) (p .depth + 1) (p .rows) (p .visits) 65535 65535 Nothing F R C ∙ rw (no-number, visits-same (p .visits) C (o .sets .visits), within-all (p .depth + 1 - 1) F (omega (arith, d)))));
+          ∙ sym (nest-applied x (openFrame p 65535 0) (p .depth + 1) (p .rows) (p .visits) 65535 65535 Nothing F R C _ refl ∙ rw (no-number, visits-same (p .visits) C (o .sets .visits), within-all (p .depth + 1 - 1) F (omega (arith, d)))));
       fitting = λ _. record { change = tt; handler = rw no-number tt; scope = rw no-number tt; deep = λ _. omega arith; next = omega arith; nested = tt };
     })
 
@@ -116,7 +116,7 @@ module _ (w : List ℕ) (p : Position) (en : Entered w p) (code : blockWord w (p
         same = λ F R C d o. ap turn (went F R C z o ∙ into-free (col 5) 19 (p .block) _ F _ C (seen-scheduled S H (p .visits) C (o .sets) (col 5) ∙ ap (λ (k : ℕ). has S k || has H k) (sym u) ∙ f)) ∙ turn-ok _
             ∙ ap (λ (k : ℕ). going (visiting k (secondPart (machine.frameOf (p .block) none 0 (p .count)) ∷ F) ((R ++ jumpOut st) ++ (blockRow (added st 0) ∷ [])) 0 C)) (sym u)
             ∙ ap (λ (l : List Row). going (visiting y (secondPart (machine.frameOf (p .block) none 0 (p .count)) ∷ F) l 0 C)) (rows-are R)
-            ∙ sym (nest-applied y (second (openFrame p 65535 0)) (p .depth + 1) rows′ (p .visits) 65535 65535 Nothing F (R ++ (jumpOut st ++ (row op n 0 0 0 0 ∷ []))) C
+            ∙ sym (nest-applied y (second (openFrame p 65535 0)) (p .depth + 1) rows′ (p .visits) 65535 65535 Nothing F (R ++ (jumpOut st ++ (row op n 0 0 0 0 ∷ []))) C _ refl
             ∙ rw (no-number, visits-same (p .visits) C (o .sets .visits), within-all (p .depth + 1 - 1) F (omega (arith, d))));
         fitting = λ _. record { change = tt; handler = rw no-number tt; scope = rw no-number tt; deep = λ _. omega arith; next = omega arith; nested = tt };
       })

@@ -16,6 +16,7 @@ use Rattle.table.proofs.BlockLaws.{no-number, end-by, code-at}
 use Rattle.definition.specs.Context as definition
 use Rattle.definition.specs.Machine.{popping, going, turn, unscheduled, complete, closeBy, close, closingRowOf, withEntries}
 use Rattle.definition.specs.Machine as machine
+use Rattle.definition.specs.Result.{ok}
 use Rattle.definition.specs.Tree.{Row, row, orNone, flagOf}
 use Rattle.rows.specs.Rows.{Written}
 use Rattle.rows.specs.Stack as stack
@@ -108,7 +109,16 @@ close-many (suc zero) t f F R C h = absurd (omega arith)
 close-many (suc (suc n)) t f F R C h =
     let e : suc n ≡ suc (suc n) - 1 = omega arith in ap (λ (z : ℕ). popping (withEntries z f) F R (unscheduled C)) e
 
-close-last : (n : ℕ) (t : Table) (f : machine.Frame) (F : List machine.Frame) (R : List Row) (C : definition.Context) → n < 2 → closeBy n t f F R C ≡ complete t f F R (changed (unscheduleIf (eqb n 0)) C)
+-- what `unscheduleIf` leaves
+abbrev unscheduledBut : Bool → definition.Context → definition.Context
+unscheduledBut true C = C
+unscheduledBut false C = unscheduled C
+
+unscheduled-but : (y : Bool) (C : definition.Context) → changed (unscheduleIf y) C ≡ ok (unscheduledBut y C)
+unscheduled-but true C = refl
+unscheduled-but false C = refl
+
+close-last : (n : ℕ) (t : Table) (f : machine.Frame) (F : List machine.Frame) (R : List Row) (C : definition.Context) → n < 2 → closeBy n t f F R C ≡ complete t f F R (unscheduledBut (eqb n 0) C)
 close-last zero t f F R C h = refl
 close-last (suc zero) t f F R C h = refl
 close-last (suc (suc n)) t f F R C h = absurd (omega arith)
@@ -148,5 +158,5 @@ module _ (w : List ℕ) (p : Position) (frame : Frame) (cl : Closing w p frame) 
       same : (F : List machine.Frame) (R : List Row) (C : definition.Context) → length (frameOf frame ∷ F) ≡ p .depth → C .visits ≡ p .visits
           → turn (closeStep w frame F R C) ≡ applied (leaving (frame .label) (p .depth - 1) (frame .count + 1) rows (p .visits) (unscheduleIf (eqb (frame .entries) 0))) (frameOf frame ∷ F) (R ++ (closingRowAt w frame ∷ [])) C
       same F R C d on = turn-ok _ ∙ ap going (close-last (frame .entries) (tableOf w) (frameOf frame) F R C h)
-          ∙ sym (leave-applied (frame .label) (p .depth - 1) (frame .count + 1) rows (p .visits) (unscheduleIf (eqb (frame .entries) 0)) (frameOf frame ∷ F) (R ++ (closingRowAt w frame ∷ [])) C
+          ∙ sym (leave-applied (frame .label) (p .depth - 1) (frame .count + 1) rows (p .visits) (unscheduleIf (eqb (frame .entries) 0)) (frameOf frame ∷ F) (R ++ (closingRowAt w frame ∷ [])) C _ (unscheduled-but (eqb (frame .entries) 0) _)
           ∙ let s : frame .count + 1 ≡ suc (frame .count) = omega arith in rw (visits-same (p .visits) C on, within-rest (p .depth) (frameOf frame) F d, s))

@@ -55,7 +55,7 @@ jump-planned w p On outcome O b jump b′ plan step seen met e = subst (λ (z : 
       out = jumpOut st;
       held = λ _ before h. met .held (eqb-true (jump .code) 0 q) before h;
       same = λ F R C d o. ap turn (step F R C o ∙ ap (λ (z : Result (Option Statement)). z >>= λ s. ok (ended F (R ++ jumpOut s) (added s (p .count)) C)) (met .same C (seen C o) ∙ ap (λ (y : Bool). jumpedTo y jump st (p .visits)) q)) ∙ turn-ok _
-          ∙ sym (leave-applied 65535 (p .depth) (p .count + jump .count) (jump .rows) (p .visits) Nothing F (R ++ jumpOut st) C
+          ∙ sym (leave-applied 65535 (p .depth) (p .count + jump .count) (jump .rows) (p .visits) Nothing F (R ++ jumpOut st) C _ refl
           ∙ rw (no-number, visits-same (p .visits) C (seen C o .visits), within-all (p .depth) F d, cnt q));
       fitting = λ _. record { change = tt; handler = rw no-number tt; scope = rw no-number tt; deep = λ z. absurd (let o : _≡_ {A = ℕ} 0 1 = cc in omega arith); next = omega arith; nested = tt };
     }
@@ -123,6 +123,6 @@ module _ (w : List ℕ) (p : Position) (en : Entered w p) (code : blockWord w (p
     out = [];
     held = λ _ before h. rw (append-nil before) h;
     same = λ F R C d o. ap turn (step-by w p _ F R C (variant-is Try (blockWord w (p .block) 4) refl (try-variant (blockWord w (p .block) 4) n₀ n₁))) ∙ turn-ok _
-        ∙ sym (leave-applied 65535 (p .depth) (p .count) (p .rows) (p .visits) Nothing F (R ++ []) C ∙ rw (no-number, visits-same (p .visits) C (o .seen .visits), within-all (p .depth) F d));
+        ∙ sym (leave-applied 65535 (p .depth) (p .count) (p .rows) (p .visits) Nothing F (R ++ []) C _ refl ∙ rw (no-number, visits-same (p .visits) C (o .seen .visits), within-all (p .depth) F d));
     fitting = λ _. record { change = tt; handler = rw no-number tt; scope = rw no-number tt; deep = λ z. absurd (let o : _≡_ {A = ℕ} 0 1 = cc in omega arith); next = omega arith; nested = tt };
   })

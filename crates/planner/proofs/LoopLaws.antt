@@ -18,9 +18,9 @@ use Rattle.table.proofs.RangeLaws.{in-range}
 use Rattle.table.proofs.BlockLaws.{no-number, some-number, end-by, span-at}
 use Rattle.definition.proofs.Never.{or-false}
 use Rattle.definition.proofs.Simulation.{bind-assoc}
-use Rattle.definition.specs.Context.{Flags, has, add, remove, pushed, popped, target-if, withVisits, scheduleLoop, unscheduledBy}
+use Rattle.definition.specs.Context.{Flags, has, add, remove, pushed, popped, target-if, target-loop, withVisits, schedule, unscheduledBy}
 use Rattle.definition.specs.Context as definition
-use Rattle.definition.specs.Machine.{State, visiting, turn, leave, intoLoop, scheduled, scheduledIf, unscheduled, unscheduledTop, unscheduledIf, valueOut, updateOut, valueTurn, terminalTurn}
+use Rattle.definition.specs.Machine.{State, visiting, turn, leave, intoLoop, scheduledIf, unscheduled, unscheduledTop, unscheduledIf, valueOut, updateOut, valueTurn, terminalTurn}
 use Rattle.definition.specs.Machine as machine
 use Rattle.definition.specs.Result.{Result, ok, refused, _>>=_, refuseIf}
 use Rattle.definition.specs.Statement.{unlessScheduled, unlessUnreachable, loopIsTaken, continueBlockOf, visitUpdate}
@@ -36,14 +36,15 @@ use Rattle.value.specs.declared.result.ValueResult.{ValueResult}
 use Rattle.value.specs.Met.{blockResult, terminalResult, Met}
 use Rattle.value.proofs.MetLaws.{then-on, then-off}
 use Rattle.planner.specs.declared.plan.Position.{Position}
-use Rattle.planner.specs.declared.plan.Change.the-variants.{ScheduleLoop}
+use Rattle.planner.specs.declared.plan.Change.the-variants.{Schedule}
 use Rattle.planner.specs.declared.plan.Plan.{Plan}
 use Rattle.planner.specs.declared.loops.Values.{Values}
-use Rattle.planner.specs.declared.loops.Loop.{Loop}
-use Rattle.planner.specs.Plans.{frameOf, changed, applied, openFrame, refusing, leaving, scheduledLoop, idTaken, unlessTaken}
+use Rattle.planner.specs.declared.loops.Loop as loops
+use Rattle.control.specs.declared.ControlFlowTarget.the-variants.{Loop}
+use Rattle.planner.specs.Plans.{frameOf, changed, applied, openFrame, refusing, leaving, unlessTaken}
 use Rattle.planner.specs.Planned.{Seen, NamedChange, Fitting, PlannedBare, Entered, terminalStep}
-use Rattle.planner.specs.Loops.{PlannedRows, Made, plainMade, flatMade, testedValues, forValues, forOfValues, noneMade, valueMade, plainForm, flatForm, updateMade, testedMade, forMade, forOfMade, noValues, valuesOf, Makes, Spent, MakesMore, MakesTested, loopTurn, afterValues, enteringBody, enteringLoop, loopTaken, continuesAt, valueFallthrough, takeIdIf}
-use Rattle.planner.proofs.PlanLaws.{within-all, refuse-applied, leave-applied, leave-nested, nest-applied}
+use Rattle.planner.specs.Loops.{PlannedRows, Made, plainMade, flatMade, testedValues, forValues, forOfValues, noneMade, valueMade, plainForm, flatForm, updateMade, testedMade, forMade, forOfMade, noValues, valuesOf, Makes, Spent, MakesMore, MakesTested, loopTurn, afterValues, enteringBody, enteringLoop, loopTaken, continuesAt, valueFallthrough, brieflyIf}
+use Rattle.planner.proofs.PlanLaws.{within-all, refuse-applied, leave-applied, leave-nested, nest-applied, Label, label-taken, label-below, label-briefly}
 use Rattle.planner.proofs.StepLaws.{label-scheduled, seen-scheduled, turn-refused, turn-ok}
 use Rattle.planner.proofs.VisitLaws.{bare-planned, step-by, few-blocks, ranges, reach-same, reached-missing}
 
@@ -156,25 +157,29 @@ module _ (S H : Flags) (v : ℕ) (C : definition.Context) (seen : Seen S H v C) 
   asked : has (add (C .scheduled) f) c ≡ continueScheduled S f c
   asked = ap (λ (z : Flags). has (add z f) c) (seen .scheduled) ∙ inserted-has S f c (omega (arith, seen .wide))
 
-  loop-not-scheduled : continueScheduled S f c ≡ true → scheduleLoop f c (some l) C ≡ refused 15 c v
-  unfolding scheduleLoop refuseIf _>>=_
+  loop-not-scheduled : continueScheduled S f c ≡ true → schedule (target-loop f c l) C ≡ refused 15 c v
+  unfolding schedule refuseIf _>>=_
   loop-not-scheduled e = rw (asked ∙ e, seen .visits)
 
-  loop-scheduled : continueScheduled S f c ≡ false → scheduleLoop f c (some l) C ≡ ok (scheduledLoop f c l C)
-  unfolding scheduleLoop scheduledLoop refuseIf _>>=_
+  loop-scheduled : continueScheduled S f c ≡ false → schedule (target-loop f c l) C ≡ ok (pushed (target-loop f c l) C)
+  unfolding schedule refuseIf _>>=_
   loop-scheduled e = rw (asked ∙ e)
 
-  loop-visits : scheduledLoop f c l C .visits ≡ v
-  unfolding scheduledLoop pushed
+  loop-visits : pushed (target-loop f c l) C .visits ≡ v
+  unfolding pushed
   loop-visits = seen .visits
 
   loop-taken : loopIsTaken C l f ≡ loopTaken S H l f
   unfolding loopIsTaken
   loop-taken = ap (λ (z : Bool). z || eqb l f) (seen-scheduled S H v C seen l) ∙ or-swap (has S l || has H l) (eqb l f)
 
-visits-inside : (f c l v : ℕ) (C : definition.Context) → withVisits v (scheduledLoop f c l C) ≡ scheduledLoop f c l (withVisits v C)
-unfolding withVisits scheduledLoop pushed
+visits-inside : (f c l v : ℕ) (C : definition.Context) → withVisits v (pushed (target-loop f c l) C) ≡ pushed (target-loop f c l) (withVisits v C)
+unfolding withVisits pushed
 visits-inside f c l v C = refl
+
+seen-visits : {S H : Flags} {v : ℕ} {C : definition.Context} (after : ℕ) → Seen S H v C → Seen S H after (withVisits after C)
+unfolding withVisits
+seen-visits after seen = record { scheduled = seen .scheduled; handlers = seen .handlers; visits = refl; wide = seen .wide }
 
 -- ---- the turn that all loops share is its plan
 
@@ -186,7 +191,7 @@ into-body : (at l v : ℕ) (taken : Bool) (fr : machine.Frame) (F : List machine
 unfolding intoLoop refuseIf _>>=_
 into-body at l v taken fr F R C e = rw e
 
-abbrev blocksOf : (f n c l : ℕ) → Loop
+abbrev blocksOf : (f n c l : ℕ) → loops.Loop
 blocksOf f n c l = record { fallthrough = f; label = n; «continue_block» = c; «loop_block» = l }
 
 module _ (S H : Flags) (p : Position) (f c l n : ℕ) (values : ℕ → Result Made) (F : List machine.Frame) (R : List Row) (C : definition.Context) (seen : Seen S H (p .visits) C) (h : f < 1024) where
@@ -196,14 +201,16 @@ module _ (S H : Flags) (p : Position) (f c l n : ℕ) (values : ℕ → Result M
       ap (λ (z : Result definition.Context). turn (z >>= λ inside. values (inside .visits) >>= λ made. intoLoop (p .block) l (loopIsTaken C l f) (made .visits) (machine.frameOf (p .block) (unlessNone n) 1 (p .count)) F (R ++ made .out) inside)) (loop-not-scheduled S H (p .visits) C seen f c l h e)
       ∙ turn-refused 15 c (p .visits) ∙ sym (refuse-applied p 15 c F R C (λ z. omega arith))
 
-  body-same : (r : Values) (out : List Row) → length F ≡ p .depth
-      → turn (intoLoop (p .block) l (loopIsTaken C l f) (r .visits) (machine.frameOf (p .block) (unlessNone n) 1 (p .count)) F out (scheduledLoop f c l C)) ≡ applied (enteringBody (loopTaken S H l f) p r (blocksOf f n c l)) F out C
-  body-same r out d = ap (λ (z : Bool). turn (intoLoop (p .block) l z (r .visits) (machine.frameOf (p .block) (unlessNone n) 1 (p .count)) F out (scheduledLoop f c l C))) (loop-taken S H (p .visits) C seen f c l h) ∙ by (loopTaken S H l f)
+  body-same : (r : Values) (out : List Row) → length F ≡ p .depth → continueScheduled S f c ≡ false
+      → turn (intoLoop (p .block) l (loopIsTaken C l f) (r .visits) (machine.frameOf (p .block) (unlessNone n) 1 (p .count)) F out (pushed (target-loop f c l) C)) ≡ applied (enteringBody (loopTaken S H l f) p r (blocksOf f n c l)) F out C
+  body-same r out d e = ap (λ (z : Bool). turn (intoLoop (p .block) l z (r .visits) (machine.frameOf (p .block) (unlessNone n) 1 (p .count)) F out (pushed (target-loop f c l) C))) (loop-taken S H (p .visits) C seen f c l h) ∙ by (loopTaken S H l f)
     where
-      by : (y : Bool) → turn (intoLoop (p .block) l y (r .visits) (machine.frameOf (p .block) (unlessNone n) 1 (p .count)) F out (scheduledLoop f c l C)) ≡ applied (enteringBody y p r (blocksOf f n c l)) F out C
+      by : (y : Bool) → turn (intoLoop (p .block) l y (r .visits) (machine.frameOf (p .block) (unlessNone n) 1 (p .count)) F out (pushed (target-loop f c l) C)) ≡ applied (enteringBody y p r (blocksOf f n c l)) F out C
       by true = ap turn (into-taken (p .block) l (r .visits) true _ F out _ refl) ∙ turn-refused 16 (p .block) (r .visits) ∙ sym (refuse-applied (afterValues p r) 16 (p .block) F out C (λ z. omega arith))
       by false = ap turn (into-body (p .block) l (r .visits) false _ F out _ refl) ∙ turn-ok _
-          ∙ sym (nest-applied l (openFrame p n 1) (p .depth + 1) (r .rows) (r .visits) 65535 65535 (ScheduleLoop f c l) F out C ∙ rw (no-number, within-all (p .depth + 1 - 1) F (omega (arith, d)), ← (visits-inside f c l (r .visits) C)))
+          ∙ sym (nest-applied l (openFrame p n 1) (p .depth + 1) (r .rows) (r .visits) 65535 65535 (Schedule (Loop f c l)) F out C (pushed (target-loop f c l) (withVisits (r .visits) C))
+          (rw no-number (loop-scheduled S H (r .visits) (withVisits (r .visits) C) (seen-visits (r .visits) seen) f c l h e))
+          ∙ rw (within-all (p .depth + 1 - 1) F (omega (arith, d)), ← (visits-inside f c l (r .visits) C)))
 
   entered-same : {b b′ : List ℕ} (r : Values) (m : Makes p (values (p .visits)) b r b′) → length F ≡ p .depth → continueScheduled S f c ≡ false
       → turn (loopTurn (p .block) f c l (unlessNone n) (p .count) values F R C) ≡ applied (enteringLoop (eqb (r .code) 0) (loopTaken S H l f) p r (blocksOf f n c l)) F (R ++ m .out) C
@@ -212,16 +219,16 @@ module _ (S H : Flags) (p : Position) (f c l n : ℕ) (values : ℕ → Result M
       ap (λ (z : Result definition.Context). turn (z >>= rest)) (loop-scheduled S H (p .visits) C seen f c l h e) ∙ started ∙ by (eqb (r .code) 0) refl
     where
       k : Made → Result State
-      k made = intoLoop (p .block) l (loopIsTaken C l f) (made .visits) (machine.frameOf (p .block) (unlessNone n) 1 (p .count)) F (R ++ made .out) (scheduledLoop f c l C)
+      k made = intoLoop (p .block) l (loopIsTaken C l f) (made .visits) (machine.frameOf (p .block) (unlessNone n) 1 (p .count)) F (R ++ made .out) (pushed (target-loop f c l) C)
 
       rest : definition.Context → Result State
       rest inside = values (inside .visits) >>= λ made. intoLoop (p .block) l (loopIsTaken C l f) (made .visits) (machine.frameOf (p .block) (unlessNone n) 1 (p .count)) F (R ++ made .out) inside
 
-      started : turn (ok (scheduledLoop f c l C) >>= rest) ≡ turn (values (p .visits) >>= k)
+      started : turn (ok (pushed (target-loop f c l) C) >>= rest) ≡ turn (values (p .visits) >>= k)
       started = unfold _>>=_ in ap (λ (v : ℕ). turn (values v >>= k)) (loop-visits S H (p .visits) C seen f c l h)
 
       by : (y : Bool) → eqb (r .code) 0 ≡ y → turn (values (p .visits) >>= k) ≡ applied (enteringLoop y (loopTaken S H l f) p r (blocksOf f n c l)) F (R ++ m .out) C
-      by true q = ap turn (made-on m k (eqb-true (r .code) 0 q)) ∙ body-same r (R ++ m .out) d
+      by true q = ap turn (made-on m k (eqb-true (r .code) 0 q)) ∙ body-same r (R ++ m .out) d e
       by false q = ap turn (made-off m k (eqb-false (r .code) 0 q)) ∙ turn-refused (r .code) (r .at) (r .visits) ∙ sym (refuse-applied (afterValues p r) (r .code) (r .at) F (R ++ m .out) C (eqb-false (r .code) 0 q))
 
 -- ---- planners of loops
@@ -335,7 +342,7 @@ module _ (w : List ℕ) (S H : Flags) (p : Position) (en : Entered w p) where
 
   do-while-turns : (l c f n : ℕ) → Is (do-while l c f) → f < blockCount w → n ≡ unlessTaken (has S f || has H f) f → Turns f c l n (λ v. ok (noneMade v))
   unfolding terminalTurn loopTurn _>>=_
-  do-while-turns l c f n q h o = turns (do-while l c f) f c l n (λ v. ok (noneMade v)) q (λ F R C. then-same (scheduleLoop f c (some l) C) _ _ (λ inside. rw (append-nil R))) h o
+  do-while-turns l c f n q h o = turns (do-while l c f) f c l n (λ v. ok (noneMade v)) q (λ F R C. then-same (schedule (target-loop f c l) C) _ _ (λ inside. rw (append-nil R))) h o
 
   module _ (f l : ℕ) (F : List machine.Frame) (R : List Row) (C inside : definition.Context) (taken : Option ℕ) where
     -- the loop's body, after its values
@@ -344,12 +351,12 @@ module _ (w : List ℕ) (S H : Flags) (p : Position) (en : Entered w p) where
 
   for-in-turns : (c l f n : ℕ) → Is (for-in c l f) → f < blockCount w → n ≡ unlessTaken (has S f || has H f) f → Turns f c l n (λ v. valueMade visit (flatForm (tableOf w) span) c span (noneMade v))
   unfolding terminalTurn loopTurn
-  for-in-turns c l f n q h o = turns (for-in c l f) f c l n _ q (λ F R C. rw span-is (then-same (scheduleLoop f c (some l) C) _ _ (λ inside.
+  for-in-turns c l f n q h o = turns (for-in c l f) f c l n _ q (λ F R C. rw span-is (then-same (schedule (target-loop f c l) C) _ _ (λ inside.
       sym (value-then visit (flatForm (tableOf w) span) c span (noneMade (inside .visits)) (body f l F R C inside (unlessScheduled C f)))))) h o
 
   for-of-turns : (c test l f n : ℕ) → Is (for-of c test l f) → f < blockCount w → n ≡ unlessTaken (has S f || has H f) f → Turns f c l n (λ v. forOfMade (tableOf w) visit c test span (noneMade v))
   unfolding terminalTurn loopTurn
-  for-of-turns c test l f n q h o = turns (for-of c test l f) f c l n _ q (λ F R C. rw span-is (then-same (scheduleLoop f c (some l) C) _ _ (λ inside.
+  for-of-turns c test l f n q h o = turns (for-of c test l f) f c l n _ q (λ F R C. rw span-is (then-same (schedule (target-loop f c l) C) _ _ (λ inside.
       let k : Made → Result State = body f l F R C inside (unlessScheduled C f) in
       let flat : ValueBlockResult → Value = flatForm (tableOf w) span in
       sym (bind-assoc (valueMade visit flat c span (noneMade (inside .visits))) (valueMade visit flat test span) k
@@ -361,7 +368,7 @@ module _ (w : List ℕ) (S H : Flags) (p : Position) (en : Entered w p) where
   for-turns : (init test : ℕ) (update : Option ℕ) (l f n : ℕ) → Is (for init test update l f) → f < blockCount w → n ≡ unlessTaken (has S f || has H f) f
       → Turns f (continueBlockOf update test) l n (λ v. forMade (tableOf w) visit init test update span (noneMade v))
   unfolding terminalTurn loopTurn
-  for-turns init test update l f n q h o = turns (for init test update l f) f (continueBlockOf update test) l n _ q (λ F R C. rw span-is (then-same (scheduleLoop f (continueBlockOf update test) (some l) C) _ _ (λ inside.
+  for-turns init test update l f n q h o = turns (for init test update l f) f (continueBlockOf update test) l n _ q (λ F R C. rw span-is (then-same (schedule (target-loop f (continueBlockOf update test) l) C) _ _ (λ inside.
       let k : Made → Result State = body f l F R C inside (unlessScheduled C f) in
       let flat : ValueBlockResult → Value = flatForm (tableOf w) span in
       let start : Result Made = valueMade visit flat init span (noneMade (inside .visits)) in
@@ -380,7 +387,7 @@ module _ (w : List ℕ) (S H : Flags) (p : Position) (en : Entered w p) where
       → terminalTurn (tableOf w) visit (while c l f) (p .block) (blockAt (tableOf w) (p .block)) F R (p .count) C
       ≡ unlessUnreachable (tableOf w) C f >>= λ taken. loopTurn (p .block) f c l taken (p .count) (λ v. valueMade visit plainForm c span (noneMade v)) F R C
   unfolding terminalTurn loopTurn
-  while-asks c l f F R C = rw span-is (then-same (unlessUnreachable (tableOf w) C f) _ _ (λ taken. then-same (scheduleLoop f c (some l) C) _ _ (λ inside.
+  while-asks c l f F R C = rw span-is (then-same (unlessUnreachable (tableOf w) C f) _ _ (λ taken. then-same (schedule (target-loop f c l) C) _ _ (λ inside.
       sym (value-then visit plainForm c span (noneMade (inside .visits)) (body f l F R C inside taken)))))
 
   while-turns : (c l f n : ℕ) → Is (while c l f) → f < blockCount w → (blockWord w f 2 ≡ 0 → ⊥) → n ≡ unlessTaken (eqb (blockWord w f 2) 1 || (has S f || has H f)) f
@@ -426,15 +433,15 @@ module _ {w : List ℕ} {block init test : ℕ} (update : ℕ) {l f : ℕ} (ends
 abbrev Enters : Flags → Flags → Position → Values → Plan → (f n c l : ℕ) → Type 0
 Enters S H p r plan f n c l = plan ≡ enteringLoop (eqb (r .code) 0) (loopTaken S H l f) p r (blocksOf f n c l)
 
-abbrev Label : Flags → Flags → (f n : ℕ) → Type 0
-Label S H f n = n ≡ unlessTaken (has S f || has H f) f
+abbrev Takes : Flags → Flags → (f n : ℕ) → Type 0
+Takes S H f n = n ≡ unlessTaken (has S f || has H f) f
 
 module _ {w : List ℕ} {S H : Flags} {p : Position} {plan : Plan} (en : Entered w p) where
   module _ {l c f : ℕ} (ends : Ends w (p .block) (do-while l c f)) {scheduled : Bool} (asked : scheduled ≡ continueScheduled S f c) where
     pub do-while-refused : scheduled ≡ true → plan ≡ refusing p 15 c → PlannedBare w S H p plan
     do-while-refused t q = loop-refused w S H p en f c l _ _ plan (do-while-turns w S H p en l c f _ (ends .is) (ends .named .2) refl) (ends .named .2) (sym asked ∙ t) q
 
-    pub do-while-entered : {n : ℕ} {r : Values} → scheduled ≡ false → Label S H f n → r ≡ noValues p → Enters S H p r plan f n c l → PlannedBare w S H p plan
+    pub do-while-entered : {n : ℕ} {r : Values} → scheduled ≡ false → Takes S H f n → r ≡ noValues p → Enters S H p r plan f n c l → PlannedBare w S H p plan
     do-while-entered {n} {r} t o start q buffer =
         loop-entered w S H p en f c l n _ r plan
         (do-while-turns w S H p en l c f n (ends .is) (ends .named .2) o)
@@ -460,7 +467,7 @@ module _ {w : List ℕ} {S H : Flags} {p : Position} {plan : Plan} (en : Entered
     pub for-refused : scheduled ≡ true → plan ≡ refusing p 15 c → PlannedBare w S H p plan
     for-refused t q = loop-refused w S H p en f c l _ _ plan (for-turns-at w S H p en init test update l f c _ (ends .is) continues (ends .named .4) refl) (ends .named .4) (sym asked ∙ t) q
 
-    pub for-entered : {n : ℕ} {r : Values} {b b′ : List ℕ} → scheduled ≡ false → Label S H f n → Makes p (forValues w p init test update) b r b′ → Enters S H p r plan f n c l
+    pub for-entered : {n : ℕ} {r : Values} {b b′ : List ℕ} → scheduled ≡ false → Takes S H f n → Makes p (forValues w p init test update) b r b′ → Enters S H p r plan f n c l
         → PlannedRows w S H p b plan b′
     for-entered {n} {r} t o made q =
         loop-entered w S H p en f c l n _ r plan
@@ -471,7 +478,7 @@ module _ {w : List ℕ} {S H : Flags} {p : Position} {plan : Plan} (en : Entered
     pub for-of-refused : scheduled ≡ true → plan ≡ refusing p 15 c → PlannedBare w S H p plan
     for-of-refused t q = loop-refused w S H p en f c l _ _ plan (for-of-turns w S H p en c test l f _ (ends .is) (ends .named .3) refl) (ends .named .3) (sym asked ∙ t) q
 
-    pub for-of-entered : {n : ℕ} {r : Values} {b b′ : List ℕ} → scheduled ≡ false → Label S H f n → Makes p (forOfValues w p c test) b r b′ → Enters S H p r plan f n c l
+    pub for-of-entered : {n : ℕ} {r : Values} {b b′ : List ℕ} → scheduled ≡ false → Takes S H f n → Makes p (forOfValues w p c test) b r b′ → Enters S H p r plan f n c l
         → PlannedRows w S H p b plan b′
     for-of-entered {n} {r} t o made q =
         loop-entered w S H p en f c l n _ r plan
@@ -482,7 +489,7 @@ module _ {w : List ℕ} {S H : Flags} {p : Position} {plan : Plan} (en : Entered
     pub for-in-refused : scheduled ≡ true → plan ≡ refusing p 15 c → PlannedBare w S H p plan
     for-in-refused t q = loop-refused w S H p en f c l _ _ plan (for-in-turns w S H p en c l f _ (ends .is) (ends .named .2) refl) (ends .named .2) (sym asked ∙ t) q
 
-    pub for-in-entered : {n : ℕ} {before r : Values} {b b′ : List ℕ} → scheduled ≡ false → Label S H f n → before ≡ noValues p → MakesMore p (flatMade w p c) before b r b′
+    pub for-in-entered : {n : ℕ} {before r : Values} {b b′ : List ℕ} → scheduled ≡ false → Takes S H f n → before ≡ noValues p → MakesMore p (flatMade w p c) before b r b′
         → Enters S H p r plan f n c l → PlannedRows w S H p b plan b′
     for-in-entered {n} {r = r} t o start made q =
         loop-entered w S H p en f c l n _ r plan
@@ -491,24 +498,12 @@ module _ {w : List ℕ} {S H : Flags} {p : Position} {plan : Plan} (en : Entered
 
 -- ---- value statements
 
--- an entry that is pushed and popped again leaves only its id taken
-remove-added : (S : Flags) (f : ℕ) → has S f ≡ false → remove (add S f) f ≡ S
-unfolding has add remove
-remove-added [] f e = refl
-remove-added (x ∷ S) zero e = ap (λ (y : Bool). y ∷ S) (sym e)
-remove-added (x ∷ S) (suc f) e = ap (λ (l : Flags). x ∷ l) (remove-added S f e)
-
-id-taken : (f v : ℕ) (C : definition.Context) → has (C .scheduled) f ≡ false → unscheduled (withVisits v (scheduled (target-if f) C)) ≡ idTaken (withVisits v C)
-unfolding unscheduled unscheduledTop unscheduledBy popped withVisits scheduled pushed idTaken
-id-taken f v C e = ap (λ (S : Flags). popped (C .stack) S (withVisits v (pushed (target-if f) (add (C .scheduled) f) C))) (remove-added (C .scheduled) f e)
-
-module _ (S H : Flags) (v : ℕ) (C : definition.Context) (seen : Seen S H v C) (f n : ℕ) (h : f < 1024) (o : n ≡ unlessTaken (has S f || has H f) f) where
-  value-context : (after : ℕ) → unscheduledIf (unlessNone n) (withVisits after (scheduledIf (unlessNone n) C)) ≡ changed (takeIdIf (eqb n 65535)) (withVisits after C)
-  value-context after = by (has S f || has H f) refl o
-    where
-      by : (y : Bool) → has S f || has H f ≡ y → n ≡ unlessTaken y f → unscheduledIf (unlessNone n) (withVisits after (scheduledIf (unlessNone n) C)) ≡ changed (takeIdIf (eqb n 65535)) (withVisits after C)
-      by true e q = rw (q, no-number)
-      by false e q = rw (q, some-number f (λ z. omega arith), ne-eqb f 65535 (λ z. omega arith)) (id-taken f after C (ap (λ (z : Flags). has z f) (seen .scheduled) ∙ or-false (has S f) (has H f) e))
+value-moved : (n after : ℕ) (C : definition.Context) → withVisits after (scheduledIf (unlessNone n) C) ≡ scheduledIf (unlessNone n) (withVisits after C)
+value-moved n after C = at (unlessNone n)
+  where
+    at : (o : Option ℕ) → withVisits after (scheduledIf o C) ≡ scheduledIf o (withVisits after C)
+    at none = refl
+    at (some f) = unfold withVisits pushed in refl
 
 -- a terminal with such a fallthrough: its turn, and the fallthrough's range
 pub record ValueTerminal (e : Terminal) (f : ℕ) : Type 0 where
@@ -566,24 +561,28 @@ module _ (w : List ℕ) (S H : Flags) (p : Position) (en : Entered w p) (f : ℕ
 
     pub value-statement-left : (n rows : ℕ) (plan : Plan) (b′ : List ℕ) → r .code ≡ 0 → n ≡ unlessTaken (has S f || has H f) f
         → Written b₁ (r .tally .rows) (row 4 (r .id) (r .place) (blockWord w (p .block) 9) 0 0) b′ rows
-        → plan ≡ leaving n (p .depth) (p .count + 1) rows (r .tally .visits) (takeIdIf (eqb n 65535)) → PlannedRows w S H p b plan b′
+        → plan ≡ leaving n (p .depth) (p .count + 1) rows (r .tally .visits) (brieflyIf (eqb n 65535) n) → PlannedRows w S H p b plan b′
     value-statement-left n rows plan b′ z o put e = subst (λ (y : Plan). PlannedRows w S H p b y b′) (sym e) (record {
       out = valueOut (v .value) ++ (last ∷ []);
       held = λ _ R h. rw (← (append-assoc R (valueOut (v .value)) (last ∷ [])), ← (push-row-after last (R ++ valueOut (v .value))), ← (push-value-after (v .value) R)) (put .kept _ (v .found z .held _ h));
       same = same;
-      fitting = λ _. record { change = named (eqb n 65535); handler = rw no-number tt; scope = rw no-number tt; deep = λ y. absurd (let o : _≡_ {A = ℕ} 0 1 = cc in omega arith); next = omega arith; nested = leave-nested (eqb n 65535) };
+      fitting = λ _. record { change = named (eqb n 65535) refl; handler = rw no-number tt; scope = rw no-number tt; deep = λ y. absurd (let o : _≡_ {A = ℕ} 0 1 = cc in omega arith); next = omega arith; nested = leave-nested (eqb n 65535) };
     })
       where
         last : Row
         last = row 4 (r .id) (r .place) (blockWord w (p .block) 9) 0 0
 
-        named : (y : Bool) → NamedChange 0 (takeIdIf y)
-        named true = tt
-        named false = tt
+        free : Label S n
+        free = rw o (label-taken S H false f (few-blocks w (en .promise) f fallthrough-below))
+
+        named : (y : Bool) → eqb n 65535 ≡ y → NamedChange 0 (brieflyIf y n)
+        named true g = tt
+        named false g = label-below free g
 
         same : (F : List machine.Frame) (R : List Row) (C : definition.Context) → length F ≡ p .depth → Seen S H (p .visits) C
-            → turn (terminalStep w p F R C) ≡ applied (leaving n (p .depth) (p .count + 1) rows (r .tally .visits) (takeIdIf (eqb n 65535))) F (R ++ (valueOut (v .value) ++ (last ∷ []))) C
+            → turn (terminalStep w p F R C) ≡ applied (leaving n (p .depth) (p .count + 1) rows (r .tally .visits) (brieflyIf (eqb n 65535) n)) F (R ++ (valueOut (v .value) ++ (last ∷ []))) C
         same F R C d seen =
             ap turn (value-step F R C seen ∙ then-on (left F R C) v z) ∙ unfold left in (turn-ok _
-            ∙ rw (label-scheduled w (en .promise) S H (p .visits) C seen f (few-blocks w (en .promise) f fallthrough-below) ∙ ap unlessNone (sym o), value-context S H (p .visits) C seen f n (few-blocks w (en .promise) f fallthrough-below) o (r .tally .visits), span-at w (p .block) (en .block), append-assoc R (valueOut (v .value)) (last ∷ []))
-            (sym (leave-applied n (p .depth) (p .count + 1) rows (r .tally .visits) (takeIdIf (eqb n 65535)) F (R ++ (valueOut (v .value) ++ (last ∷ []))) C ∙ rw (within-all (p .depth) F d, add-one))))
+            ∙ rw (label-scheduled w (en .promise) S H (p .visits) C seen f (few-blocks w (en .promise) f fallthrough-below) ∙ ap unlessNone (sym o), value-moved n (r .tally .visits) C, span-at w (p .block) (en .block), append-assoc R (valueOut (v .value)) (last ∷ []))
+            (sym (leave-applied n (p .depth) (p .count + 1) rows (r .tally .visits) (brieflyIf (eqb n 65535) n) F (R ++ (valueOut (v .value) ++ (last ∷ []))) C _
+            (label-briefly free (withVisits (r .tally .visits) C) (seen-visits (r .tally .visits) seen .scheduled)) ∙ rw (within-all (p .depth) F d, add-one))))

@@ -13,11 +13,11 @@ use Rattle.table.proofs.TableLaws.{case-at, length-blocks, length-cases}
 use Rattle.table.proofs.RangeLaws.{case-block}
 use Rattle.table.proofs.BlockLaws.{no-number, end-by, code-at, span-at}
 use Rattle.definition.specs.Build.{rejected, accepted}
-use Rattle.definition.specs.Context.{Flags, has, isScheduled, target-case, withVisits}
+use Rattle.definition.specs.Context.{Flags, has, isScheduled, target-case, schedule, withVisits}
 use Rattle.definition.specs.Context as definition
-use Rattle.definition.specs.Machine.{State, visiting, ended, choosing, Turn, halt, turn, into, scheduled, secondPart, caseBuilt, withLeft, close, noCase, caseAt, chooseCase, switchColumns, resumeAt, blockRow, valueOut, step}
+use Rattle.definition.specs.Machine.{State, visiting, ended, choosing, Turn, halt, turn, into, secondPart, caseBuilt, withLeft, close, noCase, caseAt, chooseCase, switchColumns, resumeAt, blockRow, valueOut, step}
 use Rattle.definition.specs.Machine as machine
-use Rattle.definition.specs.Result.{Result, ok, _>>=_, refuseIf}
+use Rattle.definition.specs.Result.{Result, ok, refused, _>>=_, refuseIf}
 use Rattle.definition.specs.Tree.{Row, row}
 use Rattle.definition.specs.Value.{visitValueBlock, VisitValueBlock, ValueBlockResult}
 use Rattle.definition.specs.Framed.{isSwitch}
@@ -35,11 +35,11 @@ use Rattle.planner.specs.declared.plan.Position.{Position}
 use Rattle.planner.specs.declared.plan.Frame.{Frame}
 use Rattle.planner.specs.declared.plan.Change.the-variants.{Nothing, Schedule}
 use Rattle.planner.specs.declared.plan.Plan.{Plan}
-use Rattle.planner.specs.Plans.{frameOf, stateAt, second, applied, onward, refusing, nesting, choosingNext, accepting}
+use Rattle.planner.specs.Plans.{frameOf, stateAt, second, unlessRefused, applied, refusing, nesting, choosingNext, accepting}
 use Rattle.planner.specs.Planned.{Seen, Fitting, Planned}
 use Rattle.planner.specs.Turn.{inHand, FrameFits, StageFits, Ready, emitting, PlannedTurn}
 use Rattle.planner.specs.Resume.{oneBuilt, leftLess, alternating, Closing, Resuming, Choosing, Begun, closeStep, resumeStep, chooseStep, PlannedClose, PlannedOn, PlannedResume, PlannedChoice}
-use Rattle.planner.proofs.PlanLaws.{within-rest, visits-same, refuse-applied, nest-applied, choose-applied, accept-applied}
+use Rattle.planner.proofs.PlanLaws.{within-rest, visits-same, refuse-applied, nest-applied, choose-asked, choose-applied, accept-applied}
 use Rattle.planner.proofs.StepLaws.{seen-scheduled, turn-ok, turn-refused, into-busy, into-free}
 use Rattle.planner.proofs.VisitLaws.{few-blocks, ranges}
 
@@ -71,21 +71,12 @@ visits-set v C = refl
 -- a plan sets the visits
 pub applied-visits : (plan : Plan) (v : ℕ) (F : List machine.Frame) (R : List Row) (C : definition.Context) → applied plan F R (withVisits v C) ≡ applied plan F R C
 unfolding applied withVisits
-applied-visits plan v F R C = at (eqb (plan .code) 0)
-  where
-    by : (s : Stage) → onward s plan F R (withVisits v C) ≡ onward s plan F R C
-    by Visit = refl
-    by Ended = refl
-    by Choose = refl
-    by Pop = refl
-    by Halt = refl
+applied-visits plan v F R C = refl
 
-    either : Bool → definition.Context → Turn
-    either y D = elim y [ true ↦ onward (plan .position .stage) plan F R D | false ↦ halt (rejected (plan .code) (plan .at) (plan .position .visits)) ]
-
-    at : (y : Bool) → either y (withVisits v C) ≡ either y C
-    at true = by (plan .position .stage)
-    at false = refl
+turn-asked : (m : Result definition.Context) (to : definition.Context → State) → turn (m >>= λ inside. ok (to inside)) ≡ unlessRefused m to
+unfolding turn _>>=_
+turn-asked (ok inside) to = refl
+turn-asked (refused code at visits) to = refl
 
 -- ---- a statement is resumed
 
@@ -127,7 +118,7 @@ module _ (w : List ℕ) (p : Position) (frame : Frame) where
         out = [];
         held = λ _ before h. rw (append-nil before) h;
         same = λ F R C d seen. rw (append-nil R) (ap turn (e F R C ∙ into-free block code at (secondPart (frameOf frame)) F R C (seen-scheduled S H (p .visits) C seen block ∙ u)) ∙ turn-ok _
-            ∙ sym (nest-applied block (second frame) (p .depth) (p .rows) (p .visits) 65535 65535 Nothing (frameOf frame ∷ F) R C ∙ rw (no-number, visits-same (p .visits) C (seen .visits), within-rest (p .depth) (frameOf frame) F d)));
+            ∙ sym (nest-applied block (second frame) (p .depth) (p .rows) (p .visits) 65535 65535 Nothing (frameOf frame ∷ F) R C _ refl ∙ rw (no-number, visits-same (p .visits) C (seen .visits), within-rest (p .depth) (frameOf frame) F d)));
         fitting = λ _. record { change = tt; handler = rw no-number tt; scope = rw no-number tt; deep = λ _. deep; next = omega arith; nested = tt };
       }
 
@@ -206,7 +197,7 @@ module _ (w : List ℕ) (p : Position) (frame : Frame) where
         out = [];
         held = λ _ before h. rw (append-nil before) h;
         same = λ F R C d on. rw (append-nil R) (ap turn (try-goes-on s F R C) ∙ turn-ok _
-            ∙ sym (nest-applied (col 4) (second frame) (p .depth) (p .rows) (p .visits) 65535 65535 Nothing (frameOf frame ∷ F) R C ∙ rw (no-number, visits-same (p .visits) C on, within-rest (p .depth) (frameOf frame) F d)));
+            ∙ sym (nest-applied (col 4) (second frame) (p .depth) (p .rows) (p .visits) 65535 65535 Nothing (frameOf frame ∷ F) R C _ refl ∙ rw (no-number, visits-same (p .visits) C on, within-rest (p .depth) (frameOf frame) F d)));
         fitting = λ _. record { change = tt; handler = rw no-number tt; scope = rw no-number tt; deep = λ _. re .depth; next = omega arith; nested = tt };
       })
 
@@ -229,10 +220,11 @@ module _ (w : List ℕ) (p : Position) (frame : Frame) where
       abbrev caseRow : Row
       caseRow = row 11 (caseWord w number 0) 0 0 0 0
 
-      case-goes-on : (F : List machine.Frame) (R : List Row) (C : definition.Context) → resumeStep w p frame F R C ≡ ok (choosing (caseBuilt (frameOf frame)) F (R ++ (caseRow ∷ [])) (scheduled (target-case (caseWord w number 1)) C))
+      case-goes-on : (F : List machine.Frame) (R : List Row) (C : definition.Context) → resumeStep w p frame F R C
+          ≡ schedule (target-case (caseWord w number 1)) C >>= λ inside. ok (choosing (caseBuilt (frameOf frame)) F (R ++ (caseRow ∷ [])) inside)
       unfolding resumeAt caseOf
       case-goes-on F R C = resume-at _ F R C switch-at
-          ∙ ap (λ (k : Case). ok (choosing (caseBuilt (frameOf frame)) F (R ++ (row 11 (k .test) 0 0 0 0 ∷ [])) (scheduled (target-case (k .block)) C))) case-is
+          ∙ ap (λ (k : Case). schedule (target-case (k .block)) C >>= λ inside. ok (choosing (caseBuilt (frameOf frame)) F (R ++ (row 11 (k .test) 0 0 0 0 ∷ [])) inside)) case-is
 
       abbrev casePlan : (rows block : ℕ) → Plan
       casePlan rows block = choosingNext (oneBuilt frame) (p .depth) rows (p .visits) (Schedule (CaseTarget block))
@@ -242,7 +234,7 @@ module _ (w : List ℕ) (p : Position) (frame : Frame) where
       case-built plan buffer buffer′ test block rows e u put q = subst (λ (y : Plan). PlannedOn w p frame buffer y buffer′) (sym (q ∙ ap (casePlan rows) u)) (record {
         out = caseRow ∷ [];
         held = λ _ before h. rw (← e, ← (push-row-after (row 11 test 0 0 0 0) before)) (put .kept (stack.pushed before []) h);
-        same = λ F R C d on. ap turn (case-goes-on F R C) ∙ turn-ok _ ∙ sym (choose-applied (oneBuilt frame) (p .depth) rows (p .visits) (Schedule (CaseTarget (caseWord w number 1))) (frameOf frame ∷ F) (R ++ (caseRow ∷ [])) C
+        same = λ F R C d on. ap turn (case-goes-on F R C) ∙ turn-asked _ _ ∙ sym (choose-asked (oneBuilt frame) (p .depth) rows (p .visits) (Schedule (CaseTarget (caseWord w number 1))) (frameOf frame ∷ F) (R ++ (caseRow ∷ [])) C
             ∙ rw (visits-same (p .visits) C on, within-rest (p .depth) (frameOf frame) F d, more (frame .entries), more (frame .built)));
         fitting = λ _. record { change = case-below; handler = rw no-number tt; scope = rw no-number tt; deep = λ _. re .depth; next = omega arith; nested = refl };
       })
@@ -383,7 +375,7 @@ module _ (w : List ℕ) (p : Position) (frame : Frame) (ch : Choosing w p frame)
       out = [];
       held = λ _ before h. rw (append-nil before) h;
       same = λ F R C d seen. rw (append-nil R) (ap turn (case-chosen false F R C seen (ap (λ (k : ℕ). has S k || has H k) (sym u) ∙ e) ∙ ap (λ (k : ℕ). chosen false k (frame .left - 1) F R C) (sym u)) ∙ turn-ok _
-          ∙ sym (nest-applied block (leftLess frame) (p .depth) (p .rows) (p .visits) 65535 65535 Nothing (frameOf frame ∷ F) R C ∙ rw (no-number, visits-same (p .visits) C (seen .visits), within-rest (p .depth) (frameOf frame) F d)));
+          ∙ sym (nest-applied block (leftLess frame) (p .depth) (p .rows) (p .visits) 65535 65535 Nothing (frameOf frame ∷ F) R C _ refl ∙ rw (no-number, visits-same (p .visits) C (seen .visits), within-rest (p .depth) (frameOf frame) F d)));
       fitting = λ _. record { change = tt; handler = rw no-number tt; scope = rw no-number tt; deep = λ _. ch .closing .depth; next = omega arith; nested = tt };
     })
 
@@ -414,7 +406,7 @@ module _ (w : List ℕ) (p : Position) (frame : Frame) (ch : Choosing w p frame)
       out = [];
       held = λ _ before h. rw (append-nil before) h;
       same = λ F R C d seen. rw (append-nil R) (ap turn (case-busy block true F R C seen u e (eq-eqb block (column 6) z)) ∙ turn-ok _
-          ∙ sym (choose-applied (leftLess frame) (p .depth) (p .rows) (p .visits) Nothing (frameOf frame ∷ F) R C ∙ rw (visits-same (p .visits) C (seen .visits), within-rest (p .depth) (frameOf frame) F d)));
+          ∙ sym (choose-applied (leftLess frame) (p .depth) (p .rows) (p .visits) Nothing (frameOf frame ∷ F) R C _ refl ∙ rw (visits-same (p .visits) C (seen .visits), within-rest (p .depth) (frameOf frame) F d)));
       fitting = λ _. fits;
     })
 

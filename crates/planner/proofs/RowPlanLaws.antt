@@ -19,7 +19,7 @@ use Rattle.table.proofs.BlockLaws.{no-number, some-number, end-by, id-at}
 use Rattle.definition.specs.Build.{rejected}
 use Rattle.definition.specs.Context.{Flags, has, pushed, isScheduled, markScopeFallthrough}
 use Rattle.definition.specs.Context as definition
-use Rattle.definition.specs.Machine.{visiting, ended, going, halt, turn, into, opens, scheduled, scheduledIf, terminalTurn}
+use Rattle.definition.specs.Machine.{visiting, ended, going, halt, turn, into, opens, scheduledIf, terminalTurn}
 use Rattle.definition.specs.Machine as machine
 use Rattle.definition.specs.Result.{ok}
 use Rattle.definition.specs.Statement.{unlessScheduled, markScopeFallthroughIf}
@@ -32,23 +32,26 @@ use Rattle.planner.specs.declared.plan.Position.{Position}
 use Rattle.planner.specs.declared.plan.Frame.{Frame}
 use Rattle.planner.specs.declared.plan.Change.the-variants.{Nothing}
 use Rattle.planner.specs.declared.plan.Plan.{Plan}
-use Rattle.planner.specs.Plans.{frameOf, scoped, applied, onward, openFrame, leaving, unlessTaken, entriesIf, scheduleIf, scheduledWith, enclosing, withScope}
+use Rattle.planner.specs.Plans.{frameOf, scoped, contextAfter, applied, onward, openFrame, leaving, unlessTaken, entriesIf, scheduleIf, scheduledWith, enclosing, withScope}
 use Rattle.planner.specs.Planned.{Seen, Fitting, Planned, PlannedBare, Entered, terminalStep}
-use Rattle.planner.proofs.PlanLaws.{within-all, visits-same, leave-applied, nest-applied, Label, label-taken, label-entries, label-if}
+use Rattle.planner.proofs.PlanLaws.{within-all, visits-same, leave-applied, nest-applied, Label, no-label, free-label, label-taken, label-entries, label-if}
 use Rattle.planner.proofs.StepLaws.{label-scheduled, into-busy, into-free, turn-refused, turn-ok, busy-with}
 use Rattle.planner.proofs.VisitLaws.{bare-planned, step-by, few-blocks, ranges, named-if}
 
 -- ---- scopes
 
-label-in : (n : ℕ) → Label n → Below 1024 (unlessNone n)
-unfolding Label
-label-in n (inl e) = subst (λ (z : Option ℕ). Below 1024 z) (sym (ap unlessNone e ∙ no-number)) tt
-label-in n (inr h) = subst (λ (z : Option ℕ). Below 1024 z) (sym (some-number n (λ q. omega arith))) h
+label-in : {S : Flags} (n : ℕ) → Label S n → Below 1024 (unlessNone n)
+label-in n (no-label e) = subst (λ (z : Option ℕ). Below 1024 z) (sym (ap unlessNone e ∙ no-number)) tt
+label-in n (free-label h _) = subst (λ (z : Option ℕ). Below 1024 z) (sym (some-number n (λ q. omega arith))) h
 
 scope-moved : (g : Option ℕ) (C : definition.Context) → markScopeFallthroughIf g (scheduledIf g C) ≡ scheduledIf g (scoped g C)
 unfolding markScopeFallthroughIf
 scope-moved none C = refl
-scope-moved (some f) C = unfold scheduled pushed markScopeFallthrough in refl
+scope-moved (some f) C = unfold pushed markScopeFallthrough in refl
+
+scope-seen : (g : Option ℕ) (C : definition.Context) → scoped g C .scheduled ≡ C .scheduled
+scope-seen none C = refl
+scope-seen (some f) C = unfold markScopeFallthrough in refl
 
 scope-busy : (g h : Option ℕ) (C : definition.Context) (x : ℕ) → isScheduled (markScopeFallthroughIf g (scheduledIf h C)) x ≡ isScheduled (scheduledIf h C) x
 unfolding markScopeFallthroughIf
@@ -58,11 +61,11 @@ scope-busy (some f) h C x = unfold markScopeFallthrough isScheduled in refl
 scope-visits : (g : Option ℕ) (C : definition.Context) → markScopeFallthroughIf g (scheduledIf g C) .visits ≡ C .visits
 unfolding markScopeFallthroughIf
 scope-visits none C = refl
-scope-visits (some f) C = unfold scheduled pushed markScopeFallthrough in refl
+scope-visits (some f) C = unfold pushed markScopeFallthrough in refl
 
 refused-applied : (plan : Plan) (F : List machine.Frame) (R : List Row) (C : definition.Context) → (plan .code ≡ 0 → ⊥) → applied plan F R C ≡ halt (rejected (plan .code) (plan .at) (plan .position .visits))
 unfolding applied
-refused-applied plan F R C h = ap (λ (y : Bool). elim y [ true ↦ onward (plan .position .stage) plan F R C | false ↦ halt (rejected (plan .code) (plan .at) (plan .position .visits)) ]) (ne-eqb (plan .code) 0 h)
+refused-applied plan F R C h = ap (λ (y : Bool). elim y [ true ↦ onward (plan .position .stage) plan F R (contextAfter plan C) | false ↦ halt (rejected (plan .code) (plan .at) (plan .position .visits)) ]) (ne-eqb (plan .code) 0 h)
 
 module _ (w : List ℕ) (S H : Flags) (p : Position) (en : Entered w p) where
   -- a scope's code is 20 or 21: its terminal is a scope
@@ -89,8 +92,8 @@ module _ (w : List ℕ) (S H : Flags) (p : Position) (en : Entered w p) where
       n-is : n ≡ unlessTaken (has S (blockWord w (p .block) 4) || has H (blockWord w (p .block) 4)) (blockWord w (p .block) 4)
       n-is = r ∙ ap (λ (k : ℕ). unlessTaken (has S k || has H k) k) s
 
-      l : Label n
-      l = rw n-is (label-taken (has S (blockWord w (p .block) 4) || has H (blockWord w (p .block) 4)) (blockWord w (p .block) 4) (below .1))
+      l : Label S n
+      l = rw n-is (label-taken S H false (blockWord w (p .block) 4) (below .1))
 
       label-is : (C : definition.Context) → Seen S H (p .visits) C → unlessScheduled C (blockWord w (p .block) 4) ≡ unlessNone n
       label-is C seen = label-scheduled w (en .promise) S H (p .visits) C seen (blockWord w (p .block) 4) (below .1) ∙ ap unlessNone (sym n-is)
@@ -110,9 +113,9 @@ module _ (w : List ℕ) (S H : Flags) (p : Position) (en : Entered w p) where
           ∙ ap (λ (v : ℕ). halt (rejected 18 (p .block) v)) (scope-visits (unlessNone n) C ∙ seen .visits) ∙ sym (refused-applied (E true) F R C (λ z. omega arith))
       by F R C d seen false o =
           ap turn (into-free x 18 (p .block) _ F R _ (scope-busy (unlessNone n) (unlessNone n) C x ∙ busy-with S H (p .visits) n x C l (below .0) seen ∙ o)) ∙ turn-ok _
-          ∙ sym (nest-applied x (openFrame p n (entriesIf (eqb n 65535))) (p .depth + 1) (p .rows) (p .visits) 65535 n (scheduleIf (eqb n 65535) n) F R C
-          ∙ rw (no-number, visits-same (p .visits) C (seen .visits), label-entries n, within-all (p .depth + 1 - 1) F (omega (arith, d)))
-          (ap (λ (D : definition.Context). going (visiting x (machine.frameOf (p .block) (unlessNone n) (opens (unlessNone n)) (p .count) ∷ F) R 0 D)) (label-if n (scoped (unlessNone n) C) ∙ sym (scope-moved (unlessNone n) C))))
+          ∙ sym (nest-applied x (openFrame p n (entriesIf (eqb n 65535))) (p .depth + 1) (p .rows) (p .visits) 65535 n (scheduleIf (eqb n 65535) n) F R C (markScopeFallthroughIf (unlessNone n) (scheduledIf (unlessNone n) C))
+          (rw (no-number, visits-same (p .visits) C (seen .visits), scope-moved (unlessNone n) C) (label-if l (scoped (unlessNone n) C) (scope-seen (unlessNone n) C ∙ seen .scheduled)))
+          ∙ rw (label-entries n, within-all (p .depth + 1 - 1) F (omega (arith, d))))
 
 -- ---- Throw and Return
 
@@ -125,7 +128,7 @@ pub left-planned : (w : List ℕ) (p : Position) (out : List Row) (b b′ : List
 left-planned w p out b b′ rows′ count′ plan held same e = subst (λ (z : Plan). Planned (terminalStep w p) (λ C. C .visits ≡ p .visits) [] (p .depth) (p .rows) b z b′) (sym e) (record {
   out = out;
   held = λ _ before h. held before h;
-  same = λ F R C d v. ap turn (same F R C d v) ∙ turn-ok _ ∙ sym (leave-applied 65535 (p .depth) count′ rows′ (p .visits) Nothing F (R ++ out) C ∙ rw (no-number, visits-same (p .visits) C v, within-all (p .depth) F d));
+  same = λ F R C d v. ap turn (same F R C d v) ∙ turn-ok _ ∙ sym (leave-applied 65535 (p .depth) count′ rows′ (p .visits) Nothing F (R ++ out) C _ refl ∙ rw (no-number, visits-same (p .visits) C v, within-all (p .depth) F d));
   fitting = λ _. record { change = tt; handler = rw no-number tt; scope = rw no-number tt; deep = λ z. absurd (let o : _≡_ {A = ℕ} 0 1 = cc in omega arith); next = omega arith; nested = tt };
 })
 

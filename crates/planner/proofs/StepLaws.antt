@@ -18,7 +18,7 @@ use Rattle.table.proofs.BlockLaws.{no-number, some-number, code-at}
 use Rattle.definition.specs.Build.{rejected}
 use Rattle.definition.specs.Context.{Flags, has, add, isScheduled, pushed, target-if}
 use Rattle.definition.specs.Context as definition
-use Rattle.definition.specs.Machine.{State, visiting, going, halt, turn, into, opens, scheduled, scheduledIf}
+use Rattle.definition.specs.Machine.{State, visiting, going, halt, turn, into, opens, scheduledIf}
 use Rattle.definition.specs.Machine as machine
 use Rattle.definition.specs.Result.{ok, refused, _>>=_, refuseIf}
 use Rattle.definition.specs.Statement.{unlessScheduled, unlessUnreachable}
@@ -27,12 +27,12 @@ use Rattle.planner.specs.declared.plan.Position.{Position}
 use Rattle.planner.specs.declared.plan.Frame.{Frame}
 use Rattle.planner.specs.Plans.{frameOf, applied, openFrame, unlessTaken, entriesIf, scheduleIf, scheduledWith, enclosing}
 use Rattle.planner.specs.Planned.{Seen}
-use Rattle.planner.proofs.PlanLaws.{within-all, visits-same, refuse-applied, nest-applied, Label, label-entries, label-if}
+use Rattle.planner.proofs.PlanLaws.{within-all, visits-same, refuse-applied, nest-applied, Label, no-label, free-label, label-entries, label-if}
 
 -- ---- sets
 
-pub scheduled-push : (n x : ℕ) (C : definition.Context) → n < length (C .scheduled) → isScheduled (scheduled (target-if n) C) x ≡ eqb x n || isScheduled C x
-unfolding isScheduled scheduled pushed has add
+pub scheduled-push : (n x : ℕ) (C : definition.Context) → n < length (C .scheduled) → isScheduled (pushed (target-if n) C) x ≡ eqb x n || isScheduled C x
+unfolding isScheduled pushed has add
 scheduled-push n x C h = at (ℕ-discrete x n)
   where
     at : Dec (x ≡ n) → getD (set (C .scheduled) n true) x false || getD (C .catchHandlers) x false ≡ eqb x n || (getD (C .scheduled) x false || getD (C .catchHandlers) x false)
@@ -85,12 +85,11 @@ unfolding into refuseIf _>>=_
 into-free block code at fr F R C e = rw e
 
 -- whether a block is scheduled once the label is
-pub busy-with : (S H : Flags) (v n block : ℕ) (C : definition.Context) → Label n → block < 1024 → Seen S H v C → isScheduled (scheduledIf (unlessNone n) C) block ≡ eqb block n || (has S block || has H block)
-unfolding Label
-busy-with S H v n block C (inl e) k seen =
+pub busy-with : (S H : Flags) (v n block : ℕ) (C : definition.Context) → Label S n → block < 1024 → Seen S H v C → isScheduled (scheduledIf (unlessNone n) C) block ≡ eqb block n || (has S block || has H block)
+busy-with S H v n block C (no-label e) k seen =
     ap (λ (z : Option ℕ). isScheduled (scheduledIf z C) block) (ap unlessNone e ∙ no-number) ∙ seen-scheduled S H v C seen block
     ∙ sym (ap (λ (y : Bool). y || (has S block || has H block)) (ne-eqb block n (λ q. omega arith)))
-busy-with S H v n block C (inr h) k seen =
+busy-with S H v n block C (free-label h _) k seen =
     ap (λ (z : Option ℕ). isScheduled (scheduledIf z C) block) (some-number n (λ q. omega arith)) ∙ scheduled-push n block C (wide h) ∙ ap (λ (y : Bool). eqb block n || y) (seen-scheduled S H v C seen block)
   where
     wide : n < 1024 → n < length (C .scheduled)
@@ -98,7 +97,7 @@ busy-with S H v n block C (inr h) k seen =
 
 -- what `enclose` plans is what the machine does
 pub enclose-same : (S H : Flags) (p : Position) (n block code at : ℕ) (F : List machine.Frame) (R : List Row) (C : definition.Context)
-    → Label n → block < 1024 → (code ≡ 0 → ⊥) → Seen S H (p .visits) C → length F ≡ p .depth
+    → Label S n → block < 1024 → (code ≡ 0 → ⊥) → Seen S H (p .visits) C → length F ≡ p .depth
     → turn (into block code at (machine.frameOf (p .block) (unlessNone n) (opens (unlessNone n)) (p .count)) F R (scheduledIf (unlessNone n) C))
     ≡ applied (enclosing (scheduledWith (has S block || has H block) n block) p n block code at) F R C
 enclose-same S H p n block code at F R C l k nz seen d = by (eqb block n || (has S block || has H block)) refl
@@ -114,11 +113,12 @@ enclose-same S H p n block code at F R C l k nz seen d = by (eqb block n || (has
 
     visits : (z : Option ℕ) → scheduledIf z C .visits ≡ p .visits
     visits none = seen .visits
-    visits (some f) = unfold scheduled pushed in seen .visits
+    visits (some f) = unfold pushed in seen .visits
 
     by : (y : Bool) → eqb block n || (has S block || has H block) ≡ y → turn (into block code at fr F R D) ≡ applied (enclosing y p n block code at) F R C
     by true e = ap turn (into-busy block code at fr F R D (busy ∙ e) ∙ ap (λ (v : ℕ). refused code at v) (visits (unlessNone n))) ∙ turn-refused code at (p .visits) ∙ sym (refuse-applied p code at F R C nz)
     by false e =
         ap turn (into-free block code at fr F R D (busy ∙ e)) ∙ turn-ok _
-        ∙ sym (nest-applied block (openFrame p n (entriesIf (eqb n 65535))) (p .depth + 1) (p .rows) (p .visits) 65535 65535 (scheduleIf (eqb n 65535) n) F R C
-        ∙ rw (no-number, visits-same (p .visits) C (seen .visits), label-if n C, label-entries n, within-all (p .depth + 1 - 1) F (omega (arith, d))))
+        ∙ sym (nest-applied block (openFrame p n (entriesIf (eqb n 65535))) (p .depth + 1) (p .rows) (p .visits) 65535 65535 (scheduleIf (eqb n 65535) n) F R C D
+        (rw (no-number, visits-same (p .visits) C (seen .visits)) (label-if l C (seen .scheduled)))
+        ∙ rw (label-entries n, within-all (p .depth + 1 - 1) F (omega (arith, d))))

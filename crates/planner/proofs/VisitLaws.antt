@@ -18,7 +18,7 @@ use Rattle.table.proofs.BlockLaws.{no-number, some-number, end-by}
 use Rattle.definition.specs.Build.{rejected}
 use Rattle.definition.specs.Context.{Flags, has, pushed, scheduleCatchHandler}
 use Rattle.definition.specs.Context as definition
-use Rattle.definition.specs.Machine.{State, visiting, choosing, going, halt, turn, leave, into, opens, scheduled, scheduledIf, scheduledSwitch, withLeft, numberOfCases, terminalTurn}
+use Rattle.definition.specs.Machine.{State, visiting, choosing, going, halt, turn, leave, into, opens, scheduledIf, scheduledSwitch, withLeft, numberOfCases, terminalTurn}
 use Rattle.definition.specs.Machine as machine
 use Rattle.definition.specs.Result.{Result, ok, _>>=_}
 use Rattle.definition.specs.Statement.{unlessUnreachable, casesLastFirst}
@@ -30,7 +30,7 @@ use Rattle.planner.specs.declared.plan.Change.the-variants.{Nothing}
 use Rattle.planner.specs.declared.plan.Plan.{Plan}
 use Rattle.planner.specs.Plans.{frameOf, applied, openFrame, refusing, leaving, nesting, choosingNext, unlessTaken, entriesIf, scheduleIf, scheduleSwitch, scheduledWith, enclosing}
 use Rattle.planner.specs.Planned.{Seen, NamedChange, Fitting, PlannedBare, Entered, terminalStep}
-use Rattle.planner.proofs.PlanLaws.{within-all, visits-same, refuse-applied, leave-applied, leave-nested, nest-applied, choose-applied, Label, label-taken, label-most, label-entries, label-if, label-switch}
+use Rattle.planner.proofs.PlanLaws.{within-all, visits-same, refuse-applied, leave-applied, leave-nested, nest-applied, choose-applied, Label, label-taken, label-most, label-below, label-entries, label-if, label-switch}
 use Rattle.planner.proofs.StepLaws.{label-scheduled, label-missing, label-reached, enclose-same, turn-refused, turn-ok}
 
 -- ---- a planner with no row
@@ -74,19 +74,14 @@ few-blocks w pr b h = omega (arith, pr .sized .limited .blocks)
 pub ranges : (w : List ℕ) → Promise w → (b : ℕ) → b < blockCount w → (e : Terminal) → terminalAt (tableOf w) b ≡ e → InRange (blockCount w) (placeCount w) (caseCount w) e
 ranges w pr b h e q = subst (λ (z : Terminal). InRange (blockCount w) (placeCount w) (caseCount w) z) q (in-range w pr b h)
 
-label-below : (n : ℕ) → Label n → eqb n 65535 ≡ false → n < 1024
-unfolding Label
-label-below n (inl q) e = absurd (let z : _≡_ {A = Bool} true false = sym (eq-eqb n 65535 q) ∙ e in let o : _≡_ {A = ℕ} 0 1 = cc in omega arith)
-label-below n (inr h) e = h
-
-pub named-if : (n : ℕ) → Label n → NamedChange 0 (scheduleIf (eqb n 65535) n)
-named-if n l = at (eqb n 65535) (λ e. label-below n l e)
+pub named-if : {S : Flags} (n : ℕ) → Label S n → NamedChange 0 (scheduleIf (eqb n 65535) n)
+named-if n l = at (eqb n 65535) (λ e. label-below l e)
   where
     at : (y : Bool) → (y ≡ false → n < 1024) → NamedChange 0 (scheduleIf y n)
     at true h = tt
     at false h = h refl
 
-enclosing-fits : (y : Bool) (p : Position) (n block code at : ℕ) → Label n → (code ≡ 0 → ⊥) → enclosing y p n block code at .code ≡ 0 → Fitting [] (p .depth) (enclosing y p n block code at)
+enclosing-fits : {S : Flags} (y : Bool) (p : Position) (n block code at : ℕ) → Label S n → (code ≡ 0 → ⊥) → enclosing y p n block code at .code ≡ 0 → Fitting [] (p .depth) (enclosing y p n block code at)
 enclosing-fits true p n block code at l h e = absurd (h e)
 enclosing-fits false p n block code at l h e = record { change = named-if n l; handler = rw no-number tt; scope = rw no-number tt; deep = λ _. omega arith; next = omega arith; nested = tt }
 
@@ -118,8 +113,8 @@ module _ (w : List ℕ) (S H : Flags) (p : Position) (en : Entered w p) where
   abbrev Reached : ℕ → ℕ → Type 0
   Reached f n = n ≡ unlessTaken (eqb (blockWord w f 2) 1 || (has S f || has H f)) f
 
-  pub reached-label : (g f n : ℕ) → g < blockCount w → f ≡ g → Reached f n → Label n
-  reached-label g f n h s q = rw q (label-taken (eqb (blockWord w f 2) 1 || (has S f || has H f)) f (rw s (few-blocks w (en .promise) g h)))
+  pub reached-label : (g f n : ℕ) → g < blockCount w → f ≡ g → Reached f n → Label S n
+  reached-label g f n h s q = rw q (label-taken S H (eqb (blockWord w f 2) 1) f (rw s (few-blocks w (en .promise) g h)))
 
   reached-same : (e : Terminal) (g : ℕ) (k : Rest) (f n : ℕ) (plan : Plan) → At e → Asks e g k → g < blockCount w → f ≡ g → (blockWord w f 2 ≡ 0 → ⊥) → Reached f n
       → (plan .code ≡ 0 → plan .position .rows ≡ p .rows) → (plan .code ≡ 0 → Fitting [] (p .depth) plan)
@@ -148,7 +143,7 @@ module _ (w : List ℕ) (S H : Flags) (p : Position) (en : Entered w p) where
       E : Plan
       E = enclosing busy p n x code at
 
-      l : Label n
+      l : Label S n
       l = reached-label g f n h s r
 
   -- ---- If
@@ -244,13 +239,14 @@ module _ (w : List ℕ) (S H : Flags) (p : Position) (en : Entered w p) where
         at-switch true h = tt
         at-switch false h = h refl
 
-        named : Label n → NamedChange 0 (scheduleSwitch (eqb n 65535) n)
-        named l = at-switch (eqb n 65535) (λ e. label-below n l e)
+        named : Label S n → NamedChange 0 (scheduleSwitch (eqb n 65535) n)
+        named l = at-switch (eqb n 65535) (λ e. label-below l e)
 
         same : (F : List machine.Frame) (R : List Row) (C : definition.Context) → length F ≡ p .depth → Seen S H (p .visits) C → turn (switch-rest F R C (unlessNone n)) ≡ applied (plan-of number) F R C
         same F R C d seen = turn-ok _ ∙ rw (number-is (blockWord w (p .block) 4) number (switch-ranges .1))
-            (sym (choose-applied (switchFrame n number) (p .depth + 1) (p .rows) (p .visits) (scheduleSwitch (eqb n 65535) n) F R C
-            ∙ rw (visits-same (p .visits) C (seen .visits), label-switch n C, label-entries n, within-all (p .depth + 1 - 1) F (omega (arith, d)))))
+            (sym (choose-applied (switchFrame n number) (p .depth + 1) (p .rows) (p .visits) (scheduleSwitch (eqb n 65535) n) F R C (scheduledSwitch (unlessNone n) C)
+            (rw (visits-same (p .visits) C (seen .visits)) (label-switch (reached-label (blockWord w (p .block) 6) f n (switch-ranges .2) s r) C (seen .scheduled)))
+            ∙ rw (label-entries n, within-all (p .depth + 1 - 1) F (omega (arith, d)))))
 
   -- ---- Try
 
@@ -290,13 +286,17 @@ module _ (w : List ℕ) (S H : Flags) (p : Position) (en : Entered w p) where
       where
         caught : (g : Option ℕ) (C : definition.Context) → scheduleCatchHandler (blockWord w (p .block) 4) (scheduledIf g C) ≡ scheduledIf g (scheduleCatchHandler (blockWord w (p .block) 4) C)
         caught none C = refl
-        caught (some x) C = unfold scheduled pushed scheduleCatchHandler in refl
+        caught (some x) C = unfold pushed scheduleCatchHandler in refl
+
+        handler-seen : (C : definition.Context) → Seen S H (p .visits) C → scheduleCatchHandler (blockWord w (p .block) 4) C .scheduled ≡ S
+        handler-seen C seen = unfold scheduleCatchHandler in seen .scheduled
 
         same : (F : List machine.Frame) (R : List Row) (C : definition.Context) → length F ≡ p .depth → Seen S H (p .visits) C
             → turn (try-rest F R C (unlessNone n)) ≡ applied (tryPlan n (blockWord w (p .block) 3) (blockWord w (p .block) 4)) F R C
-        same F R C d seen = turn-ok _ ∙ sym (nest-applied (blockWord w (p .block) 3) (openFrame p n (entriesIf (eqb n 65535))) (p .depth + 1) (p .rows) (p .visits) (blockWord w (p .block) 4) 65535 (scheduleIf (eqb n 65535) n) F R C
-            ∙ rw (no-number, some-number (blockWord w (p .block) 4) (λ y. omega (arith, few-blocks w (en .promise) _ (try-ranges .1))), visits-same (p .visits) C (seen .visits), label-entries n, within-all (p .depth + 1 - 1) F (omega (arith, d)))
-            (ap (λ (D : definition.Context). going (visiting (blockWord w (p .block) 3) (here F R C (unlessNone n) ∷ F) R 0 D)) (label-if n (scheduleCatchHandler (blockWord w (p .block) 4) C) ∙ sym (caught (unlessNone n) C))))
+        same F R C d seen = turn-ok _ ∙ sym (nest-applied (blockWord w (p .block) 3) (openFrame p n (entriesIf (eqb n 65535))) (p .depth + 1) (p .rows) (p .visits) (blockWord w (p .block) 4) 65535 (scheduleIf (eqb n 65535) n) F R C (scheduleCatchHandler (blockWord w (p .block) 4) (scheduledIf (unlessNone n) C))
+            (rw (no-number, some-number (blockWord w (p .block) 4) (λ y. omega (arith, few-blocks w (en .promise) _ (try-ranges .1))), visits-same (p .visits) C (seen .visits), caught (unlessNone n) C)
+            (label-if (reached-label (blockWord w (p .block) 5) f n (try-ranges .2) s r) (scheduleCatchHandler (blockWord w (p .block) 4) C) (handler-seen C seen)))
+            ∙ rw (label-entries n, within-all (p .depth + 1 - 1) F (omega (arith, d))))
 
   -- ---- MaybeThrow and Unreachable
 
@@ -308,7 +308,7 @@ module _ (w : List ℕ) (S H : Flags) (p : Position) (en : Entered w p) where
   maybe-throw-left f n plan code s q e = subst (λ (y : Plan). PlannedBare w S H p y) (sym e) (bare-planned w S H p (leaving n (p .depth) (p .count) (p .rows) (p .visits) Nothing) (λ _. refl) (λ F R C d seen.
       ap turn (step-by w p _ F R C (end-by w (p .block) (en .block) 18 code)) ∙ turn-ok _
       ∙ ap (λ (z : Option ℕ). going (leave z F R (p .count) C)) (label-scheduled w (en .promise) S H (p .visits) C seen (blockWord w (p .block) 3) (few-blocks w (en .promise) _ below) ∙ ap unlessNone (sym (q ∙ ap (λ (k : ℕ). unlessTaken (has S k || has H k) k) s)))
-      ∙ sym (leave-applied n (p .depth) (p .count) (p .rows) (p .visits) Nothing F R C ∙ rw (visits-same (p .visits) C (seen .visits), within-all (p .depth) F d)))
+      ∙ sym (leave-applied n (p .depth) (p .count) (p .rows) (p .visits) Nothing F R C _ refl ∙ rw (visits-same (p .visits) C (seen .visits), within-all (p .depth) F d)))
       (λ _. record { change = tt; handler = rw no-number tt; scope = rw no-number tt; deep = λ z. absurd (let o : _≡_ {A = ℕ} 0 1 = cc in omega arith); next = omega arith; nested = leave-nested (eqb n 65535) }))
     where
       below : blockWord w (p .block) 3 < blockCount w
@@ -318,7 +318,7 @@ module _ (w : List ℕ) (S H : Flags) (p : Position) (en : Entered w p) where
   unfolding terminalTurn terminalOf
   unreachable-left plan code e = subst (λ (y : Plan). PlannedBare w S H p y) (sym e) (bare-planned w S H p (leaving 65535 (p .depth) (p .count) (p .rows) (p .visits) Nothing) (λ _. refl) (λ F R C d seen.
       ap turn (step-by w p _ F R C (end-by w (p .block) (en .block) 1 code)) ∙ turn-ok _
-      ∙ sym (leave-applied 65535 (p .depth) (p .count) (p .rows) (p .visits) Nothing F R C ∙ rw (no-number, visits-same (p .visits) C (seen .visits), within-all (p .depth) F d)))
+      ∙ sym (leave-applied 65535 (p .depth) (p .count) (p .rows) (p .visits) Nothing F R C _ refl ∙ rw (no-number, visits-same (p .visits) C (seen .visits), within-all (p .depth) F d)))
       (λ _. record { change = tt; handler = rw no-number tt; scope = rw no-number tt; deep = λ z. absurd (let o : _≡_ {A = ℕ} 0 1 = cc in omega arith); next = omega arith; nested = tt }))
 
 pub continuation-below : (w : List ℕ) (p : Position) → Entered w p → blockWord w (p .block) 2 ≡ 18 → blockWord w (p .block) 3 < blockCount w
@@ -326,4 +326,4 @@ unfolding terminalOf
 continuation-below w p en code = ranges w (en .promise) (p .block) (en .block) _ (end-by w (p .block) (en .block) 18 code)
 
 pub taken-most : (S H : Flags) (f n : ℕ) → n ≡ unlessTaken (has S f || has H f) f → f < 1024 → n ≤ 65535
-taken-most S H f n e h = rw e (label-most (unlessTaken (has S f || has H f) f) (label-taken (has S f || has H f) f h))
+taken-most S H f n e h = rw e (label-most (unlessTaken (has S f || has H f) f) (label-taken S H false f h))

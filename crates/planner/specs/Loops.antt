@@ -15,16 +15,18 @@ use Rattle.definition.specs.Result.{Result, ok, refused, _>>=_}
 use Rattle.definition.specs.Statement.{loopIsTaken}
 use Rattle.definition.specs.Tree.{Row, Value}
 use Rattle.definition.specs.Value.{VisitValueBlock, ValueBlockResult, valueBlockResultToSequence, visitValueBlock}
+use Rattle.control.specs.declared.ControlFlowTarget.{ControlFlowTarget}
+use Rattle.control.specs.declared.ControlFlowTarget.the-variants.{If, Loop}
 use Rattle.rows.specs.Rows.{Holds}
 use Rattle.rows.specs.Stack.{pushed}
 use Rattle.value.specs.declared.result.ValueResult.{ValueResult}
 use Rattle.planner.specs.declared.plan.Stage.the-variants.{Visit}
 use Rattle.planner.specs.declared.plan.Position.{Position}
 use Rattle.planner.specs.declared.plan.Change.{Change}
-use Rattle.planner.specs.declared.plan.Change.the-variants.{Nothing, ScheduleLoop, TakeId}
+use Rattle.planner.specs.declared.plan.Change.the-variants.{Nothing, Schedule, ScheduleBriefly}
 use Rattle.planner.specs.declared.plan.Plan.{Plan}
 use Rattle.planner.specs.declared.loops.Values.{Values}
-use Rattle.planner.specs.declared.loops.Loop.{Loop}
+use Rattle.planner.specs.declared.loops.Loop as loops
 use Rattle.planner.specs.Plans.{advanced, openFrame, refusing, nesting}
 use Rattle.planner.specs.Planned.{Seen, Planned, terminalStep}
 
@@ -122,7 +124,7 @@ pub record MakesTested (words : List ℕ) (p : Position) (init test : ℕ) (buff
 
 unfoldable pub loopTurn : (at fallthrough continueBlock loop : ℕ) → (taken : Option ℕ) → (count : ℕ) → (values : ℕ → Result Made) → List machine.Frame → List Row → definition.Context → Result State
 loopTurn at fallthrough continueBlock loop taken count values frames rows cx =
-    definition.scheduleLoop fallthrough continueBlock (some loop) cx >>= λ inside.
+    definition.schedule (definition.target-loop fallthrough continueBlock loop) cx >>= λ inside.
     values (inside .visits) >>= λ made.
     intoLoop at loop (loopIsTaken cx loop fallthrough) (made .visits) (machine.frameOf at taken 1 count) frames (rows ++ made .out) inside
 
@@ -131,15 +133,18 @@ loopTurn at fallthrough continueBlock loop taken count values frames rows cx =
 abbrev pub afterValues : Position → Values → Position
 afterValues p values = advanced p (p .count) (values .rows) (values .visits) Visit
 
-abbrev pub scheduleLoop : Loop → Change
-scheduleLoop blocks = ScheduleLoop (blocks .fallthrough) (blocks .«continue_block») (blocks .«loop_block»)
+abbrev pub loopTarget : (fallthrough continueBlock loopBlock : ℕ) → ControlFlowTarget
+loopTarget fallthrough continueBlock loopBlock = Loop fallthrough continueBlock loopBlock
 
-abbrev pub enteringBody : (taken : Bool) → Position → Values → Loop → Plan
+abbrev pub scheduleLoop : loops.Loop → Change
+scheduleLoop blocks = Schedule (loopTarget (blocks .fallthrough) (blocks .«continue_block») (blocks .«loop_block»))
+
+abbrev pub enteringBody : (taken : Bool) → Position → Values → loops.Loop → Plan
 enteringBody true p values blocks = refusing (afterValues p values) 16 (p .block)
 enteringBody false p values blocks =
     nesting (blocks .«loop_block») (openFrame p (blocks .label) 1) (p .depth + 1) (values .rows) (values .visits) 65535 65535 (scheduleLoop blocks)
 
-abbrev pub enteringLoop : (made taken : Bool) → Position → Values → Loop → Plan
+abbrev pub enteringLoop : (made taken : Bool) → Position → Values → loops.Loop → Plan
 enteringLoop false taken p values blocks = refusing (afterValues p values) (values .code) (values .at)
 enteringLoop true taken p values blocks = enteringBody taken p values blocks
 
@@ -177,7 +182,7 @@ valueFallthrough (maybe-throw continuation) = none
 valueFallthrough (try body handler fallthrough binding) = none
 valueFallthrough (scope pruned body fallthrough number) = none
 
--- such a statement pushes an entry and pops it, which leaves its id taken
-abbrev pub takeIdIf : (unlabeled : Bool) → Change
-takeIdIf true = Nothing
-takeIdIf false = TakeId
+-- such a statement pushes an entry and pops it
+abbrev pub brieflyIf : (unlabeled : Bool) → (label : ℕ) → Change
+brieflyIf true taken = Nothing
+brieflyIf false taken = ScheduleBriefly (If taken)

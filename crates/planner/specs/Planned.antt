@@ -22,7 +22,7 @@ use Rattle.planner.specs.declared.plan.Stage.{Stage}
 use Rattle.planner.specs.declared.plan.Stage.the-variants.{Visit, Ended, Choose, Pop, Halt}
 use Rattle.planner.specs.declared.plan.Position.{Position}
 use Rattle.planner.specs.declared.plan.Change.{Change}
-use Rattle.planner.specs.declared.plan.Change.the-variants.{Nothing, Schedule, ScheduleLoop, TakeId, Unschedule}
+use Rattle.planner.specs.declared.plan.Change.the-variants.{Nothing, Schedule, ScheduleBriefly, Unschedule}
 use Rattle.planner.specs.declared.plan.Plan.{Plan}
 use Rattle.planner.specs.Plans.{applied}
 
@@ -37,8 +37,7 @@ pub record Seen (scheduledSet handlerSet : Flags) (begun : ℕ) (cx : definition
 abbrev pub NamedChange : (entries : ℕ) → Change → Type 0
 NamedChange entries Nothing = Unit {0}
 NamedChange entries (Schedule target) = Named target
-NamedChange entries (ScheduleLoop fallthrough continueBlock loopBlock) = (fallthrough < 1024) × (continueBlock < 1024) × (loopBlock < 1024)
-NamedChange entries TakeId = Unit {0}
+NamedChange entries (ScheduleBriefly target) = Named target
 NamedChange entries Unschedule = 1 ≤ entries
 
 abbrev pub entriesOnTop : List machine.Frame → ℕ

@@ -1,16 +1,17 @@
 -- What a plan means for the machine of turns.
 use Prim.Native.Nat.{ℕ, zero, suc, _+_, _-_}
-use mathlib.Core.Bool.{Bool, true, false, not, _||_}
+use mathlib.Core.Bool.{Bool, true, false, _||_}
 use mathlib.Core.List.{List, [], _∷_}
 use mathlib.Core.Option.{Option, none, some}
 use lib.Dec.{eqb}
 use lib.ListN.{length, getD, drop}
 use Rattle.table.specs.Table.{unlessNone}
 use Rattle.definition.specs.Build.{accepted, rejected}
-use Rattle.definition.specs.Context.{add, has, pushed, target-loop, scheduleCatchHandler, markScopeFallthrough, withVisits}
+use Rattle.definition.specs.Context.{schedule, scheduleCatchHandler, markScopeFallthrough, withVisits}
 use Rattle.definition.specs.Context as definition
-use Rattle.definition.specs.Machine.{State, visiting, ended, choosing, popping, Turn, going, halt, scheduled, unscheduled}
+use Rattle.definition.specs.Machine.{State, visiting, ended, choosing, popping, Turn, going, halt, unscheduled}
 use Rattle.definition.specs.Machine as machine
+use Rattle.definition.specs.Result.{Result, ok, refused, _>>=_}
 use Rattle.definition.specs.Tree.{Row}
 use Rattle.control.specs.declared.ControlFlowTarget.the-variants.{If, Switch}
 use Rattle.control.specs.Abstraction.{targetOf}
@@ -19,7 +20,7 @@ use Rattle.planner.specs.declared.plan.Stage.the-variants.{Visit, Ended,
 use Rattle.planner.specs.declared.plan.Position.{Position}
 use Rattle.planner.specs.declared.plan.Frame.{Frame}
 use Rattle.planner.specs.declared.plan.Change.{Change}
-use Rattle.planner.specs.declared.plan.Change.the-variants.{Nothing, Schedule, ScheduleLoop, TakeId, Unschedule}
+use Rattle.planner.specs.declared.plan.Change.the-variants.{Nothing, Schedule, ScheduleBriefly, Unschedule}
 use Rattle.planner.specs.declared.plan.Plan.{Plan}
 
 -- ---- from the code's records to the machine's
@@ -47,21 +48,12 @@ stateAt Halt block frames rows count cx = ended frames rows count cx
 
 -- ---- what the driver does with a plan
 
--- `schedule_loop` where the continue block is not scheduled
-unfoldable pub scheduledLoop : (fallthrough continueBlock loopBlock : ℕ) → definition.Context → definition.Context
-scheduledLoop fallthrough continueBlock loopBlock cx =
-    pushed (target-loop fallthrough continueBlock (some loopBlock) (not (has (add (add (cx .scheduled) fallthrough) continueBlock) loopBlock)))
-    (add (add (add (cx .scheduled) fallthrough) continueBlock) loopBlock) cx
-
-unfoldable pub idTaken : definition.Context → definition.Context
-idTaken cx = record { nextId = suc (cx .nextId); emitted = cx .emitted; scopeFallthroughs = cx .scopeFallthroughs; scheduled = cx .scheduled; catchHandlers = cx .catchHandlers; stack = cx .stack; visits = cx .visits }
-
-abbrev pub changed : Change → definition.Context → definition.Context
-changed Nothing cx = cx
-changed (Schedule target) cx = scheduled (targetOf target) cx
-changed (ScheduleLoop fallthrough continueBlock loopBlock) cx = scheduledLoop fallthrough continueBlock loopBlock cx
-changed TakeId cx = idTaken cx
-changed Unschedule cx = unscheduled cx
+-- 15 and 90 are `schedule`'s own
+abbrev pub changed : Change → definition.Context → Result definition.Context
+changed Nothing cx = ok cx
+changed (Schedule target) cx = schedule (targetOf target) cx
+changed (ScheduleBriefly target) cx = schedule (targetOf target) cx >>= λ inside. ok (unscheduled inside)
+changed Unschedule cx = ok (unscheduled cx)
 
 abbrev pub handled : Option ℕ → definition.Context → definition.Context
 handled none cx = cx
@@ -79,18 +71,23 @@ abbrev pub kept : Bool → Frame → (depth : ℕ) → List machine.Frame → Li
 kept true frame depth frames = frameOf frame ∷ within (depth - 1) frames
 kept false frame depth frames = within depth frames
 
-abbrev pub contextAfter : Plan → definition.Context → definition.Context
+abbrev pub contextAfter : Plan → definition.Context → Result definition.Context
 contextAfter plan cx = changed (plan .change) (scoped (unlessNone (plan .scope)) (handled (unlessNone (plan .handler)) (withVisits (plan .position .visits) cx)))
 
-abbrev pub onward : Stage → Plan → List machine.Frame → List Row → definition.Context → Turn
-onward Visit plan frames rows cx = going (visiting (plan .position .block) (kept (plan .keep) (plan .frame) (plan .position .depth) frames) rows (plan .position .count) (contextAfter plan cx))
-onward Ended plan frames rows cx = going (ended (kept (plan .keep) (plan .frame) (plan .position .depth) frames) rows (plan .position .count) (contextAfter plan cx))
-onward Choose plan frames rows cx = going (stateAt Choose 0 (kept (plan .keep) (plan .frame) (plan .position .depth) frames) rows 0 (contextAfter plan cx))
-onward Pop plan frames rows cx = going (stateAt Pop 0 (kept (plan .keep) (plan .frame) (plan .position .depth) frames) rows 0 (contextAfter plan cx))
-onward Halt plan frames rows cx = halt (accepted rows (plan .position .visits))
+-- a change that is refused ends the walk
+abbrev pub unlessRefused : Result definition.Context → (definition.Context → State) → Turn
+unlessRefused (ok cx) more = going (more cx)
+unlessRefused (refused code at visits) more = halt (rejected code at visits)
+
+abbrev pub onward : Stage → Plan → List machine.Frame → List Row → Result definition.Context → Turn
+onward Visit plan frames rows after = unlessRefused after (visiting (plan .position .block) (kept (plan .keep) (plan .frame) (plan .position .depth) frames) rows (plan .position .count))
+onward Ended plan frames rows after = unlessRefused after (ended (kept (plan .keep) (plan .frame) (plan .position .depth) frames) rows (plan .position .count))
+onward Choose plan frames rows after = unlessRefused after (stateAt Choose 0 (kept (plan .keep) (plan .frame) (plan .position .depth) frames) rows 0)
+onward Pop plan frames rows after = unlessRefused after (stateAt Pop 0 (kept (plan .keep) (plan .frame) (plan .position .depth) frames) rows 0)
+onward Halt plan frames rows after = halt (accepted rows (plan .position .visits))
 
 unfoldable pub applied : Plan → List machine.Frame → List Row → definition.Context → Turn
-applied plan frames rows cx = elim (eqb (plan .code) 0) [ true ↦ onward (plan .position .stage) plan frames rows cx | false ↦ halt (rejected (plan .code) (plan .at) (plan .position .visits)) ]
+applied plan frames rows cx = elim (eqb (plan .code) 0) [ true ↦ onward (plan .position .stage) plan frames rows (contextAfter plan cx) | false ↦ halt (rejected (plan .code) (plan .at) (plan .position .visits)) ]
 
 -- ---- the plans that there are
 

@@ -13,7 +13,8 @@ use crate::plan::frame_of;
 use crate::plan::leave;
 use crate::plan::refuse;
 use crate::plan::traverse_block;
-use control::continue_block_is_scheduled;
+use control::ControlFlowTarget;
+use control::is_blocked;
 use rows::INSTR;
 use rows::put;
 use table::terminals::do_while_at;
@@ -29,14 +30,14 @@ use value::walk::visit_value_block;
 use value::walk::visit_value_block_terminal;
 ghost use mathlib.Core.Path.{_≡_};
 ghost use mathlib.Core.Option.{some};
-ghost use Prim.Native.Nat.{_-_, _<_};
+ghost use Prim.Native.Nat.{_-_, _≤_, _<_};
 ghost use lib.Dec.{eqb};
 ghost use Rattle.table.specs.Words.{blockCount, blockWord};
 ghost use Rattle.table.specs.Table.{tableOf, terminalAt, unlessNone};
 ghost use Rattle.definition.specs.Value.{visitValueBlock};
 ghost use Rattle.control.specs.Contract.{continueScheduled};
 ghost use Rattle.planner.specs.Planned.{Entered, PlannedBare};
-ghost use Rattle.planner.specs.Loops.{PlannedRows, plainMade, flatMade, forValues, forOfValues, noValues, valuesOf, Makes, Spent, MakesMore, MakesTested, scheduleLoop, enteringLoop, loopTaken, continuesAt, valueFallthrough, takeIdIf};
+ghost use Rattle.planner.specs.Loops.{PlannedRows, plainMade, flatMade, forValues, forOfValues, noValues, valuesOf, Makes, Spent, MakesMore, MakesTested, loopTarget, scheduleLoop, enteringLoop, loopTaken, continuesAt, valueFallthrough, brieflyIf};
 
 // What a loop's values came to: a refusal, or the rows and visits then.
 pub struct Values {
@@ -124,13 +125,35 @@ fn flat_value(words: &[u32], tree: &mut [u32], p: Position, before: Values, bloc
     }
 }
 
-// schedule_loop's test, refused 15.
-fn continues_scheduled(scheduled: &[bool; 1024], fallthrough: u32, continue_block: u32) -> bool
+fn loop_target(fallthrough: u32, continue_block: u32, loop_block: u32) -> ControlFlowTarget
     requires { ⌜ fallthrough < 1024 ⌝ }
     requires { ⌜ «continue_block» < 1024 ⌝ }
+    requires { ⌜ «loop_block» < 1024 ⌝ }
+    ensures { λ r. ⌜ r ≡ loopTarget fallthrough «continue_block» «loop_block» ⌝ }
+{
+    ControlFlowTarget::Loop {
+        block: narrow(fallthrough),
+        continue_block: narrow(continue_block),
+        loop_block: narrow(loop_block),
+    }
+}
+
+// What `schedule` will ask of the loop: refused 15, before its values are made.
+fn continues_scheduled(
+    scheduled: &[bool; 1024],
+    fallthrough: u32,
+    continue_block: u32,
+    loop_block: u32,
+) -> bool
+    requires { ⌜ fallthrough < 1024 ⌝ }
+    requires { ⌜ «continue_block» < 1024 ⌝ }
+    requires { ⌜ «loop_block» < 1024 ⌝ }
     ensures { λ r. ⌜ r ≡ continueScheduled (now (scheduled .entry)) fallthrough «continue_block» ⌝ }
 {
-    continue_block_is_scheduled(scheduled, narrow(fallthrough), narrow(continue_block))
+    is_blocked(
+        scheduled,
+        loop_target(fallthrough, continue_block, loop_block),
+    )
 }
 
 fn loop_is_taken<'a>(
@@ -154,11 +177,8 @@ fn schedule_loop(blocks: Loop) -> Change
     requires { ⌜ blocks .«loop_block» < 1024 ⌝ }
     ensures { λ r. ⌜ r ≡ scheduleLoop blocks ⌝ }
 {
-    Change::ScheduleLoop {
-        fallthrough: narrow(blocks.fallthrough),
-        continue_block: narrow(blocks.continue_block),
-        loop_block: narrow(blocks.loop_block),
-    }
+    let target = loop_target(blocks.fallthrough, blocks.continue_block, blocks.loop_block);
+    Change::Schedule(target)
 }
 
 // The body of a loop whose values are made.
@@ -209,7 +229,12 @@ pub fn visit_do_while<'a>(
     ensures { λ r. ⌜ PlannedBare (now (words .entry)) (now (scheduled .entry)) (now («catch_handlers» .entry)) p r ⌝ }
 {
     let terminal = do_while_at(words, p.block);
-    if continues_scheduled(scheduled, terminal.fallthrough, terminal.test) {
+    if continues_scheduled(
+        scheduled,
+        terminal.fallthrough,
+        terminal.test,
+        terminal.loop_block,
+    ) {
         return refuse(p, 15, terminal.test);
     }
     let label = unless_scheduled(scheduled, catch_handlers, terminal.fallthrough);
@@ -237,7 +262,12 @@ pub fn visit_while<'a>(
     if block_word(words, terminal.fallthrough, 2) == 0 {
         return refuse(p, 10, terminal.fallthrough);
     }
-    if continues_scheduled(scheduled, terminal.fallthrough, terminal.test) {
+    if continues_scheduled(
+        scheduled,
+        terminal.fallthrough,
+        terminal.test,
+        terminal.loop_block,
+    ) {
         return refuse(p, 15, terminal.test);
     }
     let label = unless_unreachable(words, scheduled, catch_handlers, terminal.fallthrough);
@@ -305,7 +335,12 @@ pub fn visit_for<'a>(
 {
     let terminal = for_at(words, p.block);
     let continue_block = for_continues_at(terminal.test, terminal.update);
-    if continues_scheduled(scheduled, terminal.fallthrough, continue_block) {
+    if continues_scheduled(
+        scheduled,
+        terminal.fallthrough,
+        continue_block,
+        terminal.loop_block,
+    ) {
         return refuse(p, 15, continue_block);
     }
     let label = unless_scheduled(scheduled, catch_handlers, terminal.fallthrough);
@@ -348,7 +383,12 @@ pub fn visit_for_of<'a>(
     ensures { λ r. ⌜ PlannedRows (now (words .entry)) (now (scheduled .entry)) (now («catch_handlers» .entry)) p (now (tree .entry)) r (now (tree .exit)) ⌝ }
 {
     let terminal = for_of_at(words, p.block);
-    if continues_scheduled(scheduled, terminal.fallthrough, terminal.init) {
+    if continues_scheduled(
+        scheduled,
+        terminal.fallthrough,
+        terminal.init,
+        terminal.loop_block,
+    ) {
         return refuse(p, 15, terminal.init);
     }
     let label = unless_scheduled(scheduled, catch_handlers, terminal.fallthrough);
@@ -374,7 +414,12 @@ pub fn visit_for_in<'a>(
     ensures { λ r. ⌜ PlannedRows (now (words .entry)) (now (scheduled .entry)) (now («catch_handlers» .entry)) p (now (tree .entry)) r (now (tree .exit)) ⌝ }
 {
     let terminal = for_in_at(words, p.block);
-    if continues_scheduled(scheduled, terminal.fallthrough, terminal.init) {
+    if continues_scheduled(
+        scheduled,
+        terminal.fallthrough,
+        terminal.init,
+        terminal.loop_block,
+    ) {
         return refuse(p, 15, terminal.init);
     }
     let label = unless_scheduled(scheduled, catch_handlers, terminal.fallthrough);
@@ -388,13 +433,16 @@ pub fn visit_for_in<'a>(
     enter_loop(scheduled, catch_handlers, p, values, blocks)
 }
 
-fn take_id(label: u32) -> Change
-    ensures { λ r. ⌜ r ≡ takeIdIf (eqb label 65535) ⌝ }
+fn schedule_briefly(label: u32) -> Change
+    requires { ⌜ label ≤ 65535 ⌝ }
+    ensures { λ r. ⌜ r ≡ brieflyIf (eqb label 65535) label ⌝ }
 {
     if label == NONE {
         return Change::Nothing;
     }
-    Change::TakeId
+    Change::ScheduleBriefly(ControlFlowTarget::If {
+        block: narrow(label),
+    })
 }
 
 // A Logical, Ternary, Optional or Sequence, whose fallthrough is that column, as a statement: an INSTR with the terminal's own span.
@@ -431,6 +479,6 @@ pub fn visit_value<'a>(
         p.count + 1,
         rows,
         after.visits,
-        take_id(label),
+        schedule_briefly(label),
     )
 }

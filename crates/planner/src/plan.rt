@@ -37,16 +37,11 @@ pub struct Frame {
     pub second: bool,
 }
 
-// What a turn does to the stack: it pushes or pops at most once. A value statement would push and pop, which leaves only the id taken.
+// What a turn does to the stack. A value statement's entry is pushed and popped in one turn: no visit of its value looks at the stack.
 pub enum Change {
     Nothing,
     Schedule(ControlFlowTarget),
-    ScheduleLoop {
-        fallthrough: u16,
-        continue_block: u16,
-        loop_block: u16,
-    },
-    TakeId,
+    ScheduleBriefly(ControlFlowTarget),
     Unschedule,
 }
 

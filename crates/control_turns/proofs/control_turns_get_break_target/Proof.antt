@@ -17,13 +17,13 @@ new-requires : tie.Need-new-requires Inv-loop μ-loop
 new-requires c κs = search needs
 
 loop-holds : tie.Need-loop-holds Inv-loop μ-loop
-loop-holds c = record { named = omega arith; few = omega arith; most = omega arith; empty = c .new .ensures .len; ids = omega (arith, c .new .ensures .id); bounded = c .new .ensures .bounded }
+loop-holds c = record { named = omega arith; few = omega arith; most = omega arith; empty = c .new .ensures .len; settled = c .new .ensures .settled; ids = omega (arith, c .new .ensures .id); bounded = c .new .ensures .bounded }
 
 next-block-requires : tie.Need-next-block-requires Inv-loop μ-loop
 next-block-requires c κs = c .before .loop .inv .named
 
 schedule-requires : tie.Need-schedule-requires Inv-loop μ-loop
-schedule-requires c κs = (c .next-block .ensures, record { len = omega (arith, c .before .before .loop .inv .empty); id = omega (arith, c .before .before .loop .inv .ids, c .before .loop-test .taken, c .before .before .before .before .fits .turns) })
+schedule-requires c κs = (c .next-block .ensures, record { len = omega (arith, c .before .before .loop .inv .empty); settled = c .before .before .loop .inv .settled; id = omega (arith, c .before .before .loop .inv .ids, c .before .loop-test .taken, c .before .before .before .before .fits .turns) })
 
 sub-at : tie.Need-sub-at Inv-loop μ-loop
 sub-at c = omega (arith, c .schedule .ensures .len, c .before .before .before .loop .inv .empty)
@@ -35,7 +35,7 @@ element-set-from-entry : tie.Need-element-set-from-entry Inv-loop μ-loop
 element-set-from-entry c = omega (arith, c .before .schedule .ensures .len, c .before .before .before .before .loop .inv .empty)
 
 get-break-target-requires : tie.Need-get-break-target-requires Inv-loop μ-loop
-get-break-target-requires c κs = omega (arith, c .before .schedule .ensures .len, c .before .before .before .before .loop .inv .empty)
+get-break-target-requires c κs = (omega (arith, c .before .schedule .ensures .len, c .before .before .before .before .loop .inv .empty), refl)
 
 is-found-requires : tie.Need-is-found-requires Inv-loop μ-loop
 is-found-requires c κs = search needs
@@ -53,7 +53,7 @@ unschedule-requires : tie.Need-unschedule-requires Inv-loop μ-loop
 unschedule-requires c κs =
     let stored = c .before .before .before .before .before .schedule .ensures .bounded (c .before .before .before .before .before .before .before .before .loop .inv .bounded) in
     let some : 0 < c .before .before .before .before .before .schedule .result .len = omega (arith, c .before .before .before .before .before .schedule .ensures .len) in
-    record { nonempty = some; read = refl; named = stored .named (c .before .before .before .before .before .schedule .result .len - 1) (omega arith) }
+    record { nonempty = some; settled = refl; read = refl; named = stored .named (c .before .before .before .before .before .schedule .result .len - 1) (omega arith) }
 
 add-turn : tie.Need-add-turn Inv-loop μ-loop
 add-turn c = omega (arith, c .before .before .before .before .before .before .before .before .loop-test .taken, c .before .before .before .before .before .before .before .before .before .before .before .fits .turns)
@@ -69,6 +69,7 @@ loop-again c =
       named = c .before .before .before .before .before .before .before .next-block .ensures;
       few = omega (arith, inv .few, c .before .before .count .ensures);
       most = omega (arith, c .before .before .before .before .before .before .before .before .loop-test .taken);
+      settled = c .unschedule .ensures .settled;
       empty = omega (arith, inv .empty, done .len, c .unschedule .ensures .len);
       ids = omega (arith, inv .ids, done .id, c .unschedule .ensures .id);
       bounded = c .unschedule .ensures .bounded (done .bounded (inv .bounded));

@@ -17,7 +17,7 @@ new-requires : tie.Need-new-requires Inv-loop μ-loop
 new-requires c κs = search needs
 
 loop-holds : tie.Need-loop-holds Inv-loop μ-loop
-loop-holds c = record { named = omega arith; few = omega arith; most = omega arith; empty = c .new .ensures .len; ids = omega (arith, c .new .ensures .id); bounded = c .new .ensures .bounded }
+loop-holds c = record { named = omega arith; few = omega arith; most = omega arith; empty = c .new .ensures .len; settled = c .new .ensures .settled; ids = omega (arith, c .new .ensures .id); bounded = c .new .ensures .bounded }
 
 next-block-requires : tie.Need-next-block-requires Inv-loop μ-loop
 next-block-requires c κs = c .before .loop .inv .named
@@ -25,17 +25,17 @@ next-block-requires c κs = c .before .loop .inv .named
 next-block-requires-2 : tie.Need-next-block-requires-2 Inv-loop μ-loop
 next-block-requires-2 c κs = c .next-block .ensures
 
-schedule-loop-requires : tie.Need-schedule-loop-requires Inv-loop μ-loop
-schedule-loop-requires c κs = ((c .before .before .before .loop .inv .named, c .before .next-block .ensures, c .next-block2 .ensures), record { len = omega (arith, c .before .before .before .loop .inv .empty); id = omega (arith, c .before .before .before .loop .inv .ids, c .before .before .loop-test .taken, c .before .before .before .before .before .fits .turns) })
+schedule-requires : tie.Need-schedule-requires Inv-loop μ-loop
+schedule-requires c κs = ((c .before .before .before .loop .inv .named, c .before .next-block .ensures, c .next-block2 .ensures), record { len = omega (arith, c .before .before .before .loop .inv .empty); settled = c .before .before .before .loop .inv .settled; id = omega (arith, c .before .before .before .loop .inv .ids, c .before .before .loop-test .taken, c .before .before .before .before .before .fits .turns) })
 
 sub-at : tie.Need-sub-at Inv-loop μ-loop
-sub-at c = omega (arith, c .schedule-loop .ensures .len, c .before .before .before .before .loop .inv .empty)
+sub-at c = omega (arith, c .schedule .ensures .len, c .before .before .before .before .loop .inv .empty)
 
 mul-entry : tie.Need-mul-entry Inv-loop μ-loop
-mul-entry c = scaled-fits _ 1152 _ (omega (arith, c .before .schedule-loop .ensures .len, c .before .before .before .before .before .loop .inv .empty)) (lit< tt)
+mul-entry c = scaled-fits _ 1152 _ (omega (arith, c .before .schedule .ensures .len, c .before .before .before .before .before .loop .inv .empty)) (lit< tt)
 
 element-set-from-entry : tie.Need-element-set-from-entry Inv-loop μ-loop
-element-set-from-entry c = omega (arith, c .before .schedule-loop .ensures .len, c .before .before .before .before .before .loop .inv .empty)
+element-set-from-entry c = omega (arith, c .before .schedule .ensures .len, c .before .before .before .before .before .loop .inv .empty)
 
 is-scheduled-requires : tie.Need-is-scheduled-requires Inv-loop μ-loop
 is-scheduled-requires c κs = c .before .before .before .before .before .next-block2 .ensures
@@ -44,16 +44,16 @@ count-requires : tie.Need-count-requires Inv-loop μ-loop
 count-requires c κs = omega (arith, c .before .before .before .before .before .before .before .before .before .loop .inv .few, c .before .before .before .before .before .before .before .before .loop-test .taken, c .before .before .before .before .before .before .before .before .before .before .before .fits .turns)
 
 mul-last : tie.Need-mul-last Inv-loop μ-loop
-mul-last c = scaled-fits _ 1152 _ (omega (arith, c .before .before .before .before .before .before .schedule-loop .ensures .len, c .before .before .before .before .before .before .before .before .before .before .loop .inv .empty)) (lit< tt)
+mul-last c = scaled-fits _ 1152 _ (omega (arith, c .before .before .before .before .before .before .schedule .ensures .len, c .before .before .before .before .before .before .before .before .before .before .loop .inv .empty)) (lit< tt)
 
 element-copy-out-last : tie.Need-element-copy-out-last Inv-loop μ-loop
-element-copy-out-last c = omega (arith, c .before .before .before .before .before .before .schedule-loop .ensures .len, c .before .before .before .before .before .before .before .before .before .before .loop .inv .empty)
+element-copy-out-last c = omega (arith, c .before .before .before .before .before .before .schedule .ensures .len, c .before .before .before .before .before .before .before .before .before .before .loop .inv .empty)
 
 unschedule-requires : tie.Need-unschedule-requires Inv-loop μ-loop
 unschedule-requires c κs =
-    let stored = c .before .before .before .before .before .before .before .schedule-loop .ensures .bounded (c .before .before .before .before .before .before .before .before .before .before .before .loop .inv .bounded) in
-    let some : 0 < c .before .before .before .before .before .before .before .schedule-loop .result .len = omega (arith, c .before .before .before .before .before .before .before .schedule-loop .ensures .len) in
-    record { nonempty = some; read = refl; named = stored .named (c .before .before .before .before .before .before .before .schedule-loop .result .len - 1) (omega arith) }
+    let stored = c .before .before .before .before .before .before .before .schedule .ensures .bounded (c .before .before .before .before .before .before .before .before .before .before .before .loop .inv .bounded) in
+    let some : 0 < c .before .before .before .before .before .before .before .schedule .result .len = omega (arith, c .before .before .before .before .before .before .before .schedule .ensures .len) in
+    record { nonempty = some; settled = refl; read = refl; named = stored .named (c .before .before .before .before .before .before .before .schedule .result .len - 1) (omega arith) }
 
 add-turn : tie.Need-add-turn Inv-loop μ-loop
 add-turn c = omega (arith, c .before .before .before .before .before .before .before .before .before .before .before .loop-test .taken, c .before .before .before .before .before .before .before .before .before .before .before .before .before .before .fits .turns)
@@ -64,11 +64,12 @@ loop-less c = omega (arith, c .before .before .before .before .before .before .b
 loop-again : tie.Need-loop-again Inv-loop μ-loop
 loop-again c =
     let inv = c .before .before .before .before .before .before .before .before .before .before .before .before .loop .inv in
-    let done = c .before .before .before .before .before .before .before .before .schedule-loop .ensures in
+    let done = c .before .before .before .before .before .before .before .before .schedule .ensures in
     record {
       named = c .before .before .before .before .before .before .before .before .before .before .next-block .ensures;
       few = omega (arith, inv .few, c .before .before .count .ensures);
       most = omega (arith, c .before .before .before .before .before .before .before .before .before .before .before .loop-test .taken);
+      settled = c .unschedule .ensures .settled;
       empty = omega (arith, inv .empty, done .len, c .unschedule .ensures .len);
       ids = omega (arith, inv .ids, done .id, c .unschedule .ensures .id);
       bounded = c .unschedule .ensures .bounded (done .bounded (inv .bounded));
@@ -87,7 +88,7 @@ control-turns-schedule-loop-spec =
     loop-holds
     next-block-requires
     next-block-requires-2
-    schedule-loop-requires
+    schedule-requires
     sub-at
     mul-entry
     element-set-from-entry

@@ -6,17 +6,19 @@ use mathlib.Core.Bool.{false}
 use lib.ListN.{length, set}
 use mathlib.Core.Logic.{⊎-elim}
 use borrow.Author.Needs.{needs}
-use Rattle.control.specs.Abstraction.{contextOf, resolvedOf, stored}
-use Rattle.control.specs.Contract.{Room}
+use Rattle.control.specs.Abstraction.{contextOf, resolvedOf, settled}
+use Rattle.control.specs.Contract.{Last}
 use Rattle.planner.specs.declared.plan.Plan.{Plan}
 use Rattle.planner.specs.declared.plan.Change.{Change}
-use Rattle.planner.specs.declared.plan.Change.the-variants.{Schedule, ScheduleLoop, Unschedule}
-use Rattle.build.specs.Driver.{foundBy, visitedBlock, planEnds}
-use Rattle.build.proofs.ApplyLaws.{withMarks, Whole, Changeable, Changed, Applicable, Applied, nothing-changed, schedule-changed, loop-changed, unschedule-changed, id-changed, changeable-marked, whole-marked, plan-applied, last-entry}
+use Rattle.planner.specs.declared.plan.Change.the-variants.{Schedule, ScheduleBriefly, Unschedule}
+use Rattle.table.specs.Table.{tableOf}
+use Rattle.definition.specs.Build.{report}
+use Rattle.build.specs.Driver.{foundBy, visitedBlock, planEnds, blockedBy, Reported}
+use Rattle.build.proofs.ApplyLaws.{withMarks, Whole, Changeable, Changed, Blocked, Applicable, Applied, nothing-changed, schedule-changed, schedule-blocked, unschedule-changed, briefly-changed, briefly-blocked, last-scheduled, changeable-marked, whole-marked, plan-applied, last-entry}
 use Rattle.control.specs.declared.Context.{Context}
 use Rattle.planner.specs.declared.plan.Position.{Position}
 use Rattle.planner.specs.declared.plan.Frame.{Frame}
-use Rattle.build.proofs.DriverLaws.{Walking, turnsLeft, walking-start, frame-read, found-jump, found-below, ready, shallow, visit-below, AtTurn, turn-ends, turn-applicable, turn-slot, turn-again, turn-lower}
+use Rattle.build.proofs.DriverLaws.{Walking, turnsLeft, walking-start, frame-read, found-jump, found-below, ready, shallow, visit-below, AtTurn, turn-ends, turn-applicable, turn-slot, turn-blocked, turn-again, turn-lower}
 use denote.Ref.{now}
 use Rattle.build.proofs.CheckedLaws.{checked-table}
 use Rattle.build.proofs.SearchLaws.{Searching, search-start, search-on, search-none, search-found}
@@ -81,7 +83,9 @@ search-from-requires : tie.Need-search-from-requires Inv-loop2 μ-loop2 Inv-loop
 search-from-requires c κs = tt
 
 loop2-holds : tie.Need-loop2-holds Inv-loop2 μ-loop2 Inv-loop μ-loop
-loop2-holds c = search-start _ _ _ (c .search-from .ensures)
+loop2-holds c =
+    let at-loop : tie.At-loop Inv-loop2 μ-loop2 Inv-loop μ-loop = search in
+    search-start _ _ _ (at-loop .loop .inv .walking .whole .settled) (c .search-from .ensures)
 
 sub-at : tie.Need-sub-at Inv-loop2 μ-loop2 Inv-loop μ-loop
 sub-at c = search needs
@@ -226,7 +230,7 @@ module _ (c : tie.After-frame-slot Inv-loop2 μ-loop2 Inv-loop μ-loop) where
   visited = visitedBlock (p .stage) (p .block)
 
   abbrev with-marks : Context
-  with-marks = record { emitted = c .before .before .before .before .before .before .before .mark .last .0; «catch_handlers» = c .before .before .before .before .before .mark2 .last .0; «scope_fallthroughs» = c .before .before .before .mark3 .last .0; len = cx .len; scheduled = cx .scheduled; pushed = cx .pushed; «next_schedule_id» = cx .«next_schedule_id»; stack = cx .stack }
+  with-marks = record { emitted = c .before .before .before .before .before .before .before .mark .last .0; «catch_handlers» = c .before .before .before .before .before .mark2 .last .0; «scope_fallthroughs» = c .before .before .before .mark3 .last .0; len = cx .len; scheduled = cx .scheduled; pushed = cx .pushed; pending = cx .pending; refused = cx .refused; «next_schedule_id» = cx .«next_schedule_id»; stack = cx .stack }
 
   abbrev frames : List Frame
   frames = set (at-head planned .loop .frames) (c .frame-slot .result) (plan .frame)
@@ -247,6 +251,10 @@ module _ (c : tie.After-frame-slot Inv-loop2 μ-loop2 Inv-loop μ-loop) where
     changeable : Changeable change with-marks
     changeable = subst (λ (z : Context). Changeable change z) (sym marks-made) (changeable-marked change visited (plan .handler) (plan .scope) cx (subst (λ (z : Change). Changeable z cx) e (applicable .change)))
 
+    blocks : {code at : ℕ} → Blocked change with-marks code at
+        → Reported (report (tableOf (now (at-head planned .before .before .before .before .before .before .args .words)))) (blockedBy code at (plan .position)) (planned .plan-turn .last .1 .0)
+    blocks {code} {at} E = turn-blocked (turn planned) goes-on (subst (λ (z : Change). Blocked z (withMarks visited (plan .handler) (plan .scope) cx) code at) (sym e) (subst (λ (z : Context). Blocked change z code at) marks-made E))
+
     module _ (r : Context) (E : Changed change with-marks r) where
       changed : Applied visited plan cx r
       changed = plan-applied visited plan cx with-marks r marks-made (subst (λ (z : Change). Changed z with-marks r) (sym e) E)
@@ -259,23 +267,49 @@ module _ (c : tie.After-frame-slot Inv-loop2 μ-loop2 Inv-loop μ-loop) where
 
 -- ---- what each change leaves
 
-module _ (c : tie.After-entry2 Inv-loop2 μ-loop2 Inv-loop μ-loop) where
-  schedule-room : Room (with-marks (c .before .before .before .before .before))
-  schedule-room = changeable (c .before .before .before .before .before) _ (c .before .before .before .change .given .1) .1
+module _ (c : tie.After-schedule Inv-loop2 μ-loop2 Inv-loop μ-loop) where
+  abbrev slotted : tie.After-frame-slot Inv-loop2 μ-loop2 Inv-loop μ-loop
+  slotted = search
 
-  by-schedule : Changed (Schedule (c .before .before .before .change .given .0 .0)) (with-marks (c .before .before .before .before .before)) (stored (c .before .schedule .result))
-  by-schedule = schedule-changed _ _ _ _ (c .before .schedule .ensures) refl (schedule-room .len) (whole (c .before .before .before .before .before))
+  abbrev asked : tie.After-change Inv-loop2 μ-loop2 Inv-loop μ-loop
+  asked = search
 
-module _ (c : tie.After-entry3 Inv-loop2 μ-loop2 Inv-loop μ-loop) where
-  loop-room : Room (with-marks (c .before .before .before .before .before))
-  loop-room = changeable (c .before .before .before .before .before) _ (c .before .before .before .change2 .given .1) .1
+  schedulable : Changeable (Schedule (asked .change .given .0 .0)) (with-marks slotted)
+  schedulable = changeable slotted _ (asked .change .given .1)
 
-  by-schedule-loop : Changed (ScheduleLoop (c .before .before .before .change2 .given .0 .0) (c .before .before .before .change2 .given .0 .1 .0) (c .before .before .before .change2 .given .0 .1 .1 .0)) (with-marks (c .before .before .before .before .before)) (stored (c .before .schedule-loop .result))
-  by-schedule-loop = loop-changed _ _ _ _ _ _ (c .before .schedule-loop .ensures) refl (loop-room .len) (whole (c .before .before .before .before .before))
+  by-schedule : c .schedule .result .refused ≡ 0 → Changed (Schedule (asked .change .given .0 .0)) (with-marks slotted) (settled (c .schedule .result))
+  by-schedule z = schedule-changed _ _ _ _ (c .schedule .ensures) z refl (schedulable .1 .len) (whole slotted)
+
+module _ (c : tie.After-schedule2 Inv-loop2 μ-loop2 Inv-loop μ-loop) where
+  abbrev slotted2 : tie.After-frame-slot Inv-loop2 μ-loop2 Inv-loop μ-loop
+  slotted2 = search
+
+  abbrev asked2 : tie.After-change2 Inv-loop2 μ-loop2 Inv-loop μ-loop
+  asked2 = search
+
+  briefly : Changeable (ScheduleBriefly (asked2 .change2 .given .0 .0)) (with-marks slotted2)
+  briefly = changeable slotted2 _ (asked2 .change2 .given .1)
+
+  pushed-first : c .schedule2 .result .refused ≡ 0 → Changed (Schedule (asked2 .change2 .given .0 .0)) (with-marks slotted2) (settled (c .schedule2 .result))
+  pushed-first z = schedule-changed _ _ _ _ (c .schedule2 .ensures) z refl (briefly .1 .len) (whole slotted2)
+
+  pushed-last : Last (settled (c .schedule2 .result)) (c .schedule2 .result .pushed)
+  pushed-last = last-scheduled _ _ _ (c .schedule2 .ensures) (briefly .0) (briefly .1 .len) (whole slotted2)
 
 module _ (c : tie.After-unschedule Inv-loop2 μ-loop2 Inv-loop μ-loop) where
-  by-unschedule : Changed Unschedule (with-marks (c .before .before .before .before)) (c .unschedule .result)
-  by-unschedule = unschedule-changed _ _ _ (last-entry _ (changeable (c .before .before .before .before) _ (c .before .before .enum-told3 .given .1)) (whole (c .before .before .before .before))) (c .unschedule .ensures) (whole (c .before .before .before .before))
+  abbrev scheduled2 : tie.After-schedule2 Inv-loop2 μ-loop2 Inv-loop μ-loop
+  scheduled2 = search
+
+  abbrev else5 : tie.Else5 Inv-loop2 μ-loop2 Inv-loop μ-loop
+  else5 = search
+
+  by-briefly : Changed (ScheduleBriefly (asked2 scheduled2 .change2 .given .0 .0)) (with-marks (slotted2 scheduled2)) (c .unschedule .result)
+  unfolding settled
+  by-briefly = briefly-changed _ _ _ _ _ (pushed-first scheduled2 (else5 .if5 .left)) (pushed-last scheduled2) (c .unschedule .ensures)
+
+module _ (c : tie.After-unschedule2 Inv-loop2 μ-loop2 Inv-loop μ-loop) where
+  by-unschedule : Changed Unschedule (with-marks (c .before .before .before .before)) (c .unschedule2 .result)
+  by-unschedule = unschedule-changed _ _ _ (last-entry _ (changeable (c .before .before .before .before) _ (c .before .before .enum-told2 .given .1)) (whole (c .before .before .before .before))) (c .unschedule2 .ensures) (whole (c .before .before .before .before))
 
 mul-frames : tie.Need-mul-frames Inv-loop2 μ-loop2 Inv-loop μ-loop
 mul-frames c = omega (arith, c .frame-slot .ensures, turn-slot (turn (planned c)) (goes-on c))
@@ -305,6 +339,22 @@ schedule-requires c κs =
     let at-frame-slot : tie.After-frame-slot Inv-loop2 μ-loop2 Inv-loop μ-loop = search in
     changeable (at-frame-slot) _ (at-change .change .given .1)
 
+blocked-requires : tie.Need-blocked-requires Inv-loop2 μ-loop2 Inv-loop μ-loop
+blocked-requires c κs = tt
+
+same-length-2 : tie.Need-same-length-2 Inv-loop2 μ-loop2 Inv-loop μ-loop
+same-length-2 c =
+    let at-frame-slot : tie.After-frame-slot Inv-loop2 μ-loop2 Inv-loop μ-loop = search in
+    omega (arith, planned at-frame-slot .plan-turn .kept .1 .0, at-head (planned at-frame-slot) .loop .inv .long)
+
+returns-2 : tie.Need-returns-2 Inv-loop2 μ-loop2 Inv-loop μ-loop
+returns-2 c =
+    let then4 : tie.Then4 Inv-loop2 μ-loop2 Inv-loop μ-loop = search in
+    let at-schedule : tie.After-schedule Inv-loop2 μ-loop2 Inv-loop μ-loop = search in
+    let at-change : tie.After-change Inv-loop2 μ-loop2 Inv-loop μ-loop = search in
+    let at-frame-slot : tie.After-frame-slot Inv-loop2 μ-loop2 Inv-loop μ-loop = search in
+    rw (c .blocked .ensures) (blocks at-frame-slot _ (at-change .change .given .1) (schedule-blocked _ _ _ (at-schedule .schedule .ensures) (then4 .if4 .taken)))
+
 sub-entry : tie.Need-sub-entry Inv-loop2 μ-loop2 Inv-loop μ-loop
 sub-entry c =
     let at-schedule : tie.After-schedule Inv-loop2 μ-loop2 Inv-loop μ-loop = search in
@@ -313,90 +363,86 @@ sub-entry c =
 mul-entry-2 : tie.Need-mul-entry-2 Inv-loop2 μ-loop2 Inv-loop μ-loop
 mul-entry-2 c =
     let at-schedule : tie.After-schedule Inv-loop2 μ-loop2 Inv-loop μ-loop = search in
-    omega (arith, at-schedule .schedule .ensures .len, schedule-room c .len)
+    omega (arith, at-schedule .schedule .ensures .len, schedulable at-schedule .1 .len)
 
 element-set-from-entry : tie.Need-element-set-from-entry Inv-loop2 μ-loop2 Inv-loop μ-loop
 element-set-from-entry c =
     let at-schedule : tie.After-schedule Inv-loop2 μ-loop2 Inv-loop μ-loop = search in
-    omega (arith, at-schedule .schedule .ensures .len, schedule-room c .len)
+    omega (arith, at-schedule .schedule .ensures .len, schedulable at-schedule .1 .len)
 
 loop-less-2 : tie.Need-loop-less-2 Inv-loop2 μ-loop2 Inv-loop μ-loop
-unfolding stored
+unfolding settled
 loop-less-2 c =
-    let at-change : tie.After-change Inv-loop2 μ-loop2 Inv-loop μ-loop = search in
-    let at-frame-slot : tie.After-frame-slot Inv-loop2 μ-loop2 Inv-loop μ-loop = search in
-    lower (at-frame-slot) _ (at-change .change .given .1) _ (by-schedule c)
+    let else4 : tie.Else4 Inv-loop2 μ-loop2 Inv-loop μ-loop = search in
+    let at-schedule : tie.After-schedule Inv-loop2 μ-loop2 Inv-loop μ-loop = search in
+    lower (slotted at-schedule) _ (asked at-schedule .change .given .1) _ (by-schedule at-schedule (else4 .if4 .left))
 
 loop-again-2 : tie.Need-loop-again-2 Inv-loop2 μ-loop2 Inv-loop μ-loop
-unfolding stored
+unfolding settled
 loop-again-2 c =
-    let at-change : tie.After-change Inv-loop2 μ-loop2 Inv-loop μ-loop = search in
-    let at-frame-slot : tie.After-frame-slot Inv-loop2 μ-loop2 Inv-loop μ-loop = search in
-    next (at-frame-slot) _ (at-change .change .given .1) _ (by-schedule c)
+    let else4 : tie.Else4 Inv-loop2 μ-loop2 Inv-loop μ-loop = search in
+    let at-schedule : tie.After-schedule Inv-loop2 μ-loop2 Inv-loop μ-loop = search in
+    next (slotted at-schedule) _ (asked at-schedule .change .given .1) _ (by-schedule at-schedule (else4 .if4 .left))
 
 enum-known-change-2 : tie.Need-enum-known-change-2 Inv-loop2 μ-loop2 Inv-loop μ-loop
 enum-known-change-2 c = search needs
 
-schedule-loop-requires : tie.Need-schedule-loop-requires Inv-loop2 μ-loop2 Inv-loop μ-loop
-schedule-loop-requires c κs =
+schedule-requires-2 : tie.Need-schedule-requires-2 Inv-loop2 μ-loop2 Inv-loop μ-loop
+schedule-requires-2 c κs =
     let at-change2 : tie.After-change2 Inv-loop2 μ-loop2 Inv-loop μ-loop = search in
     let at-frame-slot : tie.After-frame-slot Inv-loop2 μ-loop2 Inv-loop μ-loop = search in
     changeable (at-frame-slot) _ (at-change2 .change2 .given .1)
 
+blocked-requires-2 : tie.Need-blocked-requires-2 Inv-loop2 μ-loop2 Inv-loop μ-loop
+blocked-requires-2 c κs = tt
+
+same-length-3 : tie.Need-same-length-3 Inv-loop2 μ-loop2 Inv-loop μ-loop
+same-length-3 c =
+    let at-frame-slot : tie.After-frame-slot Inv-loop2 μ-loop2 Inv-loop μ-loop = search in
+    omega (arith, planned at-frame-slot .plan-turn .kept .1 .0, at-head (planned at-frame-slot) .loop .inv .long)
+
+returns-3 : tie.Need-returns-3 Inv-loop2 μ-loop2 Inv-loop μ-loop
+returns-3 c =
+    let then5 : tie.Then5 Inv-loop2 μ-loop2 Inv-loop μ-loop = search in
+    let at-schedule2 : tie.After-schedule2 Inv-loop2 μ-loop2 Inv-loop μ-loop = search in
+    let at-change2 : tie.After-change2 Inv-loop2 μ-loop2 Inv-loop μ-loop = search in
+    let at-frame-slot : tie.After-frame-slot Inv-loop2 μ-loop2 Inv-loop μ-loop = search in
+    rw (c .blocked2 .ensures) (blocks at-frame-slot _ (at-change2 .change2 .given .1) (briefly-blocked _ _ _ (at-schedule2 .schedule2 .ensures) (then5 .if5 .taken)))
+
 sub-entry-2 : tie.Need-sub-entry-2 Inv-loop2 μ-loop2 Inv-loop μ-loop
 sub-entry-2 c =
-    let at-schedule-loop : tie.After-schedule-loop Inv-loop2 μ-loop2 Inv-loop μ-loop = search in
-    omega (arith, at-schedule-loop .schedule-loop .ensures .len)
+    let at-schedule2 : tie.After-schedule2 Inv-loop2 μ-loop2 Inv-loop μ-loop = search in
+    omega (arith, at-schedule2 .schedule2 .ensures .len)
 
 mul-entry-3 : tie.Need-mul-entry-3 Inv-loop2 μ-loop2 Inv-loop μ-loop
 mul-entry-3 c =
-    let at-schedule-loop : tie.After-schedule-loop Inv-loop2 μ-loop2 Inv-loop μ-loop = search in
-    omega (arith, at-schedule-loop .schedule-loop .ensures .len, loop-room c .len)
+    let at-schedule2 : tie.After-schedule2 Inv-loop2 μ-loop2 Inv-loop μ-loop = search in
+    omega (arith, at-schedule2 .schedule2 .ensures .len, briefly at-schedule2 .1 .len)
 
 element-set-from-entry-2 : tie.Need-element-set-from-entry-2 Inv-loop2 μ-loop2 Inv-loop μ-loop
 element-set-from-entry-2 c =
-    let at-schedule-loop : tie.After-schedule-loop Inv-loop2 μ-loop2 Inv-loop μ-loop = search in
-    omega (arith, at-schedule-loop .schedule-loop .ensures .len, loop-room c .len)
+    let at-schedule2 : tie.After-schedule2 Inv-loop2 μ-loop2 Inv-loop μ-loop = search in
+    omega (arith, at-schedule2 .schedule2 .ensures .len, briefly at-schedule2 .1 .len)
+
+unschedule-requires : tie.Need-unschedule-requires Inv-loop2 μ-loop2 Inv-loop μ-loop
+unfolding settled
+unschedule-requires c κs =
+    let at-schedule2 : tie.After-schedule2 Inv-loop2 μ-loop2 Inv-loop μ-loop = search in
+    pushed-last at-schedule2
 
 loop-less-3 : tie.Need-loop-less-3 Inv-loop2 μ-loop2 Inv-loop μ-loop
-unfolding stored
-loop-less-3 c =
-    let at-change2 : tie.After-change2 Inv-loop2 μ-loop2 Inv-loop μ-loop = search in
-    let at-frame-slot : tie.After-frame-slot Inv-loop2 μ-loop2 Inv-loop μ-loop = search in
-    lower (at-frame-slot) _ (at-change2 .change2 .given .1) _ (by-schedule-loop c)
+loop-less-3 c = lower (slotted2 (scheduled2 c)) _ (asked2 (scheduled2 c) .change2 .given .1) _ (by-briefly c)
 
 loop-again-3 : tie.Need-loop-again-3 Inv-loop2 μ-loop2 Inv-loop μ-loop
-unfolding stored
-loop-again-3 c =
-    let at-change2 : tie.After-change2 Inv-loop2 μ-loop2 Inv-loop μ-loop = search in
-    let at-frame-slot : tie.After-frame-slot Inv-loop2 μ-loop2 Inv-loop μ-loop = search in
-    next (at-frame-slot) _ (at-change2 .change2 .given .1) _ (by-schedule-loop c)
+loop-again-3 c = next (slotted2 (scheduled2 c)) _ (asked2 (scheduled2 c) .change2 .given .1) _ (by-briefly c)
 
 enum-told-2 : tie.Need-enum-told-2 Inv-loop2 μ-loop2 Inv-loop μ-loop
 enum-told-2 c = search needs
 
-add-cx : tie.Need-add-cx Inv-loop2 μ-loop2 Inv-loop μ-loop
-add-cx c =
-    let at-frame-slot : tie.After-frame-slot Inv-loop2 μ-loop2 Inv-loop μ-loop = search in
-    omega (arith, changeable (at-frame-slot) _ (c .enum-told2 .given .1))
-
-loop-less-4 : tie.Need-loop-less-4 Inv-loop2 μ-loop2 Inv-loop μ-loop
-loop-less-4 c =
-    let at-frame-slot : tie.After-frame-slot Inv-loop2 μ-loop2 Inv-loop μ-loop = search in
-    lower (at-frame-slot) _ (c .enum-told2 .given .1) _ (id-changed _ (whole (at-frame-slot)))
-
-loop-again-4 : tie.Need-loop-again-4 Inv-loop2 μ-loop2 Inv-loop μ-loop
-loop-again-4 c =
-    let at-frame-slot : tie.After-frame-slot Inv-loop2 μ-loop2 Inv-loop μ-loop = search in
-    next (at-frame-slot) _ (c .enum-told2 .given .1) _ (id-changed _ (whole (at-frame-slot)))
-
-enum-told-3 : tie.Need-enum-told-3 Inv-loop2 μ-loop2 Inv-loop μ-loop
-enum-told-3 c = search needs
-
 sub-entry-3 : tie.Need-sub-entry-3 Inv-loop2 μ-loop2 Inv-loop μ-loop
 sub-entry-3 c =
     let at-frame-slot : tie.After-frame-slot Inv-loop2 μ-loop2 Inv-loop μ-loop = search in
-    changeable (at-frame-slot) _ (c .enum-told3 .given .1)
+    changeable (at-frame-slot) _ (c .enum-told2 .given .1)
 
 mul-entry-4 : tie.Need-mul-entry-4 Inv-loop2 μ-loop2 Inv-loop μ-loop
 mul-entry-4 c =
@@ -406,25 +452,25 @@ mul-entry-4 c =
 element-copy-out-entry-2 : tie.Need-element-copy-out-entry-2 Inv-loop2 μ-loop2 Inv-loop μ-loop
 element-copy-out-entry-2 c =
     let at-frame-slot : tie.After-frame-slot Inv-loop2 μ-loop2 Inv-loop μ-loop = search in
-    omega (arith, changeable (at-frame-slot) _ (c .enum-told3 .given .1), whole (at-frame-slot) .bounded .most)
+    omega (arith, changeable (at-frame-slot) _ (c .enum-told2 .given .1), whole (at-frame-slot) .bounded .most)
 
-unschedule-requires : tie.Need-unschedule-requires Inv-loop2 μ-loop2 Inv-loop μ-loop
-unschedule-requires c κs =
-    let at-enum-told3 : tie.After-enum-told3 Inv-loop2 μ-loop2 Inv-loop μ-loop = search in
+unschedule-requires-2 : tie.Need-unschedule-requires-2 Inv-loop2 μ-loop2 Inv-loop μ-loop
+unschedule-requires-2 c κs =
+    let at-enum-told2 : tie.After-enum-told2 Inv-loop2 μ-loop2 Inv-loop μ-loop = search in
     let at-frame-slot : tie.After-frame-slot Inv-loop2 μ-loop2 Inv-loop μ-loop = search in
-    last-entry _ (changeable (at-frame-slot) _ (at-enum-told3 .enum-told3 .given .1)) (whole (at-frame-slot))
+    last-entry _ (changeable (at-frame-slot) _ (at-enum-told2 .enum-told2 .given .1)) (whole (at-frame-slot))
 
-loop-less-5 : tie.Need-loop-less-5 Inv-loop2 μ-loop2 Inv-loop μ-loop
-loop-less-5 c =
-    let at-enum-told3 : tie.After-enum-told3 Inv-loop2 μ-loop2 Inv-loop μ-loop = search in
+loop-less-4 : tie.Need-loop-less-4 Inv-loop2 μ-loop2 Inv-loop μ-loop
+loop-less-4 c =
+    let at-enum-told2 : tie.After-enum-told2 Inv-loop2 μ-loop2 Inv-loop μ-loop = search in
     let at-frame-slot : tie.After-frame-slot Inv-loop2 μ-loop2 Inv-loop μ-loop = search in
-    lower (at-frame-slot) _ (at-enum-told3 .enum-told3 .given .1) _ (by-unschedule c)
+    lower (at-frame-slot) _ (at-enum-told2 .enum-told2 .given .1) _ (by-unschedule c)
 
-loop-again-5 : tie.Need-loop-again-5 Inv-loop2 μ-loop2 Inv-loop μ-loop
-loop-again-5 c =
-    let at-enum-told3 : tie.After-enum-told3 Inv-loop2 μ-loop2 Inv-loop μ-loop = search in
+loop-again-4 : tie.Need-loop-again-4 Inv-loop2 μ-loop2 Inv-loop μ-loop
+loop-again-4 c =
+    let at-enum-told2 : tie.After-enum-told2 Inv-loop2 μ-loop2 Inv-loop μ-loop = search in
     let at-frame-slot : tie.After-frame-slot Inv-loop2 μ-loop2 Inv-loop μ-loop = search in
-    next (at-frame-slot) _ (at-enum-told3 .enum-told3 .given .1) _ (by-unschedule c)
+    next (at-frame-slot) _ (at-enum-told2 .enum-told2 .given .1) _ (by-unschedule c)
 
 pub walk-spec : {M : Type 1} → statement M
 walk-spec =
@@ -469,26 +515,29 @@ walk-spec =
     loop-again
     enum-known-change
     schedule-requires
+    blocked-requires
+    same-length-2
+    returns-2
     sub-entry
     mul-entry-2
     element-set-from-entry
     loop-less-2
     loop-again-2
     enum-known-change-2
-    schedule-loop-requires
+    schedule-requires-2
+    blocked-requires-2
+    same-length-3
+    returns-3
     sub-entry-2
     mul-entry-3
     element-set-from-entry-2
+    unschedule-requires
     loop-less-3
     loop-again-3
     enum-told-2
-    add-cx
-    loop-less-4
-    loop-again-4
-    enum-told-3
     sub-entry-3
     mul-entry-4
     element-copy-out-entry-2
-    unschedule-requires
-    loop-less-5
-    loop-again-5)
+    unschedule-requires-2
+    loop-less-4
+    loop-again-4)

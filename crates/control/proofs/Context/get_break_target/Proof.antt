@@ -54,14 +54,14 @@ loop-again c =
 
 returns : tie.Need-returns Inv-loop μ-loop
 unfolding getBreakTarget contextOf
-returns c visits = sym (c .before .loop .inv .rest ∙ break-none _ _ _ _ _ (c .if1 .taken))
+returns c visits = rw (c .before .before .pre .1) (sym (c .before .loop .inv .rest ∙ break-none _ _ _ _ _ (c .if1 .taken)))
 
 returns-2 : tie.Need-returns-2 Inv-loop μ-loop
 unfolding getBreakTarget contextOf
 returns-2 c visits =
     let at-test = c .before .before in
     let at-loop = at-test .before .before .before in
-    sym (at-loop .loop .inv .rest ∙ break-found _ _ _ _ _ (at-test .before .before .if1 .left) (sym (at-test .block .ensures) ∙ c .before .if2 .taken) ∙ ap some (sym (c .break-to .ensures)))
+    rw (at-loop .before .pre .1) (sym (at-loop .loop .inv .rest ∙ break-found _ _ _ _ _ (at-test .before .before .if1 .left) (sym (at-test .block .ensures) ∙ c .before .if2 .taken) ∙ ap some (sym (c .break-to .ensures))))
 
 pub get-break-target-spec : {M : Type 1} → statement M
 get-break-target-spec =

@@ -1,19 +1,18 @@
 use lib.ListN.{length-map}
 use native.Mathlib.Omega.{arith}
-use Rattle.definition.specs.Context.{add}
-use Rattle.control.proofs.ContextLaws.{named-block, scheduled}
+use Rattle.control.proofs.ContextLaws.{blocked-asked, scheduled}
 use borrow.Author.Needs.{needs}
 use Rattle.control.proofs.Context.schedule.Statement.{statement}
 use Rattle.control.proofs.Context.schedule.Tie as tie
 
-block-requires : tie.Need-block-requires
-block-requires c κs = search needs
+is-blocked-requires : tie.Need-is-blocked-requires
+is-blocked-requires c κs = search needs
 
-cast-at : tie.Need-cast-at
-cast-at c = search needs
+add-target-requires : tie.Need-add-target-requires
+add-target-requires c κs = search needs
 
-array-write-scheduled : tie.Need-array-write-scheduled
-array-write-scheduled c = rw (c .before .block .ensures) (named-block (c .before .before .args .target) (c .before .before .pre .0))
+refusal-requires : tie.Need-refusal-requires
+refusal-requires c κs = search needs
 
 add-self : tie.Need-add-self
 add-self c = search needs
@@ -22,12 +21,13 @@ add-self-2 : tie.Need-add-self-2
 add-self-2 c = search needs
 
 returns : tie.Need-returns
-unfolding add
 returns c =
-    let start = c .before .before .before .before in
-    let long = simp length-map at (start .good .0 .1 .1 .1 .1 .1 .1 .1 .1 .1 .0 .1 .0 .1) in
-    rw (c .before .before .before .block .ensures) (scheduled (start .args .target) (start .args .self) (start .pre .0) (start .pre .1) (omega (arith, long, start .pre .1 .len)))
+    let start = c .before .before .before .before .before .before .before .before in
+    let long = simp length-map at (start .good .0 .1 .1 .1 .1 .1 .1 .1 .1 .1 .1 .1 .0 .1 .0 .1) in
+    let flags = simp length-map at (start .good .0 .1 .1 .1 .1 .1 .1 .0 .1 .0 .1) in
+    rw (c .before .before .refusal .ensures, c .before .before .before .before .before .is-blocked .ensures, blocked-asked (start .args .target) (start .args .self .scheduled) (start .pre .0) (omega (arith, flags)), c .before .before .before .add-target .ensures .0, c .before .before .before .add-target .ensures .1) (scheduled (start .args .target) (start .args .self) (start .pre .0) (start .pre .1) (omega (arith, long, start .pre .1 .len)))
 
 pub schedule-spec : {M : Type 1} → statement M
 schedule-spec =
-    tie.close (tie.spec block-requires cast-at array-write-scheduled add-self add-self-2 returns)
+    tie.close
+    (tie.spec is-blocked-requires add-target-requires refusal-requires add-self add-self-2 returns)

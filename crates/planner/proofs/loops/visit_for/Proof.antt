@@ -10,7 +10,10 @@ for-continues-at-requires : tie.Need-for-continues-at-requires
 for-continues-at-requires c κs = search needs
 
 continues-scheduled-requires : tie.Need-continues-scheduled-requires
-continues-scheduled-requires c κs = search (continues-few, needs)
+continues-scheduled-requires c κs =
+    let read : tie.After-for-at = search in
+    let few = continues-few _ (read .for-at .ensures) (c .for-continues-at .ensures) in
+    search needs
 
 refuse-requires : tie.Need-refuse-requires
 refuse-requires c κs = search needs

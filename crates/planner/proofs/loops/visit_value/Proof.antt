@@ -1,5 +1,5 @@
 use Rattle.planner.proofs.LoopLaws.{fallthrough-below, value-statement-refused, value-statement-left}
-use Rattle.planner.proofs.VisitLaws.{few-blocks}
+use Rattle.planner.proofs.VisitLaws.{few-blocks, taken-most}
 use native.Mathlib.Omega.{arith}
 use borrow.Author.Needs.{needs}
 use Rattle.planner.proofs.loops.visit_value.Statement.{statement}
@@ -54,8 +54,14 @@ add-leave c =
     let start : tie.Start = search in
     omega (arith, start .pre .0 .count, start .pre .0 .rows)
 
-take-id-requires : tie.Need-take-id-requires
-take-id-requires c κs = search needs
+schedule-briefly-requires : tie.Need-schedule-briefly-requires
+schedule-briefly-requires c κs =
+    let at-unless-scheduled : tie.After-unless-scheduled = search in
+    let at-block-word : tie.After-block-word = search in
+    let start : tie.Start = search in
+    let below = fallthrough-below (start .args .words .now) (start .args .scheduled .now) (start .args .catch-handlers .now) (start .args .p) (start .pre .0) _ (start .pre .1 .1) in
+    let few = few-blocks (start .args .words .now) (start .pre .0 .promise) (at-block-word .block-word .result) (rw (at-block-word .block-word .ensures) below) in
+    taken-most _ _ _ _ (at-unless-scheduled .unless-scheduled .ensures) few
 
 leave-requires : tie.Need-leave-requires
 leave-requires c κs = search needs
@@ -65,7 +71,7 @@ same-length-2 c = search needs
 
 returns-2 : tie.Need-returns-2
 returns-2 c =
-    let at-take-id : tie.After-take-id = search in
+    let at-schedule-briefly : tie.After-schedule-briefly = search in
     let at-put : tie.After-put = search in
     let at-if1 : tie.Else1 = search in
     let at-visit-value-block-terminal : tie.After-visit-value-block-terminal = search in
@@ -73,7 +79,7 @@ returns-2 c =
     let at-unless-scheduled : tie.After-unless-scheduled = search in
     let at-block-word : tie.After-block-word = search in
     let at-entry : tie.Start = search in
-    value-statement-left (at-entry .args .words .now) (at-entry .args .scheduled .now) (at-entry .args .catch-handlers .now) (at-entry .args .p) (at-entry .pre .0) _ (at-entry .pre .1 .1) (at-visit-value-block-terminal .visit-value-block-terminal .ensures) (at-unless-scheduled .unless-scheduled .result) _ _ _ (at-if1 .if1 .left) (rw (at-block-word .block-word .ensures) at (at-unless-scheduled .unless-scheduled .ensures)) (rw (at-block-word2 .block-word2 .ensures) at (at-put .put .ensures)) (rw (← (at-take-id .take-id .ensures)) (c .leave .ensures))
+    value-statement-left (at-entry .args .words .now) (at-entry .args .scheduled .now) (at-entry .args .catch-handlers .now) (at-entry .args .p) (at-entry .pre .0) _ (at-entry .pre .1 .1) (at-visit-value-block-terminal .visit-value-block-terminal .ensures) (at-unless-scheduled .unless-scheduled .result) _ _ _ (at-if1 .if1 .left) (rw (at-block-word .block-word .ensures) at (at-unless-scheduled .unless-scheduled .ensures)) (rw (at-block-word2 .block-word2 .ensures) at (at-put .put .ensures)) (rw (← (at-schedule-briefly .schedule-briefly .ensures)) (c .leave .ensures))
 
 pub visit-value-spec : {M : Type 1} → statement M
 visit-value-spec =
@@ -90,7 +96,7 @@ visit-value-spec =
     returns
     put-requires
     add-leave
-    take-id-requires
+    schedule-briefly-requires
     leave-requires
     same-length-2
     returns-2)

@@ -1,0 +1,102 @@
+use mathlib.Core.Path.{refl}
+use Rattle.definition.specs.Context.{has, add}
+use borrow.Author.Needs.{needs}
+use Rattle.control.proofs.add_target.Statement.{statement}
+use Rattle.control.proofs.add_target.Tie as tie
+
+enum-known-target : tie.Need-enum-known-target
+enum-known-target c = search needs
+
+cast-scheduled : tie.Need-cast-scheduled
+cast-scheduled c = search needs
+
+element-write-scheduled : tie.Need-element-write-scheduled
+element-write-scheduled c = (rw (c .before .target .given .1) at (c .before .before .before .pre))
+
+enum-known-target-2 : tie.Need-enum-known-target-2
+enum-known-target-2 c = search needs
+
+cast-scheduled-2 : tie.Need-cast-scheduled-2
+cast-scheduled-2 c = search needs
+
+element-write-scheduled-2 : tie.Need-element-write-scheduled-2
+element-write-scheduled-2 c = (rw (c .before .target2 .given .1) at (c .before .before .before .pre))
+
+enum-known-target-3 : tie.Need-enum-known-target-3
+enum-known-target-3 c = search needs
+
+cast-scheduled-3 : tie.Need-cast-scheduled-3
+cast-scheduled-3 c = search needs
+
+element-write-scheduled-3 : tie.Need-element-write-scheduled-3
+element-write-scheduled-3 c = (rw (c .before .target3 .given .1) at (c .before .before .before .pre))
+
+enum-known-target-4 : tie.Need-enum-known-target-4
+enum-known-target-4 c = search needs
+
+cast-scheduled-4 : tie.Need-cast-scheduled-4
+cast-scheduled-4 c = search needs
+
+element-write-scheduled-4 : tie.Need-element-write-scheduled-4
+element-write-scheduled-4 c = (rw (c .before .target4 .given .1) at (c .before .before .before .pre)) .0
+
+cast-scheduled-5 : tie.Need-cast-scheduled-5
+cast-scheduled-5 c = search needs
+
+element-write-scheduled-5 : tie.Need-element-write-scheduled-5
+element-write-scheduled-5 c = (rw (c .before .target4 .given .1) at (c .before .before .before .pre)) .1
+
+cast-owns-loop : tie.Need-cast-owns-loop
+cast-owns-loop c = search needs
+
+element-copy-out-owns-loop : tie.Need-element-copy-out-owns-loop
+element-copy-out-owns-loop c = (rw (c .before .target4 .given .1) at (c .before .before .before .pre)) .2
+
+cast-scheduled-6 : tie.Need-cast-scheduled-6
+cast-scheduled-6 c = search needs
+
+element-write-scheduled-6 : tie.Need-element-write-scheduled-6
+element-write-scheduled-6 c = (rw (c .before .before .target4 .given .1) at (c .before .before .before .before .pre)) .2
+
+returns : tie.Need-returns
+unfolding add
+returns c = rw (c .before .target .given .1) (refl, refl)
+
+returns-2 : tie.Need-returns-2
+unfolding add
+returns-2 c = rw (c .before .target2 .given .1) (refl, refl)
+
+returns-3 : tie.Need-returns-3
+unfolding add
+returns-3 c = rw (c .before .target3 .given .1) (refl, refl)
+
+returns-4 : tie.Need-returns-4
+unfolding has add
+returns-4 c = rw (c .before .before .target4 .given .1) (refl, refl)
+
+pub add-target-spec : {M : Type 1} → statement M
+add-target-spec =
+    tie.close
+    (tie.spec
+    enum-known-target
+    cast-scheduled
+    element-write-scheduled
+    enum-known-target-2
+    cast-scheduled-2
+    element-write-scheduled-2
+    enum-known-target-3
+    cast-scheduled-3
+    element-write-scheduled-3
+    enum-known-target-4
+    cast-scheduled-4
+    element-write-scheduled-4
+    cast-scheduled-5
+    element-write-scheduled-5
+    cast-owns-loop
+    element-copy-out-owns-loop
+    cast-scheduled-6
+    element-write-scheduled-6
+    returns
+    returns-2
+    returns-3
+    returns-4)
