@@ -6,3 +6,4 @@ pub mod PromiseLaws
 pub mod RangeLaws
 pub mod BlockLaws
 pub mod TerminalLaws
+pub mod ColumnLaws

@@ -8,7 +8,7 @@ use mathlib.Core.Path.{_≡_}
 use lib.ListN.{getD, length}
 use Rattle.table.specs.Words.{entryWord, blockCount, instructionCount, caseCount, placeCount, identifierCount, wordsNeeded, blockWord, instructionWord, caseWord, placeWord, identifierWord, largest}
 use Rattle.table.specs.Check.{unused, fits, blockRules, instructionRules, caseRules}
-use Rattle.table.specs.Table.{Terminal, absent, unreachable, throw, return, goto, if, branch, switch, do-while, while, for, for-of, for-in, logical, ternary, optional, label, sequence, maybe-throw, try, scope, Operation, other, load-local, store-local, tableOf, terminalAt}
+use Rattle.table.specs.Table.{Terminal, absent, unreachable, throw, return, goto, if, branch, switch, do-while, while, for, for-of, for-in, logical, ternary, optional, label, sequence, maybe-throw, try, scope, Operation, other, load-local, store-local, Case, tableOf, blockAt, terminalAt, instructionAt, unlessNone}
 
 -- there is a head, and no count is over its limit
 pub record Limited (ws : List ℕ) : Type 0 where
@@ -72,9 +72,39 @@ pub record Ends (ws : List ℕ) (block : ℕ) (e : Terminal) : Type 0 where
   pub is : terminalAt (tableOf ws) block ≡ e
   pub named : InRange (blockCount ws) (placeCount ws) (caseCount ws) e
 
+-- beside its terminal, the block's row says so, and its instructions are there
+pub record Heads (ws : List ℕ) (block first count id span : ℕ) : Type 0 where
+  pub few : instructionCount ws ≤ 4096
+  pub is-first : blockAt (tableOf ws) block .first ≡ first
+  pub is-count : blockAt (tableOf ws) block .count ≡ count
+  pub is-id : blockAt (tableOf ws) block .id ≡ id
+  pub is-span : blockAt (tableOf ws) block .span ≡ span
+  pub there : first + count ≤ instructionCount ws
+
 -- of a table with so many places
 module _ (places : ℕ) where
   abbrev pub OperandsInRange : Operation → Type 0
   OperandsInRange other = Unit {0}
   OperandsInRange (load-local place) = place < places
   OperandsInRange (store-local stored-to stored-value) = (stored-to < places) × (stored-value < places)
+
+-- the instruction's operation is `o`, and the places that it names are there
+pub record Operates (ws : List ℕ) (instruction : ℕ) (o : Operation) : Type 0 where
+  pub few : placeCount ws ≤ 4096
+  pub is : instructionAt (tableOf ws) instruction .operation ≡ o
+  pub named : OperandsInRange (placeCount ws) o
+
+-- beside its operation, the instruction's row says so, and its lvalue is there
+pub record Instructs (ws : List ℕ) (instruction id lvalue span : ℕ) : Type 0 where
+  pub few : placeCount ws ≤ 4096
+  pub is-id : instructionAt (tableOf ws) instruction .id ≡ id
+  pub is-lvalue : instructionAt (tableOf ws) instruction .lvalue ≡ lvalue
+  pub is-span : instructionAt (tableOf ws) instruction .span ≡ span
+  pub there : lvalue < placeCount ws
+
+-- the case's row says so, whatever stands beyond the table, and what it names is there
+pub record Chooses (ws : List ℕ) (case test block : ℕ) : Type 0 where
+  pub few : blockCount ws ≤ 1024
+  pub is : (beyond : Case) → getD (tableOf ws .cases) case beyond ≡ record { test = test; block = block }
+  pub tested : BelowUnlessNone (placeCount ws) (unlessNone test)
+  pub there : block < blockCount ws

@@ -49,8 +49,16 @@ wordsNeeded ws = identifiersBegin ws + identifierCount ws
 unfoldable pub blockWord : List ℕ → ℕ → ℕ → ℕ
 blockWord ws row column = word ws (blocksBegin + row * 10 + column)
 
+-- the code of a block's terminal
+abbrev pub codeAt : List ℕ → ℕ → ℕ
+codeAt ws row = blockWord ws row 2
+
 unfoldable pub instructionWord : List ℕ → ℕ → ℕ → ℕ
 instructionWord ws row column = word ws (instructionsBegin ws + row * 6 + column)
+
+-- the code of an instruction's operation
+abbrev pub operationCodeAt : List ℕ → ℕ → ℕ
+operationCodeAt ws row = instructionWord ws row 2
 
 unfoldable pub caseWord : List ℕ → ℕ → ℕ → ℕ
 caseWord ws row column = word ws (casesBegin ws + row * 2 + column)

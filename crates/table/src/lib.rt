@@ -1,4 +1,5 @@
 // Refusals 1 to 4 of paper 01, and the accessors that index the words by what the check promises.
+pub mod columns;
 mod rows;
 pub mod terminals;
 pub mod words;

@@ -1,0 +1,21 @@
+use borrow.Author.Needs.{needs}
+use Rattle.table.proofs.TerminalLaws.{goto-ends}
+use Rattle.table.proofs.terminals.goto_at.Statement.{statement}
+use Rattle.table.proofs.terminals.goto_at.Tie as tie
+
+block-word-requires : tie.Need-block-word-requires
+block-word-requires c κs = search needs
+
+block-word-requires-2 : tie.Need-block-word-requires-2
+block-word-requires-2 c κs = search needs
+
+returns : tie.Need-returns
+returns c = search goto-ends
+
+pub goto-at-spec : {M : Type 1} → statement M
+goto-at-spec =
+    tie.close
+    (tie.spec
+    block-word-requires
+    block-word-requires-2
+    returns)

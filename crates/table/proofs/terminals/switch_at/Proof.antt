@@ -1,0 +1,29 @@
+use borrow.Author.Needs.{needs}
+use Rattle.table.proofs.TerminalLaws.{switch-ends}
+use Rattle.table.proofs.terminals.switch_at.Statement.{statement}
+use Rattle.table.proofs.terminals.switch_at.Tie as tie
+
+block-word-requires : tie.Need-block-word-requires
+block-word-requires c κs = search needs
+
+block-word-requires-2 : tie.Need-block-word-requires-2
+block-word-requires-2 c κs = search needs
+
+block-word-requires-3 : tie.Need-block-word-requires-3
+block-word-requires-3 c κs = search needs
+
+block-word-requires-4 : tie.Need-block-word-requires-4
+block-word-requires-4 c κs = search needs
+
+returns : tie.Need-returns
+returns c = search switch-ends
+
+pub switch-at-spec : {M : Type 1} → statement M
+switch-at-spec =
+    tie.close
+    (tie.spec
+    block-word-requires
+    block-word-requires-2
+    block-word-requires-3
+    block-word-requires-4
+    returns)
