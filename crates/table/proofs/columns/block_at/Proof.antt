@@ -15,6 +15,9 @@ block-word-requires-3 c κs = search needs
 block-word-requires-4 : tie.Need-block-word-requires-4
 block-word-requires-4 c κs = search needs
 
+block-word-requires-5 : tie.Need-block-word-requires-5
+block-word-requires-5 c κs = search needs
+
 returns : tie.Need-returns
 returns c = search heads
 
@@ -26,4 +29,5 @@ block-at-spec =
     block-word-requires-2
     block-word-requires-3
     block-word-requires-4
+    block-word-requires-5
     returns)
