@@ -10,13 +10,14 @@ use lib.ListN.{length, getD, take, drop, length-drop, length-reverse}
 use lib.Seq.{take-suc, getD-drop}
 use lib.Dec.{eqb, T}
 use borrow.Author.Tests.{lt-leb, le-leb, eq-eqb}
+use Rattle.table.specs.declared.columns.Span.{Span}
 use Rattle.table.specs.Table.{Table, Block, Case, Terminal, absent, unreachable, throw, return, goto, if, branch, switch, do-while, while, for, for-of, for-in, logical, ternary, optional, sequence, maybe-throw, try, scope, Variant, Break, Continue, Try, blockAt, terminalAt, instructionRowsAt, isAbsent, label}
 use Rattle.definition.specs.Build.{accepted, Report, rejected, reported, report}
 use Rattle.definition.specs.Context.{has, ControlFlowTarget, target-case, target-loop, isBlocked, blockedCode, blockAsked, Entry, Context, start, isScheduled, emit, withVisits, scheduleCatchHandler, markScopeFallthrough, pushed, schedule, unscheduledBy, popped, unscheduleTop, unschedule}
 use Rattle.definition.specs.Machine.{Frame, State, visiting, ended, choosing, going, halt, turn, leave, blockRow, valueOut, updateOut, statementOut, jumpOut, added, instructionsOut, closingRowOf, closingRow, scheduledIf, scheduledSwitch, unscheduledTop, unscheduled, unscheduledIf, opens, frameOf, secondPart, withEntries, into, intoLoop, complete, closeBy, close, noCase, caseAt, numberOfCases, chooseCase, switchColumns, resumeAt, resume, branchTurn, valueTurn, terminalTurn, depthLeft, visitTurn, step, begin, Gives, halts, goes}
 use Rattle.definition.specs.Result.{refused, Result, ok, _>>=_, refuseIf}
 use Rattle.definition.specs.Statement.{visitBreak, visitContinue, OptionalValue, visitUpdate, continueBlockOf, TerminalResult, BlockResult, TraverseBlock, enterBlock, unlessScheduled, unlessUnreachable, scheduleIf, unscheduleIf, markScopeFallthroughIf, traverseUnscheduled, AlternateResult, traverseAlternate, visitGoto, traverseEnclosed, loopIsTaken, traverseLoop, CasesResult, traverseCases, unscheduleAll, scheduleSwitch, scheduleIds, casesLastFirst, traverseConsequent, visitValueStatement, visitTerminal, instructionStatements, followedBy, thenNext, visitBlock, traverseBlock, buildTree}
-use Rattle.definition.specs.Tree.{Statement, Statements, done, Cases, no-cases, CASE, Row, row, orNone, countStatements, countCases, IF, INSTR, SWITCH, rows, updatePresent}
+use Rattle.definition.specs.Tree.{Statement, Statements, done, Cases, no-cases, CASE, Row, row, orNone, countStatements, countCases, IF, INSTR, SWITCH, rows, updatePresent, instrRow}
 use Rattle.definition.specs.Value.{visitValueBlock, beginVisit, ValueTerminalResult, VisitValueBlock, visitValueBlockTerminal, valueBlockResultToSequence}
 use Rattle.definition.proofs.Rows.{statementsOut, casesOut, blockOut, block-rows, rows-if, rows-else, rows-do-while, rows-while, rows-for, rows-for-of, rows-for-in, rows-label, rows-try, rows-scope, rows-value, rows-single, rows-case, rows-switch, rows-chain, count-chain}
 use Rattle.definition.proofs.Steps.{true-false, Any, Good, good-bind, good-unless, good-any, Fine, fine-good}
@@ -505,19 +506,19 @@ module _ (t : Table) (d : ℕ) (inner : TraverseBlock) (ws : Walks t d inner) (w
       seen (some f) r q = unfold withVisits in (rw (unscheduled-kept (withVisits (r .visits) (scheduledIf (some f) c))) q)
 
       X : ValueTerminalResult → Result State
-      X r = ok (leave g F ((R ++ valueOut (r .value)) ++ (row 4 (r .id) (r .place) (k .span) 0 0 ∷ [])) (suc n) (unscheduledIf g (withVisits (r .visits) (scheduledIf g c))))
+      X r = ok (leave g F ((R ++ valueOut (r .value)) ++ (instrRow (r .id) (r .place) (k .span) ∷ [])) (suc n) (unscheduledIf g (withVisits (r .visits) (scheduledIf g c))))
 
       Y : ValueTerminalResult → Result TerminalResult
       Y r = unscheduleIf g (c .nextId) (withVisits (r .visits) (scheduledIf g c)) >>= λ c2. ok (record { statement = some (INSTR (r .id) (r .place) (k .span) (r .value)); next = g; context = c2 })
 
-  values : (x : ℕ) (ft : Option ℕ) (span v : ℕ) → Good (λ r. v ≤ r .visits) (visit x ft span v)
+  values : (x : ℕ) (ft : Option ℕ) (span : Span) (v : ℕ) → Good (λ r. v ≤ r .visits) (visit x ft span v)
   unfolding VisitTook
   values x ft span v = fine-good (BlockTook t v) (λ r. v ≤ r .visits) (visit x ft span v) (λ _ h. h .rises) (value-took t d x ft span v)
 
   abbrev Updated : Option ℕ → ℕ → OptionalValue → Type 0
   Updated u v w = (v ≤ w .visits) × (updatePresent (w .value) ≡ updatePresent u)
 
-  updates : (u : Option ℕ) (span v : ℕ) → Good (Updated u v) (visitUpdate visit u span v)
+  updates : (u : Option ℕ) (span : Span) (v : ℕ) → Good (Updated u v) (visitUpdate visit u span v)
   unfolding visitUpdate
   updates none span v = (le-refl v, refl)
   updates (some u) span v = good-bind (λ r. v ≤ r .visits) (Updated (some u) v) _ _ (values u none span v) (λ r q. (q, refl))
