@@ -2,110 +2,105 @@
 use mathlib.Core.Path.{_≡_, refl, sym, ap, _∙_}
 use mathlib.Core.Bool.{Bool, true, false}
 use mathlib.Core.List.{List, [], _∷_}
-use mathlib.Core.Option.{none, some}
+use mathlib.Core.Option.{none}
 use Prim.Native.Nat.{ℕ, zero, suc, _+_, _-_, _≤_, _<_}
 use native.Mathlib.Omega.{arith}
 use lib.Dec.{eqb}
-use lib.ListN.{getD}
-use borrow.Author.Tests.{eqb-true, eq-eqb}
-use Rattle.table.specs.Words.{instructionCount, instructionWord, placeWord, identifierWord}
-use Rattle.table.specs.Table.{Table, store-local, tableOf, instructionOf, operationOf, rowsFrom}
-use Rattle.table.specs.Promise.{Promise}
-use Rattle.definition.specs.Result.{ok, refused}
-use Rattle.definition.specs.Tree.{PLAIN, LOAD}
-use Rattle.definition.specs.Value.{wrapWithSequence, finalValue, finalPlace, storedToNamed, allButLast, last, extractValueBlockResult, extractOrRefuse, branchValue, loadedBy}
-use Rattle.value.specs.Met.{unnamed, unnamedStore}
-use Rattle.value.proofs.Ranges.{few-operations, stored-to, place-identifier}
+use borrow.Author.Tests.{eqb-true, eqb-false}
+use Rattle.table.specs.Words.{instructionCount, placeCount, identifierCount, placeWord, identifierWord, operationCodeAt}
+use Rattle.table.specs.Table.{Table, Instruction, Operation, other, load-local, store-local, tableOf, instructionOf, operationOf, instructionAt, instructionRowsAt, rowsFrom}
+use Rattle.table.specs.Promise.{Promise, Heads, Instructs, Operates}
+use Rattle.table.proofs.ColumnLaws.{head-rows}
 use Rattle.table.proofs.TableLaws.{instruction-at, place-at, named-at}
+use Rattle.table.proofs.RangeLaws.{operation-known}
+use Rattle.table.proofs.BlockLaws.{no-number, low-number}
+use Rattle.definition.specs.Result.{Result, ok, refused}
+use Rattle.definition.specs.Tree.{PLAIN, LOAD}
+use Rattle.definition.specs.Value.{ValueBlockResult, wrapWithSequence, finalValue, finalPlace, storedToNamed, allButLast, last, extractValueBlockResult, extractOrRefuse, branchValue, loadedBy}
+use Rattle.value.specs.Met.{loads, Ends, unnamedStore, Loaded}
 use Rattle.value.proofs.MetLaws.{wrap}
 
 -- ---- one instruction, by its operation
 
-module _ (t : Table) (i p q lvalue : ℕ) where
-  -- whether the place p has an identifier with a name
-  abbrev name : ℕ
-  name = getD (t .named) (getD (t .places) p 0) 0
+module _ (t : Table) (p q : ℕ) where
+  only-store : (code : ℕ) → code ≤ 2 → storedToNamed t (operationOf code p q) ≡ 0 → code ≡ 2
+  unfolding storedToNamed operationOf
+  only-store zero h e = absurd (omega arith)
+  only-store (suc zero) h e = absurd (omega arith)
+  only-store (suc (suc zero)) h e = refl
+  only-store (suc (suc (suc n))) h e = absurd (omega arith)
 
-  load-value : (code : ℕ) → code ≡ 2 → name ≡ 0 → finalValue i (operationOf code p q) (storedToNamed t (operationOf code p q)) ≡ LOAD q
-  unfolding finalValue operationOf storedToNamed
-  load-value code e n = rw e (rw n)
+  no-load : (code : ℕ) → (code ≡ 1 → ⊥) → loadedBy (operationOf code p q) ≡ none
+  unfolding operationOf
+  no-load zero f = refl
+  no-load (suc zero) f = absurd (f refl)
+  no-load (suc (suc n)) f = refl
 
-  load-place : (code : ℕ) → code ≡ 2 → name ≡ 0 → finalPlace (operationOf code p q) (storedToNamed t (operationOf code p q)) lvalue ≡ p
-  unfolding finalPlace operationOf storedToNamed
-  load-place code e n = rw e (rw n)
+plain-value : (i : ℕ) (o : Operation) (named : ℕ) → (named ≡ 0 → ⊥) → finalValue i o named ≡ PLAIN i
+unfolding finalValue
+plain-value i other n f = refl
+plain-value i (load-local p) n f = refl
+plain-value i (store-local p q) zero f = absurd (f refl)
+plain-value i (store-local p q) (suc n) f = refl
 
-  plain-value : (code : ℕ) → (code ≡ 2 → name ≡ 0 → ⊥) → code ≤ 2 → finalValue i (operationOf code p q) (storedToNamed t (operationOf code p q)) ≡ PLAIN i
-  unfolding finalValue operationOf storedToNamed
-  plain-value zero f h = refl
-  plain-value (suc zero) f h = refl
-  plain-value (suc (suc zero)) f h = by name (f refl)
+plain-place : (lvalue : ℕ) (o : Operation) (named : ℕ) → (named ≡ 0 → ⊥) → finalPlace o named lvalue ≡ lvalue
+unfolding finalPlace
+plain-place l other n f = refl
+plain-place l (load-local p) n f = refl
+plain-place l (store-local p q) zero f = absurd (f refl)
+plain-place l (store-local p q) (suc n) f = refl
+
+-- whether what an instruction stores to is named: 0 is a store to an unnamed identifier
+abbrev name : List ℕ → ℕ → ℕ
+name ws i = storedToNamed (tableOf ws) (instructionAt (tableOf ws) i .operation)
+
+module _ {ws : List ℕ} {i : ℕ} (p : Promise ws) (inside : i < instructionCount ws) where
+  pub store-code : unnamedStore ws i ≡ true → operationCodeAt ws i ≡ 2
+  unfolding instructionOf
+  store-code e =
+      let named : name ws i ≡ 0 = eqb-true (name ws i) 0 e in
+      only-store (tableOf ws) _ _ _ (operation-known ws p i inside) (rw (instruction-at ws i inside) at named)
+
+  pub no-store : {code : ℕ} → code ≡ operationCodeAt ws i → (code ≡ 2 → ⊥) → false ≡ unnamedStore ws i
+  no-store c f = by (unnamedStore ws i) refl
     where
-      by : (n : ℕ) → (n ≡ 0 → ⊥) → finalValue i (store-local p q) n ≡ PLAIN i
-      by zero g = absurd (g refl)
-      by (suc n) g = refl
-  plain-value (suc (suc (suc n))) f h = absurd (omega arith)
+      by : (y : Bool) → unnamedStore ws i ≡ y → false ≡ y
+      by true e = absurd (f (c ∙ store-code e))
+      by false e = refl
 
-  plain-place : (code : ℕ) → (code ≡ 2 → name ≡ 0 → ⊥) → code ≤ 2 → finalPlace (operationOf code p q) (storedToNamed t (operationOf code p q)) lvalue ≡ lvalue
-  unfolding finalPlace operationOf storedToNamed
-  plain-place zero f h = refl
-  plain-place (suc zero) f h = refl
-  plain-place (suc (suc zero)) f h = by name (f refl)
-    where
-      by : (n : ℕ) → (n ≡ 0 → ⊥) → finalPlace (store-local p q) n lvalue ≡ lvalue
-      by zero g = absurd (g refl)
-      by (suc n) g = refl
-  plain-place (suc (suc (suc n))) f h = absurd (omega arith)
+  pub store-named : {to value identifier name : ℕ} → Operates ws i (store-local to value) → identifier ≡ placeWord ws to → name ≡ identifierWord ws identifier → eqb name 0 ≡ unnamedStore ws i
+  unfolding storedToNamed
+  store-named {to} {identifier} o e n =
+      let known : placeWord ws to < identifierCount ws = p .place to (o .named .0) in
+      rw (o .is, place-at ws to 0 (o .named .0), named-at ws (placeWord ws to) 0 known, n, e)
 
--- the test of the code, taken apart
-unnamed-true : (code named : ℕ) → unnamed (eqb code 2) named ≡ true → (code ≡ 2) × (named ≡ 0)
-unnamed-true code named h = by (eqb code 2) refl h
-  where
-    by : (y : Bool) → eqb code 2 ≡ y → unnamed y named ≡ true → (code ≡ 2) × (named ≡ 0)
-    by true e g = (eqb-true code 2 e, eqb-true named 0 g)
-    by false e g = let z : _≡_ {A = ℕ} 0 1 = cc in absurd (omega arith)
+  pub loads-none : {code : ℕ} → code ≡ operationCodeAt ws i → (code ≡ 1 → ⊥) → Loaded ws i 65535
+  unfolding instructionOf
+  loads-none c f = record {
+    same = no-number ∙ sym (ap (λ (k : Instruction). loadedBy (k .operation)) (instruction-at ws i inside) ∙ no-load (tableOf ws) _ _ _ (λ e. f (c ∙ e)));
+    there = λ g. absurd (g refl);
+  }
 
-unnamed-false : (code named : ℕ) → unnamed (eqb code 2) named ≡ false → code ≡ 2 → named ≡ 0 → ⊥
-unnamed-false code named h e g =
-    let z : unnamed (eqb code 2) named ≡ true = rw (eq-eqb code 2 e) (rw (eq-eqb named 0 g)) in
-    let y : _≡_ {A = ℕ} 0 1 = cc in
-    omega arith
+pub loads-place : {ws : List ℕ} {i place : ℕ} → Operates ws i (load-local place) → Loaded ws i place
+loads-place {place = place} o = record { same = low-number place (omega (arith, o .named, o .few)) ∙ sym (ap loadedBy (o .is)); there = λ _. o .named }
 
-module _ {ws : List ℕ} (pr : Promise ws) (i : ℕ) (h : i < instructionCount ws) (block visits : ℕ) where
-  name-at : instructionWord ws i 2 ≡ 2 → name (tableOf ws) i (instructionWord ws i 3) 0 0 ≡ identifierWord ws (placeWord ws (instructionWord ws i 3))
-  name-at e =
-      let q = stored-to pr i h e in
-      ap (λ (k : ℕ). getD (tableOf ws .named) k 0) (place-at ws (instructionWord ws i 3) 0 q) ∙ named-at ws (placeWord ws (instructionWord ws i 3)) 0 (place-identifier pr (instructionWord ws i 3) q)
+pub place-identifier : {ws : List ℕ} {place identifier : ℕ} → Promise ws → place < placeCount ws → identifier ≡ placeWord ws place → identifier < identifierCount ws
+place-identifier {place = place} p h e = rw e (p .place place h)
 
-  pub store-code : unnamedStore ws i ≡ true → instructionWord ws i 2 ≡ 2
-  store-code e = unnamed-true (instructionWord ws i 2) (identifierWord ws (placeWord ws (instructionWord ws i 3))) e .0
-
+module _ {ws : List ℕ} {i id lvalue span : ℕ} (head : Instructs ws i id lvalue span) (block visits : ℕ) where
   -- "Last instruction StoreLocal to an unnamed identifier"
-  pub extract-load : unnamedStore ws i ≡ true → extractValueBlockResult (tableOf ws) block i [] visits
-      ≡ record { block = block; place = instructionWord ws i 3; value = LOAD (instructionWord ws i 4); id = instructionWord ws i 0; visits = visits }
-  unfolding extractValueBlockResult last allButLast wrapWithSequence instructionOf
-  extract-load e =
-      let u = unnamed-true (instructionWord ws i 2) (identifierWord ws (placeWord ws (instructionWord ws i 3))) e in
-      let n = name-at (u .0) ∙ u .1 in
-      rw (instruction-at ws i h) (rw (load-value (tableOf ws) i (instructionWord ws i 3) (instructionWord ws i 4) 0 (instructionWord ws i 2) (u .0) n, load-place (tableOf ws) i (instructionWord ws i 3) (instructionWord ws i 4) (instructionWord ws i 1) (instructionWord ws i 2) (u .0) n))
+  pub extract-load : {to value : ℕ} → Operates ws i (store-local to value) → unnamedStore ws i ≡ true
+      → extractValueBlockResult (tableOf ws) block i [] visits ≡ record { block = block; place = to; value = LOAD value; id = id; visits = visits }
+  unfolding extractValueBlockResult last allButLast wrapWithSequence finalValue finalPlace
+  extract-load o e = rw (eqb-true (name ws i) 0 e) (rw (o .is, head .is-id))
 
-  pub extract-plain : unnamedStore ws i ≡ false → extractValueBlockResult (tableOf ws) block i [] visits
-      ≡ record { block = block; place = instructionWord ws i 1; value = PLAIN i; id = instructionWord ws i 0; visits = visits }
-  unfolding extractValueBlockResult last allButLast wrapWithSequence instructionOf
+  pub extract-plain : unnamedStore ws i ≡ false
+      → extractValueBlockResult (tableOf ws) block i [] visits ≡ record { block = block; place = lvalue; value = PLAIN i; id = id; visits = visits }
+  unfolding extractValueBlockResult last allButLast wrapWithSequence
   extract-plain e =
-      let u = unnamed-false (instructionWord ws i 2) (identifierWord ws (placeWord ws (instructionWord ws i 3))) e in
-      let f : instructionWord ws i 2 ≡ 2 → name (tableOf ws) i (instructionWord ws i 3) 0 0 ≡ 0 → ⊥ = λ c n. u c (sym (name-at c) ∙ n) in
-      rw (instruction-at ws i h) (rw (plain-value (tableOf ws) i (instructionWord ws i 3) (instructionWord ws i 4) 0 (instructionWord ws i 2) f (few-operations pr i h), plain-place (tableOf ws) i (instructionWord ws i 3) (instructionWord ws i 4) (instructionWord ws i 1) (instructionWord ws i 2) f (few-operations pr i h)))
-
--- the place that an instruction loads
-pub loaded-load : (code p q : ℕ) → code ≡ 1 → loadedBy (operationOf code p q) ≡ some p
-unfolding operationOf
-loaded-load code p q e = rw e
-
-pub loaded-none : (code p q : ℕ) → (code ≡ 1 → ⊥) → loadedBy (operationOf code p q) ≡ none
-unfolding operationOf
-loaded-none zero p q f = refl
-loaded-none (suc zero) p q f = absurd (f refl)
-loaded-none (suc (suc n)) p q f = refl
+      let o : Operation = instructionAt (tableOf ws) i .operation in
+      let f = eqb-false (name ws i) 0 e in
+      rw (plain-value i o (name ws i) f, plain-place (instructionAt (tableOf ws) i .lvalue) o (name ws i) f, head .is-id, head .is-lvalue)
 
 -- ---- several instructions
 
@@ -128,19 +123,37 @@ rows-more : (first : ℕ) {count : ℕ} → (count ≡ 0 → ⊥) → rowsFrom f
 rows-more first {count = zero} f = absurd (f refl)
 rows-more first {count = suc n} f = let e : suc n - 1 ≡ n = omega arith in rw e
 
-module _ (t : Table) (block first count visits : ℕ) where
-  pub extract-some : (code at : ℕ) → (count ≡ 0 → ⊥) → extractOrRefuse t block (rowsFrom first count) visits code at ≡ ok (extractValueBlockResult t block first (rowsFrom (suc first) (count - 1)) visits)
+module _ {ws : List ℕ} {block first count id span : ℕ} (head : Heads ws block first count id span) (ends-in visits : ℕ) where
+  abbrev rows : List ℕ
+  rows = instructionRowsAt (tableOf ws) block
+
+  -- of the first instruction and the others, where there is one
+  abbrev extracted : Result ValueBlockResult
+  extracted = ok (extractValueBlockResult (tableOf ws) ends-in first (rowsFrom (suc first) (count - 1)) visits)
+
+  rows-some : (count ≡ 0 → ⊥) → rows ≡ first ∷ rowsFrom (suc first) (count - 1)
+  rows-some f = head-rows head ∙ rows-more first f
+
+  rows-none : count ≡ 0 → rows ≡ []
+  rows-none e = head-rows head ∙ ap (rowsFrom first) e
+
+  pub extract-some : (code at : ℕ) → (count ≡ 0 → ⊥) → extractOrRefuse (tableOf ws) ends-in rows visits code at ≡ extracted
   unfolding extractOrRefuse
-  extract-some code at f = rw (rows-more first f)
+  extract-some code at f = rw (rows-some f)
 
-  pub extract-none : (code at : ℕ) → count ≡ 0 → extractOrRefuse t block (rowsFrom first count) visits code at ≡ refused code at visits
+  pub extract-none : (code at : ℕ) → count ≡ 0 → extractOrRefuse (tableOf ws) ends-in rows visits code at ≡ refused code at visits
   unfolding extractOrRefuse
-  extract-none code at e = rw e
+  extract-none code at e = rw (rows-none e)
 
-  pub branch-some : (test id : ℕ) → (count ≡ 0 → ⊥) → branchValue t block test id (rowsFrom first count) visits ≡ ok (extractValueBlockResult t block first (rowsFrom (suc first) (count - 1)) visits)
+  pub branch-some : (test number : ℕ) → (count ≡ 0 → ⊥) → branchValue (tableOf ws) ends-in test number rows visits ≡ extracted
   unfolding branchValue
-  branch-some test id f = rw (rows-more first f)
+  branch-some test number f = rw (rows-some f)
 
-  pub branch-none : (test id : ℕ) → count ≡ 0 → branchValue t block test id (rowsFrom first count) visits ≡ ok (record { block = block; place = test; value = LOAD test; id = id; visits = visits })
+  pub branch-none : (test number : ℕ) → count ≡ 0
+      → branchValue (tableOf ws) ends-in test number rows visits ≡ ok (record { block = ends-in; place = test; value = LOAD test; id = number; visits = visits })
   unfolding branchValue
-  branch-none test id e = rw e
+  branch-none test number e = rw (rows-none e)
+
+-- the value of a LOAD that the walk makes
+pub load-ends : {ws : List ℕ} {place : ℕ} → Promise ws → place < placeCount ws → Ends ws (LOAD place) (loads place)
+load-ends {place = place} p h = record { sequences = refl; instructions = refl; loaded = low-number place (omega (arith, p .sized .limited .places)); there = λ _. h }

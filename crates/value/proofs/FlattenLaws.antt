@@ -28,7 +28,8 @@ push-sequenced (PLAIN r) more below = refl
 push-sequenced (LOAD p) more below = refl
 push-sequenced (UNDEF s) more below = refl
 push-sequenced (SEQ is i v) more below =
-    push-appended is (sequencedInstructions v more) below ∙ push-sequenced v more (pushInstructions is below) ∙ ap (pushInstructions more) (sym (push-appended is (sequencedInstructions v no-instructions) below))
+    push-appended is (sequencedInstructions v more) below ∙ push-sequenced v more (pushInstructions is below)
+    ∙ ap (pushInstructions more) (sym (push-appended is (sequencedInstructions v no-instructions) below))
 push-sequenced (LOGICAL o l r) more below = refl
 push-sequenced (COND x y z) more below = refl
 push-sequenced (OPTIONAL f v) more below = refl

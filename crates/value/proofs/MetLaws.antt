@@ -3,11 +3,12 @@
 use mathlib.Core.Path.{_≡_, refl, sym, ap}
 use mathlib.Core.Bool.{Bool, true, false}
 use mathlib.Core.List.{List, [], _∷_}
-use Prim.Native.Nat.{ℕ, zero, suc, _+_, _≤_}
+use Prim.Native.Nat.{ℕ, zero, suc, _+_, _≤_, _<_}
 use native.Mathlib.Omega.{arith}
 use lib.Dec.{eqb}
 use lib.ListN.{length}
 use borrow.Author.Tests.{eq-eqb, ne-eqb, eqb-true, eqb-false}
+use Rattle.table.specs.Words.{placeCount}
 use Rattle.table.specs.Table.{Table, tableOf, rowsFrom}
 use Rattle.definition.specs.Result.{Result, ok, refused, _>>=_, refuseIf}
 use Rattle.definition.specs.Tree.{Row, Value, SEQ, Instructions, no-instructions, countInstructions}
@@ -17,8 +18,9 @@ use Rattle.rows.specs.Stack.{pushValue, pushInstructions, pushInstructionRows}
 use Rattle.rows.proofs.StackLaws.{push-instructions-of}
 use Rattle.table.proofs.BlockLaws.{length-rows}
 use Rattle.value.specs.declared.result.Tally.{Tally}
+use Rattle.value.specs.declared.result.Trailing.{Trailing}
 use Rattle.value.specs.declared.result.ValueResult.{ValueResult}
-use Rattle.value.specs.Met.{refusal, blockResult, okIf, Found, Numbers, Met, InstructionsPut, Wrapped}
+use Rattle.value.specs.Met.{loads, refusal, finished, blockResult, okIf, Fit, Ends, Found, Numbers, Met, RowPut, InstructionsPut, Wrapped}
 
 -- ---- steps
 
@@ -83,6 +85,20 @@ accepted {of = of} {a = a} {r = r} h = by (eqb (r .code) 0) refl (h .same)
     by true e q = eqb-true (r .code) 0 e
     by false e q = let z : _≡_ {A = ℕ} 0 1 = cc in absurd (omega arith)
 
+-- ---- a value that is one row
+
+pub one-row : {ws b b′ : List ℕ} {start tally : Tally} {m block place id loaded : ℕ} {t : Trailing} {r : ValueResult} {v : Row}
+    (value : Value) → ((stack : List Row) → pushValue value stack ≡ v ∷ stack)
+    → Fit ws start (suc m) block → place < placeCount ws → Ends ws value (loads loaded) → RowPut b start v b′ tally → t ≡ loads loaded → r ≡ finished block place id tally t
+    → Met ws blockResult (ok (record { block = block; place = place; value = value; id = id; visits = start .visits })) start (suc m) b r b′
+one-row value pushes fit there ends put et er =
+    rw (er, et, ← (put .visits)) (record {
+      value = value;
+      same = refl;
+      found = λ _. record { held = λ stack h. rw (pushes stack) (put .kept stack h); block = fit .at; place = there; ends = ends; more = omega (arith, put .rows) };
+      numbers = omega (arith, put .rows, put .visits, fit .visits);
+    })
+
 -- ---- values made of values
 
 count-of : (t : Table) (rows : List ℕ) (more : Instructions) → countInstructions (instructionsOf t rows more) ≡ length rows + countInstructions more
@@ -123,7 +139,8 @@ pub found-wrap : {ws : List ℕ} {start x : Tally} {value : Value} {b b₁ b₂ 
 unfolding wrapWithSequence
 found-wrap {x = x} first zero i f w =
     let e = w .none refl in
-    rw (e .0, e .1) (record { held = λ stack h. f .held stack (unfold pushInstructionRows in (i .kept stack h)); block = f .block; place = f .place; ends = f .ends; more = omega (arith, f .more, i .more) })
+    rw (e .0, e .1)
+    (record { held = λ stack h. f .held stack (unfold pushInstructionRows in (i .kept stack h)); block = f .block; place = f .place; ends = f .ends; more = omega (arith, f .more, i .more) })
 found-wrap {ws} {x = x} first (suc n) i f w =
     found-seq {x = x} (instructionsOf (tableOf ws) (rowsFrom first (suc n)) no-instructions) (suc n) (omega (arith, count-rows (tableOf ws) first (suc n) no-instructions)) (λ z. omega arith)
     (λ stack h. rw (push-instructions-of (tableOf ws) (rowsFrom first (suc n)) no-instructions stack) (unfold pushValue in (i .kept stack h)))

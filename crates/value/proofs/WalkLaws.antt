@@ -3,19 +3,23 @@ use mathlib.Core.Path.{_≡_, refl, sym, ap, _∙_}
 use mathlib.Core.Bool.{Bool, true, false, _&&_}
 use mathlib.Core.List.{List, []}
 use mathlib.Core.Option.{Option, none, some}
-use Prim.Native.Nat.{ℕ, zero, suc, _+_, _-_, _<_}
+use Prim.Native.Nat.{ℕ, zero, suc, _+_, _-_, _≤_, _<_}
 use native.Mathlib.Numerals.{add-one}
 use native.Mathlib.Omega.{arith}
 use lib.Dec.{eqb, leb}
 use borrow.Author.Tests.{eq-eqb, ne-eqb, eqb-true, lt-leb}
-use Rattle.table.specs.Words.{blockCount, blockWord, largest}
+use Rattle.table.specs.Words.{blockCount, codeAt, largest}
 use Rattle.table.specs.Table.{Table, Block, Terminal, absent, unreachable, throw, return, goto, if, branch, switch, do-while, while, for, for-of, for-in, logical, ternary, optional, label, sequence, maybe-throw, try, scope, tableOf, terminalOf, terminalAt, blockAt, instructionRowsAt, rowsFrom, codeOf, isAbsent, isGoto, unlessNone}
-use Rattle.table.specs.Promise.{Promise}
-use Rattle.table.proofs.BlockLaws.{end-at, id-at, span-at, rows-at, code-at}
+use Rattle.table.specs.Promise.{Promise, Ends, Heads}
+use Rattle.table.proofs.BlockLaws.{end-by, code-at, low-number}
+use Rattle.table.proofs.ColumnLaws.{head-rows}
 use Rattle.definition.specs.Result.{Result, ok, refused, _>>=_, refuseIf}
-use Rattle.definition.specs.Value.{ValueBlockResult, ValueTerminalResult, VisitValueBlock, visitValueBlock, visitValueBlockAt, visitValueBlockTerminal, thenFallthrough, beginVisit, extractOrRefuse, branchValue, maybeThrowValue, isEmpty, isEmptyGoto, isFallthrough, Ways, branchWays, testBlockEnded}
+use Rattle.definition.specs.Value.{ValueBlockResult, ValueTerminalResult, TestBlockResult, VisitValueBlock, visitValueBlock, visitValueBlockAt, visitValueBlockTerminal, thenFallthrough, beginVisit, extractOrRefuse, branchValue, maybeThrowValue, isEmpty, isEmptyGoto, isFallthrough, Ways, branchWays, testBlockEnded}
+use Rattle.value.specs.declared.result.Tally.{Tally}
+use Rattle.value.specs.declared.result.ValueResult.{ValueResult}
+use Rattle.value.specs.Met.{blockResult, Fit, Met}
 use Rattle.value.specs.Outcome.{visit, blockOutcome, terminalOutcome}
-use Rattle.value.proofs.MetLaws.{wrap, unless-on, unless-off}
+use Rattle.value.proofs.MetLaws.{wrap, unless-on, unless-off, defined, moved}
 
 -- ---- a visit
 
@@ -43,49 +47,83 @@ this-is fallthrough block h = by (eqb fallthrough largest) refl
     by true e = sym (ne-eqb fallthrough block (λ q. omega (arith, eqb-true fallthrough largest e)))
     by false e = refl
 
-module _ {ws : List ℕ} (p : Promise ws) (levels block fallthrough span visits : ℕ) (h : block < blockCount ws) (small : block < 65535) where
+-- the tally once the visit has begun
+abbrev pub begunTally : Tally → Tally
+begunTally tally = record { rows = tally .rows; visits = tally .visits + 1 }
+
+module _ {ws : List ℕ} {tally : Tally} {block : ℕ} (fit : Fit ws tally 0 block) (levels fallthrough span : ℕ) where
   abbrev t : Table
   t = tableOf ws
 
-  missing-at : isAbsent (terminalAt t block) ≡ eqb (blockWord ws block 2) 0
-  missing-at = ap (λ (k : ℕ). eqb k 0) (code-at ws block p h)
+  abbrev visits : ℕ
+  visits = tally .visits
+
+  abbrev outcome : Result ValueBlockResult
+  outcome = visit ws levels block (unlessNone fallthrough) span visits
+
+  missing-at : isAbsent (terminalAt t block) ≡ eqb (codeAt ws block) 0
+  missing-at = ap (λ (k : ℕ). eqb k 0) (code-at ws block (fit .promise) (fit .at))
 
   -- "Order at a visit: 30, 31, 10, then 11 or 23"
-  pub visit-30 : levels ≡ 0 → visit ws levels block (unlessNone fallthrough) span visits ≡ refused 30 block visits
+  pub visit-30 : levels ≡ 0 → outcome ≡ refused 30 block visits
   unfolding visitValueBlock
   visit-30 e = rw e
 
   module _ (more : levels ≡ 0 → ⊥) where
-    pub visit-31 : visits ≡ 8192 → visit ws levels block (unlessNone fallthrough) span visits ≡ refused 31 block visits
+    begin : (begins : Result ℕ) → beginVisit t block visits ≡ begins → outcome ≡ begun t (visit ws (levels - 1)) block (unlessNone fallthrough) span begins
+    begin begins e = visit-more t more block (unlessNone fallthrough) span visits ∙ ap (begun t (visit ws (levels - 1)) block (unlessNone fallthrough) span) e
+
+    pub visit-31 : visits ≡ 8192 → outcome ≡ refused 31 block visits
     unfolding _>>=_ refuseIf
-    visit-31 e = visit-more t more block (unlessNone fallthrough) span visits
-        ∙ ap (begun t (visit ws (levels - 1)) block (unlessNone fallthrough) span) (begin-by t block visits true (isAbsent (terminalAt t block)) (rw e) refl)
+    visit-31 e = begin _ (begin-by t block visits true (isAbsent (terminalAt t block)) (rw e) refl)
 
-    module _ (few : visits < 8192) where
-      begins : (missing : Bool) → isAbsent (terminalAt t block) ≡ missing → visit ws levels block (unlessNone fallthrough) span visits
-          ≡ begun t (visit ws (levels - 1)) block (unlessNone fallthrough) span (refuseIf missing 10 block (suc visits) >>= λ _. ok (suc visits))
+    module _ (few : visits ≡ 8192 → ⊥) {code : ℕ} (known : code ≡ codeAt ws block) where
+      begins : (missing : Bool) → eqb (codeAt ws block) 0 ≡ missing
+          → outcome ≡ begun t (visit ws (levels - 1)) block (unlessNone fallthrough) span (refuseIf missing 10 block (suc visits) >>= λ _. ok (suc visits))
       unfolding _>>=_ refuseIf
-      begins missing e = visit-more t more block (unlessNone fallthrough) span visits
-          ∙ ap (begun t (visit ws (levels - 1)) block (unlessNone fallthrough) span) (begin-by t block visits false missing (lt-leb 8192 visits few) e)
+      begins missing e = begin _ (begin-by t block visits false missing (lt-leb 8192 visits (omega (arith, fit .visits))) (missing-at ∙ e))
 
-      pub visit-10 : blockWord ws block 2 ≡ 0 → visit ws levels block (unlessNone fallthrough) span visits ≡ refused 10 block (visits + 1)
+      pub visit-10 : code ≡ 0 → outcome ≡ refused 10 block (visits + 1)
       unfolding _>>=_ refuseIf
-      visit-10 e = rw (add-one visits) (begins true (missing-at ∙ eq-eqb (blockWord ws block 2) 0 e))
+      visit-10 e = rw (add-one visits) (begins true (eq-eqb (codeAt ws block) 0 (sym known ∙ e)))
 
-      module _ (there : blockWord ws block 2 ≡ 0 → ⊥) where
-        reaches : (this : Bool) → eqb fallthrough block ≡ this → visit ws levels block (unlessNone fallthrough) span visits
-            ≡ (refuseIf this 23 block (suc visits) >>= λ _. visitValueBlockAt t (visit ws (levels - 1)) (terminalAt t block) block (blockAt t block) (unlessNone fallthrough) span (suc visits))
-        unfolding _>>=_ refuseIf
-        reaches this e = begins false (missing-at ∙ ne-eqb (blockWord ws block 2) 0 there)
-            ∙ ap (λ (y : Bool). refuseIf y 23 block (suc visits) >>= λ _. visitValueBlockAt t (visit ws (levels - 1)) (terminalAt t block) block (blockAt t block) (unlessNone fallthrough) span (suc visits)) (this-is fallthrough block small ∙ e)
+      module _ (there : code ≡ 0 → ⊥) where
+        -- what the visit gives once it has begun, and the fallthrough is not reached
+        at-end : Result ValueBlockResult
+        at-end = visitValueBlockAt t (visit ws (levels - 1)) (terminalAt t block) block (blockAt t block) (unlessNone fallthrough) span (suc visits)
 
-        pub visit-23 : block ≡ fallthrough → visit ws levels block (unlessNone fallthrough) span visits ≡ refused 23 block (visits + 1)
+        reaches : (this : Bool) → eqb fallthrough block ≡ this → outcome ≡ (refuseIf this 23 block (suc visits) >>= λ _. at-end)
+        unfolding _>>=_ refuseIf at-end
+        reaches this e =
+            let small : block < 65535 = omega (arith, fit .at, fit .promise .sized .limited .blocks) in
+            begins false (ne-eqb (codeAt ws block) 0 (λ q. there (known ∙ q))) ∙ ap (λ (y : Bool). refuseIf y 23 block (suc visits) >>= λ _. at-end) (this-is fallthrough block small ∙ e)
+
+        pub visit-23 : block ≡ fallthrough → outcome ≡ refused 23 block (visits + 1)
         unfolding _>>=_ refuseIf
         visit-23 e = rw (add-one visits) (reaches true (eq-eqb fallthrough block (sym e)))
 
-        pub visit-on : (block ≡ fallthrough → ⊥) → visit ws levels block (unlessNone fallthrough) span visits ≡ blockOutcome ws (levels - 1) block fallthrough span (visits + 1)
-        unfolding _>>=_ refuseIf
+        pub visit-on : (block ≡ fallthrough → ⊥) → outcome ≡ blockOutcome ws (levels - 1) block fallthrough span (visits + 1)
+        unfolding _>>=_ refuseIf at-end
         visit-on f = rw (add-one visits) (reaches false (ne-eqb fallthrough block (λ e. f (sym e))))
+
+-- the visit has begun, and its fallthrough is not reached: the value is what the block's end gives
+pub visit-begun : {ws : List ℕ} {tally : Tally} {block code n : ℕ} {b b′ : List ℕ} {r : ValueResult} (fit : Fit ws tally 0 block) (levels fallthrough span : ℕ)
+    → (levels ≡ 0 → ⊥) → (tally .visits ≡ 8192 → ⊥) → code ≡ codeAt ws block → (code ≡ 0 → ⊥) → (block ≡ fallthrough → ⊥)
+    → Met ws blockResult (blockOutcome ws (levels - 1) block fallthrough span (tally .visits + 1)) (begunTally tally) n b r b′ → n ≤ 8200
+    → Met ws blockResult (visit ws levels block (unlessNone fallthrough) span (tally .visits)) tally 0 b r b′
+visit-begun fit levels fallthrough span more few known there passed met most =
+    defined (visit-on fit levels fallthrough span more few known there passed) (moved met refl (omega (arith, met .numbers, most)))
+
+-- neither absent nor one of the three ends that a value block treats by themselves
+pub record OtherEnd (code : ℕ) : Type 0 where
+  pub not-0 : code ≡ 0 → ⊥
+  pub not-4 : code ≡ 4 → ⊥
+  pub not-6 : code ≡ 6 → ⊥
+  pub not-18 : code ≡ 18 → ⊥
+
+-- a block is never none
+pub some-block : (ws : List ℕ) {block : ℕ} → block < blockCount ws → blockCount ws ≤ 1024 → unlessNone block ≡ some block
+some-block ws {block} h few = low-number block (omega arith)
 
 -- ---- by the block's code
 
@@ -115,7 +153,8 @@ other-end t v (maybe-throw x) n k ft s w f g e = absurd (e refl)
 other-end t v (try x y z a) n k ft s w f g e = refl
 other-end t v (scope x y z a) n k ft s w f g e = refl
 
-no-value : (t : Table) (deeper : VisitValueBlock) (m : Terminal) (id span visits at : ℕ) → (12 < codeOf m → codeOf m < 19 → ⊥) → visitValueBlockTerminal t deeper m id span visits at ≡ refused 27 at visits
+no-value : (t : Table) (deeper : VisitValueBlock) (m : Terminal) (id span visits at : ℕ) → (12 < codeOf m → codeOf m < 19 → ⊥)
+    → visitValueBlockTerminal t deeper m id span visits at ≡ refused 27 at visits
 unfolding visitValueBlockTerminal
 no-value t v absent i s w a f = refl
 no-value t v unreachable i s w a f = refl
@@ -162,133 +201,108 @@ no-ways (maybe-throw x) f = refl
 no-ways (try x y z u) f = refl
 no-ways (scope x y z u) f = refl
 
-module _ {ws : List ℕ} (p : Promise ws) (levels block : ℕ) (h : block < blockCount ws) where
-  -- the block's column
-  abbrev column : ℕ → ℕ
-  column k = blockWord ws block k
-
-  end-is : {code : ℕ} → column 2 ≡ code → terminalAt (tableOf ws) block ≡ terminalOf code (column 3) (column 4) (column 5) (column 6) (column 7)
-  end-is e = end-at ws block h ∙ ap (λ (k : ℕ). terminalOf k (column 3) (column 4) (column 5) (column 6) (column 7)) e
+module _ (ws : List ℕ) (block levels : ℕ) where
+  abbrev table : Table
+  table = tableOf ws
 
   module _ (fallthrough span visits : ℕ) where
     abbrev by-end : Terminal → Result ValueBlockResult
-    by-end m = visitValueBlockAt (tableOf ws) (visit ws levels) m block (blockAt (tableOf ws) block) (unlessNone fallthrough) span visits
+    by-end m = visitValueBlockAt table (visit ws levels) m block (blockAt table block) (unlessNone fallthrough) span visits
 
-    pub at-goto : column 2 ≡ 4 → blockOutcome ws levels block fallthrough span visits ≡ extractOrRefuse (tableOf ws) block (instructionRowsAt (tableOf ws) block) visits 24 block
+    abbrev ends-so : Result ValueBlockResult
+    ends-so = blockOutcome ws levels block fallthrough span visits
+
+    pub at-goto : block < blockCount ws → codeAt ws block ≡ 4 → ends-so ≡ extractOrRefuse table block (instructionRowsAt table block) visits 24 block
     unfolding visitValueBlockAt terminalOf
-    at-goto e = ap by-end (end-is e)
+    at-goto h e = ap by-end (end-by ws block h 4 e)
 
-    pub at-branch : column 2 ≡ 6 → blockOutcome ws levels block fallthrough span visits ≡ branchValue (tableOf ws) block (column 3) (column 8) (instructionRowsAt (tableOf ws) block) visits
-    unfolding visitValueBlockAt terminalOf
-    at-branch e = ap by-end (end-is e) ∙ ap (λ (i : ℕ). branchValue (tableOf ws) block (column 3) i (instructionRowsAt (tableOf ws) block) visits) (id-at ws block h)
+    pub at-branch : {test consequent alternate : ℕ} → Ends ws block (branch test consequent alternate)
+        → ends-so ≡ branchValue table block test (blockAt table block .id) (instructionRowsAt table block) visits
+    unfolding visitValueBlockAt
+    at-branch ends = ap by-end (ends .is)
 
-    pub at-maybe-throw : column 2 ≡ 18 → blockOutcome ws levels block fallthrough span visits
-        ≡ (refuseIf (isAbsent (terminalAt (tableOf ws) (column 3))) 10 (column 3) visits >>= λ _.
-        maybeThrowValue (tableOf ws) (visit ws levels) block (column 3) (instructionRowsAt (tableOf ws) block) (unlessNone fallthrough) span visits (isEmptyGoto (blockAt (tableOf ws) (column 3))))
-    unfolding visitValueBlockAt terminalOf
-    at-maybe-throw e = ap by-end (end-is e)
+    pub at-other : {code : ℕ} → Promise ws → block < blockCount ws → code ≡ codeAt ws block → OtherEnd code
+        → ends-so ≡ thenFallthrough table (visit ws levels) (blockAt table block) span (terminalOutcome ws levels block visits)
+    at-other p h known other =
+        let c = known ∙ sym (code-at ws block p h) in
+        other-end table (visit ws levels) (terminalAt table block) block (blockAt table block) (unlessNone fallthrough) span visits
+        (λ e. other .not-4 (c ∙ e)) (λ e. other .not-6 (c ∙ e)) (λ e. other .not-18 (c ∙ e))
 
-    pub at-other : (column 2 ≡ 4 → ⊥) → (column 2 ≡ 6 → ⊥) → (column 2 ≡ 18 → ⊥)
-        → blockOutcome ws levels block fallthrough span visits ≡ thenFallthrough (tableOf ws) (visit ws levels) (blockAt (tableOf ws) block) span (terminalOutcome ws levels block visits)
-    at-other f g e =
-        let c = sym (code-at ws block p h) in
-        other-end (tableOf ws) (visit ws levels) (terminalAt (tableOf ws) block) block (blockAt (tableOf ws) block) (unlessNone fallthrough) span visits (λ q. f (c ∙ q)) (λ q. g (c ∙ q)) (λ q. e (c ∙ q))
+    -- MaybeThrow, by its continuation. "That continuation is looked up first, before any visit: 10 if missing."
+    module _ {next : ℕ} (ends : Ends ws block (maybe-throw next)) (p : Promise ws) {code : ℕ} (known : code ≡ codeAt ws next) where
+      missing-is : (missing : Bool) → eqb code 0 ≡ missing → isAbsent (terminalAt table next) ≡ missing
+      missing-is missing e = ap (λ (k : ℕ). eqb k 0) (code-at ws next p (ends .named) ∙ sym known) ∙ e
 
+      pub maybe-throw-missing : code ≡ 0 → ends-so ≡ refused 10 next visits
+      unfolding visitValueBlockAt
+      maybe-throw-missing e = ap by-end (ends .is) ∙ unless-on _ 10 next visits _ (missing-is true (eq-eqb code 0 e))
+
+      module _ (there : code ≡ 0 → ⊥) {empty : Bool} (asked : empty ≡ isEmptyGoto (blockAt table next)) where
+        goes-on : (y : Bool) → empty ≡ y → ends-so ≡ maybeThrowValue table (visit ws levels) block next (instructionRowsAt table block) (unlessNone fallthrough) span visits y
+        unfolding visitValueBlockAt
+        goes-on y e = ap by-end (ends .is) ∙ unless-off _ 10 next visits _ (missing-is false (ne-eqb code 0 there))
+            ∙ ap (maybeThrowValue table (visit ws levels) block next (instructionRowsAt table block) (unlessNone fallthrough) span visits) (sym asked ∙ e)
+
+        pub maybe-throw-own : empty ≡ true → ends-so ≡ extractOrRefuse table next (instructionRowsAt table block) visits 28 block
+        unfolding maybeThrowValue
+        maybe-throw-own e = goes-on true e
+
+        pub maybe-throw-visits : {first count id own : ℕ} → Heads ws block first count id own → empty ≡ false
+            → ends-so ≡ (visit ws levels next (unlessNone fallthrough) span visits >>= λ final. ok (wrap ws first count final))
+        unfolding maybeThrowValue
+        maybe-throw-visits head e = goes-on false e
+            ∙ ap (λ (rows : List ℕ). maybeThrowValue table (visit ws levels) block next rows (unlessNone fallthrough) span visits false) (head-rows head)
+
+  -- the value terminal at the end of a block
   module _ (visits : ℕ) where
-    -- the outcome with a terminal, and the block's id and span
     abbrev with-end : Terminal → ℕ → ℕ → Result ValueTerminalResult
-    with-end m id span = visitValueBlockTerminal (tableOf ws) (visit ws levels) m id span visits block
+    with-end m id span = visitValueBlockTerminal table (visit ws levels) m id span visits block
 
-    terminal-is : {code : ℕ} → column 2 ≡ code → terminalOutcome ws levels block visits ≡ with-end (terminalOf code (column 3) (column 4) (column 5) (column 6) (column 7)) (column 8) (column 9)
-    terminal-is {code} e =
-        ap (λ (m : Terminal). with-end m (blockAt (tableOf ws) block .id) (blockAt (tableOf ws) block .span)) (end-is e)
-        ∙ ap (λ (i : ℕ). with-end (terminalOf code (column 3) (column 4) (column 5) (column 6) (column 7)) i (blockAt (tableOf ws) block .span)) (id-at ws block h)
-        ∙ ap (λ (s : ℕ). with-end (terminalOf code (column 3) (column 4) (column 5) (column 6) (column 7)) (column 8) s) (span-at ws block h)
+    pub terminal-by : {e : Terminal} {first count id span : ℕ} → Ends ws block e → Heads ws block first count id span → terminalOutcome ws levels block visits ≡ with-end e id span
+    terminal-by ends head = rw (ends .is, head .is-id, head .is-span)
 
-    pub terminal-logical : column 2 ≡ 13 → terminalOutcome ws levels block visits ≡ visitValueBlockTerminal (tableOf ws) (visit ws levels) (logical (column 3) (column 4) (column 5)) (column 8) (column 9) visits block
-    unfolding terminalOf
-    terminal-logical e = terminal-is e
+    module _ (h : block < blockCount ws) where
+      pub terminal-label : codeAt ws block ≡ 16 → terminalOutcome ws levels block visits ≡ refused 26 block visits
+      unfolding terminalOf visitValueBlockTerminal
+      terminal-label e = ap (λ (m : Terminal). with-end m (blockAt table block .id) (blockAt table block .span)) (end-by ws block h 16 e)
 
-    pub terminal-ternary : column 2 ≡ 14 → terminalOutcome ws levels block visits ≡ visitValueBlockTerminal (tableOf ws) (visit ws levels) (ternary (column 3) (column 4)) (column 8) (column 9) visits block
-    unfolding terminalOf
-    terminal-ternary e = terminal-is e
+      pub terminal-maybe-throw : codeAt ws block ≡ 18 → terminalOutcome ws levels block visits ≡ refused 92 block visits
+      unfolding terminalOf visitValueBlockTerminal
+      terminal-maybe-throw e = ap (λ (m : Terminal). with-end m (blockAt table block .id) (blockAt table block .span)) (end-by ws block h 18 e)
 
-    pub terminal-optional : column 2 ≡ 15 → terminalOutcome ws levels block visits ≡ visitValueBlockTerminal (tableOf ws) (visit ws levels) (optional (column 3) (column 4) (column 5)) (column 8) (column 9) visits block
-    unfolding terminalOf
-    terminal-optional e = terminal-is e
-
-    pub terminal-label : column 2 ≡ 16 → terminalOutcome ws levels block visits ≡ refused 26 block visits
-    unfolding terminalOf visitValueBlockTerminal
-    terminal-label e = terminal-is e
-
-    pub terminal-sequence : column 2 ≡ 17 → terminalOutcome ws levels block visits ≡ visitValueBlockTerminal (tableOf ws) (visit ws levels) (sequence (column 3) (column 4)) (column 8) (column 9) visits block
-    unfolding terminalOf
-    terminal-sequence e = terminal-is e
-
-    pub terminal-maybe-throw : column 2 ≡ 18 → terminalOutcome ws levels block visits ≡ refused 92 block visits
-    unfolding terminalOf visitValueBlockTerminal
-    terminal-maybe-throw e = terminal-is e
-
-    pub terminal-other : (12 < column 2 → column 2 < 19 → ⊥) → terminalOutcome ws levels block visits ≡ refused 27 block visits
-    terminal-other f =
-        let c = code-at ws block p h in
-        no-value (tableOf ws) (visit ws levels) (terminalAt (tableOf ws) block) (blockAt (tableOf ws) block .id) (blockAt (tableOf ws) block .span) visits block (λ a b. f (rw c at a) (rw c at b))
+      pub terminal-other : Promise ws → (12 < codeAt ws block → codeAt ws block < 19 → ⊥) → terminalOutcome ws levels block visits ≡ refused 27 block visits
+      terminal-other p f =
+          let c = code-at ws block p h in
+          no-value table (visit ws levels) (terminalAt table block) (blockAt table block .id) (blockAt table block .span) visits block (λ a b. f (rw c at a) (rw c at b))
 
 -- ---- an empty Goto block
 
-module _ {ws : List ℕ} (p : Promise ws) (block : ℕ) (h : block < blockCount ws) where
-  goto-by : (rows : List ℕ) → instructionRowsAt (tableOf ws) block ≡ rows → isEmptyGoto (blockAt (tableOf ws) block) ≡ isEmpty rows && isGoto (terminalAt (tableOf ws) block)
+module _ {ws : List ℕ} {block first count id span : ℕ} (head : Heads ws block first count id span) where
+  goto-by : (rows : List ℕ) → rowsFrom first count ≡ rows → isEmptyGoto (blockAt (tableOf ws) block) ≡ isEmpty rows && isGoto (terminalAt (tableOf ws) block)
   unfolding isEmptyGoto
-  goto-by rows e = ap (λ (l : List ℕ). isEmpty l && isGoto (terminalAt (tableOf ws) block)) e
+  goto-by rows e = ap (λ (l : List ℕ). isEmpty l && isGoto (terminalAt (tableOf ws) block)) (head-rows head ∙ e)
 
-  pub goto-full : (blockWord ws block 1 ≡ 0 → ⊥) → isEmptyGoto (blockAt (tableOf ws) block) ≡ false
-  goto-full f = goto-by _ (rows-at ws block h) ∙ by (blockWord ws block 0) (blockWord ws block 1) f
+  pub goto-full : (count ≡ 0 → ⊥) → false ≡ isEmptyGoto (blockAt (tableOf ws) block)
+  goto-full f = by first count f ∙ sym (goto-by (rowsFrom first count) refl)
     where
-      by : (first count : ℕ) → (count ≡ 0 → ⊥) → isEmpty (rowsFrom first count) && isGoto (terminalAt (tableOf ws) block) ≡ false
+      by : (first count : ℕ) → (count ≡ 0 → ⊥) → false ≡ isEmpty (rowsFrom first count) && isGoto (terminalAt (tableOf ws) block)
       by first zero g = absurd (g refl)
       by first (suc n) g = refl
 
-  pub goto-empty : blockWord ws block 1 ≡ 0 → isEmptyGoto (blockAt (tableOf ws) block) ≡ eqb (blockWord ws block 2) 4
-  goto-empty e = goto-by [] (rows-at ws block h ∙ ap (rowsFrom (blockWord ws block 0)) e) ∙ ap (λ (k : ℕ). eqb k 4) (code-at ws block p h)
-
--- ---- MaybeThrow, by its continuation
-
-module _ {ws : List ℕ} (p : Promise ws) (levels block fallthrough span visits : ℕ) (h : block < blockCount ws) (e : blockWord ws block 2 ≡ 18) (there : blockWord ws block 3 < blockCount ws) where
-  abbrev next : ℕ
-  next = blockWord ws block 3
-
-  -- "That continuation is looked up first, before any visit: 10 if missing."
-  pub maybe-throw-missing : blockWord ws next 2 ≡ 0 → blockOutcome ws levels block fallthrough span visits ≡ refused 10 next visits
-  maybe-throw-missing z = at-maybe-throw p levels block h fallthrough span visits e
-      ∙ unless-on _ 10 next visits _ (ap (λ (k : ℕ). eqb k 0) (code-at ws next p there) ∙ eq-eqb (blockWord ws next 2) 0 z)
-
-  module _ (found : blockWord ws next 2 ≡ 0 → ⊥) where
-    goes-on : (y : Bool) → isEmptyGoto (blockAt (tableOf ws) next) ≡ y
-        → blockOutcome ws levels block fallthrough span visits
-        ≡ maybeThrowValue (tableOf ws) (visit ws levels) block next (instructionRowsAt (tableOf ws) block) (unlessNone fallthrough) span visits y
-    goes-on y q = at-maybe-throw p levels block h fallthrough span visits e
-        ∙ unless-off _ 10 next visits _ (ap (λ (k : ℕ). eqb k 0) (code-at ws next p there) ∙ ne-eqb (blockWord ws next 2) 0 found)
-        ∙ ap (maybeThrowValue (tableOf ws) (visit ws levels) block next (instructionRowsAt (tableOf ws) block) (unlessNone fallthrough) span visits) q
-
-    pub maybe-throw-own : isEmptyGoto (blockAt (tableOf ws) next) ≡ true
-        → blockOutcome ws levels block fallthrough span visits ≡ extractOrRefuse (tableOf ws) next (instructionRowsAt (tableOf ws) block) visits 28 block
-    unfolding maybeThrowValue
-    maybe-throw-own q = goes-on true q
-
-    pub maybe-throw-visits : isEmptyGoto (blockAt (tableOf ws) next) ≡ false
-        → blockOutcome ws levels block fallthrough span visits
-        ≡ (visit ws levels next (unlessNone fallthrough) span visits >>= λ final. ok (wrap ws (blockWord ws block 0) (blockWord ws block 1) final))
-    unfolding maybeThrowValue
-    maybe-throw-visits q = goes-on false q ∙ ap (λ (rows : List ℕ). maybeThrowValue (tableOf ws) (visit ws levels) block next rows (unlessNone fallthrough) span visits false) (rows-at ws block h)
+  pub goto-empty : {code : ℕ} → Promise ws → block < blockCount ws → count ≡ 0 → code ≡ codeAt ws block → eqb code 4 ≡ isEmptyGoto (blockAt (tableOf ws) block)
+  goto-empty p h e c = ap (λ (k : ℕ). eqb k 4) (c ∙ sym (code-at ws block p h)) ∙ sym (goto-by [] (ap (rowsFrom first) e))
 
 -- ---- a test, by its end
 
-module _ {ws : List ℕ} (p : Promise ws) (test : ValueBlockResult) (at : ℕ) (h : test .block < blockCount ws) where
-  pub ended-branch : blockWord ws (test .block) 2 ≡ 6 → testBlockEnded test (branchWays (terminalAt (tableOf ws) (test .block))) at
-      ≡ ok (record { test = test; ways = record { consequent = blockWord ws (test .block) 4; alternate = blockWord ws (test .block) 5 } })
-  unfolding testBlockEnded terminalOf
-  ended-branch e = ap (λ (m : Terminal). testBlockEnded test (branchWays m) at) (end-is p 0 (test .block) h e)
+module _ (ws : List ℕ) (test : ValueBlockResult) (at : ℕ) where
+  abbrev ended : Result TestBlockResult
+  ended = testBlockEnded test (branchWays (terminalAt (tableOf ws) (test .block))) at
 
-  pub ended-other : (blockWord ws (test .block) 2 ≡ 6 → ⊥) → testBlockEnded test (branchWays (terminalAt (tableOf ws) (test .block))) at ≡ refused 25 at (test .visits)
+  pub ended-branch : {place consequent alternate : ℕ} → Ends ws (test .block) (branch place consequent alternate)
+      → ended ≡ ok (record { test = test; ways = record { consequent = consequent; alternate = alternate } })
   unfolding testBlockEnded
-  ended-other f = ap (λ (w : Option Ways). testBlockEnded test w at) (no-ways (terminalAt (tableOf ws) (test .block)) (λ q. f (sym (code-at ws (test .block) p h) ∙ q)))
+  ended-branch ends = ap (λ (m : Terminal). testBlockEnded test (branchWays m) at) (ends .is)
+
+  pub ended-other : Promise ws → test .block < blockCount ws → (codeAt ws (test .block) ≡ 6 → ⊥) → ended ≡ refused 25 at (test .visits)
+  unfolding testBlockEnded
+  ended-other p h f = ap (λ (w : Option Ways). testBlockEnded test w at) (no-ways (terminalAt (tableOf ws) (test .block)) (λ q. f (sym (code-at ws (test .block) p h) ∙ q)))

@@ -4,18 +4,18 @@ use mathlib.Core.Bool.{Bool, true, false}
 use mathlib.Core.List.{List, _∷_}
 use Prim.Native.Nat.{ℕ, suc, _+_, _*_, _≤_, _<_}
 use lib.Dec.{eqb}
-use Rattle.table.specs.Words.{blockCount, placeCount, blockWord, instructionWord, placeWord, identifierWord, largest}
-use Rattle.table.specs.Table.{tableOf, instructionAt, unlessNone, rowsFrom}
+use Rattle.table.specs.Words.{blockCount, placeCount, largest}
+use Rattle.table.specs.Table.{tableOf, blockAt, instructionAt, unlessNone, rowsFrom}
 use Rattle.table.specs.Promise.{Promise}
 use Rattle.definition.specs.Result.{Result, ok, refused}
 use Rattle.definition.specs.Tree.{Row, row, Value, PLAIN, LOAD, UNDEF, SEQ, LOGICAL, COND, OPTIONAL, countInstructions}
-use Rattle.definition.specs.Value.{ValueBlockResult, ValueTerminalResult, TestBlockResult, innermostValue, loadedPlace, loadedBy, valueBlockResultToSequence}
+use Rattle.definition.specs.Value.{ValueBlockResult, ValueTerminalResult, TestBlockResult, storedToNamed, innermostValue, loadedPlace, loadedBy, valueBlockResultToSequence}
 use Rattle.rows.specs.Rows.{Holds}
 use Rattle.rows.specs.Stack.{pushValue, pushInstructionRows}
 use Rattle.value.specs.declared.result.Tally.{Tally}
 use Rattle.value.specs.declared.result.Trailing.{Trailing}
 use Rattle.value.specs.declared.result.ValueResult.{ValueResult}
-use Rattle.value.specs.declared.walk.ValueTerminal.{ValueTerminal}
+use Rattle.value.specs.declared.walk.TestBlock.{TestBlock}
 
 -- ---- the code's results, and the definition's
 
@@ -33,25 +33,11 @@ finished block place id tally trailing = record { code = 0; at = 0; block = bloc
 abbrev pub blockResult : ValueResult → Value → ValueBlockResult
 blockResult r value = record { block = r .block; place = r .place; value = value; id = r .id; visits = r .tally .visits }
 
-abbrev pub testResult : List ℕ → ValueResult → Value → TestBlockResult
-testResult words r value = record {
-  test = blockResult r value;
-  ways = record { consequent = blockWord words (r .block) 4; alternate = blockWord words (r .block) 5 };
-}
+abbrev pub testResult : (consequent alternate : ℕ) → ValueResult → Value → TestBlockResult
+testResult consequent alternate r value = record { test = blockResult r value; ways = record { consequent = consequent; alternate = alternate } }
 
 abbrev pub terminalResult : ValueResult → Value → ValueTerminalResult
 terminalResult r value = record { value = value; place = r .place; fallthrough = r .block; id = r .id; visits = r .tally .visits }
-
--- the value terminal of the block `at`: its test is that column, and its fallthrough the next
-abbrev pub terminalFrom : List ℕ → (at operator column : ℕ) → ValueTerminal
-terminalFrom words at operator column = record {
-  at = at;
-  operator = operator;
-  test = blockWord words at column;
-  fallthrough = blockWord words at (column + 1);
-  id = blockWord words at 8;
-  span = blockWord words at 9;
-}
 
 abbrev pub okIf : {A : Type 0} → Bool → A → ValueResult → Result A
 okIf true found r = ok found
@@ -69,11 +55,6 @@ pub record Fit (words : List ℕ) (tally : Tally) (spare block : ℕ) : Type 0 w
   pub at : block < blockCount words
   pub visits : tally .visits ≤ 8192
   pub room : tally .rows + spare ≤ 1000000000 + 8200 * tally .visits
-
--- needed at a value terminal: its test and its fallthrough are there, and some rows are to spare
-pub record Ended (words : List ℕ) (tally : Tally) (terminal : ValueTerminal) : Type 0 where
-  pub fit : Fit words tally 4 (terminal .test)
-  pub fallthrough : terminal .fallthrough < blockCount words
 
 -- the SEQ rows that stand at a value's end
 abbrev pub trailingSequences : Value → ℕ
@@ -123,10 +104,16 @@ pub record Met {A : Type 0} (words : List ℕ) (of : ValueResult → Value → A
   pub found : r .code ≡ 0 → Found words start value buffer r buffer′
   pub numbers : Numbers start unpaid r
 
--- a test has its Branch
-pub record TestMet (words : List ℕ) (outcome : Result TestBlockResult) (start : Tally) (buffer : List ℕ) (r : ValueResult) (buffer′ : List ℕ) : Type 0 where
-  pub met : Met words (testResult words) outcome start 0 buffer r buffer′
-  pub branch : r .code ≡ 0 → blockWord words (r .block) 2 ≡ 6
+-- a test block with no Branch at its end, or none that counts
+abbrev pub noBranch : ValueResult → TestBlock
+noBranch test = record { test = test; consequent = 0; alternate = 0; «branch_span» = 0 }
+
+-- a test, with its Branch's ways and span
+pub record TestMet (words : List ℕ) (outcome : Result TestBlockResult) (start : Tally) (buffer : List ℕ) (r : TestBlock) (buffer′ : List ℕ) : Type 0 where
+  pub met : Met words (testResult (r .consequent) (r .alternate)) outcome start 0 buffer (r .test) buffer′
+  pub consequent : r .test .code ≡ 0 → r .consequent < blockCount words
+  pub alternate : r .test .code ≡ 0 → r .alternate < blockCount words
+  pub span : r .test .code ≡ 0 → blockAt (tableOf words) (r .test .block) .span ≡ r .«branch_span»
 
 -- ---- the helpers
 
@@ -165,13 +152,9 @@ pub record Loaded (words : List ℕ) (i place : ℕ) : Type 0 where
   pub same : unlessNone place ≡ loadedBy (instructionAt (tableOf words) i .operation)
   pub there : (place ≡ largest → ⊥) → place < placeCount words
 
--- the last instruction stores to an identifier that is not named
-abbrev pub unnamed : (isStore : Bool) → (named : ℕ) → Bool
-unnamed true named = eqb named 0
-unnamed false named = false
-
+-- whether an instruction stores to an identifier that is not named
 abbrev pub unnamedStore : List ℕ → ℕ → Bool
-unnamedStore words i = unnamed (eqb (instructionWord words i 2) 2) (identifierWord words (placeWord words (instructionWord words i 3)))
+unnamedStore words i = eqb (storedToNamed (tableOf words) (instructionAt (tableOf words) i .operation)) 0
 
 -- value_block_result_to_sequence: needed of a result, as `Found` gives it
 pub record Flattens (words : List ℕ) (result : ValueResult) : Type 0 where

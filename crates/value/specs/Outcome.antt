@@ -1,10 +1,9 @@
 -- The definition's outcomes over the words, as the contracts of the walk cite them.
 use mathlib.Core.List.{List}
-use Prim.Native.Nat.{ℕ}
-use Rattle.table.specs.Table.{tableOf, Terminal, terminalAt, blockAt, unlessNone}
-use Rattle.definition.specs.Result.{Result}
-use Rattle.definition.specs.Value.{ValueBlockResult, ValueTerminalResult, TestBlockResult, VisitValueBlock, visitValueBlock, visitValueBlockAt, visitValueBlockTerminal, visitTestBlock}
-use Rattle.value.specs.declared.walk.ValueTerminal.{ValueTerminal}
+use Prim.Native.Nat.{ℕ, suc}
+use Rattle.table.specs.Table.{tableOf, terminalAt, blockAt, instructionRowsAt, rowsFrom, unlessNone}
+use Rattle.definition.specs.Result.{Result, ok}
+use Rattle.definition.specs.Value.{ValueBlockResult, ValueTerminalResult, TestBlockResult, VisitValueBlock, visitValueBlock, visitValueBlockAt, visitValueBlockTerminal, visitTestBlock, extractValueBlockResult, extractOrRefuse, branchValue, thenFallthrough}
 
 -- the value walk with so many levels of depth left
 abbrev pub visit : List ℕ → (depthLeft : ℕ) → VisitValueBlock
@@ -15,15 +14,26 @@ abbrev pub blockOutcome : List ℕ → (depthLeft block fallthrough span visits 
 blockOutcome words depthLeft block fallthrough span visits =
     visitValueBlockAt (tableOf words) (visit words depthLeft) (terminalAt (tableOf words) block) block (blockAt (tableOf words) block) (unlessNone fallthrough) span visits
 
+-- a block's instructions: the value of the last, with those before it in a sequence; `more` stand after the first
+abbrev pub runOutcome : List ℕ → (block first more visits : ℕ) → Result ValueBlockResult
+runOutcome words block first more visits = ok (extractValueBlockResult (tableOf words) block first (rowsFrom (suc first) more) visits)
+
+-- the same of the block's own instructions, in a value that ends in `endsIn`; refused with the code where there are none
+abbrev pub extractOutcome : List ℕ → (block endsIn code visits : ℕ) → Result ValueBlockResult
+extractOutcome words block endsIn code visits = extractOrRefuse (tableOf words) endsIn (instructionRowsAt (tableOf words) block) visits code block
+
+abbrev pub branchOutcome : List ℕ → (block test visits : ℕ) → Result ValueBlockResult
+branchOutcome words block test visits = branchValue (tableOf words) block test (blockAt (tableOf words) block .id) (instructionRowsAt (tableOf words) block) visits
+
 -- the value terminal at the end of a block
 abbrev pub terminalOutcome : List ℕ → (depthLeft block visits : ℕ) → Result ValueTerminalResult
 terminalOutcome words depthLeft block visits =
     visitValueBlockTerminal (tableOf words) (visit words depthLeft) (terminalAt (tableOf words) block) (blockAt (tableOf words) block .id) (blockAt (tableOf words) block .span) visits block
 
--- the same, of a terminal that is known
-abbrev pub endOutcome : List ℕ → (depthLeft : ℕ) → Terminal → ValueTerminal → (visits : ℕ) → Result ValueTerminalResult
-endOutcome words depthLeft end terminal visits =
-    visitValueBlockTerminal (tableOf words) (visit words depthLeft) end (terminal .id) (terminal .span) visits (terminal .at)
+-- that terminal's value as an instruction, and the value of its fallthrough
+abbrev pub fallthroughOutcome : List ℕ → (depthLeft block span visits : ℕ) → Result ValueBlockResult
+fallthroughOutcome words depthLeft block span visits =
+    thenFallthrough (tableOf words) (visit words depthLeft) (blockAt (tableOf words) block) span (terminalOutcome words depthLeft block visits)
 
 abbrev pub testOutcome : List ℕ → (depthLeft block span visits at : ℕ) → Result TestBlockResult
 testOutcome words depthLeft block span visits at = visitTestBlock (tableOf words) (visit words depthLeft) block span visits at

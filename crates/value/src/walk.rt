@@ -1,32 +1,35 @@
 // The walk: value blocks, test blocks and value terminals call one another, each value visit one deeper.
 // `levels` is how many levels of depth are left, 128 minus the depth: it falls.
-use crate::instructions::branch_value;
-use crate::instructions::extract_or_refuse;
-use crate::instructions::is_empty_goto;
+use crate::extract::branch_value;
+use crate::extract::extract_or_refuse;
+use crate::extract::is_empty_goto;
+use crate::extract::wrap_with_sequence;
 use crate::instructions::put_instructions;
-use crate::instructions::wrap_with_sequence;
 use crate::result::NONE;
 use crate::result::Tally;
 use crate::result::ValueResult;
-use crate::result::found;
-use crate::result::loading;
-use crate::result::put_instr;
-use crate::result::put_row;
-use crate::result::refused;
+use crate::steps::found;
+use crate::steps::loading;
+use crate::steps::put_instr;
+use crate::steps::put_row;
+use crate::steps::refused;
 use rows::COND;
 use rows::LOGICAL;
 use rows::OPTIONAL;
 use rows::SEQ;
-use table::words::block_word;
+use table::columns::block_at;
+use table::columns::code_at;
+use table::terminals::branch_at;
+use table::terminals::logical_at;
+use table::terminals::maybe_throw_at;
+use table::terminals::optional_at;
+use table::terminals::sequence_at;
+use table::terminals::ternary_at;
 ghost use mathlib.Core.Path.{_≡_};
-ghost use mathlib.Core.Option.{some};
-ghost use Prim.Native.Nat.{_+_, _<_};
-ghost use Rattle.table.specs.Words.{blockCount, blockWord};
-ghost use Rattle.table.specs.Promise.{Sized};
-ghost use Rattle.table.specs.Table.{tableOf, blockAt, unlessNone, logical, ternary, optional, sequence};
-ghost use Rattle.definition.specs.Value.{thenFallthrough};
-ghost use Rattle.value.specs.Met.{blockResult, terminalResult, terminalFrom, Fit, Ended, Met, TestMet};
-ghost use Rattle.value.specs.Outcome.{visit, blockOutcome, terminalOutcome, endOutcome, testOutcome};
+ghost use Rattle.table.specs.Words.{codeAt};
+ghost use Rattle.table.specs.Table.{unlessNone};
+ghost use Rattle.value.specs.Met.{blockResult, terminalResult, noBranch, Fit, Met, TestMet};
+ghost use Rattle.value.specs.Outcome.{visit, blockOutcome, terminalOutcome, fallthroughOutcome, testOutcome};
 
 // The value of a block. `fallthrough` must not be reached; NONE if any block may. `span` is the one that was passed down.
 pub fn visit_value_block(
@@ -51,18 +54,21 @@ pub fn visit_value_block(
         rows: tally.rows,
         visits: tally.visits + 1,
     };
-    let code = block_word(words, block, 2);
-    if code == 0 {
-        return refused(10, block, begun);
-    }
-    if block == fallthrough {
-        return refused(23, block, begun);
+    let code = code_at(words, block);
+    if code != 0 {
+        if block == fallthrough {
+            return refused(23, block, begun);
+        }
     }
     match code {
+        0 => refused(10, block, begun),
         4 => extract_or_refuse(words, buffer, begun, block, block, 24),
-        6 => branch_value(words, buffer, begun, block),
+        6 => branch_value(words, buffer, begun, block, branch_at(words, block).test),
         18 => maybe_throw_value(words, buffer, begun, levels - 1, block, fallthrough, span),
-        _ => then_fallthrough(words, buffer, begun, levels - 1, block, span),
+        1 | 2 | 3 | 5 | 7 | 8 | 9 | 10 | 11 | 12 | 13 | 14 | 15 | 16 | 17 | 19 | 20 | 21 => {
+            then_fallthrough(words, buffer, begun, levels - 1, block, span)
+        }
+        _ => refused(10, block, begun),
     }
 }
 
@@ -77,20 +83,18 @@ fn maybe_throw_value(
     span: u32,
 ) -> ValueResult
     requires { ⌜ Fit (now words) tally 8200 block ⌝ }
-    requires { ⌜ blockWord (now words) block 2 ≡ 18 ⌝ }
+    requires { ⌜ codeAt (now words) block ≡ 18 ⌝ }
     ensures { λ r. ⌜ Met (now (words .entry)) blockResult (blockOutcome (now (words .entry)) levels block fallthrough span (tally .visits)) tally 8200 (now (buffer .entry)) r (now (buffer .exit)) ⌝ }
 {
-    let continuation = block_word(words, block, 3);
-    let looked_up = block_word(words, continuation, 2);
-    if looked_up == 0 {
+    let continuation = maybe_throw_at(words, block).continuation;
+    if code_at(words, continuation) == 0 {
         return refused(10, continuation, tally);
     }
     if is_empty_goto(words, continuation) {
         return extract_or_refuse(words, buffer, tally, block, continuation, 28);
     }
-    let first = block_word(words, block, 0);
-    let count = block_word(words, block, 1);
-    let rows = put_instructions(words, buffer, tally.rows, first, count);
+    let head = block_at(words, block);
+    let rows = put_instructions(words, buffer, tally.rows, head.first, head.count);
     let own = Tally {
         rows,
         visits: tally.visits,
@@ -99,7 +103,7 @@ fn maybe_throw_value(
     if value.code != 0 {
         return value;
     }
-    wrap_with_sequence(buffer, count, value)
+    wrap_with_sequence(buffer, head.count, value)
 }
 
 // Any other end is a value terminal: its value becomes an instruction, and the value is that of its fallthrough.
@@ -112,11 +116,10 @@ fn then_fallthrough(
     span: u32,
 ) -> ValueResult
     requires { ⌜ Fit (now words) tally 8200 block ⌝ }
-    ensures { λ r. ⌜ Met (now (words .entry)) blockResult (thenFallthrough (tableOf (now (words .entry))) (visit (now (words .entry)) levels) (blockAt (tableOf (now (words .entry))) block) span (terminalOutcome (now (words .entry)) levels block (tally .visits))) tally 8200 (now (buffer .entry)) r (now (buffer .exit)) ⌝ }
+    ensures { λ r. ⌜ Met (now (words .entry)) blockResult (fallthroughOutcome (now (words .entry)) levels block span (tally .visits)) tally 8200 (now (buffer .entry)) r (now (buffer .exit)) ⌝ }
 {
-    let first = block_word(words, block, 0);
-    let count = block_word(words, block, 1);
-    let rows = put_instructions(words, buffer, tally.rows, first, count);
+    let head = block_at(words, block);
+    let rows = put_instructions(words, buffer, tally.rows, head.first, head.count);
     let own = Tally {
         rows,
         visits: tally.visits,
@@ -130,35 +133,7 @@ fn then_fallthrough(
     if value.code != 0 {
         return value;
     }
-    wrap_with_sequence(buffer, count + 1, value)
-}
-
-// A Logical, Ternary, Optional or Sequence at the end of the block `at`, with that block's id and span. `operator` is Logical's operator or
-// Optional's flag; `test` is Sequence's block.
-pub struct ValueTerminal {
-    pub at: u32,
-    pub operator: u32,
-    pub test: u32,
-    pub fallthrough: u32,
-    pub id: u32,
-    pub span: u32,
-}
-
-// The value terminal of a block: its test is that column, and its fallthrough the next.
-fn value_terminal(words: &[u32], at: u32, operator: u32, column: u32) -> ValueTerminal
-    requires { ⌜ Sized (now words) ⌝ }
-    requires { ⌜ at < blockCount (now words) ⌝ }
-    requires { ⌜ column < 9 ⌝ }
-    ensures { λ r. ⌜ r ≡ terminalFrom (now (words .entry)) at operator column ⌝ }
-{
-    ValueTerminal {
-        at,
-        operator,
-        test: block_word(words, at, column),
-        fallthrough: block_word(words, at, column + 1),
-        id: block_word(words, at, 8),
-        span: block_word(words, at, 9),
-    }
+    wrap_with_sequence(buffer, head.count + 1, value)
 }
 
 // The value of the value terminal at the end of a block.
@@ -172,74 +147,67 @@ pub fn visit_value_block_terminal(
     requires { ⌜ Fit (now words) tally 4 block ⌝ }
     ensures { λ r. ⌜ Met (now (words .entry)) terminalResult (terminalOutcome (now (words .entry)) levels block (tally .visits)) tally 3 (now (buffer .entry)) r (now (buffer .exit)) ⌝ }
 {
-    let code = block_word(words, block, 2);
-    let with_operator = value_terminal(words, block, block_word(words, block, 3), 4);
-    let without = value_terminal(words, block, 0, 3);
-    match code {
-        13 => logical_value(words, buffer, tally, levels, with_operator),
-        14 => ternary_value(words, buffer, tally, levels, without),
-        15 => optional_value(words, buffer, tally, levels, with_operator),
-        16 => refused(26, block, tally),
-        17 => sequence_value(words, buffer, tally, levels, without),
+    match code_at(words, block) {
+        13 => logical_value(words, buffer, tally, levels, block),
+        14 => ternary_value(words, buffer, tally, levels, block),
+        15 => optional_value(words, buffer, tally, levels, block),
+        16 => refused(26, block, tally), // Label
+        17 => sequence_value(words, buffer, tally, levels, block),
         // the Rust's message that never occurs: visit_value_block does not come here with a MaybeThrow
         18 => refused(92, block, tally),
+        0 | 1 | 2 | 3 | 4 | 5 | 6 | 7 | 8 | 9 | 10 | 11 | 12 | 19 | 20 | 21 => {
+            refused(27, block, tally)
+        }
         _ => refused(27, block, tally),
     }
 }
 
-// The value of the test block, which must end in a Branch; the result's block is that Branch's.
+// A test block's value, and what the Branch at its end has: its two ways, and its span. (Where the value is refused they are 0.)
+pub struct TestBlock {
+    pub test: ValueResult,
+    pub consequent: u32,
+    pub alternate: u32,
+    pub branch_span: u32,
+}
+
+fn no_branch(test: ValueResult) -> TestBlock
+    ensures { λ r. ⌜ r ≡ noBranch test ⌝ }
+{
+    TestBlock {
+        test,
+        consequent: 0,
+        alternate: 0,
+        branch_span: 0,
+    }
+}
+
+// The value of the test block of the terminal of `at`. It must end in a Branch.
 fn visit_test_block(
     words: &[u32],
     buffer: &mut [u32],
     tally: Tally,
     levels: u32,
-    terminal: ValueTerminal,
-) -> ValueResult
-    requires { ⌜ Ended (now words) tally terminal ⌝ }
-    ensures { λ r. ⌜ TestMet (now (words .entry)) (testOutcome (now (words .entry)) levels (terminal .test) (terminal .span) (tally .visits) (terminal .at)) tally (now (buffer .entry)) r (now (buffer .exit)) ⌝ }
-{
-    let test = visit_value_block(
-        words,
-        buffer,
-        tally,
-        levels,
-        terminal.test,
-        NONE,
-        terminal.span,
-    );
-    if test.code != 0 {
-        return test;
-    }
-    let ended_by = block_word(words, test.block, 2);
-    if ended_by != 6 {
-        return refused(25, terminal.at, test.tally);
-    }
-    test
-}
-
-// A way of the test's Branch, or Sequence's block: it must not reach the terminal's fallthrough.
-fn visit_way(
-    words: &[u32],
-    buffer: &mut [u32],
-    tally: Tally,
-    levels: u32,
     block: u32,
-    terminal: ValueTerminal,
-) -> ValueResult
+    span: u32,
+    at: u32,
+) -> TestBlock
     requires { ⌜ Fit (now words) tally 0 block ⌝ }
-    requires { ⌜ terminal .fallthrough < blockCount (now words) ⌝ }
-    ensures { λ r. ⌜ Met (now (words .entry)) blockResult (visit (now (words .entry)) levels block (some (terminal .fallthrough)) (terminal .span) (tally .visits)) tally 0 (now (buffer .entry)) r (now (buffer .exit)) ⌝ }
+    ensures { λ r. ⌜ TestMet (now (words .entry)) (testOutcome (now (words .entry)) levels block span (tally .visits) at) tally (now (buffer .entry)) r (now (buffer .exit)) ⌝ }
 {
-    let fallthrough = terminal.fallthrough;
-    visit_value_block(
-        words,
-        buffer,
-        tally,
-        levels,
-        block,
-        fallthrough,
-        terminal.span,
-    )
+    let test = visit_value_block(words, buffer, tally, levels, block, NONE, span);
+    if test.code != 0 {
+        return no_branch(test);
+    }
+    if code_at(words, test.block) != 6 {
+        return no_branch(refused(25, at, test.tally));
+    }
+    let branch = branch_at(words, test.block);
+    TestBlock {
+        test,
+        consequent: branch.consequent,
+        alternate: branch.alternate,
+        branch_span: block_at(words, test.block).span,
+    }
 }
 
 // Logical: the test as an instruction and the consequent make the left side, the alternate the right. The place is the consequent's.
@@ -248,24 +216,50 @@ fn logical_value(
     buffer: &mut [u32],
     tally: Tally,
     levels: u32,
-    terminal: ValueTerminal,
+    block: u32,
 ) -> ValueResult
-    requires { ⌜ Ended (now words) tally terminal ⌝ }
-    ensures { λ r. ⌜ Met (now (words .entry)) terminalResult (endOutcome (now (words .entry)) levels (logical (terminal .operator) (terminal .test) (terminal .fallthrough)) terminal (tally .visits)) tally 3 (now (buffer .entry)) r (now (buffer .exit)) ⌝ }
+    requires { ⌜ Fit (now words) tally 4 block ⌝ }
+    requires { ⌜ codeAt (now words) block ≡ 13 ⌝ }
+    ensures { λ r. ⌜ Met (now (words .entry)) terminalResult (terminalOutcome (now (words .entry)) levels block (tally .visits)) tally 3 (now (buffer .entry)) r (now (buffer .exit)) ⌝ }
 {
-    let test = visit_test_block(words, buffer, tally, levels, terminal);
+    let terminal = logical_at(words, block);
+    let head = block_at(words, block);
+    let tested = visit_test_block(
+        words,
+        buffer,
+        tally,
+        levels,
+        terminal.test,
+        head.span,
+        block,
+    );
+    let test = tested.test;
     if test.code != 0 {
         return test;
     }
-    let consequent = block_word(words, test.block, 4);
-    let alternate = block_word(words, test.block, 5);
-    let instr = put_instr(buffer, test.tally, test.id, test.place, terminal.span);
-    let left = visit_way(words, buffer, instr, levels, consequent, terminal);
+    let instr = put_instr(buffer, test.tally, test.id, test.place, head.span);
+    let left = visit_value_block(
+        words,
+        buffer,
+        instr,
+        levels,
+        tested.consequent,
+        terminal.fallthrough,
+        head.span,
+    );
     if left.code != 0 {
         return left;
     }
     let seq = put_row(buffer, left.tally, SEQ, 1, left.id);
-    let right = visit_way(words, buffer, seq, levels, alternate, terminal);
+    let right = visit_value_block(
+        words,
+        buffer,
+        seq,
+        levels,
+        tested.alternate,
+        terminal.fallthrough,
+        head.span,
+    );
     if right.code != 0 {
         return right;
     }
@@ -273,7 +267,7 @@ fn logical_value(
     found(
         terminal.fallthrough,
         left.place,
-        terminal.id,
+        head.id,
         logical,
         loading(NONE),
     )
@@ -285,22 +279,48 @@ fn ternary_value(
     buffer: &mut [u32],
     tally: Tally,
     levels: u32,
-    terminal: ValueTerminal,
+    block: u32,
 ) -> ValueResult
-    requires { ⌜ Ended (now words) tally terminal ⌝ }
-    ensures { λ r. ⌜ Met (now (words .entry)) terminalResult (endOutcome (now (words .entry)) levels (ternary (terminal .test) (terminal .fallthrough)) terminal (tally .visits)) tally 3 (now (buffer .entry)) r (now (buffer .exit)) ⌝ }
+    requires { ⌜ Fit (now words) tally 4 block ⌝ }
+    requires { ⌜ codeAt (now words) block ≡ 14 ⌝ }
+    ensures { λ r. ⌜ Met (now (words .entry)) terminalResult (terminalOutcome (now (words .entry)) levels block (tally .visits)) tally 3 (now (buffer .entry)) r (now (buffer .exit)) ⌝ }
 {
-    let test = visit_test_block(words, buffer, tally, levels, terminal);
+    let terminal = ternary_at(words, block);
+    let head = block_at(words, block);
+    let tested = visit_test_block(
+        words,
+        buffer,
+        tally,
+        levels,
+        terminal.test,
+        head.span,
+        block,
+    );
+    let test = tested.test;
     if test.code != 0 {
         return test;
     }
-    let first = block_word(words, test.block, 4);
-    let second = block_word(words, test.block, 5);
-    let consequent = visit_way(words, buffer, test.tally, levels, first, terminal);
+    let consequent = visit_value_block(
+        words,
+        buffer,
+        test.tally,
+        levels,
+        tested.consequent,
+        terminal.fallthrough,
+        head.span,
+    );
     if consequent.code != 0 {
         return consequent;
     }
-    let alternate = visit_way(words, buffer, consequent.tally, levels, second, terminal);
+    let alternate = visit_value_block(
+        words,
+        buffer,
+        consequent.tally,
+        levels,
+        tested.alternate,
+        terminal.fallthrough,
+        head.span,
+    );
     if alternate.code != 0 {
         return alternate;
     }
@@ -308,7 +328,7 @@ fn ternary_value(
     found(
         terminal.fallthrough,
         consequent.place,
-        terminal.id,
+        head.id,
         cond,
         loading(NONE),
     )
@@ -320,28 +340,46 @@ fn optional_value(
     buffer: &mut [u32],
     tally: Tally,
     levels: u32,
-    terminal: ValueTerminal,
+    block: u32,
 ) -> ValueResult
-    requires { ⌜ Ended (now words) tally terminal ⌝ }
-    ensures { λ r. ⌜ Met (now (words .entry)) terminalResult (endOutcome (now (words .entry)) levels (optional (terminal .operator) (terminal .test) (terminal .fallthrough)) terminal (tally .visits)) tally 3 (now (buffer .entry)) r (now (buffer .exit)) ⌝ }
+    requires { ⌜ Fit (now words) tally 4 block ⌝ }
+    requires { ⌜ codeAt (now words) block ≡ 15 ⌝ }
+    ensures { λ r. ⌜ Met (now (words .entry)) terminalResult (terminalOutcome (now (words .entry)) levels block (tally .visits)) tally 3 (now (buffer .entry)) r (now (buffer .exit)) ⌝ }
 {
-    let test = visit_test_block(words, buffer, tally, levels, terminal);
+    let terminal = optional_at(words, block);
+    let head = block_at(words, block);
+    let tested = visit_test_block(
+        words,
+        buffer,
+        tally,
+        levels,
+        terminal.test,
+        head.span,
+        block,
+    );
+    let test = tested.test;
     if test.code != 0 {
         return test;
     }
-    let first = block_word(words, test.block, 4);
-    let branch_span = block_word(words, test.block, 9);
-    let instr = put_instr(buffer, test.tally, test.id, test.place, branch_span);
-    let consequent = visit_way(words, buffer, instr, levels, first, terminal);
+    let instr = put_instr(buffer, test.tally, test.id, test.place, tested.branch_span);
+    let consequent = visit_value_block(
+        words,
+        buffer,
+        instr,
+        levels,
+        tested.consequent,
+        terminal.fallthrough,
+        head.span,
+    );
     if consequent.code != 0 {
         return consequent;
     }
     let seq = put_row(buffer, consequent.tally, SEQ, 1, consequent.id);
-    let optional = put_row(buffer, seq, OPTIONAL, terminal.operator, 0);
+    let optional = put_row(buffer, seq, OPTIONAL, terminal.flag, 0);
     found(
         terminal.fallthrough,
         consequent.place,
-        terminal.id,
+        head.id,
         optional,
         loading(NONE),
     )
@@ -353,19 +391,30 @@ fn sequence_value(
     buffer: &mut [u32],
     tally: Tally,
     levels: u32,
-    terminal: ValueTerminal,
+    block: u32,
 ) -> ValueResult
-    requires { ⌜ Ended (now words) tally terminal ⌝ }
-    ensures { λ r. ⌜ Met (now (words .entry)) terminalResult (endOutcome (now (words .entry)) levels (sequence (terminal .test) (terminal .fallthrough)) terminal (tally .visits)) tally 3 (now (buffer .entry)) r (now (buffer .exit)) ⌝ }
+    requires { ⌜ Fit (now words) tally 4 block ⌝ }
+    requires { ⌜ codeAt (now words) block ≡ 17 ⌝ }
+    ensures { λ r. ⌜ Met (now (words .entry)) terminalResult (terminalOutcome (now (words .entry)) levels block (tally .visits)) tally 3 (now (buffer .entry)) r (now (buffer .exit)) ⌝ }
 {
-    let inner = visit_way(words, buffer, tally, levels, terminal.test, terminal);
+    let terminal = sequence_at(words, block);
+    let head = block_at(words, block);
+    let inner = visit_value_block(
+        words,
+        buffer,
+        tally,
+        levels,
+        terminal.block,
+        terminal.fallthrough,
+        head.span,
+    );
     if inner.code != 0 {
         return inner;
     }
     found(
         terminal.fallthrough,
         inner.place,
-        terminal.id,
+        head.id,
         inner.tally,
         inner.trailing,
     )

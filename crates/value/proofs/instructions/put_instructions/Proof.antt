@@ -1,9 +1,8 @@
-use Rattle.table.proofs.TableLaws.{instruction-at}
 use Rattle.rows.proofs.StackLaws.{push-next-row}
 use Rattle.rows.specs.Stack.{pushInstructionRows}
 use Rattle.rows.specs.Rows.{Holds}
 use Rattle.definition.specs.Tree.{Row}
-use Rattle.table.specs.Table.{tableOf, rowsFrom, instructionOf}
+use Rattle.table.specs.Table.{tableOf, rowsFrom}
 use lib.ListN.{length}
 use Prim.Native.Nat.{ℕ, _+_, _-_, _*_, _≤_}
 use mathlib.Core.List.{List}
@@ -34,66 +33,58 @@ loop-holds c = record { most = search needs; long = refl; more = omega arith; ke
 add-i : tie.Need-add-i Inv-loop μ-loop
 add-i c = search needs
 
-instruction-word-requires : tie.Need-instruction-word-requires Inv-loop μ-loop
-instruction-word-requires c κs =
-    let at-entry = c .before .before .before .before in
-    (at-entry .pre .0 .sized, (omega (arith, c .loop-test .taken, at-entry .pre .1 .0), omega arith))
-
-instruction-word-requires-2 : tie.Need-instruction-word-requires-2 Inv-loop μ-loop
-instruction-word-requires-2 c κs =
-    let at-loop-test = c .before in
-    let at-entry = at-loop-test .before .before .before .before in
-    (at-entry .pre .0 .sized, (omega (arith, at-loop-test .loop-test .taken, at-entry .pre .1 .0), omega arith))
-
-instruction-word-requires-3 : tie.Need-instruction-word-requires-3 Inv-loop μ-loop
-instruction-word-requires-3 c κs =
-    let at-loop-test = c .before .before in
-    let at-entry = at-loop-test .before .before .before .before in
-    (at-entry .pre .0 .sized, (omega (arith, at-loop-test .loop-test .taken, at-entry .pre .1 .0), omega arith))
+instruction-at-requires : tie.Need-instruction-at-requires Inv-loop μ-loop
+instruction-at-requires c κs =
+    let turn : tie.At-loop Inv-loop μ-loop = search in
+    let start : tie.Start Inv-loop μ-loop = search in
+    (start .pre .0, omega (arith, c .loop-test .taken, start .pre .1 .0))
 
 put-requires : tie.Need-put-requires Inv-loop μ-loop
 put-requires c κs =
-    let at-loop = c .before .before .before .before .before in
-    let at-entry = at-loop .before .before .before in
-    omega (arith, at-loop .loop .inv .more, at-loop .loop .inv .most, at-entry .pre .1, at-entry .pre .0 .sized .limited .instructions)
+    let turn : tie.At-loop Inv-loop μ-loop = search in
+    let start : tie.Start Inv-loop μ-loop = search in
+    let limits = start .pre .0 .sized .limited in
+    omega (arith, turn .loop .inv .more, turn .loop .inv .most, start .pre .1, limits .instructions)
 
 put-requires-2 : tie.Need-put-requires-2 Inv-loop μ-loop
 put-requires-2 c κs =
-    let at-put = c .before .before .before in
-    let at-loop = at-put .before .before .before .before .before .before in
-    let at-entry = at-loop .before .before .before in
-    omega (arith, at-put .put .ensures .count, at-loop .loop .inv .more, at-loop .loop .inv .most, at-entry .pre .1, at-entry .pre .0 .sized .limited .instructions)
+    let put : tie.After-put Inv-loop μ-loop = search in
+    let turn : tie.At-loop Inv-loop μ-loop = search in
+    let start : tie.Start Inv-loop μ-loop = search in
+    let limits = start .pre .0 .sized .limited in
+    omega (arith, put .put .ensures .count, turn .loop .inv .more, turn .loop .inv .most, start .pre .1, limits .instructions)
 
 add-k : tie.Need-add-k Inv-loop μ-loop
 add-k c =
-    let at-loop-test = c .before .before .before .before .before .before .before .before .before .before .before in
-    let at-entry = at-loop-test .before .before .before .before in
-    omega (arith, at-loop-test .loop-test .taken, at-entry .fits)
+    let put : tie.After-put Inv-loop μ-loop = search in
+    let more : tie.In-loop Inv-loop μ-loop = search in
+    let start : tie.Start Inv-loop μ-loop = search in
+    omega (arith, more .loop-test .taken, start .fits)
 
 loop-less : tie.Need-loop-less Inv-loop μ-loop
-loop-less c = omega (arith, c .before .before .before .before .before .before .before .before .before .before .before .loop-test .taken)
+loop-less c =
+    let put : tie.After-put Inv-loop μ-loop = search in
+    let more : tie.In-loop Inv-loop μ-loop = search in
+    omega (arith, more .loop-test .taken)
 
 loop-again : tie.Need-loop-again Inv-loop μ-loop
-unfolding instructionOf
 loop-again c =
-    let at-put2 = c .before .before in
-    let at-put = at-put2 .before .before .before .before in
-    let at-instruction-word3 = at-put .before .before in
-    let at-instruction-word2 = at-instruction-word3 .before in
-    let at-instruction-word = at-instruction-word2 .before in
-    let at-loop-test = at-instruction-word .before in
-    let at-loop = at-loop-test .before in
-    let at-entry = at-loop .before .before .before in
-    let l = at-loop .loop in
-    let a = at-entry .args in
-    let p₁ = at-put .put .ensures in
-    let p₂ = at-put2 .put2 .ensures in
-    let i = instruction-at (a .words .now) (a .first + l .k) (omega (arith, at-loop-test .loop-test .taken, at-entry .pre .1 .0)) in
+    let put2 : tie.After-put2 Inv-loop μ-loop = search in
+    let put1 : tie.After-put Inv-loop μ-loop = search in
+    let read : tie.After-instruction-at Inv-loop μ-loop = search in
+    let more : tie.In-loop Inv-loop μ-loop = search in
+    let turn : tie.At-loop Inv-loop μ-loop = search in
+    let start : tie.Start Inv-loop μ-loop = search in
+    let l = turn .loop in
+    let instr = put2 .put2 .ensures in
+    let plain = put1 .put .ensures in
+    let head = read .instruction-at .ensures in
     record {
-      most = omega (arith, at-loop-test .loop-test .taken);
-      long = at-put2 .put2 .kept .0 ∙ at-put .put .kept .0 ∙ l .inv .long;
-      more = omega (arith, p₂ .count, p₁ .count, l .inv .more);
-      kept = λ stack h. rw (add-one (l .k), push-next-row (tableOf (a .words .now)) (a .first) (l .k) stack, i, ← (at-instruction-word .instruction-word .ensures), ← (at-instruction-word2 .instruction-word2 .ensures), ← (at-instruction-word3 .instruction-word3 .ensures)) (p₂ .kept _ (p₁ .kept _ (l .inv .kept stack h)));
+      most = omega (arith, more .loop-test .taken);
+      long = put2 .put2 .kept .0 ∙ put1 .put .kept .0 ∙ l .inv .long;
+      more = omega (arith, instr .count, plain .count, l .inv .more);
+      kept = λ stack h. rw (add-one (l .k), push-next-row (tableOf (start .args .words .now)) (start .args .first) (l .k) stack, head .is-id, head .is-lvalue, head .is-span)
+          (instr .kept _ (plain .kept _ (l .inv .kept stack h)));
     }
 
 same-length : tie.Need-same-length Inv-loop μ-loop
@@ -101,11 +92,11 @@ same-length c = search needs
 
 returns : tie.Need-returns Inv-loop μ-loop
 returns c =
-    let at-loop = c .before in
-    let at-entry = at-loop .before .before .before in
-    let l = at-loop .loop in
-    let e : at-loop .loop .k ≡ at-entry .args .count = omega (arith, l .inv .most, c .loop-test .left) in
-    rw (← e) (record { more = l .inv .more; kept = l .inv .kept })
+    let turn : tie.At-loop Inv-loop μ-loop = search in
+    let start : tie.Start Inv-loop μ-loop = search in
+    let run = turn .loop .inv in
+    let e : turn .loop .k ≡ start .args .count = omega (arith, run .most, c .loop-test .left) in
+    rw (← e) (record { more = run .more; kept = run .kept })
 
 pub put-instructions-spec : {M : Type 1} → statement M
 put-instructions-spec =
@@ -115,9 +106,7 @@ put-instructions-spec =
     μ-loop
     loop-holds
     add-i
-    instruction-word-requires
-    instruction-word-requires-2
-    instruction-word-requires-3
+    instruction-at-requires
     put-requires
     put-requires-2
     add-k

@@ -28,20 +28,21 @@ same-length c = search needs
 
 returns : tie.Need-returns
 returns c =
-    let at-put2 = c .before .before in
-    let at-put = at-put2 .before .before .before .before in
-    let at-if1 = at-put .before .before in
-    let at-loads-same-identifier = at-if1 .before in
-    let at-entry = at-loads-same-identifier .before .before .before .before .before .before in
-    let t = tableOf (at-entry .args .words .now) in
-    let r = at-entry .args .result in
-    let same = sym (at-loads-same-identifier .loads-same-identifier .ensures) ∙ at-if1 .if1 .taken in
+    let seq : tie.After-put2 = search in
+    let undef : tie.After-put = search in
+    let drop : tie.Then1 = search in
+    let asked : tie.After-loads-same-identifier = search in
+    let start : tie.Start = search in
+    let t = tableOf (start .args .words .now) in
+    let r = start .args .result in
+    let same = sym (asked .loads-same-identifier .ensures) ∙ drop .if1 .taken in
     record {
       held = λ value ends stack h.
           let drops = rw (ends .loaded) at same in
           let opened = rw (← (ends .sequences)) at (holds-open _ value (r .tally .rows) stack h) in
-          rw (flatten-same t (blockResult r value) (at-entry .args .span) stack drops, ← (ends .instructions)) (at-put2 .put2 .ensures .kept _ (at-put .put .ensures .kept _ (holds-load t _ (r .place) (innermostValue value) _ (leading value stack) drops opened)));
-      most = omega (arith, at-put .put .ensures .count, at-put2 .put2 .ensures .count);
+          let dropped = holds-load t _ (r .place) (innermostValue value) _ (leading value stack) drops opened in
+          rw (flatten-same t (blockResult r value) (start .args .span) stack drops, ← (ends .instructions)) (seq .put2 .ensures .kept _ (undef .put .ensures .kept _ dropped));
+      most = omega (arith, undef .put .ensures .count, seq .put2 .ensures .count);
     }
 
 put-requires-3 : tie.Need-put-requires-3
@@ -61,20 +62,21 @@ same-length-2 c = search needs
 
 returns-2 : tie.Need-returns-2
 returns-2 c =
-    let at-put5 = c .before .before in
-    let at-put4 = at-put5 .before .before .before .before .before in
-    let at-put3 = at-put4 .before .before .before .before in
-    let at-if1 = at-put3 .before .before in
-    let at-loads-same-identifier = at-if1 .before in
-    let at-entry = at-loads-same-identifier .before .before .before .before .before .before in
-    let t = tableOf (at-entry .args .words .now) in
-    let r = at-entry .args .result in
-    let other = sym (at-loads-same-identifier .loads-same-identifier .ensures) ∙ at-if1 .if1 .left in
+    let seq : tie.After-put5 = search in
+    let undef : tie.After-put4 = search in
+    let instr : tie.After-put3 = search in
+    let keep : tie.Else1 = search in
+    let asked : tie.After-loads-same-identifier = search in
+    let start : tie.Start = search in
+    let t = tableOf (start .args .words .now) in
+    let r = start .args .result in
+    let other = sym (asked .loads-same-identifier .ensures) ∙ keep .if1 .left in
     record {
       held = λ value ends stack h.
           let opened = rw (← (ends .sequences)) at (holds-open _ value (r .tally .rows) stack h) in
-          rw (flatten-other t (blockResult r value) (at-entry .args .span) stack (rw (ends .loaded) at other), ← (ends .instructions)) (at-put5 .put5 .ensures .kept _ (at-put4 .put4 .ensures .kept _ (at-put3 .put3 .ensures .kept _ opened)));
-      most = omega (arith, at-put3 .put3 .ensures .count, at-put4 .put4 .ensures .count, at-put5 .put5 .ensures .count);
+          rw (flatten-other t (blockResult r value) (start .args .span) stack (rw (ends .loaded) at other), ← (ends .instructions))
+          (seq .put5 .ensures .kept _ (undef .put4 .ensures .kept _ (instr .put3 .ensures .kept _ opened)));
+      most = omega (arith, instr .put3 .ensures .count, undef .put4 .ensures .count, seq .put5 .ensures .count);
     }
 
 pub value-block-result-to-sequence-spec : {M : Type 1} → statement M
