@@ -30,15 +30,15 @@ fn table(words: &mut [u32; 12288], entry: u32, blocks: u32, instruction: bool) -
     put(words, 1, blocks);
     put(words, 4, 1);
     put(words, 5, 1);
-    let after = 6 + (blocks as usize) * 10;
+    let after = 6 + (blocks as usize) * 11;
     if !instruction {
         put(words, after + 1, 1);
         return after + 2;
     }
     put(words, 2, 1);
     put(words, after, 1);
-    put(words, after + 7, 1);
-    after + 8
+    put(words, after + 8, 1);
+    after + 9
 }
 
 // Gives a block its number of instructions, its end and its id.
@@ -53,7 +53,7 @@ fn block(
     d: u32,
     id: u32,
 ) {
-    let first = 6 + (row as usize) * 10;
+    let first = 6 + (row as usize) * 11;
     put(words, first + 1, count);
     put(words, first + 2, code);
     put(words, first + 3, a);

@@ -6,23 +6,27 @@ use native.Mathlib.Omega.{arith}
 use Rattle.table.specs.declared.columns.Span.{Span}
 use Rattle.table.specs.Words.{blockCount, instructionCount, caseCount, placeCount, blockWord, instructionWord, caseWord, operationCodeAt}
 use Rattle.table.specs.Check.{caseRules, place-or-none}
-use Rattle.table.specs.Table.{Instruction, Operation, load-local, store-local, tableOf, blockOf, instructionOf, caseOf, operationOf, instructionRowsAt, rowsFrom}
+use Rattle.table.specs.Table.{Instruction, Operation, load-local, store-local, tableOf, blockAt, blockOf, instructionOf, caseOf, operationOf, instructionRowsAt, rowsFrom}
 use Rattle.table.specs.Promise.{Promise, OperandsInRange, Heads, Instructs, Operates, Chooses}
 use Rattle.table.proofs.TableLaws.{block-at, instruction-at, case-at}
 use Rattle.table.proofs.RangeLaws.{run-within, lvalue-below, operands-in-range, below-unless-none, case-block}
 
 module _ {ws : List ℕ} {b : ℕ} where
-  pub heads : {first count id from to : ℕ} → Promise ws → b < blockCount ws → first ≡ blockWord ws b 0 → count ≡ blockWord ws b 1 → id ≡ blockWord ws b 8 → from ≡ blockWord ws b 9 → to ≡ blockWord ws b 10
-      → Heads ws b first count id (record { from = from; to = to })
+  pub spans : {from to : ℕ} → b < blockCount ws → from ≡ blockWord ws b 9 → to ≡ blockWord ws b 10 → record { from = from; to = to } ≡ blockAt (tableOf ws) b .span
   unfolding blockOf
-  heads p inside ef ec ei eb et =
+  spans inside eb et = rw (block-at ws b inside, eb, et)
+
+  pub heads : {first count id : ℕ} {span : Span} → Promise ws → b < blockCount ws → first ≡ blockWord ws b 0 → count ≡ blockWord ws b 1 → id ≡ blockWord ws b 8 → span ≡ blockAt (tableOf ws) b .span
+      → Heads ws b first count id span
+  unfolding blockOf
+  heads p inside ef ec ei es =
       let row = block-at ws b inside in
       record {
         few = p .sized .limited .instructions;
         is-first = rw (row, ef);
         is-count = rw (row, ec);
         is-id = rw (row, ei);
-        is-span = rw (row, eb, et);
+        is-span = sym es;
         there = rw (ef, ec) (run-within ws p b inside);
       }
 

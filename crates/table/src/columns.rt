@@ -5,7 +5,7 @@ use crate::words::instruction_word;
 ghost use mathlib.Core.Path.{_≡_};
 ghost use Prim.Native.Nat.{_<_};
 ghost use Rattle.table.specs.Words.{blockCount, instructionCount, caseCount, codeAt, operationCodeAt};
-ghost use Rattle.table.specs.Table.{load-local, store-local};
+ghost use Rattle.table.specs.Table.{load-local, store-local, tableOf, blockAt};
 ghost use Rattle.table.specs.Promise.{Promise, Heads, Instructs, Operates, Chooses};
 
 // The code of a block's terminal.
@@ -21,6 +21,17 @@ pub fn code_at(words: &[u32], block: u32) -> u32
 pub struct Span {
     pub from: u32,
     pub to: u32,
+}
+
+pub fn span_at(words: &[u32], block: u32) -> Span
+    requires { ⌜ Promise (now words) ⌝ }
+    requires { ⌜ block < blockCount (now words) ⌝ }
+    ensures { λ r. ⌜ r ≡ blockAt (tableOf (now (words .entry))) block .span ⌝ }
+{
+    Span {
+        from: block_word(words, block, 9),
+        to: block_word(words, block, 10),
+    }
 }
 
 // What a block has beside its terminal: its instructions are `count` rows from `first` on.
@@ -40,10 +51,7 @@ pub fn block_at(words: &[u32], block: u32) -> BlockHead
         first: block_word(words, block, 0),
         count: block_word(words, block, 1),
         id: block_word(words, block, 8),
-        span: Span {
-            from: block_word(words, block, 9),
-            to: block_word(words, block, 10),
-        },
+        span: span_at(words, block),
     }
 }
 
