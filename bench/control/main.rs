@@ -6,7 +6,6 @@ use std::time::Instant;
 unsafe extern "C" {
     fn control_turns_schedule(turns: u16) -> u16;
     fn control_turns_schedule_loop(turns: u16) -> u16;
-    fn control_turns_get_break_target(turns: u16) -> u16;
 }
 
 const TURNS: u16 = 60_000;
@@ -109,8 +108,6 @@ fn time(turns: impl Fn(u16) -> u16) -> f64 {
 fn main() {
     let schedule = time(|n| unsafe { control_turns_schedule(n) });
     let schedule_loop = time(|n| unsafe { control_turns_schedule_loop(n) });
-    let search = time(|n| unsafe { control_turns_get_break_target(n) });
     println!("schedule and unschedule: proved {schedule:.0} ns, plain Rust {:.0} ns", time(plain_schedule));
     println!("schedule_loop and unschedule: proved {schedule_loop:.0} ns, plain Rust {:.0} ns", time(plain_schedule_loop));
-    println!("get_break_target, by value: proved {:.0} ns", search - schedule);
 }

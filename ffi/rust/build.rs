@@ -1,10 +1,24 @@
 //! Where the archive is: the folder that REACTIVE_BUILD_DIR names.
 
+use std::env;
+use std::path::PathBuf;
+
 fn main() {
     println!("cargo::rerun-if-env-changed=REACTIVE_BUILD_DIR");
-    let folder = std::env::var("REACTIVE_BUILD_DIR")
-        .expect("REACTIVE_BUILD_DIR: the folder of libbuild.a, that `rt staticlib build` writes");
-    println!("cargo::rerun-if-changed={folder}/libbuild.a");
-    println!("cargo::rustc-link-search=native={folder}");
+    let named = PathBuf::from(
+        env::var_os("REACTIVE_BUILD_DIR")
+            .expect("REACTIVE_BUILD_DIR: the folder of libbuild.a, that `rt staticlib build` writes"),
+    );
+    // A relative path is from where cargo was started; this script is run in the crate's own folder.
+    let folder = if named.is_relative() {
+        println!("cargo::rerun-if-env-changed=PWD");
+        env::var_os("PWD").map(PathBuf::from).unwrap_or_default().join(&named)
+    } else {
+        named
+    };
+    let archive = folder.join("libbuild.a");
+    assert!(archive.is_file(), "REACTIVE_BUILD_DIR: no {}: `rt staticlib build` writes it", archive.display());
+    println!("cargo::rerun-if-changed={}", archive.display());
+    println!("cargo::rustc-link-search=native={}", folder.display());
     println!("cargo::rustc-link-lib=static=build");
 }

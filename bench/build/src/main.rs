@@ -1,18 +1,17 @@
 //! Time of the proved build against (a) an ordinary Rust program with vectors and recursion over the
 //! same words and rows, and (b) the Rust that it was translated from; and the stack that it takes.
 //!
-//! (a) is the model of paper 01 (reference/comparison/src/model). (b) runs on its own graph, made
+//! (a) is `plain`: its own check, and the walk of the model of paper 01 (reference/comparison/src/model). (b) runs on its own graph, made
 //! before the clock starts, and its tree is not made into rows; it is watched by the observer that
 //! counts its visits, which takes a part of its time.
 
+mod plain;
+mod stack;
 mod tables;
 
 use std::hint::black_box;
-use std::process::Command;
-use std::thread;
 use std::time::{Duration, Instant};
 
-use comparison::model;
 use comparison::model::check::check;
 use comparison::reference;
 use tables::Case;
@@ -21,10 +20,13 @@ const ROUNDS: usize = 15;
 
 fn main() {
     let arguments: Vec<String> = std::env::args().collect();
-    if let [_, verb, by_values, bytes] = arguments.as_slice()
+    if let [_, verb, shape, bytes] = arguments.as_slice()
         && verb == "probe"
     {
-        return probe(by_values == "values", bytes.parse().expect("a number of bytes"));
+        return stack::probe(shape, bytes.parse().expect("a number of bytes"));
+    }
+    if arguments.get(1).is_some_and(|verb| verb == "stack") {
+        return stack::print();
     }
     reference::install_panic_hook();
     println!("| table | rows | proved, µs | (a) Rust with vectors, µs | ratio | (b) the Rust, µs | ratio |");
@@ -42,9 +44,7 @@ fn main() {
         measure(case);
     }
     println!();
-    for way in ["statements", "values"] {
-        println!("stack at depth 128 by {way}: {} KB", least_stack(way) / 1_024);
-    }
+    stack::print();
 }
 
 fn measure(case: &Case) {
@@ -52,7 +52,7 @@ fn measure(case: &Case) {
     let mut lent = vec![7; 60_000];
     let ours = reactive_build::build(words, &mut lent);
     let mut theirs_lent = vec![7; 60_000];
-    let theirs = model::build(words, &mut theirs_lent);
+    let theirs = plain::build(words, &mut theirs_lent);
     assert_eq!((ours.code, ours.rows, ours.visits), (0, theirs.rows, theirs.visits), "{}", case.name);
     assert!(lent == theirs_lent, "{}", case.name);
     // A buffer of just the rows, so that the zeros after them cost nothing.
@@ -62,7 +62,7 @@ fn measure(case: &Case) {
     for _ in 0..ROUNDS {
         let times = [
             time(calls, || black_box(reactive_build::build(black_box(words), &mut lent)).code),
-            time(calls, || black_box(model::build(black_box(words), &mut lent)).code),
+            time(calls, || black_box(plain::build(black_box(words), &mut lent)).code),
             of_reference(words, calls),
         ];
         least = std::array::from_fn(|which| least[which].min(times[which]));
@@ -83,29 +83,4 @@ fn time(calls: u32, mut call: impl FnMut() -> u32) -> Duration {
 fn of_reference(words: &[u32], calls: u32) -> Duration {
     let table = check(words).unwrap_or_else(|_| panic!("the table is good"));
     reference::on_large_stack(|| reference::time(&table, calls)) / calls
-}
-
-/// The smallest stack, in steps of 4 KB, on which the build of this depth ends.
-fn least_stack(way: &str) -> usize {
-    let program = std::env::current_exe().expect("this program");
-    let ends = |bytes: usize| {
-        let mut probe = Command::new(&program);
-        probe.args(["probe", way, &bytes.to_string()]).stderr(std::process::Stdio::null());
-        probe.status().expect("started").success()
-    };
-    let (mut short, mut enough) = (0, 8 << 20);
-    while enough - short > 4_096 {
-        let middle = (short + enough) / 2 / 4_096 * 4_096;
-        if ends(middle) { enough = middle } else { short = middle }
-    }
-    enough
-}
-
-/// Builds the deep table on a thread with this stack.
-fn probe(by_values: bool, bytes: usize) {
-    let words = tables::deep(by_values).words;
-    let mut lent = vec![7; 6_000];
-    let build = move || reactive_build::build(&words, &mut lent).code;
-    let code = thread::Builder::new().stack_size(bytes).spawn(build).expect("a thread").join();
-    assert_eq!(code.expect("it ends"), 0);
 }

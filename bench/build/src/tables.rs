@@ -10,19 +10,23 @@ pub struct Case {
 }
 
 /// Blocks over one place, with so many instructions in each.
-struct Table {
+pub struct Table {
     instructions: u32,
     blocks: Vec<BlockRow>,
     cases: Vec<[u32; 2]>,
-    entry: u32,
+    pub entry: u32,
 }
 
 impl Table {
-    fn new(instructions: u32) -> Self {
+    pub fn new(instructions: u32) -> Self {
         Self { instructions, blocks: Vec::new(), cases: Vec::new(), entry: 0 }
     }
 
-    fn add(&mut self, code: u32, operands: &[u32]) -> u32 {
+    pub fn rows(&self) -> u32 {
+        self.blocks.len() as u32
+    }
+
+    pub fn add(&mut self, code: u32, operands: &[u32]) -> u32 {
         let row = self.blocks.len() as u32;
         let first = row * self.instructions;
         let mut words = [first, self.instructions, code, 0, 0, 0, 0, 0, row, 0, 0];
@@ -31,7 +35,7 @@ impl Table {
         row
     }
 
-    fn case(&self, name: &str) -> Case {
+    pub fn case(&self, name: &str) -> Case {
         let rows = self.blocks.len() as u32;
         let instructions = rows * self.instructions;
         let cases = self.cases.len() as u32;
@@ -138,24 +142,14 @@ pub fn lowered(blocks: u32) -> Case {
     Case { name: format!("lowered program, {} blocks", words[1]), words }
 }
 
-/// Depth 128, by statements or by values.
-pub fn deep(by_values: bool) -> Case {
+/// Depth 128, by Labels.
+pub fn deep_statements() -> Case {
     let mut table = Table::new(1);
-    let end = table.add(3, &[0]);
-    let mut inner = if by_values { table.add(4, &[end, 0]) } else { table.add(3, &[0]) };
-    for level in 2..=128 {
-        inner = match (by_values, level) {
-            (false, _) => {
-                let out = table.add(3, &[0]);
-                table.add(16, &[inner, out])
-            }
-            (true, 128) => table.add(17, &[inner, end]),
-            (true, _) => {
-                let leaf = table.add(4, &[end, 0]);
-                table.add(17, &[leaf, inner])
-            }
-        };
+    let mut inner = table.add(3, &[0]);
+    for _ in 2..=128 {
+        let out = table.add(3, &[0]);
+        inner = table.add(16, &[inner, out]);
     }
     table.entry = inner;
-    table.case(if by_values { "depth 128 by values" } else { "depth 128 by statements" })
+    table.case("depth 128 by statements")
 }

@@ -13,14 +13,14 @@ use Rattle.definition.proofs.Law.{one-tree, run-law}
 use Rattle.build.specs.declared.Outcome.{Outcome}
 use Rattle.build.specs.Entry.{outcome}
 
--- `answers` is what build_reactive_function ensures
-module _ (words buffer buffer′ : List ℕ) (r : Outcome) (answers : outcome r buffer′ ≡ built words (length buffer)) (accepted : r .code ≡ 0) where
+-- `ensured` is what build_reactive_function ensures
+module _ (words buffer buffer′ : List ℕ) (r : Outcome) (ensured : outcome r buffer′ ≡ built words (length buffer)) (accepted : r .code ≡ 0) where
   accepts : built words (length buffer) .code ≡ 0
-  accepts = sym (ap (λ (o : definition.Outcome). o .code) answers) ∙ accepted
+  accepts = sym (ap (λ (o : definition.Outcome). o .code) ensured) ∙ accepted
 
   -- of any accepted table, plain or not
   pub entry-tree : OneTree (outcome r buffer′)
-  entry-tree = subst OneTree (sym answers) (one-tree words (length buffer) accepts)
+  entry-tree = subst OneTree (sym ensured) (one-tree words (length buffer) accepts)
 
   pub entry-law : Plain (tableOf words) → RunLaw words (outcome r buffer′)
-  entry-law plain = subst (λ (o : definition.Outcome). RunLaw words o) (sym answers) (run-law words (length buffer) accepts plain)
+  entry-law plain = subst (λ (o : definition.Outcome). RunLaw words o) (sym ensured) (run-law words (length buffer) accepts plain)

@@ -165,7 +165,7 @@ pub fn walk(words: &[u32], tree: &mut [u32]) -> Walked
             let entry = cx.stack[at];
             let target = entry.target;
             if meets(jump, target) {
-                break resolve(jump, target, top, has_preceding_loop);
+                break resolve(jump, entry, top, has_preceding_loop);
             }
             has_preceding_loop = or_loop(has_preceding_loop, target);
             top = false;

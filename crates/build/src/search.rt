@@ -1,5 +1,6 @@
 // What a block's jump looks for on the stack, and what it finds at an entry. The driver searches before a turn is planned: a planner does not see the stack.
 use control::ControlFlowTarget;
+use control::Entry;
 use control::Resolved;
 use control::break_to;
 use control::continue_to;
@@ -46,13 +47,8 @@ pub fn meets(jump: Jump, target: ControlFlowTarget) -> bool
 }
 
 // What the jump resolves to at the entry that its search ended at.
-pub fn resolve(
-    jump: Jump,
-    found: ControlFlowTarget,
-    top: bool,
-    has_preceding_loop: bool,
-) -> Resolved
-    ensures { λ r. ⌜ resolvedOf r ≡ resolvedAt jump (targetOf found) top «has_preceding_loop» ⌝ }
+pub fn resolve(jump: Jump, found: Entry, top: bool, has_preceding_loop: bool) -> Resolved
+    ensures { λ r. ⌜ resolvedOf r ≡ resolvedAt jump (targetOf (found .target)) top «has_preceding_loop» ⌝ }
 {
     match jump {
         Jump::Nothing => Resolved::Nothing,

@@ -8,7 +8,7 @@ use lib.ListN.{getD, set}
 use Rattle.definition.specs.Result.{Result, ok, refused}
 use Rattle.definition.specs.Tree.{Kind, implicit, labeled, unlabeled}
 use Rattle.definition.specs.Context as definition
-use Rattle.definition.specs.Context.{target-if, target-switch, target-case, target-loop}
+use Rattle.definition.specs.Context.{target-if, target-switch, target-case, target-loop, targetBlock}
 use Rattle.control.specs.declared.ControlFlowTarget.{ControlFlowTarget}
 use Rattle.control.specs.declared.ControlFlowTarget.the-variants.{If, Switch, Case, Loop}
 use Rattle.control.specs.declared.Entry.{Entry}
@@ -59,8 +59,12 @@ kindOf Implicit = implicit
 kindOf Labeled = labeled
 kindOf Unlabeled = unlabeled
 
+-- the block that the jump's row names
+abbrev pub foundBlock : Resolution → ℕ
+foundBlock resolution = targetBlock (targetOf (resolution .entry .target))
+
 abbrev pub resolutionOf : Resolution → definition.Resolution
-resolutionOf resolution = record { target = resolution .target; kind = kindOf (resolution .kind) }
+resolutionOf resolution = record { target = foundBlock resolution; kind = kindOf (resolution .kind) }
 
 abbrev pub resolvedOf : Resolved → Option definition.Resolution
 resolvedOf Nothing = none

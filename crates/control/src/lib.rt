@@ -7,11 +7,11 @@
 // For the same reason a step copies the set that it changes into a local and back, each step writes `len`, and the scalars stand between the arrays.
 // (docs/PERFORMANCE.md has the times.)
 ghost use mathlib.Core.Path.{_≡_};
-ghost use Prim.Native.Nat.{ℕ, _≤_, _<_};
-ghost use mathlib.Core.Bool.{Bool, _||_};
-ghost use Rattle.definition.specs.Context.{add, has, targetBlock, isLoop, continuesAt, blockAsked, blockedCode, scheduledBy, owns, breakKind, continueKind, unscheduledBy, getBreakTarget, getContinueTarget};
+ghost use Prim.Native.Nat.{_<_};
+ghost use mathlib.Core.Bool.{_||_};
+ghost use Rattle.definition.specs.Context.{add, has, targetBlock, isLoop, continuesAt, blockAsked, blockedCode, scheduledBy, owns, breakKind, continueKind, unscheduledBy};
 ghost use Rattle.definition.specs.Tree.{kindNumber};
-ghost use Rattle.control.specs.Abstraction.{targetOf, kindOf, resolutionOf, resolvedOf, contextOf};
+ghost use Rattle.control.specs.Abstraction.{targetOf, kindOf, foundBlock, resolutionOf};
 ghost use Rattle.control.specs.Contract.{Named, Room, Last, blockedIn, refusalIf, Created, Scheduled, Unscheduled, breakTo, continueTo};
 
 // What an entry of the control stack stands for. A loop's `block` is its fallthrough.
@@ -45,9 +45,9 @@ pub enum ReactiveTerminalTargetKind {
     Unlabeled,
 }
 
-// What a jump resolves to: the block that its row names, and its kind.
+// What a jump resolves to: the entry that was found, and the jump's kind.
 pub struct Resolution {
-    pub target: u16,
+    pub entry: Entry,
     pub kind: ReactiveTerminalTargetKind,
 }
 
@@ -318,25 +318,37 @@ fn continue_kind(top: bool, has_preceding_loop: bool) -> ReactiveTerminalTargetK
     ReactiveTerminalTargetKind::Unlabeled
 }
 
+impl Resolution {
+    // The block that the jump's row names: of a continue too it is the loop's fallthrough.
+    pub fn block(self) -> u16
+        ensures { λ r. ⌜ r ≡ foundBlock self ⌝ }
+    {
+        let entry = self.entry;
+        let target = entry.target;
+        target.block()
+    }
+}
+
 // A break to the entry that was found.
-pub fn break_to(found: ControlFlowTarget, top: bool, has_preceding_loop: bool) -> Resolution
-    ensures { λ r. ⌜ resolutionOf r ≡ breakTo (targetOf found) top «has_preceding_loop» ⌝ }
+pub fn break_to(found: Entry, top: bool, has_preceding_loop: bool) -> Resolution
+    ensures { λ r. ⌜ (r .entry ≡ found) × (resolutionOf r ≡ breakTo (targetOf (found .target)) top «has_preceding_loop») ⌝ }
 {
-    let is_loop = found.is_loop();
+    let target = found.target;
+    let is_loop = target.is_loop();
     let kind = break_kind(is_loop, top, has_preceding_loop);
     Resolution {
-        target: found.block(),
+        entry: found,
         kind: kind,
     }
 }
 
-// A continue of the loop that was found. Its target is the loop's fallthrough.
-pub fn continue_to(found: ControlFlowTarget, top: bool, has_preceding_loop: bool) -> Resolution
-    ensures { λ r. ⌜ resolutionOf r ≡ continueTo (targetOf found) top «has_preceding_loop» ⌝ }
+// A continue of the loop that was found.
+pub fn continue_to(found: Entry, top: bool, has_preceding_loop: bool) -> Resolution
+    ensures { λ r. ⌜ (r .entry ≡ found) × (resolutionOf r ≡ continueTo (targetOf (found .target)) top «has_preceding_loop») ⌝ }
 {
     let kind = continue_kind(top, has_preceding_loop);
     Resolution {
-        target: found.block(),
+        entry: found,
         kind: kind,
     }
 }
@@ -399,53 +411,5 @@ impl Context {
         self.scheduled = scheduled;
         self.len = self.len - 1;
         self
-    }
-
-    // The innermost entry whose block is the target: the search goes from the stack's top.
-    pub fn get_break_target(self, block: u16) -> Resolved
-        requires { ⌜ self .len ≤ 1152 ⌝ }
-        requires { ⌜ self .pending ≡ Bool.false ⌝ }
-        ensures { λ r. ⌜ ((visits : ℕ) → resolvedOf r ≡ getBreakTarget (contextOf visits self) block) ⌝ }
-    {
-        let mut at = self.len; // the innermost entry first
-        let mut top = true;
-        let mut has_preceding_loop = false;
-        loop {
-            if at == 0 {
-                break Resolved::Nothing;
-            }
-            at -= 1;
-            let entry = self.stack[at];
-            let target = entry.target;
-            if target.block() == block {
-                break Resolved::Found(break_to(target, top, has_preceding_loop));
-            }
-            has_preceding_loop = or_loop(has_preceding_loop, target);
-            top = false;
-        }
-    }
-
-    // The innermost loop with that continue block.
-    pub fn get_continue_target(self, block: u16) -> Resolved
-        requires { ⌜ self .len ≤ 1152 ⌝ }
-        requires { ⌜ self .pending ≡ Bool.false ⌝ }
-        ensures { λ r. ⌜ ((visits : ℕ) → resolvedOf r ≡ getContinueTarget (contextOf visits self) block) ⌝ }
-    {
-        let mut at = self.len;
-        let mut top = true;
-        let mut has_preceding_loop = false;
-        loop {
-            if at == 0 {
-                break Resolved::Nothing;
-            }
-            at -= 1;
-            let entry = self.stack[at];
-            let target = entry.target;
-            if target.continues_at(block) {
-                break Resolved::Found(continue_to(target, top, has_preceding_loop));
-            }
-            has_preceding_loop = or_loop(has_preceding_loop, target);
-            top = false;
-        }
     }
 }

@@ -2,7 +2,6 @@
 ghost use Prim.Native.Nat.{_+_, _≤_, _<_};
 use control::Context;
 use control::ControlFlowTarget;
-use control::Resolved;
 use control::is_scheduled;
 
 // A walk through the 1,024 blocks.
@@ -19,13 +18,6 @@ fn count(seen: u16, more: bool) -> u16
     ensures { λ r. ⌜ r ≤ seen + 1 ⌝ }
 {
     if more { seen + 1 } else { seen }
-}
-
-fn is_found(resolved: Resolved) -> bool {
-    match resolved {
-        Resolved::Nothing => false,
-        Resolved::Found(_) => true,
-    }
 }
 
 // `schedule` and `unschedule`. The result, at most one for each turn, counts how often the next block is scheduled.
@@ -81,30 +73,6 @@ pub extern "C" fn control_turns_schedule_loop(turns: u16) -> u16
         let last = cx.stack[at];
         cx = cx.unschedule(last);
         block = continue_block;
-        turn += 1;
-    }
-    seen
-}
-
-// The same as the first, with the search for a break's target by the method, which is handed the Context by value.
-#[no_mangle]
-pub extern "C" fn control_turns_get_break_target(turns: u16) -> u16
-    ensures { λ r. ⌜ r ≤ turns ⌝ }
-{
-    let mut cx = Context::new();
-    let mut block: u16 = 0;
-    let mut seen: u16 = 0;
-    let mut turn: u16 = 0;
-    while turn < turns {
-        block = next_block(block);
-        cx = cx.schedule(ControlFlowTarget::If { block: block });
-        let at = cx.len - 1;
-        let entry = cx.pushed;
-        cx.stack[at] = entry;
-        cx.pending = false;
-        seen = count(seen, is_found(cx.get_break_target(block)));
-        let last = cx.stack[at];
-        cx = cx.unschedule(last);
         turn += 1;
     }
     seen

@@ -15,7 +15,7 @@ use Rattle.definition.specs.Statement.{BlockResult, buildTree}
 use Rattle.definition.specs.Build.{Outcome, refusal, wordsOf, placed, reported, report, outcomeOf, afterCheck, built}
 use Rattle.definition.proofs.Steps.{ofPaper}
 use Rattle.definition.proofs.Never.{never}
-use Rattle.definition.proofs.Checked.{Coded, coded}
+use Rattle.definition.proofs.Checked.{ofCheck, Coded, coded}
 
 pub record Accepted (words : List ℕ) (lent : ℕ) : Type 0 where
   pub root : BlockResult
@@ -25,8 +25,8 @@ pub record Accepted (words : List ℕ) (lent : ℕ) : Type 0 where
   pub held : built words lent .buffer ≡ wordsOf (rows (root .statements)) ++ replicate (lent - length (rows (root .statements)) * 6) 0
 
 -- no refusal has the code 0
-not-zero : (code : ℕ) → T (leb 1 code) → code ≡ 0 → ⊥
-not-zero code h e = subst (λ (n : ℕ). T (leb 1 n)) e h
+not-zero : (code : ℕ) → T (ofCheck code) → code ≡ 0 → ⊥
+not-zero code h e = subst (λ (n : ℕ). T (ofCheck n)) e h
 
 of-paper-zero : (code : ℕ) → T (ofPaper code) → code ≡ 0 → ⊥
 of-paper-zero code h e = subst (λ (n : ℕ). T (ofPaper n)) e h
@@ -78,7 +78,7 @@ module _ (words : List ℕ) (lent : ℕ) where
 
 -- ---- the rows in the buffer
 
-words-length : (list : List Row) → length (wordsOf list) ≡ length list * 6
+pub words-length : (list : List Row) → length (wordsOf list) ≡ length list * 6
 unfolding wordsOf
 words-length [] = refl
 words-length (row op a b c d e ∷ list) = omega (arith, words-length list)

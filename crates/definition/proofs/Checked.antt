@@ -1,16 +1,18 @@
--- Words that the check accepts give a table that is `Ranged`, and no refusal of the check has the code 0. For proofs/Law and proofs/Accepted.
+-- Words that the check accepts give a table that is `Ranged`, and the refusals of the check have the codes 1 to 4. For proofs/Law and proofs/Accepted.
 use mathlib.Core.Path.{_≡_, refl, sym, subst}
 use Prim.Native.Nat.{ℕ, zero, suc, _+_, _<_}
 use native.Mathlib.Omega.{arith}
 use mathlib.Core.List.{List, [], _∷_}
 use mathlib.Core.Option.{some}
-use mathlib.Core.Bool.{Bool, true, false}
+use mathlib.Core.Bool.{Bool, true, false, _&&_}
 use lib.ListN.{length, List·getD-eq-default}
 use lib.Dec.{T, eqb, leb, ltb}
 use borrow.Author.Tests.{ltb-true, ltb-false}
 use Rattle.table.specs.Words.{word, entryWord, blockCount, placeCount, caseCount, wordsNeeded}
-use Rattle.table.specs.Check.{Verdict, accepted, refused, Rule, fits, blockRules, instructionRules, caseRules, placeRules, identifierRules, andThen, rowVerdict, rowsVerdict, wordsVerdict, limits, countsVerdict, checked}
-use Rattle.table.specs.Table.{Block, noBlock, Terminal, absent, unreachable, throw, return, goto, if, branch, switch, do-while, while, for, for-of, for-in, logical, ternary, optional, label, sequence, maybe-throw, try, scope, tableOf, terminalAt}
+use Rattle.table.specs.Check.{Verdict, accepted, refused, Rule, fits, blockRules, instructionRules, caseRules, placeRules, identifierRules, andThen, rowVerdict}
+use Rattle.table.specs.Check.{rowsVerdict, wordsVerdict, limits, countsVerdict, checked}
+use Rattle.table.specs.Table.{Block, noBlock, Terminal, absent, unreachable, throw, return, goto, if, branch, switch, do-while, while, for, for-of, for-in}
+use Rattle.table.specs.Table.{logical, ternary, optional, label, sequence, maybe-throw, try, scope, tableOf, terminalAt}
 use Rattle.table.specs.Promise.{InRange, Promise}
 use Rattle.table.proofs.PromiseLaws.{promised}
 use Rattle.table.proofs.RangeLaws.{in-range}
@@ -71,9 +73,13 @@ ranged ws h = promise-ranged ws (promised ws h)
 
 -- ---- a refusal of the check has a code that is not 0
 
+-- "1 under six words" to "4 first bad word"
+abbrev pub ofCheck : ℕ → Bool
+ofCheck code = leb 1 code && leb code 4
+
 abbrev pub Coded : Verdict → Type 0
 Coded accepted = Unit {0}
-Coded (refused code at) = T (leb 1 code)
+Coded (refused code at) = T (ofCheck code)
 
 coded-test : (y : Bool) (a b : Verdict) → Coded a → Coded b → Coded (elim y [ true ↦ a | false ↦ b ])
 coded-test true a b h k = h

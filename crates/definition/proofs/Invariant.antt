@@ -11,13 +11,23 @@ use lib.ListN.{length, getD, set, length-set, length-append}
 use lib.Dec.{eqb, T}
 use borrow.Author.Tests.{leb-false}
 use Rattle.table.specs.declared.columns.Span.{Span}
-use Rattle.table.specs.Table.{Table, Terminal, absent, unreachable, throw, return, goto, if, branch, switch, do-while, while, for, for-of, for-in, logical, ternary, optional, sequence, maybe-throw, try, scope, Variant, Break, Continue, Try, blockAt, terminalAt, instructionRowsAt, isUnreachable, label}
+use Rattle.table.specs.Table.{Table, Terminal, absent, unreachable, throw, return, goto, if, branch, switch, do-while, while, for, for-of, for-in, logical}
+use Rattle.table.specs.Table.{ternary, optional, sequence, maybe-throw, try, scope, Variant, Break, Continue, Try, blockAt, terminalAt, instructionRowsAt}
+use Rattle.table.specs.Table.{isUnreachable, label}
 use Rattle.definition.specs.Build.{Report, report}
 use Rattle.definition.specs.Framed.{Below, isSwitch, Framed}
-use Rattle.definition.specs.Context.{getBreakTarget, getContinueTarget, Resolution, Flags, has, add, ControlFlowTarget, target-if, target-switch, target-case, target-loop, blockedCode, blockAsked, Entry, Context, start, isScheduled, emit, withVisits, scheduleCatchHandler, markScopeFallthrough, pushed, schedule, target-loop, popped}
-use Rattle.definition.specs.Machine.{Frame, State, visiting, ended, choosing, popping, Turn, going, halt, turn, leave, blockRow, valueOut, updateOut, statementOut, jumpOut, added, instructionsOut, closingRow, scheduledIf, scheduledSwitch, unscheduledTop, unscheduled, unscheduledIf, opens, frameOf, secondPart, withLeft, caseBuilt, into, intoLoop, closeBy, close, caseAt, numberOfCases, chooseCase, switchColumns, resumeAt, resume, branchTurn, valueTurn, terminalTurn, depthLeft, visitTurn, step, begin, Gives, run}
+use Rattle.definition.specs.Context.{getBreakTarget, getContinueTarget, Resolution, Flags, has, add, ControlFlowTarget, target-if, target-switch}
+use Rattle.definition.specs.Context.{target-case, target-loop, blockedCode, blockAsked, Entry, Context, start, isScheduled, emit, withVisits}
+use Rattle.definition.specs.Context.{scheduleCatchHandler, markScopeFallthrough, pushed, schedule, target-loop, popped}
+use Rattle.definition.specs.Machine.{Frame, State, visiting, ended, choosing, popping, Turn, going, halt, turn, leave, blockRow, valueOut, updateOut}
+use Rattle.definition.specs.Machine.{statementOut, jumpOut, added, instructionsOut, closingRow, scheduledIf, scheduledSwitch, unscheduledTop, unscheduled}
+use Rattle.definition.specs.Machine.{unscheduledIf, opens, frameOf, secondPart, withLeft, caseBuilt, into, intoLoop, closeBy, close, caseAt}
+use Rattle.definition.specs.Machine.{numberOfCases, chooseCase, switchColumns, resumeAt, resume, branchTurn, valueTurn, terminalTurn, depthLeft}
+use Rattle.definition.specs.Machine.{visitTurn, step, begin, Gives, run}
 use Rattle.definition.specs.Result.{refused, Result, ok, refuseIf}
-use Rattle.definition.specs.Statement.{breakToScope, visitBreak, visitContinue, breakResolved, continueResolved, visitUpdate, OptionalValue, continueBlockOf, TerminalResult, enterBlock, unlessScheduled, unlessUnreachable, markScopeFallthroughIf, visitGoto, loopIsTaken}
+use Rattle.definition.specs.Statement.{breakToScope, visitBreak, visitContinue, breakResolved, continueResolved, visitUpdate, OptionalValue}
+use Rattle.definition.specs.Statement.{continueBlockOf, TerminalResult, enterBlock, unlessScheduled, unlessUnreachable, markScopeFallthroughIf, visitGoto}
+use Rattle.definition.specs.Statement.{loopIsTaken}
 use Rattle.definition.specs.Tree.{Kind, implicit, labeled, unlabeled, Statement, Row, row, BREAK, CONTINUE, instrRow}
 use Rattle.definition.specs.Value.{visitValueBlock, beginVisit, ValueBlockResult, ValueTerminalResult, VisitValueBlock, visitValueBlockTerminal, valueBlockResultToSequence}
 use Rattle.definition.proofs.Flags.{length-none, below-blocks}
@@ -230,18 +240,51 @@ module _ (t : Table) where
   leave-fit : {p s i u r : ℕ} (g : Option ℕ) {F : List Frame} {R : List Row} {m : ℕ} {c : Context} → Inside p s i 0 u r F R m c → 1 ≤ s → 1 ≤ i → 2 ≤ r
       → Frames t F → Below (length (t .blocks)) g → Fit t p (leave g F R m c)
   leave-fit none h a b d f q =
-      record { lower = omega arith; sound = (f, record { visits = h .visits; ids = omega arith; stack = omega arith; marked = omega arith; depth = omega arith; flags = h .flags; tallied = h .tallied; paid = omega arith }) }
+      record {
+        lower = omega arith;
+        sound = (
+          f,
+          record {
+            visits = h .visits;
+            ids = omega arith;
+            stack = omega arith;
+            marked = omega arith;
+            depth = omega arith;
+            flags = h .flags;
+            tallied = h .tallied;
+            paid = omega arith;
+          },
+        );
+      }
   leave-fit (some n) h a b d f q =
-      record { lower = omega arith; sound = (q, f, record { visits = h .visits; ids = omega arith; stack = omega arith; marked = omega arith; depth = omega arith; flags = h .flags; tallied = h .tallied; paid = omega arith }) }
+      record {
+        lower = omega arith;
+        sound = (
+          q,
+          f,
+          record {
+            visits = h .visits;
+            ids = omega arith;
+            stack = omega arith;
+            marked = omega arith;
+            depth = omega arith;
+            flags = h .flags;
+            tallied = h .tallied;
+            paid = omega arith;
+          },
+        );
+      }
 
-  push-fit : {p s i e u r : ℕ} (fr : Frame) (b : ℕ) {F : List Frame} {R : List Row} {c : Context} → Inside p s i e u r F R (fr .count) c → turnsOf fr ≤ s → 1 ≤ i → fr .entries ≡ e → fr .built ≤ u → 3 ≤ r
+  push-fit : {p s i e u r : ℕ} (fr : Frame) (b : ℕ) {F : List Frame} {R : List Row} {c : Context} → Inside p s i e u r F R (fr .count) c → turnsOf fr ≤ s
+      → 1 ≤ i → fr .entries ≡ e → fr .built ≤ u → 3 ≤ r
       → Framed t 0 fr → Frames t F → b < length (t .blocks) → Fit t p (visiting b (fr ∷ F) R 0 c)
   push-fit fr b h a k e u r o f q = record {
     lower = omega arith;
     sound = (q, (o, f), record { visits = h .visits; ids = omega arith; stack = omega arith; marked = omega arith; depth = omega arith; flags = h .flags; tallied = omega arith; paid = omega arith });
   }
 
-  choose-fit : {p s i e u r : ℕ} (fr : Frame) {F : List Frame} {R : List Row} {c : Context} → Inside p s i e u r F R (fr .count) c → turnsOf fr ≤ suc s → 1 ≤ i → fr .entries ≡ e → fr .built ≤ u → 3 ≤ r
+  choose-fit : {p s i e u r : ℕ} (fr : Frame) {F : List Frame} {R : List Row} {c : Context} → Inside p s i e u r F R (fr .count) c → turnsOf fr ≤ suc s → 1 ≤ i
+      → fr .entries ≡ e → fr .built ≤ u → 3 ≤ r
       → isSwitch (terminalAt t (fr .block)) ≡ true → Framed t 1 fr → Frames t F → Fit t p (choosing fr F R c)
   choose-fit fr h a k e u r w o f = record {
     lower = omega arith;
@@ -249,21 +292,53 @@ module _ (t : Table) where
   }
 
   -- the same after a step of the context, after values, and with rows put out
-  inside-held : {p s i e u r : ℕ} {F : List Frame} {R : List Row} {m : ℕ} (c : Context) {up n e₁ : ℕ} {d : Context} (i₁ : ℕ) → Inside p s i e u r F R m c → Held c up n d → up + i₁ ≤ i → n ≡ e₁ + entriesOf F
+  inside-held : {p s i e u r : ℕ} {F : List Frame} {R : List Row} {m : ℕ} (c : Context) {up n e₁ : ℕ} {d : Context} (i₁ : ℕ) → Inside p s i e u r F R m c
+      → Held c up n d → up + i₁ ≤ i → n ≡ e₁ + entriesOf F
       → Inside p s i₁ e₁ u r F R m d
   inside-held c i₁ h k a b =
-      record { visits = omega arith; ids = omega arith; lower = omega arith; stack = omega arith; marked = omega arith; depth = h .depth; flags = omega arith; tallied = h .tallied; paid = omega arith }
+      record {
+        visits = omega arith;
+        ids = omega arith;
+        lower = omega arith;
+        stack = omega arith;
+        marked = omega arith;
+        depth = h .depth;
+        flags = omega arith;
+        tallied = h .tallied;
+        paid = omega arith;
+      }
 
-  inside-out : {p s i e u r : ℕ} {F : List Frame} {R : List Row} {m : ℕ} {c : Context} (S : List Row) (m₁ r₁ : ℕ) → Inside p s i e u r F R m c → length S + r₁ ≤ r → m₁ + countOf F ≤ length S + length R
+  inside-out : {p s i e u r : ℕ} {F : List Frame} {R : List Row} {m : ℕ} {c : Context} (S : List Row) (m₁ r₁ : ℕ) → Inside p s i e u r F R m c
+      → length S + r₁ ≤ r → m₁ + countOf F ≤ length S + length R
       → Inside p s i e u r₁ F (R ++ S) m₁ c
   inside-out {R = R} S m₁ r₁ h a b =
-      record { visits = h .visits; ids = h .ids; lower = h .lower; stack = h .stack; marked = h .marked; depth = h .depth; flags = h .flags; tallied = omega (arith, length-append R S); paid = omega (arith, length-append R S) }
+      record {
+        visits = h .visits;
+        ids = h .ids;
+        lower = h .lower;
+        stack = h .stack;
+        marked = h .marked;
+        depth = h .depth;
+        flags = h .flags;
+        tallied = omega (arith, length-append R S);
+        paid = omega (arith, length-append R S);
+      }
 
   inside-visited : {p s i e u r : ℕ} {F : List Frame} {R : List Row} {m : ℕ} {c : Context} (S : List Row) (v r₁ : ℕ) → Inside p s i e u r F R m c → c .visits ≤ v → v ≤ 8192
       → length S + (r₁ + 8208 * c .visits) ≤ r + 8208 * v → Inside p s i e u r₁ F (R ++ S) m (withVisits v c)
   unfolding withVisits
   inside-visited {R = R} S v r₁ h a b k =
-      record { visits = b; ids = omega arith; lower = omega arith; stack = h .stack; marked = h .marked; depth = h .depth; flags = h .flags; tallied = omega (arith, length-append R S, h .tallied); paid = omega (arith, length-append R S, h .paid) }
+      record {
+        visits = b;
+        ids = omega arith;
+        lower = omega arith;
+        stack = h .stack;
+        marked = h .marked;
+        depth = h .depth;
+        flags = h .flags;
+        tallied = omega (arith, length-append R S, h .tallied);
+        paid = omega (arith, length-append R S, h .paid);
+      }
 
   close-fit : {p s i u r : ℕ} (fr : Frame) {F : List Frame} (R : List Row) (c : Context) → Inside p s i (fr .entries) u r F R (fr .count) c → suc (fr .entries) ≤ s → 1 ≤ i → fr .built ≤ u → 3 ≤ r
       → Framed t 1 fr → Frames t F → Fit t p (close t fr F R c)
@@ -274,8 +349,12 @@ module _ (t : Table) where
       row-out = closingRow t (fr .block) (fr .second) (fr .label) (fr .built) ∷ []
 
       at : (n : ℕ) → fr .entries ≡ n → Fit t p (closeBy n t fr F R c)
-      at zero e = leave-fit (fr .label) (inside-out row-out (suc (fr .count)) 2 (inside-held c 1 h (held c) b (omega arith)) (omega arith) (omega arith)) (omega arith) (omega arith) (omega arith) f (o .label)
-      at (suc zero) e = leave-fit (fr .label) (inside-out row-out (suc (fr .count)) 2 (inside-held c 1 h (unscheduled-held c (entriesOf F) (omega arith)) b (omega arith)) (omega arith) (omega arith)) (omega arith) (omega arith) (omega arith) f (o .label)
+      at zero e =
+          leave-fit (fr .label) (inside-out row-out (suc (fr .count)) 2 (inside-held c 1 h (held c) b (omega arith)) (omega arith) (omega arith)) (omega arith)
+          (omega arith) (omega arith) f (o .label)
+      at (suc zero) e =
+          leave-fit (fr .label) (inside-out row-out (suc (fr .count)) 2 (inside-held c 1 h (unscheduled-held c (entriesOf F) (omega arith)) b (omega arith))
+          (omega arith) (omega arith)) (omega arith) (omega arith) (omega arith) f (o .label)
       at (suc (suc n)) e =
           let x : Inside p s 1 (suc n) u r F R (fr .count) (unscheduled c) = inside-held c 1 h (unscheduled-held c (suc n + entriesOf F) (omega arith)) b refl in
           record {
@@ -283,7 +362,16 @@ module _ (t : Table) where
             sound = (
               record { block = o .block; label = o .label; entries = omega (arith, o .entries); case = o .case },
               f,
-              record { visits = x .visits; ids = omega (arith, x); stack = x .stack; marked = omega (arith, x); depth = omega (arith, x); flags = x .flags; tallied = omega (arith, x); paid = omega (arith, x) },
+              record {
+                visits = x .visits;
+                ids = omega (arith, x);
+                stack = x .stack;
+                marked = omega (arith, x);
+                depth = omega (arith, x);
+                flags = x .flags;
+                tallied = omega (arith, x);
+                paid = omega (arith, x);
+              },
             );
           }
 
@@ -374,7 +462,8 @@ module _ (t : Table) (ck : Checked t) (d : ℕ) where
   updates u span v h =
       fine-good (λ r. Took t 0 (length (updateOut (r .value))) v (r .visits)) (UpdateTaken v) (visitUpdate visit u span v) (λ _ took. taken h took) (update-took t visit (value-took t d) u span v)
 
-  into-fit : {p s i e u r : ℕ} (fr : Frame) (b code at : ℕ) {F : List Frame} {R : List Row} {c : Context} → Inside p s i e u r F R (fr .count) c → turnsOf fr ≤ s → 1 ≤ i → fr .entries ≡ e → fr .built ≤ u → 3 ≤ r
+  into-fit : {p s i e u r : ℕ} (fr : Frame) (b code at : ℕ) {F : List Frame} {R : List Row} {c : Context} → Inside p s i e u r F R (fr .count) c
+      → turnsOf fr ≤ s → 1 ≤ i → fr .entries ≡ e → fr .built ≤ u → 3 ≤ r
       → Framed t 0 fr → Frames t F → b < length (t .blocks) → Good (Fit t p) (into b code at fr F R c)
   unfolding into
   into-fit {p} fr b code at {c = c} h a k e u r o f q = good-bind Any (Fit t p) _ _ (good-any (refuseIf (isScheduled c b) code at (c .visits))) (λ _ _. push-fit t fr b h a k e u r o f q)
@@ -416,7 +505,8 @@ module _ (t : Table) (ck : Checked t) (d : ℕ) where
           good-bind (Held c 1 (suc (length (c .stack)))) (Fit t p) _ _ (schedule-held (target-case (caseAt t (i + fr .left) .block)) c) (λ c₁ k.
           choose-fit t (caseBuilt fr)
           (inside-held t c 1 (inside-out t (row 11 (caseAt t (i + fr .left) .test) 0 0 0 0 ∷ []) (fr .count) 3 h (omega arith) (omega (arith, h .tallied))) k (omega arith) (omega (arith, h .stack)))
-          (omega arith) (omega arith) refl (le-refl _) (omega arith) (ap isSwitch q) (record { block = o .block; label = o .label; entries = omega (arith, o .entries); case = λ z. omega (arith, o .case z) }) f)
+          (omega arith) (omega arith) refl (le-refl _) (omega arith) (ap isSwitch q)
+          (record { block = o .block; label = o .label; entries = omega (arith, o .entries); case = λ z. omega (arith, o .case z) }) f)
       at (do-while l x g) q n = good-bind (BlockTaken (c .visits)) (Fit t p) _ _ (values x none (blockAt t (fr .block) .span) (c .visits) (h .visits)) (λ w k.
           closed _ _ (inside-visited t (valueOut (w .value)) (w .visits) 4 h (k .0) (k .1) (omega (arith, value-out-size (w .value), k .0, k .2))))
       at (while x l g) q n = closed R c h
@@ -444,7 +534,8 @@ module _ (t : Table) (ck : Checked t) (d : ℕ) where
       let b : ℕ = caseAt t (x + j) .block in
       good-pick (Fit t p) (isScheduled c b) _ _
       (good-bind Any (Fit t p) _ _ (good-any (refuseIf (not (eqb b (switchColumns (terminalAt t (fr .block)) .fallthrough))) 14 (fr .block) (c .visits))) (λ _ _.
-      choose-fit t (withLeft j fr) h (omega arith) (omega arith) refl (omega arith) (omega arith) q (record { block = o .block; label = o .label; entries = o .entries; case = λ z. omega (arith, o .case z) }) f))
+      choose-fit t (withLeft j fr) h (omega arith) (omega arith) refl (omega arith) (omega arith) q
+      (record { block = o .block; label = o .label; entries = o .entries; case = λ z. omega (arith, o .case z) }) f))
       (push-fit t (withLeft j fr) b h (omega arith) (omega arith) refl (omega arith) (omega arith)
       (record { block = o .block; label = o .label; entries = o .entries; case = λ z. omega (arith, o .case z) }) f (ck .caseBlocks (x + j) (omega (arith, o .case q))))
 
@@ -472,7 +563,8 @@ module _ (t : Table) (ck : Checked t) (d : ℕ) where
     leaves g S n k l q = leave-fit t g (inside-out t S n 2 h (omega arith) q) (omega arith) (omega arith) (omega arith) f k
 
     -- a statement's first list, its context entered
-    nested : (fr : Frame) (x : ℕ) (c₁ : Context) → Held c 1 (fr .entries + length (c .stack)) c₁ → fr .count ≡ m → fr .left ≡ 0 → fr .built ≡ 0 → fr .entries ≤ 1 → Framed t 0 fr → x < length (t .blocks)
+    nested : (fr : Frame) (x : ℕ) (c₁ : Context) → Held c 1 (fr .entries + length (c .stack)) c₁ → fr .count ≡ m → fr .left ≡ 0 → fr .built ≡ 0
+        → fr .entries ≤ 1 → Framed t 0 fr → x < length (t .blocks)
         → Inside p 2052 1 (fr .entries) 0 16 F R (fr .count) c₁
     nested fr x c₁ k e l u w o q = inside-held t c 1 (counted e) k (omega arith) (omega (arith, h .stack))
       where
@@ -483,15 +575,18 @@ module _ (t : Table) (ck : Checked t) (d : ℕ) where
         → Good (Fit t p) (into x code at (frameOf b g (opens g) m) F R c₁)
     enclosed-fit g x code at c₁ k q z y =
         let o : Framed t 0 (frameOf b g (opens g) m) = framed b g (opens g) m below q (opens-one g) z in
-        into-fit (frameOf b g (opens g) m) x code at (nested (frameOf b g (opens g) m) x c₁ k refl refl refl (opens-one g) o y) (omega (arith, opens-one g)) (omega arith) refl (omega arith) (omega arith) o f y
+        into-fit (frameOf b g (opens g) m) x code at (nested (frameOf b g (opens g) m) x c₁ k refl refl refl (opens-one g) o y) (omega (arith, opens-one g))
+        (omega arith) refl (omega arith) (omega arith) o f y
 
-    loop-fit : (g : Option ℕ) (l : ℕ) (bad : Bool) (v : ℕ) (S : List Row) (c₁ : Context) → Held c 1 (suc (length (c .stack))) c₁ → Below (length (t .blocks)) g → isSwitch (terminalAt t b) ≡ false → l < length (t .blocks)
+    loop-fit : (g : Option ℕ) (l : ℕ) (bad : Bool) (v : ℕ) (S : List Row) (c₁ : Context) → Held c 1 (suc (length (c .stack))) c₁ → Below (length (t .blocks)) g
+        → isSwitch (terminalAt t b) ≡ false → l < length (t .blocks)
         → c₁ .visits ≤ v → v ≤ 8192 → length S + 8208 * c₁ .visits ≤ 13 + 8208 * v → Good (Fit t p) (intoLoop b l bad v (frameOf b g 1 m) F (R ++ S) c₁)
     unfolding intoLoop
     loop-fit g l bad v S c₁ k q z y a w u =
         let o : Framed t 0 (frameOf b g 1 m) = framed b g 1 m below q (omega arith) z in
         good-bind Any (Fit t p) _ _ (good-any (refuseIf bad 16 b v)) (λ _ _.
-        push-fit t (frameOf b g 1 m) l (inside-visited t S v 3 (inside-held t c {e₁ = 1} 1 h k (omega arith) (omega (arith, h .stack))) a w (omega arith)) (omega arith) (omega arith) refl (omega arith) (omega arith) o f y)
+        push-fit t (frameOf b g 1 m) l (inside-visited t S v 3 (inside-held t c {e₁ = 1} 1 h k (omega arith) (omega (arith, h .stack))) a w (omega arith))
+        (omega arith) (omega arith) refl (omega arith) (omega arith) o f y)
 
     value-fit : (e : Terminal) (g : ℕ) → T (not (isMaybeThrow e)) → g < length (t .blocks) → Good (Fit t p) (valueTurn t visit e b (blockAt t b) g F R m c)
     unfolding valueTurn
@@ -500,17 +595,24 @@ module _ (t : Table) (ck : Checked t) (d : ℕ) where
       where
         leaving : (g : Option ℕ) (w : ValueTerminalResult) (c₁ : Context) → TerminalTaken (c .visits) w → Below (length (t .blocks)) g → Inside p 2052 1 0 0 5 F (R ++ valueOut (w .value)) m c₁
             → Fit t p (leave g F ((R ++ valueOut (w .value)) ++ (instrRow (w .id) (w .place) (blockAt t b .span) ∷ [])) (suc m) c₁)
-        leaving g w c₁ q k x = leave-fit t g (inside-out t (instrRow (w .id) (w .place) (blockAt t b .span) ∷ []) (suc m) 2 x (omega arith) (omega (arith, x .tallied))) (omega arith) (omega arith) (omega arith) f k
+        leaving g w c₁ q k x =
+            leave-fit t g (inside-out t (instrRow (w .id) (w .place) (blockAt t b .span) ∷ []) (suc m) 2 x (omega arith) (omega (arith, x .tallied)))
+            (omega arith) (omega arith) (omega arith) f k
 
         at : (g : Option ℕ) → Below (length (t .blocks)) g → (w : ValueTerminalResult) → TerminalTaken (c .visits) w
             → Fit t p (leave g F ((R ++ valueOut (w .value)) ++ (instrRow (w .id) (w .place) (blockAt t b .span) ∷ [])) (suc m) (unscheduledIf g (withVisits (w .visits) (scheduledIf g c))))
-        at none k w q = leaving none w (withVisits (w .visits) c) q k (inside-visited t (valueOut (w .value)) (w .visits) 5 (inside-held t c 1 h (held c) (omega arith) (omega (arith, h .stack))) (q .0) (q .1) (omega (arith, value-out-size (w .value), q .0, q .2)))
+        at none k w q =
+            leaving none w (withVisits (w .visits) c) q k
+            (inside-visited t (valueOut (w .value)) (w .visits) 5 (inside-held t c 1 h (held c) (omega arith) (omega (arith, h .stack))) (q .0) (q .1)
+            (omega (arith, value-out-size (w .value), q .0, q .2)))
         at (some x) k w q =
             let s : Held c 1 (suc (length (c .stack))) (pushed (target-if x) c) = scheduled-held (target-if x) c in
             let y : Inside p 2052 1 1 0 5 F (R ++ valueOut (w .value)) m (withVisits (w .visits) (pushed (target-if x) c)) =
-            inside-visited t (valueOut (w .value)) (w .visits) 5 (inside-held t c {e₁ = 1} 1 h s (omega arith) (omega (arith, h .stack))) (omega (arith, q .0, s .seen)) (q .1) (omega (arith, value-out-size (w .value), q .0, q .2, s .seen)) in
+            inside-visited t (valueOut (w .value)) (w .visits) 5 (inside-held t c {e₁ = 1} 1 h s (omega arith) (omega (arith, h .stack)))
+            (omega (arith, q .0, s .seen)) (q .1) (omega (arith, value-out-size (w .value), q .0, q .2, s .seen)) in
             leaving (some x) w (unscheduled (withVisits (w .visits) (pushed (target-if x) c))) q k
-            (inside-held t (withVisits (w .visits) (pushed (target-if x) c)) {e₁ = 0} 1 y (unscheduled-held (withVisits (w .visits) (pushed (target-if x) c)) (entriesOf F) (omega (arith, y .stack))) (omega arith) (omega arith))
+            (inside-held t (withVisits (w .visits) (pushed (target-if x) c)) {e₁ = 0} 1 y
+            (unscheduled-held (withVisits (w .visits) (pushed (target-if x) c)) (entriesOf F) (omega (arith, y .stack))) (omega arith) (omega arith))
 
     branch-fit : (x y a : ℕ) → isSwitch (terminalAt t b) ≡ false → y < length (t .blocks) → a < length (t .blocks) → Good (Fit t p) (branchTurn b y a (blockAt t b .id) F R m c)
     unfolding branchTurn
@@ -530,21 +632,27 @@ module _ (t : Table) (ck : Checked t) (d : ℕ) where
       where
         at : (s : TerminalResult) → Jumped c s → Fit t p (leave (s .next) F (R ++ jumpOut (s .statement)) (added (s .statement) m) (s .context))
         at s (k, e₁, e₂) = rw (e₁, e₂) (leaves none (jumpOut (s .statement)) (added (s .statement) m) tt (k .0) (omega (arith, k .1 m, h .tallied)))
-    terminal-fit (if x y a g) q n = good-bind (Below (length (t .blocks))) (Fit t p) _ _ (reach-below c g (n .2)) (λ l k. enclosed-fit l y 12 y (scheduledIf l c) (if-held l c) k (ap isSwitch q) (n .0))
+    terminal-fit (if x y a g) q n =
+        good-bind (Below (length (t .blocks))) (Fit t p) _ _ (reach-below c g (n .2))
+        (λ l k. enclosed-fit l y 12 y (scheduledIf l c) (if-held l c) k (ap isSwitch q) (n .0))
     terminal-fit (branch x y a) q n = branch-fit x y a (ap isSwitch q) (n .0) (n .1)
     terminal-fit (switch x i k g) q n = good-bind (Below (length (t .blocks))) (Fit t p) _ _ (reach-below c g n) (λ l w.
-        choose-fit t (withLeft (numberOfCases t i k) (frameOf b l (opens l) m)) (inside-held t c 1 h (switch-held l c) (omega arith) (omega (arith, h .stack))) (omega (arith, number-below t i k, ck .cases, opens-one l)) (omega arith) refl (omega arith) (omega arith)
+        choose-fit t (withLeft (numberOfCases t i k) (frameOf b l (opens l) m)) (inside-held t c 1 h (switch-held l c) (omega arith) (omega (arith, h .stack)))
+        (omega (arith, number-below t i k, ck .cases, opens-one l)) (omega arith) refl (omega arith) (omega arith)
         (ap isSwitch q) (record { block = below; label = w; entries = omega (arith, opens-one l); case = λ z. fits (number-below t i k) }) f)
       where
         fits : numberOfCases t i k ≤ length (t .cases) - i → numberOfCases t i k < 1 + (length (t .cases) - switchColumns (terminalAt t b) .first)
         fits u = rw q (omega (arith, u))
     terminal-fit (do-while l x g) q n = good-bind (Held c 1 (suc (length (c .stack)))) (Fit t p) _ _ (schedule-held (target-loop g x l) c) (λ c₁ k. at c₁ k)
       where
-        none-out : (c₁ : Context) → Good (Fit t p) (intoLoop b l (loopIsTaken c l g) (c₁ .visits) (frameOf b (unlessScheduled c g) 1 m) F (R ++ []) c₁) → Good (Fit t p) (intoLoop b l (loopIsTaken c l g) (c₁ .visits) (frameOf b (unlessScheduled c g) 1 m) F R c₁)
+        none-out : (c₁ : Context) → Good (Fit t p) (intoLoop b l (loopIsTaken c l g) (c₁ .visits) (frameOf b (unlessScheduled c g) 1 m) F (R ++ []) c₁)
+            → Good (Fit t p) (intoLoop b l (loopIsTaken c l g) (c₁ .visits) (frameOf b (unlessScheduled c g) 1 m) F R c₁)
         none-out c₁ w = subst (λ (z : List Row). Good (Fit t p) (intoLoop b l (loopIsTaken c l g) (c₁ .visits) (frameOf b (unlessScheduled c g) 1 m) F z c₁)) (append-nil R) w
 
         at : (c₁ : Context) → Held c 1 (suc (length (c .stack))) c₁ → Good (Fit t p) (intoLoop b l (loopIsTaken c l g) (c₁ .visits) (frameOf b (unlessScheduled c g) 1 m) F R c₁)
-        at c₁ k = none-out c₁ (loop-fit (unlessScheduled c g) l (loopIsTaken c l g) (c₁ .visits) [] c₁ k (taken-below c g (n .2)) (ap isSwitch q) (n .0) (le-refl _) (omega (arith, k .seen, h .visits)) (omega arith))
+        at c₁ k =
+            none-out c₁ (loop-fit (unlessScheduled c g) l (loopIsTaken c l g) (c₁ .visits) [] c₁ k (taken-below c g (n .2)) (ap isSwitch q) (n .0) (le-refl _)
+            (omega (arith, k .seen, h .visits)) (omega arith))
     terminal-fit (while x l g) q n = good-bind (Below (length (t .blocks))) (Fit t p) _ _ (reach-below c g (n .2)) (λ o k.
         good-bind (Held c 1 (suc (length (c .stack)))) (Fit t p) _ _ (schedule-held (target-loop g x l) c) (λ c₁ k₁.
         good-bind (BlockTaken (c₁ .visits)) (Fit t p) _ _ (values x none (blockAt t b .span) (c₁ .visits) (omega (arith, k₁ .seen, h .visits))) (λ w u.
@@ -555,27 +663,55 @@ module _ (t : Table) (ck : Checked t) (d : ℕ) where
         good-bind (UpdateTaken (y .visits)) (Fit t p) _ _ (updates v (blockAt t b .span) (y .visits) (u₁ .1)) (λ z u₂.
         together (valueOut (valueBlockResultToSequence t w (blockAt t b .span))) (valueOut (y .value)) (updateOut (z .value)) c₁ (z .visits)
         (loop-fit (unlessScheduled c g) l (loopIsTaken c l g) (z .visits) _ c₁ k₁ (taken-below c g (n .4)) (ap isSwitch q) (n .3) (omega (arith, u .0, u₁ .0, u₂ .0)) (u₂ .1)
-        (omega (arith, long (valueOut (valueBlockResultToSequence t w (blockAt t b .span))) (valueOut (y .value)) (updateOut (z .value)), value-out-size (valueBlockResultToSequence t w (blockAt t b .span)), sequence-size t w (blockAt t b .span), value-out-size (y .value), u .0, u₁ .0, u₂ .0, u .2, u₁ .2, u₂ .2)))))))
+        (omega (
+          arith,
+          long (valueOut (valueBlockResultToSequence t w (blockAt t b .span))) (valueOut (y .value)) (updateOut (z .value)),
+          value-out-size (valueBlockResultToSequence t w (blockAt t b .span)),
+          sequence-size t w (blockAt t b .span),
+          value-out-size (y .value),
+          u .0,
+          u₁ .0,
+          u₂ .0,
+          u .2,
+          u₁ .2,
+          u₂ .2,
+        )))))))
       where
         long : (A B C : List Row) → length (A ++ (B ++ C)) ≡ length A + (length B + length C)
         long A B C = omega (arith, length-append A (B ++ C), length-append B C)
 
         together : (A B C : List Row) (c₁ : Context) (v : ℕ) → Good (Fit t p) (intoLoop b l (loopIsTaken c l g) v (frameOf b (unlessScheduled c g) 1 m) F (R ++ (A ++ (B ++ C))) c₁)
             → Good (Fit t p) (intoLoop b l (loopIsTaken c l g) v (frameOf b (unlessScheduled c g) 1 m) F (((R ++ A) ++ B) ++ C) c₁)
-        together A B C c₁ v w = subst (λ (z : List Row). Good (Fit t p) (intoLoop b l (loopIsTaken c l g) v (frameOf b (unlessScheduled c g) 1 m) F z c₁)) (sym (append-assoc (R ++ A) B C ∙ append-assoc R A (B ++ C))) w
+        together A B C c₁ v w =
+            subst (λ (z : List Row). Good (Fit t p) (intoLoop b l (loopIsTaken c l g) v (frameOf b (unlessScheduled c g) 1 m) F z c₁))
+            (sym (append-assoc (R ++ A) B C ∙ append-assoc R A (B ++ C))) w
     terminal-fit (for-of i x l g) q n = good-bind (Held c 1 (suc (length (c .stack)))) (Fit t p) _ _ (schedule-held (target-loop g i l) c) (λ c₁ k₁.
         good-bind (BlockTaken (c₁ .visits)) (Fit t p) _ _ (values i none (blockAt t b .span) (c₁ .visits) (omega (arith, k₁ .seen, h .visits))) (λ w u.
         good-bind (BlockTaken (w .visits)) (Fit t p) _ _ (values x none (blockAt t b .span) (w .visits) (u .1)) (λ y u₁.
         together (valueOut (valueBlockResultToSequence t w (blockAt t b .span))) (valueOut (valueBlockResultToSequence t y (blockAt t b .span))) c₁ (y .visits)
         (loop-fit (unlessScheduled c g) l (loopIsTaken c l g) (y .visits) _ c₁ k₁ (taken-below c g (n .3)) (ap isSwitch q) (n .2) (omega (arith, u .0, u₁ .0)) (u₁ .1)
-        (omega (arith, length-append (valueOut (valueBlockResultToSequence t w (blockAt t b .span))) (valueOut (valueBlockResultToSequence t y (blockAt t b .span))), value-out-size (valueBlockResultToSequence t w (blockAt t b .span)), sequence-size t w (blockAt t b .span), value-out-size (valueBlockResultToSequence t y (blockAt t b .span)), sequence-size t y (blockAt t b .span), u .0, u₁ .0, u .2, u₁ .2))))))
+        (omega (
+          arith,
+          length-append (valueOut (valueBlockResultToSequence t w (blockAt t b .span))) (valueOut
+              (valueBlockResultToSequence t y (blockAt t b .span))),
+          value-out-size (valueBlockResultToSequence t w (blockAt t b .span)),
+          sequence-size t w
+              (blockAt t b .span),
+          value-out-size (valueBlockResultToSequence t y (blockAt t b .span)),
+          sequence-size t y (blockAt t b .span),
+          u .0,
+          u₁ .0,
+          u .2,
+          u₁ .2,
+        ))))))
       where
         together : (A B : List Row) (c₁ : Context) (v : ℕ) → Good (Fit t p) (intoLoop b l (loopIsTaken c l g) v (frameOf b (unlessScheduled c g) 1 m) F (R ++ (A ++ B)) c₁)
             → Good (Fit t p) (intoLoop b l (loopIsTaken c l g) v (frameOf b (unlessScheduled c g) 1 m) F ((R ++ A) ++ B) c₁)
         together A B c₁ v w = subst (λ (z : List Row). Good (Fit t p) (intoLoop b l (loopIsTaken c l g) v (frameOf b (unlessScheduled c g) 1 m) F z c₁)) (sym (append-assoc R A B)) w
     terminal-fit (for-in i l g) q n = good-bind (Held c 1 (suc (length (c .stack)))) (Fit t p) _ _ (schedule-held (target-loop g i l) c) (λ c₁ k₁.
         good-bind (BlockTaken (c₁ .visits)) (Fit t p) _ _ (values i none (blockAt t b .span) (c₁ .visits) (omega (arith, k₁ .seen, h .visits))) (λ w u.
-        loop-fit (unlessScheduled c g) l (loopIsTaken c l g) (w .visits) (valueOut (valueBlockResultToSequence t w (blockAt t b .span))) c₁ k₁ (taken-below c g (n .2)) (ap isSwitch q) (n .1) (u .0) (u .1)
+        loop-fit (unlessScheduled c g) l (loopIsTaken c l g) (w .visits) (valueOut (valueBlockResultToSequence t w (blockAt t b .span))) c₁ k₁
+        (taken-below c g (n .2)) (ap isSwitch q) (n .1) (u .0) (u .1)
         (omega (arith, value-out-size (valueBlockResultToSequence t w (blockAt t b .span)), sequence-size t w (blockAt t b .span), u .0, u .2))))
     terminal-fit (logical o x g) q n = value-fit (logical o x g) g tt (n .1)
     terminal-fit (ternary x g) q n = value-fit (ternary x g) g tt (n .1)
@@ -585,12 +721,20 @@ module _ (t : Table) (ck : Checked t) (d : ℕ) where
     terminal-fit (maybe-throw x) q n = leave-fit t (unlessScheduled c x) h (omega arith) (omega arith) (omega arith) f (taken-below c x n)
     terminal-fit (try x y g k) q n = good-bind (Below (length (t .blocks))) (Fit t p) _ _ (reach-below c g (n .2)) (λ l w.
         let o : Framed t 0 (frameOf b l (opens l) m) = framed b l (opens l) m below w (opens-one l) (ap isSwitch q) in
-        push-fit t (frameOf b l (opens l) m) x (nested (frameOf b l (opens l) m) x (scheduleCatchHandler y (scheduledIf l c)) (caught-held y (if-held l c)) refl refl refl (opens-one l) o (n .0)) (omega (arith, opens-one l)) (omega arith) refl (omega arith) (omega arith) o f (n .0))
+        push-fit t (frameOf b l (opens l) m) x (nested (frameOf b l (opens l) m) x (scheduleCatchHandler y (scheduledIf l c)) (caught-held y (if-held l c)) refl
+        refl refl (opens-one l) o (n .0)) (omega (arith, opens-one l)) (omega arith) refl (omega arith) (omega arith) o f (n .0))
     terminal-fit (scope k x g z) q n =
         let l : Option ℕ = unlessScheduled c g in
         let s : Held c 1 (opens l + length (c .stack)) (scheduledIf l c) = if-held l c in
         let r : Held (scheduledIf l c) 0 (length (scheduledIf l c .stack)) (markScopeFallthroughIf l (scheduledIf l c)) = scoped-held l (scheduledIf l c) in
-        enclosed-fit l x 18 b (markScopeFallthroughIf l (scheduledIf l c)) (record { ids = omega (arith, s .ids, r .ids); seen = r .seen ∙ s .seen; marked = r .marked ∙ s .marked; flags = r .flags ∙ s .flags; stack = r .stack ∙ s .stack }) (taken-below c g (n .1)) (ap isSwitch q) (n .0)
+        enclosed-fit l x 18 b (markScopeFallthroughIf l (scheduledIf l c))
+        (record {
+          ids = omega (arith, s .ids, r .ids);
+          seen = r .seen ∙ s .seen;
+          marked = r .marked ∙ s .marked;
+          flags = r .flags ∙ s .flags;
+          stack = r .stack ∙ s .stack;
+        }) (taken-below c g (n .1)) (ap isSwitch q) (n .0)
 
 instr-two : (t : Table) (rs : List ℕ) → length (instructionsOut t rs) ≡ 2 * length rs
 unfolding instructionsOut
@@ -679,7 +823,20 @@ module _ (t : Table) (ck : Checked t) where
 
   pub start-sound : Sound t (begin t)
   unfolding start
-  start-sound = (ck .entry, tt, record { visits = omega arith; ids = omega arith; stack = refl; marked = omega arith; depth = omega arith; flags = length-none; tallied = omega arith; paid = omega arith })
+  start-sound = (
+    ck .entry,
+    tt,
+    record {
+      visits = omega arith;
+      ids = omega arith;
+      stack = refl;
+      marked = omega arith;
+      depth = omega arith;
+      flags = length-none;
+      tallied = omega arith;
+      paid = omega arith;
+    },
+  )
 
 -- ---- the loop's invariant, in one record
 
@@ -779,7 +936,7 @@ within t ck (suc n) s lt g = at (step t s) refl (λ s′ e. within t ck n s′ (
     at (going s′) e again = again s′ e
     at (halt a) e again = sym (going-halt t s a g e)
 
--- from the start, 16,818,177 turns give the report
-pub machine-turns : (t : Table) → Checked t → run t 16818177 (begin t) ≡ report t
+-- from the start 16,818,177 turns give the report, and more give the same
+pub machine-turns : (t : Table) → Checked t → (turns : ℕ) → 16818177 ≤ turns → run t turns (begin t) ≡ report t
 unfolding start
-machine-turns t ck = within t ck 16818177 (begin t) (omega arith) (going-start t ck)
+machine-turns t ck turns enough = within t ck turns (begin t) (omega (arith, enough)) (going-start t ck)

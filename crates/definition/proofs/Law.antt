@@ -19,6 +19,7 @@ use Rattle.definition.specs.Completion.{Completion, normal, break, conti
 use Rattle.definition.specs.TreeRun.{runStatements, reasonOf, treeRun}
 use Rattle.definition.specs.Plain.{Plain}
 use Rattle.definition.specs.RunLaw.{Agree, RunLaw}
+use Rattle.definition.proofs.PlainEnough.{PlainEnough, plain-enough}
 use Rattle.definition.proofs.Semantics.{Built, LeadsOn, runs}
 use Rattle.definition.proofs.State.{start-ok}
 use Rattle.definition.proofs.Structure.{WalkOk, walk-ok}
@@ -85,7 +86,7 @@ built-agrees : (t : Table) (s : Statements) → Built t [] (t .entry) s → (ans
 built-agrees t s b answers = agree-on t s answers (runStatements s answers .completion) refl (runs t b answers)
 
 -- what an accepted build of a plain table makes
-pub tree-built : (t : Table) → Plain t → Ranged t → (r : BlockResult) → buildTree t ≡ ok r → Built t [] (t .entry) (r .statements)
+pub tree-built : (t : Table) → PlainEnough t → Ranged t → (r : BlockResult) → buildTree t ≡ ok r → Built t [] (t .entry) (r .statements)
 unfolding buildTree WalkOk
 tree-built t pl rg r e = walk-ok t pl rg 128 [] (t .entry) start r (start-ok t) (pl .entry) e .tree
 
@@ -115,11 +116,15 @@ one-tree words lent h = tree-one words lent (accepted-of words lent h)
 
 -- ---- demand 3
 
-pub run-law : (words : List ℕ) (lent : ℕ) → built words lent .code ≡ 0 → Plain (tableOf words) → RunLaw words (built words lent)
+-- from less than the paper's plainness: no use is made of "one While" naming each Branch block (proofs/PlainEnough)
+pub run-law-enough : (words : List ℕ) (lent : ℕ) → built words lent .code ≡ 0 → PlainEnough (tableOf words) → RunLaw words (built words lent)
 unfolding tree-one
-run-law words lent h pl =
+run-law-enough words lent h pl =
     let a : Accepted words lent = accepted-of words lent h in
     record {
       one = tree-one words lent a;
       agree = built-agrees (tableOf words) (a .root .statements) (tree-built (tableOf words) pl (ranged words (a .checks)) (a .root) (a .builds));
     }
+
+pub run-law : (words : List ℕ) (lent : ℕ) → built words lent .code ≡ 0 → Plain (tableOf words) → RunLaw words (built words lent)
+run-law words lent h pl = run-law-enough words lent h (plain-enough (tableOf words) pl)

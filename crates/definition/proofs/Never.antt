@@ -10,11 +10,19 @@ use mathlib.Core.Bool.{Bool, true, false, not, _&&_, _||_}
 use lib.Dec.{T, eqb, leb, leb→le}
 use borrow.Author.Tests.{eq-eqb}
 use Rattle.table.specs.declared.columns.Span.{Span}
-use Rattle.table.specs.Table.{Table, Block, Case, Terminal, absent, unreachable, throw, return, goto, if, branch, switch, do-while, while, for, for-of, for-in, logical, ternary, optional, sequence, maybe-throw, try, scope, Variant, Break, Continue, Try, blockAt, terminalAt, isAbsent, isUnreachable, label}
-use Rattle.definition.specs.Context.{Flags, has, add, remove, ControlFlowTarget, target-if, target-switch, target-case, target-loop, targetBlock, Entry, Context, start, isScheduled, emit, withVisits, markScopeFallthrough, scheduleCatchHandler, isBlocked, blockedCode, blockAsked, pushed, schedule, unscheduledBy, popped, unscheduleTop, unschedule, Resolution}
+use Rattle.table.specs.Table.{Table, Block, Case, Terminal, absent, unreachable, throw, return, goto, if, branch, switch, do-while, while, for, for-of, for-in}
+use Rattle.table.specs.Table.{logical, ternary, optional, sequence, maybe-throw, try, scope, Variant, Break, Continue, Try, blockAt, terminalAt, isAbsent}
+use Rattle.table.specs.Table.{isUnreachable, label}
+use Rattle.definition.specs.Context.{Flags, has, add, remove, ControlFlowTarget, target-if, target-switch, target-case, target-loop, targetBlock, Entry}
+use Rattle.definition.specs.Context.{Context, start, isScheduled, emit, withVisits, markScopeFallthrough, scheduleCatchHandler, isBlocked, blockedCode}
+use Rattle.definition.specs.Context.{blockAsked, pushed, schedule, unscheduledBy, popped, unscheduleTop, unschedule, Resolution}
 use Rattle.definition.specs.Build.{rejected, report, reported}
 use Rattle.definition.specs.Result.{refused, Result, ok, _>>=_, refuseIf, alreadyScheduled, unscheduleOutOfOrder, maybeThrowInValueTerminal}
-use Rattle.definition.specs.Statement.{breakToScope, visitBreak, visitContinue, breakResolved, continueResolved, TerminalResult, BlockResult, TraverseBlock, enterBlock, unlessScheduled, unlessUnreachable, scheduleIf, unscheduleIf, markScopeFallthroughIf, traverseUnscheduled, traverseAlternate, visitGoto, traverseEnclosed, traverseLoop, traverseCases, unscheduleAll, scheduleSwitch, scheduleIds, casesLastFirst, visitUpdate, traverseConsequent, visitValueStatement, visitTerminal, thenNext, visitBlock, traverseBlock, buildTree}
+use Rattle.definition.specs.Statement.{breakToScope, visitBreak, visitContinue, breakResolved, continueResolved, TerminalResult, BlockResult}
+use Rattle.definition.specs.Statement.{TraverseBlock, enterBlock, unlessScheduled, unlessUnreachable, scheduleIf, unscheduleIf, markScopeFallthroughIf}
+use Rattle.definition.specs.Statement.{traverseUnscheduled, traverseAlternate, visitGoto, traverseEnclosed, traverseLoop, traverseCases, unscheduleAll}
+use Rattle.definition.specs.Statement.{scheduleSwitch, scheduleIds, casesLastFirst, visitUpdate, traverseConsequent, visitValueStatement, visitTerminal}
+use Rattle.definition.specs.Statement.{thenNext, visitBlock, traverseBlock, buildTree}
 use Rattle.definition.specs.Tree.{Kind, implicit, labeled, unlabeled, Statement, Statements}
 use Rattle.definition.specs.Value.{visitValueBlock, beginVisit, VisitValueBlock}
 use Rattle.definition.proofs.Steps.{true-false, Any, ofPaper, Fine, fine-bind, fine-unless, fine-pick, fine-map, none-some}
@@ -327,7 +335,9 @@ module _ (t : Table) (values : VisitValueBlock) (took : VisitTook t values) (inn
   value-statement-fine m b k f c h =
       fine-bind (λ d. OnIf (unlessScheduled c f) c d) (StepAfter c) _ _ (schedule-if-fine (unlessScheduled c f) c (untaken-free c f)) (λ d p.
       fine-bind (TerminalTook t (d .visits)) (StepAfter c) _ _ (terminal-took t values took m (k .id) (k .span) (d .visits) b h) (λ r _.
-      fine-bind (λ e. After c e) (StepAfter c) _ _ (unschedule-if-fine (unlessScheduled c f) c (withVisits (r .visits) d) (on-if-after (unlessScheduled c f) c p (to-visited (r .visits) (after-refl d)))) (λ e q. q)))
+      fine-bind (λ e. After c e) (StepAfter c) _ _
+      (unschedule-if-fine (unlessScheduled c f) c (withVisits (r .visits) d) (on-if-after (unlessScheduled c f) c p (to-visited (r .visits) (after-refl d))))
+      (λ e q. q)))
 
   terminal-fine : (m : Terminal) (b : ℕ) (k : Block) (c : Context) → isAbsent m ≡ false → Fine (StepAfter c) (visitTerminal t values inner m b k c)
   unfolding visitTerminal WalkFine
@@ -389,7 +399,8 @@ module _ (t : Table) (values : VisitValueBlock) (took : VisitTook t values) (inn
       fine-bind (λ d. OnIf (unlessScheduled c f) c d) (StepAfter c) _ _ (schedule-if-fine (unlessScheduled c f) c (untaken-free c f))
       (λ d p. enclosed-fine x 18 b (unlessScheduled c f) c (markScopeFallthroughIf (unlessScheduled c f) d) d _ tt p (λ e q. from-scoped (unlessScheduled c f) q))
 
-  next-fine : (b : ℕ) (again : TraverseBlock) (c : Context) (s : Option Statement) (n : Option ℕ) (d : Context) → WalkFine again → After c d → Fine (λ r. After c (r .context)) (thenNext t b again s n d)
+  next-fine : (b : ℕ) (again : TraverseBlock) (c : Context) (s : Option Statement) (n : Option ℕ) (d : Context) → WalkFine again → After c d
+      → Fine (λ r. After c (r .context)) (thenNext t b again s n d)
   unfolding thenNext WalkFine
   next-fine b again c s none d w p = p
   next-fine b again c s (some n) d w p = fine-bind (λ r. After d (r .context)) (λ r. After c (r .context)) _ _ (w n d) (λ r q. after-trans p q)
@@ -435,11 +446,22 @@ of-paper code h = leb→le code 31 (second (leb 10 code) h)
     second false k = absurd k
 
 -- whatever refuses a table is one of the paper's refusals
-pub never-above : (t : Table) (code at visits : ℕ) → report t ≡ rejected code at visits → code ≤ 31
+pub never-of-paper : (t : Table) (code at visits : ℕ) → report t ≡ rejected code at visits → T (ofPaper code)
 unfolding report
-never-above t code at visits e = of-paper code (never t code at visits (rejected-is (buildTree t) code at visits e))
+never-of-paper t code at visits e = never t code at visits (rejected-is (buildTree t) code at visits e)
 
--- "Four Rust messages never occur and are proved so". The fourth has no counterpart: a target's type is a constructor
+pub never-above : (t : Table) (code at visits : ℕ) → report t ≡ rejected code at visits → code ≤ 31
+never-above t code at visits e = of-paper code (never-of-paper t code at visits e)
+
+-- "Four Rust messages never occur and are proved so". An unknown target type: every target is one of the four
+pub target-known : (g : ControlFlowTarget)
+    → ((block : ℕ) × (g ≡ target-if block)) ⊎ (((block : ℕ) × (g ≡ target-switch block)) ⊎ (((block : ℕ) × (g ≡ target-case block))
+    ⊎ ((block continueBlock loopBlock : ℕ) × (g ≡ target-loop block continueBlock loopBlock))))
+target-known (target-if block) = inl (block, refl)
+target-known (target-switch block) = inr (inl (block, refl))
+target-known (target-case block) = inr (inr (inl (block, refl)))
+target-known (target-loop block continueBlock loopBlock) = inr (inr (inr (block, continueBlock, loopBlock, refl)))
+
 pub never-already-scheduled : (t : Table) (at visits : ℕ) → report t ≡ rejected alreadyScheduled at visits → ⊥
 never-already-scheduled t at visits e = omega (arith, never-above t alreadyScheduled at visits e)
 

@@ -8,7 +8,9 @@ use mathlib.Core.Bool.{Bool, true, false, not, _&&_, _||_}
 use lib.ListN.{getD}
 use lib.Dec.{eqb}
 use borrow.Author.Tests.{eqb-true, eq-eqb, ne-eqb}
-use Rattle.table.specs.Table.{Table, Block, noBlock, Terminal, absent, unreachable, throw, return, goto, if, branch, switch, do-while, while, for, for-of, for-in, logical, ternary, optional, label, sequence, maybe-throw, try, scope, Break, Continue, Try, codeOf, terminalAt, instructionRowsAt}
+use Rattle.table.specs.Table.{Table, Block, noBlock, Terminal, absent, unreachable, throw, return, goto, if, branch, switch, do-while, while, for, for-of}
+use Rattle.table.specs.Table.{for-in, logical, ternary, optional, label, sequence, maybe-throw, try, scope, Break, Continue, Try, codeOf, terminalAt}
+use Rattle.table.specs.Table.{instructionRowsAt}
 use Rattle.definition.specs.Completion.{contains}
 use Rattle.definition.specs.Plain.{Plain, plainCodes, isBranch, fallthroughOf, otherNames, endsInStore, NotBranch, All}
 use Rattle.definition.specs.Value.{isFallthrough}
@@ -318,7 +320,8 @@ module _ (t : Table) where
     one-fallthrough : (b c f : ℕ) → fallthroughOf (terminalAt t b) ≡ some f → fallthroughOf (terminalAt t c) ≡ some f → b ≡ c
     one-fallthrough b c f e e′ =
         by-cases (eqb b c) (eqb-true b c)
-        (λ n. absurd (true-false (sym (is-fallthrough f (fallthroughOf (terminalAt t c)) e′) ∙ not-is (isFallthrough (fallthroughOf (terminalAt t c)) f) (or-else (eqb b c) (not (isFallthrough (fallthroughOf (terminalAt t c)) f)) other n))))
+        (λ n. absurd (true-false (sym (is-fallthrough f (fallthroughOf (terminalAt t c)) e′) ∙ not-is (isFallthrough (fallthroughOf (terminalAt t c)) f)
+        (or-else (eqb b c) (not (isFallthrough (fallthroughOf (terminalAt t c)) f)) other n))))
       where
         other : eqb b c || not (isFallthrough (fallthroughOf (terminalAt t c)) f) ≡ true
         other =

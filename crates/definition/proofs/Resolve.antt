@@ -8,11 +8,12 @@ use lib.Dec.{eqb, T}
 use borrow.Author.Tests.{eqb-true, eqb-false}
 use Rattle.table.specs.Table.{Table, while, terminalAt}
 use Rattle.definition.specs.Context.{Flags, has, target-if, target-loop, Entry, targetBlock, isLoop, continuesAt, breakKind, breakTargetFrom, Resolution, continueKind, continueTargetFrom}
-use Rattle.definition.specs.Plain.{Plain, fallthroughOf}
+use Rattle.definition.specs.Plain.{fallthroughOf}
 use Rattle.definition.specs.Completion.{break, continue}
 use Rattle.definition.specs.TreeRun.{jumpCompletion}
 use Rattle.definition.specs.Tree.{Kind, implicit, labeled, unlabeled, kindNumber}
 use Rattle.definition.proofs.Semantics.{Frame, in-label, in-scope, in-loop, exit, breakOut, breakAt, continueOut, continueAt, target}
+use Rattle.definition.proofs.PlainEnough.{PlainEnough}
 use Rattle.definition.proofs.Steps.{true-false, none-some, some-eq}
 
 module _ (t : Table) where
@@ -20,7 +21,8 @@ module _ (t : Table) where
   pub data Framed (scopes : Flags) : List Frame → List Entry → Type 0 where
     no-frame : Framed scopes [] []
     label-framed : {F : List Frame} {S : List Entry} (i f : ℕ) → Framed scopes F S → Framed scopes (in-label f ∷ F) (record { id = i; target = target-if f; ownsLoop = false } ∷ S)
-    scope-framed : {F : List Frame} {S : List Entry} (i f : ℕ) → has scopes f ≡ true → Framed scopes F S → Framed scopes (in-scope f ∷ F) (record { id = i; target = target-if f; ownsLoop = false } ∷ S)
+    scope-framed : {F : List Frame} {S : List Entry} (i f : ℕ) → has scopes f ≡ true → Framed scopes F S
+        → Framed scopes (in-scope f ∷ F) (record { id = i; target = target-if f; ownsLoop = false } ∷ S)
     loop-framed : {F : List Frame} {S : List Entry} (i f x w l : ℕ) (ll : ℕ) (o : Bool) → terminalAt t w ≡ while x l f → Framed scopes F S
         → Framed scopes (in-loop f x ∷ F) (record { id = i; target = target-loop f x ll; ownsLoop = o } ∷ S)
 
@@ -215,7 +217,7 @@ module _ (t : Table) where
   while-ft : (w x l f : ℕ) → terminalAt t w ≡ while x l f → fallthroughOf (terminalAt t w) ≡ some f
   while-ft w x l f e = ap fallthroughOf e
 
-  module _ (pl : Plain t) where
+  module _ (pl : PlainEnough t) where
     -- two Whiles with one fallthrough have one test
     same-test : (w x l f w′ x′ l′ : ℕ) → terminalAt t w ≡ while x l f → terminalAt t w′ ≡ while x′ l′ f → x ≡ x′
     same-test w x l f w′ x′ l′ e e′ =

@@ -11,7 +11,10 @@ use Rattle.table.specs.declared.columns.Span.{Span}
 use Rattle.table.specs.Table.{Table, instructionAt}
 use Rattle.definition.specs.Machine.{valueOut, updateOut, statementOut, instructionsOut, blockRow, jumpOut, added, scopeRow}
 use Rattle.definition.specs.Statement.{instructionStatements, followedBy}
-use Rattle.definition.specs.Tree.{Value, PLAIN, LOAD, UNDEF, SEQ, LOGICAL, COND, OPTIONAL, Instructions, no-instructions, instruction, Statement, INSTR, IF, SWITCH, DOWHILE, WHILE, FOR, FOROF, FORIN, LABEL, TRY, SCOPE, RETURN, THROW, BREAK, CONTINUE, Statements, done, _▸_, Cases, no-cases, CASE, Row, row, valueRows, instructionsRows, updateRows, statementRows, statementsRows, blockRows, casesRows, countStatements, countInstructions, countCases, orNone, updatePresent, instrRow, forOfRow, forInRow}
+use Rattle.definition.specs.Tree.{Value, PLAIN, LOAD, UNDEF, SEQ, LOGICAL, COND, OPTIONAL, Instructions, no-instructions, instruction, Statement, INSTR}
+use Rattle.definition.specs.Tree.{IF, SWITCH, DOWHILE, WHILE, FOR, FOROF, FORIN, LABEL, TRY, SCOPE, RETURN, THROW, BREAK, CONTINUE, Statements, done, _▸_}
+use Rattle.definition.specs.Tree.{Cases, no-cases, CASE, Row, row, valueRows, instructionsRows, updateRows, statementRows, statementsRows, blockRows}
+use Rattle.definition.specs.Tree.{casesRows, countStatements, countInstructions, countCases, orNone, updatePresent, instrRow, forOfRow, forInRow}
 
 -- ---- the rows of a part and then others
 
@@ -20,7 +23,9 @@ mutual
   value-append (PLAIN r) k l = refl
   value-append (LOAD p) k l = refl
   value-append (UNDEF s) k l = refl
-  value-append (SEQ is i v) k l = ap (instructionsRows is) (value-append v (row 5 (countInstructions is) i 0 0 0 ∷ k) l) ∙ instructions-append is (valueRows v (row 5 (countInstructions is) i 0 0 0 ∷ k)) l
+  value-append (SEQ is i v) k l =
+      ap (instructionsRows is) (value-append v (row 5 (countInstructions is) i 0 0 0 ∷ k) l) ∙ instructions-append is
+      (valueRows v (row 5 (countInstructions is) i 0 0 0 ∷ k)) l
   value-append (LOGICAL o x y) k l = ap (valueRows x) (value-append y (row 6 o 0 0 0 0 ∷ k) l) ∙ value-append x (valueRows y (row 6 o 0 0 0 0 ∷ k)) l
   value-append (COND x y z) k l =
       ap (λ (r : List Row). valueRows x (valueRows y r)) (value-append z (row 7 0 0 0 0 0 ∷ k) l)
@@ -142,7 +147,8 @@ pub rows-for-of : (R : List Row) (id : ℕ) (g : Option ℕ) (s : Span) (n v : V
 unfolding statementOut
 rows-for-of R id g s n v b = block-out ((R ++ valueOut n) ++ valueOut v) b _ ∙ value-out (R ++ valueOut n) v _ ∙ value-out R n _
 
-pub rows-for-in : (R : List Row) (id : ℕ) (g : Option ℕ) (s : Span) (n : Value) (b : Statements) → blockOut (R ++ valueOut n) b ++ (forInRow id (orNone g) s ∷ []) ≡ R ++ statementOut (FORIN id g s n b)
+pub rows-for-in : (R : List Row) (id : ℕ) (g : Option ℕ) (s : Span) (n : Value) (b : Statements)
+    → blockOut (R ++ valueOut n) b ++ (forInRow id (orNone g) s ∷ []) ≡ R ++ statementOut (FORIN id g s n b)
 unfolding statementOut
 rows-for-in R id g s n b = block-out (R ++ valueOut n) b _ ∙ value-out R n _
 
@@ -195,9 +201,11 @@ unfolding statementsOut statementOut
 rows-single R none = refl
 rows-single R (some s) = refl
 
-pub rows-chain : (R : List Row) (t : Table) (rs : List ℕ) (o : Option Statement) (s : Statements) → R ++ statementsOut (instructionStatements t rs (followedBy o s)) ≡ ((R ++ instructionsOut t rs) ++ jumpOut o) ++ statementsOut s
+pub rows-chain : (R : List Row) (t : Table) (rs : List ℕ) (o : Option Statement) (s : Statements)
+    → R ++ statementsOut (instructionStatements t rs (followedBy o s)) ≡ ((R ++ instructionsOut t rs) ++ jumpOut o) ++ statementsOut s
 rows-chain R t rs o s = ap (λ (z : List Row). R ++ z) (instructions-out t rs (followedBy o s) ∙ ap (λ (z : List Row). instructionsOut t rs ++ z) (followed-out o s)) ∙ sym (simp append-assoc)
 
-pub count-chain : (m : ℕ) (t : Table) (rs : List ℕ) (o : Option Statement) (s : Statements) → m + countStatements (instructionStatements t rs (followedBy o s)) ≡ added o (m + length rs) + countStatements s
+pub count-chain : (m : ℕ) (t : Table) (rs : List ℕ) (o : Option Statement) (s : Statements)
+    → m + countStatements (instructionStatements t rs (followedBy o s)) ≡ added o (m + length rs) + countStatements s
 count-chain m t rs none s = omega (arith, instructions-count t rs s)
 count-chain m t rs (some x) s = omega (arith, instructions-count t rs (x ▸ s))

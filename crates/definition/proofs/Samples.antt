@@ -3,13 +3,24 @@ use mathlib.Core.Path.{_≡_, refl}
 use Prim.Native.Nat.{ℕ, _*_, _-_}
 use mathlib.Core.List.{List, [], _∷_, _++_, map}
 use lib.ListN.{replicate}
-use Rattle.table.specs.Words.{word, entryWord, blockCount, instructionCount, caseCount, placeCount, identifierCount, blocksBegin, instructionsBegin, casesBegin, placesBegin, identifiersBegin, wordsNeeded, blockWord, instructionWord, caseWord, placeWord, identifierWord}
+use Rattle.table.specs.Words.{word, entryWord, blockCount, instructionCount, caseCount, placeCount, identifierCount, blocksBegin, instructionsBegin, casesBegin}
+use Rattle.table.specs.Words.{placesBegin, identifiersBegin, wordsNeeded, blockWord, instructionWord, caseWord, placeWord, identifierWord}
 use Rattle.table.specs.Table.{unlessNone, variantOf, terminalOf, blockOf, operationOf, instructionOf, caseOf, tabulate, tableOf}
-use Rattle.table.specs.Check.{fits, block, block-or-none, place, place-or-none, terminalRules, blockRules, operandRules, instructionRules, caseRules, placeRules, identifierRules, andThen, rowVerdict, rowsVerdict, wordsVerdict, countsVerdict, checked}
+use Rattle.table.specs.Check.{fits, block, block-or-none, place, place-or-none, terminalRules, blockRules, operandRules, instructionRules, caseRules}
+use Rattle.table.specs.Check.{placeRules, identifierRules, andThen, rowVerdict, rowsVerdict, wordsVerdict, countsVerdict, checked}
 use Rattle.definition.specs.Result.{_>>=_, refuseIf}
-use Rattle.definition.specs.Context.{noFlags, has, add, remove, start, isScheduled, emit, withVisits, markScopeFallthrough, scheduleCatchHandler, pushed, schedule, unscheduledBy, popped, unscheduleTop, unschedule, breakKind, breakTargetFrom, getBreakTarget, continueKind, continueTargetFrom, getContinueTarget}
-use Rattle.definition.specs.Value.{beginVisit, instructionsOf, wrapWithSequence, finalValue, finalPlace, storedToNamed, allButLast, last, extractValueBlockResult, extractOrRefuse, testBlockEnded, visitTestBlock, visitValueBlockTerminal, thenFallthrough, branchValue, isEmptyGoto, maybeThrowValue, visitValueBlockAt, visitValueBlock, appended, sameIdentifier, unlessSame, valueBlockResultToSequence}
-use Rattle.definition.specs.Statement.{enterBlock, unlessScheduled, unlessUnreachable, scheduleIf, scheduleSwitch, unscheduleIf, markScopeFallthroughIf, breakToScope, breakResolved, visitBreak, continueResolved, visitContinue, visitGoto, traverseUnscheduled, traverseAlternate, traverseConsequent, traverseEnclosed, loopIsTaken, traverseLoop, visitUpdate, casesLastFirst, traverseCases, unscheduleAll, visitValueStatement, visitTerminal, instructionStatements, thenNext, visitBlock, traverseBlock, buildTree}
+use Rattle.definition.specs.Context.{noFlags, has, add, remove, start, isScheduled, emit, withVisits, markScopeFallthrough, scheduleCatchHandler, pushed}
+use Rattle.definition.specs.Context.{schedule, unscheduledBy, popped, unscheduleTop, unschedule, breakKind, breakTargetFrom, getBreakTarget, continueKind}
+use Rattle.definition.specs.Context.{continueTargetFrom, getContinueTarget}
+use Rattle.definition.specs.Value.{beginVisit, instructionsOf, wrapWithSequence, finalValue, finalPlace, storedToNamed, allButLast, last}
+use Rattle.definition.specs.Value.{extractValueBlockResult, extractOrRefuse, testBlockEnded, visitTestBlock, visitValueBlockTerminal, thenFallthrough}
+use Rattle.definition.specs.Value.{branchValue, isEmptyGoto, maybeThrowValue, visitValueBlockAt, visitValueBlock, appended, sameIdentifier, unlessSame}
+use Rattle.definition.specs.Value.{valueBlockResultToSequence}
+use Rattle.definition.specs.Statement.{enterBlock, unlessScheduled, unlessUnreachable, scheduleIf, scheduleSwitch, unscheduleIf, markScopeFallthroughIf}
+use Rattle.definition.specs.Statement.{breakToScope, breakResolved, visitBreak, continueResolved, visitContinue, visitGoto, traverseUnscheduled}
+use Rattle.definition.specs.Statement.{traverseAlternate, traverseConsequent, traverseEnclosed, loopIsTaken, traverseLoop, visitUpdate, casesLastFirst}
+use Rattle.definition.specs.Statement.{traverseCases, unscheduleAll, visitValueStatement, visitTerminal, instructionStatements, thenNext, visitBlock}
+use Rattle.definition.specs.Statement.{traverseBlock, buildTree}
 use Rattle.definition.specs.Build.{Outcome, reported, report, refusal, wordsOf, placed, outcomeOf, afterCheck, built}
 
 -- ---- the words of a table
@@ -51,7 +62,7 @@ abbrev table : (number : ℕ) → (blocks : List ℕ) → List ℕ
 table number blocks = 0 ∷ number ∷ 0 ∷ 0 ∷ 1 ∷ 1 ∷ blocks ++ 0 ∷ 1 ∷ []
 
 -- the table of the sample file
-abbrev file : List ℕ
+abbrev pub file : List ℕ
 file = table 1 (empty (Return 0) 7)
 
 abbrev W : List ℕ
@@ -127,10 +138,11 @@ abbrev refuses : (words : List ℕ) → (lent code at rows visits : ℕ) → Sam
 refuses words lent code at rows visits =
     record { words = words; lent = lent; outcome = record { code = code; at = at; rows = rows; visits = visits; buffer = replicate lent 0 } }
 
--- accepts: table, words lent, rows, visits. refuses: table, words lent, code, at, rows, visits
+-- accepts: table, words lent, rows, visits. refuses: table, words lent, code, at, rows, visits. The first is what treebuild prints: "It lends 2,048 rows"
 abbrev pub samples : List Sample
 samples =
-    accepts file 12 2 1 (RETURN 0 7 ++ BLOCK 1)
+    accepts file 12288 2 1 (RETURN 0 7 ++ BLOCK 1)
+    ∷ accepts file 12 2 1 (RETURN 0 7 ++ BLOCK 1)
     ∷ refuses file 11 40 0 2 1
     ∷ accepts W 36 6 4 (LOAD 0 ++ CONTINUE 3 3 0 ++ BLOCK 1 ++ WHILE 1 3 ++ RETURN 0 4 ++ BLOCK 2)
     ∷ accepts W-break 45 6 4 (LOAD 0 ++ BREAK 3 3 2 ++ BLOCK 1 ++ WHILE 1 3 ++ RETURN 0 4 ++ BLOCK 2)
@@ -147,5 +159,18 @@ abbrev pub builtFor : Sample → Outcome
 builtFor sample = built (sample .words) (sample .lent)
 
 pub the-samples : map builtFor samples ≡ map (λ sample. sample .outcome) samples
-unfolding word entryWord blockCount instructionCount caseCount placeCount identifierCount blocksBegin instructionsBegin casesBegin placesBegin identifiersBegin wordsNeeded blockWord instructionWord caseWord placeWord identifierWord unlessNone variantOf terminalOf blockOf operationOf instructionOf caseOf tabulate tableOf fits block block-or-none place place-or-none terminalRules blockRules operandRules instructionRules caseRules placeRules identifierRules andThen rowVerdict rowsVerdict wordsVerdict countsVerdict checked _>>=_ refuseIf noFlags has add remove start isScheduled emit withVisits markScopeFallthrough scheduleCatchHandler pushed schedule unscheduledBy popped unscheduleTop unschedule breakKind breakTargetFrom getBreakTarget continueKind continueTargetFrom getContinueTarget beginVisit instructionsOf wrapWithSequence finalValue finalPlace storedToNamed allButLast last extractValueBlockResult extractOrRefuse testBlockEnded visitTestBlock visitValueBlockTerminal thenFallthrough branchValue isEmptyGoto maybeThrowValue visitValueBlockAt visitValueBlock appended sameIdentifier unlessSame valueBlockResultToSequence enterBlock unlessScheduled unlessUnreachable scheduleIf scheduleSwitch unscheduleIf markScopeFallthroughIf breakToScope breakResolved visitBreak continueResolved visitContinue visitGoto traverseUnscheduled traverseAlternate traverseConsequent traverseEnclosed loopIsTaken traverseLoop visitUpdate casesLastFirst traverseCases unscheduleAll visitValueStatement visitTerminal instructionStatements thenNext visitBlock traverseBlock buildTree reported report refusal wordsOf placed outcomeOf afterCheck built
+unfolding word entryWord blockCount instructionCount caseCount placeCount identifierCount blocksBegin instructionsBegin casesBegin placesBegin identifiersBegin
+    wordsNeeded blockWord instructionWord caseWord placeWord identifierWord unlessNone variantOf terminalOf blockOf operationOf instructionOf caseOf tabulate
+    tableOf fits block block-or-none place place-or-none terminalRules blockRules operandRules instructionRules caseRules placeRules identifierRules andThen
+    rowVerdict rowsVerdict wordsVerdict countsVerdict checked _>>=_ refuseIf noFlags has add remove start isScheduled emit withVisits markScopeFallthrough
+    scheduleCatchHandler pushed schedule unscheduledBy popped unscheduleTop unschedule breakKind breakTargetFrom getBreakTarget continueKind continueTargetFrom
+    getContinueTarget beginVisit instructionsOf wrapWithSequence finalValue finalPlace storedToNamed allButLast last extractValueBlockResult extractOrRefuse
+    testBlockEnded visitTestBlock visitValueBlockTerminal thenFallthrough branchValue isEmptyGoto maybeThrowValue visitValueBlockAt visitValueBlock appended
+    sameIdentifier unlessSame valueBlockResultToSequence enterBlock unlessScheduled unlessUnreachable scheduleIf scheduleSwitch unscheduleIf
+    markScopeFallthroughIf breakToScope breakResolved visitBreak continueResolved visitContinue visitGoto traverseUnscheduled traverseAlternate
+    traverseConsequent traverseEnclosed loopIsTaken traverseLoop visitUpdate casesLastFirst traverseCases unscheduleAll visitValueStatement visitTerminal
+    instructionStatements thenNext visitBlock traverseBlock buildTree reported report refusal wordsOf placed outcomeOf afterCheck built
 the-samples = refl
+
+pub file-sample : built file 12288 ≡ accepts file 12288 2 1 (RETURN 0 7 ++ BLOCK 1) .outcome
+file-sample = let same = the-samples in cc

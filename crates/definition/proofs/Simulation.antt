@@ -11,15 +11,30 @@ use lib.Seq.{take-suc, getD-drop}
 use lib.Dec.{eqb, T}
 use borrow.Author.Tests.{lt-leb, le-leb, eq-eqb}
 use Rattle.table.specs.declared.columns.Span.{Span}
-use Rattle.table.specs.Table.{Table, Block, Case, Terminal, absent, unreachable, throw, return, goto, if, branch, switch, do-while, while, for, for-of, for-in, logical, ternary, optional, sequence, maybe-throw, try, scope, Variant, Break, Continue, Try, blockAt, terminalAt, instructionRowsAt, isAbsent, label}
+use Rattle.table.specs.Table.{Table, Block, Case, Terminal, absent, unreachable, throw, return, goto, if, branch, switch, do-while, while, for, for-of, for-in}
+use Rattle.table.specs.Table.{logical, ternary, optional, sequence, maybe-throw, try, scope, Variant, Break, Continue, Try, blockAt, terminalAt}
+use Rattle.table.specs.Table.{instructionRowsAt, isAbsent, label}
 use Rattle.definition.specs.Build.{accepted, Report, rejected, reported, report}
-use Rattle.definition.specs.Context.{has, ControlFlowTarget, target-case, target-loop, isBlocked, blockedCode, blockAsked, Entry, Context, start, isScheduled, emit, withVisits, scheduleCatchHandler, markScopeFallthrough, pushed, schedule, unscheduledBy, popped, unscheduleTop, unschedule}
-use Rattle.definition.specs.Machine.{Frame, State, visiting, ended, choosing, going, halt, turn, leave, blockRow, valueOut, updateOut, statementOut, jumpOut, added, instructionsOut, closingRowOf, closingRow, scheduledIf, scheduledSwitch, unscheduledTop, unscheduled, unscheduledIf, opens, frameOf, secondPart, withEntries, into, intoLoop, complete, closeBy, close, noCase, caseAt, numberOfCases, chooseCase, switchColumns, resumeAt, resume, branchTurn, valueTurn, terminalTurn, depthLeft, visitTurn, step, begin, Gives, halts, goes}
+use Rattle.definition.specs.Context.{has, ControlFlowTarget, target-case, target-loop, isBlocked, blockedCode, blockAsked, Entry, Context, start}
+use Rattle.definition.specs.Context.{isScheduled, emit, withVisits, scheduleCatchHandler, markScopeFallthrough, pushed, schedule, unscheduledBy, popped}
+use Rattle.definition.specs.Context.{unscheduleTop, unschedule}
+use Rattle.definition.specs.Machine.{Frame, State, visiting, ended, choosing, going, halt, turn, leave, blockRow, valueOut, updateOut, statementOut}
+use Rattle.definition.specs.Machine.{jumpOut, added, instructionsOut, closingRowOf, closingRow, scheduledIf, scheduledSwitch, unscheduledTop, unscheduled}
+use Rattle.definition.specs.Machine.{unscheduledIf, opens, frameOf, secondPart, withEntries, into, intoLoop, complete, closeBy, close, noCase, caseAt}
+use Rattle.definition.specs.Machine.{numberOfCases, chooseCase, switchColumns, resumeAt, resume, branchTurn, valueTurn, terminalTurn, depthLeft}
+use Rattle.definition.specs.Machine.{visitTurn, step, begin, Gives, halts, goes}
 use Rattle.definition.specs.Result.{refused, Result, ok, _>>=_, refuseIf}
-use Rattle.definition.specs.Statement.{visitBreak, visitContinue, OptionalValue, visitUpdate, continueBlockOf, TerminalResult, BlockResult, TraverseBlock, enterBlock, unlessScheduled, unlessUnreachable, scheduleIf, unscheduleIf, markScopeFallthroughIf, traverseUnscheduled, AlternateResult, traverseAlternate, visitGoto, traverseEnclosed, loopIsTaken, traverseLoop, CasesResult, traverseCases, unscheduleAll, scheduleSwitch, scheduleIds, casesLastFirst, traverseConsequent, visitValueStatement, visitTerminal, instructionStatements, followedBy, thenNext, visitBlock, traverseBlock, buildTree}
+use Rattle.definition.specs.Statement.{visitBreak, visitContinue, OptionalValue, visitUpdate, continueBlockOf, TerminalResult, BlockResult, TraverseBlock}
+use Rattle.definition.specs.Statement.{enterBlock, unlessScheduled, unlessUnreachable, scheduleIf, unscheduleIf, markScopeFallthroughIf}
+use Rattle.definition.specs.Statement.{traverseUnscheduled, AlternateResult, traverseAlternate, visitGoto, traverseEnclosed, loopIsTaken, traverseLoop}
+use Rattle.definition.specs.Statement.{CasesResult, traverseCases, unscheduleAll, scheduleSwitch, scheduleIds, casesLastFirst, traverseConsequent}
+use Rattle.definition.specs.Statement.{visitValueStatement, visitTerminal, instructionStatements, followedBy, thenNext, visitBlock, traverseBlock}
+use Rattle.definition.specs.Statement.{buildTree}
 use Rattle.definition.specs.Tree.{Statement, Statements, done, Cases, no-cases, CASE, Row, row, orNone, countStatements, countCases, IF, INSTR, SWITCH, rows, updatePresent, instrRow}
 use Rattle.definition.specs.Value.{visitValueBlock, beginVisit, ValueTerminalResult, VisitValueBlock, visitValueBlockTerminal, valueBlockResultToSequence}
-use Rattle.definition.proofs.Rows.{statementsOut, casesOut, blockOut, block-rows, rows-if, rows-else, rows-do-while, rows-while, rows-for, rows-for-of, rows-for-in, rows-label, rows-try, rows-scope, rows-value, rows-single, rows-case, rows-switch, rows-chain, count-chain}
+use Rattle.definition.proofs.Rows.{statementsOut, casesOut, blockOut, block-rows, rows-if, rows-else, rows-do-while, rows-while, rows-for, rows-for-of}
+use Rattle.definition.proofs.Rows.{rows-for-in, rows-label, rows-try, rows-scope, rows-value, rows-single, rows-case, rows-switch, rows-chain}
+use Rattle.definition.proofs.Rows.{count-chain}
 use Rattle.definition.proofs.Steps.{true-false, Any, Good, good-bind, good-unless, good-any, Fine, fine-good}
 use Rattle.definition.proofs.ValueWalk.{BlockTook, TerminalTook, VisitTook, isMaybeThrow, terminal-took, value-took, begin-visit-took}
 use Rattle.definition.proofs.Never.{After, WalkFine, walk-fine, Free, untaken-free, reached-fine, schedule-free, or-false, false-of}
@@ -134,7 +149,8 @@ pop-all (i ∷ is) c h = at (c .stack) refl h (λ e q. pop-all is e q)
     at (e ∷ S) s (q, u) again =
         unfold unschedule unscheduled _>>=_ unscheduleTop unscheduledTop popped in
         (ap (λ (z : List Entry). unscheduleTop z i c >>= λ c1. unscheduleAll is c1) s
-        ∙ ap (λ (y : Bool). elim y [ true ↦ ok (popped S (unscheduledBy (e .target) (e .ownsLoop) (c .scheduled)) c) | false ↦ refused 91 0 (c .visits) ] >>= λ c1. unscheduleAll is c1) (eq-eqb (e .id) i q)
+        ∙ ap (λ (y : Bool). elim y [ true ↦ ok (popped S (unscheduledBy (e .target) (e .ownsLoop) (c .scheduled)) c) | false ↦ refused 91 0 (c .visits) ] >>=
+        λ c1. unscheduleAll is c1) (eq-eqb (e .id) i q)
         ∙ again (popped S (unscheduledBy (e .target) (e .ownsLoop) (c .scheduled)) c) u
         ∙ ap (λ (z : List Entry). ok (popAll (length is) (unscheduledTop z c))) (sym s))
 
@@ -306,7 +322,8 @@ module _ (t : Table) (d : ℕ) (inner : TraverseBlock) (ws : Walks t d inner) (w
       after r (refused x y w) go u = go (rejected x y w) (resumes fr F _ _ (r .context) (rejected x y w) size (under r _ u))
       after r (ok s) go (g, u) = (g, λ a h. go a (resumes fr F _ _ (r .context) a size (under r a (u a h))))
 
-      at : (y : Result BlockResult) → Along t (visiting b (fr ∷ F) R₁ 0 c) (c .visits) (fr ∷ F) R₁ 0 y → Fine (λ r. After c (r .context)) y → Sim t v F R n (ok (visiting b (fr ∷ F) R₁ 0 c)) (y >>= rest)
+      at : (y : Result BlockResult) → Along t (visiting b (fr ∷ F) R₁ 0 c) (c .visits) (fr ∷ F) R₁ 0 y → Fine (λ r. After c (r .context)) y
+          → Sim t v F R n (ok (visiting b (fr ∷ F) R₁ 0 c)) (y >>= rest)
       at (refused x y w) h _ = record { raw = h }
       at (ok r) (lt, go) f = record { raw = after r (rest r) go (k r (lt, f) .raw) }
 
@@ -326,7 +343,8 @@ module _ (t : Table) (d : ℕ) (inner : TraverseBlock) (ws : Walks t d inner) (w
   if-else : {v : ℕ} {F : List Frame} {R : List Row} {n : ℕ} (x y a f : ℕ) (g : Option ℕ) (i b : ℕ) (c : Context) (th : Statements)
       → terminalAt t b ≡ if x y a f → length F + suc d ≡ 128 → v ≤ c .visits → Tops (scheduleIds g i) (c .stack)
       → Sim t v F R n (resumeAt t visit (if x y a f) (blockAt t b) (labelled b g n) F (blockOut R th) c)
-      (traverseAlternate inner a f c >>= λ s. unscheduleIf g i (s .context) >>= λ c2. ok (record { statement = some (IF x (blockAt t b .id) g th (s .present) (s .statements)); next = g; context = c2 }))
+      (traverseAlternate inner a f c >>= λ s. unscheduleIf g i (s .context) >>= λ c2. ok
+      (record { statement = some (IF x (blockAt t b .id) g th (s .present) (s .statements)); next = g; context = c2 }))
   unfolding traverseAlternate resumeAt closingRowOf
   if-else {v} {F} {R} {n} x y a f g i b c th q size h u = at (eqb a f)
     where
@@ -335,11 +353,15 @@ module _ (t : Table) (d : ℕ) (inner : TraverseBlock) (ws : Walks t d inner) (w
 
       at : (y : Bool) → Sim t v F R n
           (elim y [ true ↦ ok (close t (labelled b g n) F (blockOut R th) c) | false ↦ into a 13 a (secondPart (labelled b g n)) F (blockOut R th) c ])
-          (_>>=_ {A = AlternateResult} (elim y [ true ↦ ok (record { present = false; statements = done; context = c }) | false ↦ traverseUnscheduled inner a 13 a c >>= λ r. ok (record { present = true; statements = r .statements; context = r .context }) ]) K)
+          (_>>=_ {A = AlternateResult} (elim y [
+            | true ↦ ok (record { present = false; statements = done; context = c })
+            | false ↦ traverseUnscheduled inner a 13 a c >>= λ r. ok (record { present = true; statements = r .statements; context = r .context })
+          ]) K)
       at true = sim-ok _ K (sim-close (labelled b g n) (scheduleIds g i) _ _ _ _ c q (off-if g i c) (ids-if g i) u (rows-if R x (blockAt t b .id) g th done) h)
       at false =
           sim-assoc (traverseUnscheduled inner a 13 a c) _ K (sim-into (secondPart (labelled b g n)) _ a 13 a _ c _ q size (λ r p.
-          sim-ok _ K (sim-close (secondPart (labelled b g n)) (scheduleIds g i) _ _ _ _ (r .context) q (off-if g i (r .context)) (ids-if g i) (tops-same (scheduleIds g i) c (r .context) (p .1 .same) u)
+          sim-ok _ K (sim-close (secondPart (labelled b g n)) (scheduleIds g i) _ _ _ _ (r .context) q (off-if g i (r .context)) (ids-if g i)
+          (tops-same (scheduleIds g i) c (r .context) (p .1 .same) u)
           (rows-else R x (blockAt t b .id) g th (r .statements)) (omega arith))))
 
   other-way : {v : ℕ} {F : List Frame} {R : List Row} {n : ℕ} (x y a b : ℕ) (R₂ : List Row) (c : Context) (th : Statements)
@@ -360,7 +382,9 @@ module _ (t : Table) (d : ℕ) (inner : TraverseBlock) (ws : Walks t d inner) (w
   branch-sim {v} {F} {R} {n} x y a b c q size h = at (isScheduled c y)
     where
       K : BlockResult → Result TerminalResult
-      K r = traverseUnscheduled inner a 19 b (r .context) >>= λ s. ok (record { statement = some (IF x (blockAt t b .id) none (r .statements) true (s .statements)); next = none; context = s .context })
+      K r =
+          traverseUnscheduled inner a 19 b (r .context) >>= λ s. ok
+          (record { statement = some (IF x (blockAt t b .id) none (r .statements) true (s .statements)); next = none; context = s .context })
 
       at : (z : Bool) → Sim t v F R n
           (elim z [
@@ -384,8 +408,10 @@ module _ (t : Table) (d : ℕ) (inner : TraverseBlock) (ws : Walks t d inner) (w
   unfolding traverseEnclosed
   enclosed-sim {v} {F} {R} {n} e b x code at g c₀ c make q l size h u o =
       sim-into (labelled b g n) e x code at _ c _ q size (λ r p.
-      subst (λ (z : Result State). Sim t v F R n z (unscheduleIf g (c₀ .nextId) (r .context) >>= λ c1. ok (record { statement = some (make (r .statements)); next = g; context = c1 }))) (sym (l _ _ _ _ _))
-      (sim-close (labelled b g n) (scheduleIds g (c₀ .nextId)) e _ _ _ (r .context) q (off-if g (c₀ .nextId) (r .context)) (ids-if g (c₀ .nextId)) (tops-same (scheduleIds g (c₀ .nextId)) c (r .context) (p .1 .same) u)
+      subst (λ (z : Result State). Sim t v F R n z
+      (unscheduleIf g (c₀ .nextId) (r .context) >>= λ c1. ok (record { statement = some (make (r .statements)); next = g; context = c1 }))) (sym (l _ _ _ _ _))
+      (sim-close (labelled b g n) (scheduleIds g (c₀ .nextId)) e _ _ _ (r .context) q (off-if g (c₀ .nextId) (r .context)) (ids-if g (c₀ .nextId))
+      (tops-same (scheduleIds g (c₀ .nextId)) c (r .context) (p .1 .same) u)
       (o (r .statements)) (omega arith)))
 
   loop-sim : {v : ℕ} {F : List Frame} {R : List Row} {n : ℕ} (e : Terminal) (b l : ℕ) (bad : Bool) (w i : ℕ) (c : Context) (g : Option ℕ) (R₁ : List Row) (make : Statements → Statement)
@@ -422,7 +448,8 @@ module _ (t : Table) (d : ℕ) (inner : TraverseBlock) (ws : Walks t d inner) (w
   cases-sim {v} {F} {R} {n} x i m f b g (suc j) ids entries made R₁ c make q size few h k u e =
       sim-turn (choosing (switched b g entries (suc j) made n) F R₁ c) (chooseCase t i f (suc j) (switched b g entries (suc j) made n) F R₁ c) _
       (ap (λ (z : Terminal). turn (chooseCase t (switchColumns z .first) (switchColumns z .fallthrough) (suc j) (switched b g entries (suc j) made n) F R₁ c)) q)
-      (subst (λ (l : List Case). Sim t v F R n (chooseCase t i f (suc j) (switched b g entries (suc j) made n) F R₁ c) (traverseCases inner b f l ids c >>= K make)) (sym (cases-next t i j (omega arith)))
+      (subst (λ (l : List Case). Sim t v F R n (chooseCase t i f (suc j) (switched b g entries (suc j) made n) F R₁ c)
+      (traverseCases inner b f l ids c >>= K make)) (sym (cases-next t i j (omega arith)))
       (at (isScheduled c blk) refl (λ ids′ entries′ made′ R′ c′ make′ h′ k′ u′ e′. cases-sim x i m f b g j ids′ entries′ made′ R′ c′ make′ q size (omega arith) h′ k′ u′ e′)))
     where
       blk : ℕ
@@ -435,7 +462,8 @@ module _ (t : Table) (d : ℕ) (inner : TraverseBlock) (ws : Walks t d inner) (w
       K mk r = unscheduleAll (r .ids) (r .context) >>= λ c2. ok (record { statement = some (mk (r .cases)); next = g; context = c2 })
 
       rows-on : (r : BlockResult) (z : Cases)
-          → ((blockOut R₁ (r .statements) ++ (row 11 tst 0 0 0 0 ∷ [])) ++ casesOut z) ++ (row 12 x (suc made + countCases z) (blockAt t b .id) (orNone g) 0 ∷ []) ≡ R ++ statementOut (make (CASE tst (r .statements) z))
+          → ((blockOut R₁ (r .statements) ++ (row 11 tst 0 0 0 0 ∷ [])) ++ casesOut z) ++
+          (row 12 x (suc made + countCases z) (blockAt t b .id) (orNone g) 0 ∷ []) ≡ R ++ statementOut (make (CASE tst (r .statements) z))
       rows-on r z =
           let m : suc made + countCases z ≡ made + suc (countCases z) = omega arith in
           ap (λ (y : ℕ). ((blockOut R₁ (r .statements) ++ (row 11 tst 0 0 0 0 ∷ [])) ++ casesOut z) ++ (row 12 x y (blockAt t b .id) (orNone g) 0 ∷ [])) m
@@ -490,8 +518,11 @@ module _ (t : Table) (d : ℕ) (inner : TraverseBlock) (ws : Walks t d inner) (w
   value-sim {v} {F} {R} {n} e b k f c m h =
       sim-by _ (opened-if g c (untaken-free c f))
       (subst (λ (w : ℕ). Sim t v F R n (visitValueBlockTerminal t visit e (k .id) (k .span) (c .visits) b >>= X) (visitValueBlockTerminal t visit e (k .id) (k .span) w b >>= Y)) (sym (kept-if g c))
-      (sim-bind (λ r. c .visits ≤ r .visits) _ X Y (fine-good (TerminalTook t (c .visits)) (λ r. c .visits ≤ r .visits) (visitValueBlockTerminal t visit e (k .id) (k .span) (c .visits) b) (λ _ z. z .rises) (terminal-took t visit (value-took t d) e (k .id) (k .span) (c .visits) b m)) (λ r q.
-      sim-by _ (off-if g (c .nextId) (withVisits (r .visits) (scheduledIf g c)) ∙ pop-all (scheduleIds g (c .nextId)) (withVisits (r .visits) (scheduledIf g c)) (unfold withVisits in tops-if g c) ∙ one g (withVisits (r .visits) (scheduledIf g c)))
+      (sim-bind (λ r. c .visits ≤ r .visits) _ X Y
+      (fine-good (TerminalTook t (c .visits)) (λ r. c .visits ≤ r .visits) (visitValueBlockTerminal t visit e (k .id) (k .span) (c .visits) b) (λ _ z. z .rises)
+      (terminal-took t visit (value-took t d) e (k .id) (k .span) (c .visits) b m)) (λ r q.
+      sim-by _ (off-if g (c .nextId) (withVisits (r .visits) (scheduledIf g c)) ∙ pop-all (scheduleIds g (c .nextId)) (withVisits (r .visits) (scheduledIf g c))
+      (unfold withVisits in tops-if g c) ∙ one g (withVisits (r .visits) (scheduledIf g c)))
       (sim-leave (INSTR (r .id) (r .place) (k .span) (r .value)) (rows-value R (r .id) (r .place) (k .span) (r .value)) (seen g r (omega arith))))))
     where
       g : Option ℕ
@@ -539,12 +570,15 @@ module _ (t : Table) (d : ℕ) (inner : TraverseBlock) (ws : Walks t d inner) (w
   terminal-sim {n = n} (if x y a f) b c q size h =
       sim-bind (λ g. Free g c) _ _ _ (reaches c f) (λ g free. sim-by _ (opened-if g c free)
       (sim-into (labelled b g n) _ y 12 y _ (scheduledIf g c) _ q size (λ r p.
-      if-else x y a f g (c .nextId) b (r .context) (r .statements) q size (omega (arith, kept-if g c)) (tops-same (scheduleIds g (c .nextId)) (scheduledIf g c) (r .context) (p .1 .same) (tops-if g c)))))
+      if-else x y a f g (c .nextId) b (r .context) (r .statements) q size (omega (arith, kept-if g c))
+      (tops-same (scheduleIds g (c .nextId)) (scheduledIf g c) (r .context) (p .1 .same) (tops-if g c)))))
   terminal-sim (branch x y a) b c q size h = branch-sim x y a b c q size h
   terminal-sim {v} {F} {R} {n} (switch x i m f) b c q size h =
       sim-bind (λ g. Free g c) _ _ _ (reaches c f) (λ g free. sim-by _ (opened-switch g c free)
-      (subst (λ (l : List Case). Sim t v F R n (ok (choosing (switched b g (opens g) (numberOfCases t i m) 0 n) F R (scheduledSwitch g c))) (traverseCases inner b f l (scheduleIds g (c .nextId)) (scheduledSwitch g c) >>= K g)) (sym (cases-number t i m))
-      (cases-sim x i m f b g (numberOfCases t i m) (scheduleIds g (c .nextId)) (opens g) 0 R (scheduledSwitch g c) (SWITCH x (blockAt t b .id) g) q size (number-below t i m) (omega (arith, kept-switch g c)) (ids-if g (c .nextId)) (tops-switch g c)
+      (subst (λ (l : List Case). Sim t v F R n (ok (choosing (switched b g (opens g) (numberOfCases t i m) 0 n) F R (scheduledSwitch g c)))
+      (traverseCases inner b f l (scheduleIds g (c .nextId)) (scheduledSwitch g c) >>= K g)) (sym (cases-number t i m))
+      (cases-sim x i m f b g (numberOfCases t i m) (scheduleIds g (c .nextId)) (opens g) 0 R (scheduledSwitch g c) (SWITCH x (blockAt t b .id) g) q size
+      (number-below t i m) (omega (arith, kept-switch g c)) (ids-if g (c .nextId)) (tops-switch g c)
       (λ z. ap (λ (k : ℕ). (R ++ casesOut z) ++ (row 12 x k (blockAt t b .id) (orNone g) 0 ∷ [])) (zero-add (countCases z)) ∙ rows-switch R x (blockAt t b .id) g z))))
     where
       K : Option ℕ → CasesResult → Result TerminalResult
@@ -558,21 +592,25 @@ module _ (t : Table) (d : ℕ) (inner : TraverseBlock) (ws : Walks t d inner) (w
   terminal-sim {R = R} (while x l f) b c q size h =
       sim-go _ _ _ (λ g. sim-bind (Onto c) _ _ _ (onto-scheduled (target-loop f x l) c) (λ c1 p.
       sim-bind (λ w. c1 .visits ≤ w .visits) _ _ _ (values x none (blockAt t b .span) (c1 .visits)) (λ w p₁.
-      loop-sim _ b l (loopIsTaken c l f) (w .visits) (c .nextId) c1 g _ _ q (unfold resumeAt in λ _ _ _ _ _. refl) size (omega arith) (p .1 [] tt) (unfold closingRowOf in rows-while R (blockAt t b .id) g (w .value)))))
+      loop-sim _ b l (loopIsTaken c l f) (w .visits) (c .nextId) c1 g _ _ q (unfold resumeAt in λ _ _ _ _ _. refl) size (omega arith) (p .1 [] tt)
+      (unfold closingRowOf in rows-while R (blockAt t b .id) g (w .value)))))
   terminal-sim {R = R} (for i x u l f) b c q size h =
       sim-bind (Onto c) _ _ _ (onto-scheduled (target-loop f (continueBlockOf u x) l) c) (λ c1 p.
       sim-bind (λ w. c1 .visits ≤ w .visits) _ _ _ (values i none (blockAt t b .span) (c1 .visits)) (λ n p₁.
       sim-bind (λ w. n .visits ≤ w .visits) _ _ _ (values x none (blockAt t b .span) (n .visits)) (λ w p₂.
       sim-bind (Updated u (w .visits)) _ _ _ (updates u (blockAt t b .span) (w .visits)) (λ z p₃.
       loop-sim _ b l (loopIsTaken c l f) (z .visits) (c .nextId) c1 (unlessScheduled c f) _ _ q (unfold resumeAt in λ _ _ _ _ _. refl) size (omega arith) (p .1 [] tt)
-      (unfold closingRowOf in λ s. ap (λ (y : ℕ). blockOut (((R ++ valueOut (valueBlockResultToSequence t n (blockAt t b .span))) ++ valueOut (w .value)) ++ updateOut (z .value)) s ++ (row 15 (blockAt t b .id) (orNone (unlessScheduled c f)) y 0 0 ∷ [])) (sym (p₃ .1))
+      (unfold closingRowOf in λ s. ap (λ (y : ℕ). blockOut
+      (((R ++ valueOut (valueBlockResultToSequence t n (blockAt t b .span))) ++ valueOut (w .value)) ++ updateOut (z .value)) s ++
+      (row 15 (blockAt t b .id) (orNone (unlessScheduled c f)) y 0 0 ∷ [])) (sym (p₃ .1))
       ∙ rows-for R (blockAt t b .id) (unlessScheduled c f) (valueBlockResultToSequence t n (blockAt t b .span)) (w .value) (z .value) s)))))
   terminal-sim {R = R} (for-of i x l f) b c q size h =
       sim-bind (Onto c) _ _ _ (onto-scheduled (target-loop f i l) c) (λ c1 p.
       sim-bind (λ w. c1 .visits ≤ w .visits) _ _ _ (values i none (blockAt t b .span) (c1 .visits)) (λ n p₁.
       sim-bind (λ w. n .visits ≤ w .visits) _ _ _ (values x none (blockAt t b .span) (n .visits)) (λ w p₂.
       loop-sim _ b l (loopIsTaken c l f) (w .visits) (c .nextId) c1 (unlessScheduled c f) _ _ q (unfold resumeAt in λ _ _ _ _ _. refl) size (omega arith) (p .1 [] tt)
-      (unfold closingRowOf in rows-for-of R (blockAt t b .id) (unlessScheduled c f) (blockAt t b .span) (valueBlockResultToSequence t n (blockAt t b .span)) (valueBlockResultToSequence t w (blockAt t b .span))))))
+      (unfold closingRowOf in rows-for-of R (blockAt t b .id) (unlessScheduled c f) (blockAt t b .span) (valueBlockResultToSequence t n (blockAt t b .span))
+      (valueBlockResultToSequence t w (blockAt t b .span))))))
   terminal-sim {R = R} (for-in i l f) b c q size h =
       sim-bind (Onto c) _ _ _ (onto-scheduled (target-loop f i l) c) (λ c1 p.
       sim-bind (λ w. c1 .visits ≤ w .visits) _ _ _ (values i none (blockAt t b .span) (c1 .visits)) (λ n p₁.
@@ -583,7 +621,8 @@ module _ (t : Table) (d : ℕ) (inner : TraverseBlock) (ws : Walks t d inner) (w
   terminal-sim (optional g x f) b c q size h = value-sim (optional g x f) b (blockAt t b) f c tt h
   terminal-sim {R = R} (label x f) b c q size h =
       sim-bind (λ g. Free g c) _ _ _ (reaches c f) (λ g free. sim-by _ (opened-if g c free)
-      (enclosed-sim _ b x 17 b g c (scheduledIf g c) _ q (unfold resumeAt in λ _ _ _ _ _. refl) size (omega (arith, kept-if g c)) (tops-if g c) (unfold closingRowOf in rows-label R (blockAt t b .id) g)))
+      (enclosed-sim _ b x 17 b g c (scheduledIf g c) _ q (unfold resumeAt in λ _ _ _ _ _. refl) size (omega (arith, kept-if g c)) (tops-if g c)
+      (unfold closingRowOf in rows-label R (blockAt t b .id) g)))
   terminal-sim (sequence x f) b c q size h = value-sim (sequence x f) b (blockAt t b) f c tt h
   terminal-sim (maybe-throw n) b c q size h = silent (unlessScheduled c n) c h
   terminal-sim {R = R} {n} (try x y f m) b c q size h =
@@ -597,7 +636,9 @@ module _ (t : Table) (d : ℕ) (inner : TraverseBlock) (ws : Walks t d inner) (w
       sim-by _ (opened-if (unlessScheduled c f) c (untaken-free c f))
       (enclosed-sim _ b x 18 b (unlessScheduled c f) c (markScopeFallthroughIf (unlessScheduled c f) (scheduledIf (unlessScheduled c f) c)) _ q (unfold resumeAt in λ _ _ _ _ _. refl) size
       (omega (arith, kept-if (unlessScheduled c f) c, scope-marked-kept (unlessScheduled c f) (scheduledIf (unlessScheduled c f) c)))
-      (tops-same (scheduleIds (unlessScheduled c f) (c .nextId)) (scheduledIf (unlessScheduled c f) c) (markScopeFallthroughIf (unlessScheduled c f) (scheduledIf (unlessScheduled c f) c)) (marked (unlessScheduled c f) (scheduledIf (unlessScheduled c f) c)) (tops-if (unlessScheduled c f) c))
+      (tops-same (scheduleIds (unlessScheduled c f) (c .nextId)) (scheduledIf (unlessScheduled c f) c)
+      (markScopeFallthroughIf (unlessScheduled c f) (scheduledIf (unlessScheduled c f) c)) (marked (unlessScheduled c f) (scheduledIf (unlessScheduled c f) c))
+      (tops-if (unlessScheduled c f) c))
       (unfold closingRowOf in rows-scope R p s))
     where
       marked : (g : Option ℕ) (z : Context) → markScopeFallthroughIf g z .stack ≡ z .stack
@@ -632,22 +673,27 @@ module _ (t : Table) (d : ℕ) (inner : TraverseBlock) (ws : Walks t d inner) (w
       at (ok r) (lt₂, h) = unfold _>>=_ in (
         omega arith,
         λ a q. u a (h a
-            (subst₂ (λ (z : List Row) (y : ℕ). Gives t (ended F z y (r .context)) a) (rows-chain R t (instructionRowsAt t b) o (r .statements)) (count-chain m t (instructionRowsAt t b) o (r .statements)) q)),
+            (subst₂ (λ (z : List Row) (y : ℕ). Gives t (ended F z y (r .context)) a) (rows-chain R t (instructionRowsAt t b) o (r .statements))
+            (count-chain m t (instructionRowsAt t b) o (r .statements)) q)),
       )
 
   visit-deep : (b : ℕ) (F : List Frame) (R : List Row) (m : ℕ) (c : Context) → length F + suc d ≡ 128
-      → visitTurn t b F R m c ≡ enterBlock t b c >>= λ c1. terminalTurn t (visitValueBlock t d) (terminalAt t b) b (blockAt t b) F (R ++ instructionsOut t (instructionRowsAt t b)) (m + length (instructionRowsAt t b)) c1
+      → visitTurn t b F R m c ≡ enterBlock t b c >>= λ c1. terminalTurn t (visitValueBlock t d) (terminalAt t b) b (blockAt t b) F
+      (R ++ instructionsOut t (instructionRowsAt t b)) (m + length (instructionRowsAt t b)) c1
   unfolding visitTurn refuseIf _>>=_
   visit-deep b F R m c size =
       let e : depthLeft F ≡ d = omega arith in
       ap (λ (y : Bool). refuseIf y 30 b (c .visits) >>= λ _. enterBlock t b c >>= λ c1.
-      terminalTurn t (visitValueBlock t (depthLeft F)) (terminalAt t b) b (blockAt t b) F (R ++ instructionsOut t (instructionRowsAt t b)) (m + length (instructionRowsAt t b)) c1) (lt-leb 128 (length F) (omega arith))
-      ∙ ap (λ (z : ℕ). enterBlock t b c >>= λ c1. terminalTurn t (visitValueBlock t z) (terminalAt t b) b (blockAt t b) F (R ++ instructionsOut t (instructionRowsAt t b)) (m + length (instructionRowsAt t b)) c1) e
+      terminalTurn t (visitValueBlock t (depthLeft F)) (terminalAt t b) b (blockAt t b) F (R ++ instructionsOut t (instructionRowsAt t b))
+      (m + length (instructionRowsAt t b)) c1) (lt-leb 128 (length F) (omega arith))
+      ∙ ap (λ (z : ℕ). enterBlock t b c >>= λ c1. terminalTurn t (visitValueBlock t z) (terminalAt t b) b (blockAt t b) F
+      (R ++ instructionsOut t (instructionRowsAt t b)) (m + length (instructionRowsAt t b)) c1) e
 
   enter-late : (b : ℕ) (c : Context) → 8192 ≤ c .visits → enterBlock t b c ≡ refused 31 b (c .visits)
   unfolding enterBlock beginVisit refuseIf _>>=_
   enter-late b c h =
-      ap (λ (y : Bool). (refuseIf y 31 b (c .visits) >>= λ _. refuseIf (isAbsent (terminalAt t b)) 10 b (suc (c .visits)) >>= λ _. ok (suc (c .visits))) >>= λ v. refuseIf (has (c .emitted) b) 11 b v >>= λ _. ok (emit b (withVisits v c)))
+      ap (λ (y : Bool). (refuseIf y 31 b (c .visits) >>= λ _. refuseIf (isAbsent (terminalAt t b)) 10 b (suc (c .visits)) >>= λ _. ok (suc (c .visits))) >>=
+      λ v. refuseIf (has (c .emitted) b) 11 b v >>= λ _. ok (emit b (withVisits v c)))
       (le-leb 8192 (c .visits) h)
 
   chain-sim : (n b : ℕ) (F : List Frame) (R : List Row) (m : ℕ) (c : Context) → length F + suc d ≡ 128 → 8193 ≤ n + c .visits
@@ -655,10 +701,12 @@ module _ (t : Table) (d : ℕ) (inner : TraverseBlock) (ws : Walks t d inner) (w
   unfolding visitBlock step
   chain-sim zero b F R m c size lt =
       gives-turn t (visiting b F R m c) (refused 31 b (c .visits)) (rejected 31 b (c .visits))
-      (ap turn (visit-deep b F R m c size ∙ ap (λ (z : Result Context). z >>= λ c1. terminalTurn t (visitValueBlock t d) (terminalAt t b) b (blockAt t b) F (R ++ instructionsOut t (instructionRowsAt t b)) (m + length (instructionRowsAt t b)) c1) (enter-late b c (omega arith)) ∙ gone))
+      (ap turn (visit-deep b F R m c size ∙ ap (λ (z : Result Context). z >>= λ c1. terminalTurn t (visitValueBlock t d) (terminalAt t b) b (blockAt t b) F
+      (R ++ instructionsOut t (instructionRowsAt t b)) (m + length (instructionRowsAt t b)) c1) (enter-late b c (omega arith)) ∙ gone))
       refl
     where
-      gone : (refused 31 b (c .visits) >>= λ c1. terminalTurn t (visitValueBlock t d) (terminalAt t b) b (blockAt t b) F (R ++ instructionsOut t (instructionRowsAt t b)) (m + length (instructionRowsAt t b)) c1) ≡ refused 31 b (c .visits)
+      gone : (refused 31 b (c .visits) >>= λ c1. terminalTurn t (visitValueBlock t d) (terminalAt t b) b (blockAt t b) F
+          (R ++ instructionsOut t (instructionRowsAt t b)) (m + length (instructionRowsAt t b)) c1) ≡ refused 31 b (c .visits)
       gone = unfold _>>=_ in refl
   chain-sim (suc n) b F R m c size lt =
       at (enterBlock t b c) (enter-counts t b c) (ap turn (visit-deep b F R m c size)) (λ k R′ m′ c′ le. chain-sim n k F R′ m′ c′ size le)
@@ -696,11 +744,14 @@ walk-sim t zero b F R m c size = gives-turn t (visiting b F R m c) (refused 30 b
     full : visitTurn t b F R m c ≡ refused 30 b (c .visits)
     full = unfold visitTurn refuseIf _>>=_ in
         ap (λ (y : Bool). refuseIf y 30 b (c .visits) >>= λ _. enterBlock t b c >>= λ c1.
-        terminalTurn t (visitValueBlock t (depthLeft F)) (terminalAt t b) b (blockAt t b) F (R ++ instructionsOut t (instructionRowsAt t b)) (m + length (instructionRowsAt t b)) c1) (le-leb 128 (length F) (omega arith))
+        terminalTurn t (visitValueBlock t (depthLeft F)) (terminalAt t b) b (blockAt t b) F (R ++ instructionsOut t (instructionRowsAt t b))
+        (m + length (instructionRowsAt t b)) c1) (le-leb 128 (length F) (omega arith))
 walk-sim t (suc d) b F R m c size = chain-sim t d (traverseBlock t d) (walk-sim t d) (walk-fine t d) 8193 b F R m c size (omega arith)
 
 -- the root list has ended
-root-ends : (t : Table) (r : BlockResult) → Gives t (ended [] ([] ++ statementsOut (r .statements)) (0 + countStatements (r .statements)) (r .context)) (accepted (rows (r .statements)) (r .context .visits))
+root-ends : (t : Table) (r : BlockResult)
+    → Gives t (ended [] ([] ++ statementsOut (r .statements)) (0 + countStatements (r .statements)) (r .context))
+    (accepted (rows (r .statements)) (r .context .visits))
 unfolding step
 root-ends t r =
     halts (ap (λ (z : ℕ). halt (accepted (statementsOut (r .statements) ++ (blockRow z ∷ [])) (r .context .visits))) (zero-add (countStatements (r .statements)))

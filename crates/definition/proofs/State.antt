@@ -9,13 +9,16 @@ use mathlib.Core.Bool.{Bool, true, false, _||_}
 use lib.ListN.{length}
 use lib.Dec.{eqb}
 use Rattle.table.specs.Table.{Table, while, terminalAt, isAbsent}
-use Rattle.definition.specs.Context.{Flags, has, add, remove, ControlFlowTarget, target-if, target-switch, target-case, target-loop, Entry, Context, start, isScheduled, emit, withVisits, markScopeFallthrough, pushed, schedule, unscheduledBy, popped, unscheduleTop, unschedule}
-use Rattle.definition.specs.Plain.{Plain, fallthroughOf}
+use Rattle.definition.specs.Context.{Flags, has, add, remove, ControlFlowTarget, target-if, target-switch, target-case, target-loop, Entry, Context}
+use Rattle.definition.specs.Context.{start, isScheduled, emit, withVisits, markScopeFallthrough, pushed, schedule, unscheduledBy, popped, unscheduleTop}
+use Rattle.definition.specs.Context.{unschedule}
+use Rattle.definition.specs.Plain.{fallthroughOf}
 use Rattle.definition.specs.Result.{refused, ok, refuseIf}
 use Rattle.definition.specs.Statement.{enterBlock, unlessScheduled}
 use Rattle.definition.specs.Value.{beginVisit}
 use Rattle.definition.proofs.Semantics.{Frame, in-label, in-scope, in-loop}
 use Rattle.definition.proofs.Ranged.{Ranged}
+use Rattle.definition.proofs.PlainEnough.{PlainEnough}
 use Rattle.definition.proofs.Steps.{true-false, refused-ok, ok-eq, bind-ok, unless-ok}
 use Rattle.definition.proofs.Flags.{has-add, has-remove, has-still, has-new, length-add, has-none, length-none, below-blocks}
 use Rattle.definition.proofs.Resolve.{Framed, no-frame, label-framed, scope-framed, loop-framed}
@@ -101,7 +104,7 @@ module _ (t : Table) where
 
   -- ---- the fallthrough of an entered block is not scheduled
 
-  not-known : (pl : Plain t) (emitted : Flags) (b f : ℕ) → has emitted b ≡ false → fallthroughOf (terminalAt t b) ≡ some f → Known emitted f → ⊥
+  not-known : (pl : PlainEnough t) (emitted : Flags) (b f : ℕ) → has emitted b ≡ false → fallthroughOf (terminalAt t b) ≡ some f → Known emitted f → ⊥
   not-known pl emitted b f o e (fallthrough-of d h e′) = true-false (sym h ∙ ap (has emitted) (pl .one-fallthrough d b f e′ e) ∙ o)
   not-known pl emitted b f o e (loop-of w y g e′) = pl .no-loop b f w y f g e e′ refl
   not-known pl emitted b f o e (test-of w l g e′) = pl .no-test b f w f l g e e′ refl
@@ -110,7 +113,7 @@ module _ (t : Table) where
   both-false true y n h = absurd (n refl)
   both-false false y n h = h
 
-  pub fallthrough-free : (pl : Plain t) {F : List Frame} {c c₁ : Context} (b f : ℕ) → Entered b F c c₁ → fallthroughOf (terminalAt t b) ≡ some f → isScheduled c₁ f ≡ false
+  pub fallthrough-free : (pl : PlainEnough t) {F : List Frame} {c c₁ : Context} (b f : ℕ) → Entered b F c c₁ → fallthroughOf (terminalAt t b) ≡ some f → isScheduled c₁ f ≡ false
   unfolding isScheduled
   fallthrough-free pl {F} {c} {c₁} b f p e =
       both-false (has (c₁ .scheduled) f) (has (c₁ .catchHandlers) f) (λ h. not-known pl (c .emitted) b f (p .old) e (p .before f h)) (p .state .no-catch f)

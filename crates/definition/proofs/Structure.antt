@@ -8,21 +8,30 @@ use mathlib.Core.Bool.{Bool, true, false}
 use lib.Dec.{eqb}
 use borrow.Author.Tests.{eqb-true}
 use Rattle.table.specs.declared.columns.Span.{Span}
-use Rattle.table.specs.Table.{codeOf, Table, Block, Operation, other, load-local, store-local, Terminal, absent, unreachable, throw, return, goto, if, branch, switch, do-while, while, for, for-of, for-in, logical, ternary, optional, sequence, maybe-throw, try, scope, Variant, Break, Continue, Try, blockAt, terminalAt, instructionAt, instructionRowsAt, isAbsent, isUnreachable, label}
-use Rattle.definition.specs.Context.{getBreakTarget, getContinueTarget, Resolution, has, Entry, target-if, target-loop, Context, isScheduled, withVisits, markScopeFallthrough, pushed, schedule, unschedule, breakTargetFrom, continueTargetFrom}
-use Rattle.definition.specs.Plain.{Plain, fallthroughOf, plainCodes, isBranch, isStore, endsInStore, NotBranch, otherNames, All}
+use Rattle.table.specs.Table.{codeOf, Table, Block, Operation, other, load-local, store-local, Terminal, absent, unreachable, throw, return, goto, if, branch}
+use Rattle.table.specs.Table.{switch, do-while, while, for, for-of, for-in, logical, ternary, optional, sequence, maybe-throw, try, scope, Variant, Break}
+use Rattle.table.specs.Table.{Continue, Try, blockAt, terminalAt, instructionAt, instructionRowsAt, isAbsent, isUnreachable, label}
+use Rattle.definition.specs.Context.{getBreakTarget, getContinueTarget, Resolution, has, Entry, target-if, target-loop, Context, isScheduled, withVisits}
+use Rattle.definition.specs.Context.{markScopeFallthrough, pushed, schedule, unschedule, breakTargetFrom, continueTargetFrom}
+use Rattle.definition.specs.Plain.{fallthroughOf, plainCodes, isBranch, isStore, endsInStore, NotBranch, otherNames, All}
 use Rattle.definition.specs.Result.{Result, ok, _>>=_, refuseIf}
 use Rattle.definition.specs.Run.{Answers}
 use Rattle.definition.specs.Completion.{contains, Completion, break, continue}
 use Rattle.definition.specs.TreeRun.{performs, performsAll, runStatements, completed, prefix, then, thenOn, jumpCompletion}
-use Rattle.definition.specs.Statement.{breakToScope, visitBreak, visitContinue, TerminalResult, BlockResult, TraverseBlock, enterBlock, unlessScheduled, unlessUnreachable, scheduleIf, unscheduleIf, markScopeFallthroughIf, traverseUnscheduled, AlternateResult, traverseAlternate, breakResolved, continueResolved, visitGoto, traverseEnclosed, loopIsTaken, traverseLoop, visitTerminal, instructionStatements, followedBy, thenNext, visitBlock, traverseBlock}
+use Rattle.definition.specs.Statement.{breakToScope, visitBreak, visitContinue, TerminalResult, BlockResult, TraverseBlock, enterBlock, unlessScheduled}
+use Rattle.definition.specs.Statement.{unlessUnreachable, scheduleIf, unscheduleIf, markScopeFallthroughIf, traverseUnscheduled, AlternateResult}
+use Rattle.definition.specs.Statement.{traverseAlternate, breakResolved, continueResolved, visitGoto, traverseEnclosed, loopIsTaken, traverseLoop}
+use Rattle.definition.specs.Statement.{visitTerminal, instructionStatements, followedBy, thenNext, visitBlock, traverseBlock}
 use Rattle.definition.specs.Tree.{Kind, implicit, labeled, unlabeled, Value, PLAIN, no-instructions, Statement, IF, WHILE, LABEL, SCOPE, BREAK, CONTINUE, Statements, done, _▸_}
-use Rattle.definition.specs.Value.{visitValueBlock, beginVisit, ValueBlockResult, VisitValueBlock, instructionsOf, wrapWithSequence, finalValue, storedToNamed, allButLast, last, extractValueBlockResult, branchValue, visitValueBlockAt}
+use Rattle.definition.specs.Value.{visitValueBlock, beginVisit, ValueBlockResult, VisitValueBlock, instructionsOf, wrapWithSequence, finalValue}
+use Rattle.definition.specs.Value.{storedToNamed, allButLast, last, extractValueBlockResult, branchValue, visitValueBlockAt}
 use Rattle.definition.proofs.Semantics.{Frame, in-label, in-scope, in-loop, target, Built, built-return, built-throw, built-jump, built-if, built-if-only, built-label, built-scope, built-while}
 use Rattle.definition.proofs.Ranged.{Ranged}
+use Rattle.definition.proofs.PlainEnough.{PlainEnough}
 use Rattle.definition.proofs.Steps.{true-false, refused-ok, ok-eq, bind-ok}
 use Rattle.definition.proofs.Resolve.{break-exit, break-names, break-target, continue-target}
-use Rattle.definition.proofs.State.{Known, fallthrough-of, StateOk, with-visits-ok, Entered, enter-ok, fallthrough-free, untaken-free, push-label-ok, push-scope-ok, push-loop-ok, schedule-ok, schedule-loop-ok, Closed, unschedule-ok}
+use Rattle.definition.proofs.State.{Known, fallthrough-of, StateOk, with-visits-ok, Entered, enter-ok, fallthrough-free, untaken-free, push-label-ok}
+use Rattle.definition.proofs.State.{push-scope-ok, push-loop-ok, schedule-ok, schedule-loop-ok, Closed, unschedule-ok}
 
 -- ---- the value of a test
 
@@ -56,7 +65,8 @@ module _ (t : Table) where
   extract-performs : (b r : ℕ) (rs : List ℕ) (v : ℕ) → endsInStore t (r ∷ rs) ≡ false → performs (extractValueBlockResult t b r rs v .value) ≡ r ∷ rs
   unfolding extractValueBlockResult
   extract-performs b r rs v h =
-      ap (λ (z : Value). performs (wrapWithSequence t (allButLast r rs) (instructionAt t (last r rs) .id) z)) (last-plain (last r rs) (storedToNamed t (instructionAt t (last r rs) .operation)) (instructionAt t (last r rs) .operation) (last-no-store r rs h))
+      ap (λ (z : Value). performs (wrapWithSequence t (allButLast r rs) (instructionAt t (last r rs) .id) z))
+      (last-plain (last r rs) (storedToNamed t (instructionAt t (last r rs) .operation)) (instructionAt t (last r rs) .operation) (last-no-store r rs h))
       ∙ performs-wrapped (allButLast r rs) (instructionAt t (last r rs) .id) (last r rs) ∙ all-but-last-and-last r rs
 
   branch-performs : (b x i v : ℕ) (rs : List ℕ) (r : ValueBlockResult) → endsInStore t rs ≡ false → branchValue t b x i rs v ≡ ok r → performs (r .value) ≡ rs
@@ -65,7 +75,9 @@ module _ (t : Table) where
   branch-performs b x i v (q ∷ rs) r h e = ap (λ (z : ValueBlockResult). performs (z .value)) (sym (ok-eq e)) ∙ extract-performs b q rs v h
 
   unfoldable pub TestOk : VisitValueBlock → Type 0
-  TestOk values = (x y c a : ℕ) (span : Span) (v : ℕ) (r : ValueBlockResult) → terminalAt t x ≡ branch y c a → endsInStore t (instructionRowsAt t x) ≡ false → values x none span v ≡ ok r → performs (r .value) ≡ instructionRowsAt t x
+  TestOk values =
+      (x y c a : ℕ) (span : Span) (v : ℕ) (r : ValueBlockResult) → terminalAt t x ≡ branch y c a → endsInStore t (instructionRowsAt t x) ≡ false → values x none
+      span v ≡ ok r → performs (r .value) ≡ instructionRowsAt t x
 
   pub value-ok : (d : ℕ) → TestOk (visitValueBlock t d)
   unfolding TestOk visitValueBlock visitValueBlockAt
@@ -113,13 +125,15 @@ module _ (t : Table) where
       subst (λ (d : Context). Opened (in-label f) F c d) (schedule-ok t f c c₁ e)
       (record { state = push-label-ok t f p k; top = record { id = c .nextId; target = target-if f; ownsLoop = false }; stack = refl })
 
-  opened-scope : {F : List Frame} {c c₁ : Context} (f : ℕ) → f < 1024 → StateOk t F c → Known t (c .emitted) f → scheduleIf (some f) c ≡ ok c₁ → Opened (in-scope f) F c (markScopeFallthroughIf (some f) c₁)
+  opened-scope : {F : List Frame} {c c₁ : Context} (f : ℕ) → f < 1024 → StateOk t F c → Known t (c .emitted) f → scheduleIf (some f) c ≡ ok c₁
+      → Opened (in-scope f) F c (markScopeFallthroughIf (some f) c₁)
   unfolding scheduleIf pushed markScopeFallthroughIf markScopeFallthrough
   opened-scope {F} {c} {c₁} f h p k e =
       subst (λ (d : Context). Opened (in-scope f) F c (markScopeFallthrough f d)) (schedule-ok t f c c₁ e)
       (record { state = push-scope-ok t f h p k; top = record { id = c .nextId; target = target-if f; ownsLoop = false }; stack = refl })
 
-  opened-loop : {F : List Frame} {c c₁ : Context} (w x l f : ℕ) → StateOk t F c → terminalAt t w ≡ while x l f → Known t (c .emitted) f → schedule (target-loop f x l) c ≡ ok c₁ → Opened (in-loop f x) F c c₁
+  opened-loop : {F : List Frame} {c c₁ : Context} (w x l f : ℕ) → StateOk t F c → terminalAt t w ≡ while x l f → Known t (c .emitted) f
+      → schedule (target-loop f x l) c ≡ ok c₁ → Opened (in-loop f x) F c c₁
   unfolding pushed
   opened-loop {F} {c} {c₁} w x l f p h k e =
       subst (λ (d : Context). Opened (in-loop f x) F c d) (schedule-loop-ok t f x l c c₁ e)
@@ -156,7 +170,7 @@ module _ (t : Table) where
   plain-reachable (scope false b f s) h = refl
   plain-reachable (scope true b f s) h = refl
 
-  reached-ok : (pl : Plain t) (c : Context) (f : ℕ) (g : Option ℕ) → isScheduled c f ≡ false → unlessUnreachable t c f ≡ ok g → g ≡ some f
+  reached-ok : (pl : PlainEnough t) (c : Context) (f : ℕ) (g : Option ℕ) → isScheduled c f ≡ false → unlessUnreachable t c f ≡ ok g → g ≡ some f
   unfolding unlessUnreachable
   reached-ok pl c f g h e =
       let (u, h₁, e₁) = bind-ok (refuseIf (isAbsent (terminalAt t f)) 10 f (c .visits)) _ g e in
@@ -173,7 +187,10 @@ module _ (t : Table) where
     an-alt : s .present ≡ true → Built t F a (s .statements) → Closed t F S (s .context) → AltOk F a f S s
 
   alternate-at : (inner : TraverseBlock) → WalkOk inner → (F : List Frame) (a f : ℕ) (c : Context) (s : AlternateResult) (y : Bool) → eqb a f ≡ y → StateOk t F c → NotBranch t a
-      → elim y [ true ↦ ok (record { present = false; statements = done; context = c }) | false ↦ traverseUnscheduled inner a 13 a c >>= λ r. ok (record { present = true; statements = r .statements; context = r .context }) ] ≡ ok s
+      → elim y [
+        | true ↦ ok (record { present = false; statements = done; context = c })
+        | false ↦ traverseUnscheduled inner a 13 a c >>= λ r. ok (record { present = true; statements = r .statements; context = r .context })
+      ] ≡ ok s
       → AltOk F a f (c .stack) s
   alternate-at inner w F a f c s true h p n e =
       subst (λ (z : AlternateResult). AltOk F a f (c .stack) z) (ok-eq e) (no-alt (eqb-true a f h) refl refl (record { state = p; same = refl }))
@@ -200,7 +217,7 @@ module _ (t : Table) where
   and-then : {F : List Frame} {S S′ : List Entry} {c : Context} → Closed t F S c → S ≡ S′ → Closed t F S′ c
   and-then p h = record { state = p .state; same = p .same ∙ h }
 
-  module _ (pl : Plain t) (rg : Ranged t) (values : VisitValueBlock) (vo : TestOk t values) (inner : TraverseBlock) (wo : WalkOk inner) where
+  module _ (pl : PlainEnough t) (rg : Ranged t) (values : VisitValueBlock) (vo : TestOk t values) (inner : TraverseBlock) (wo : WalkOk inner) where
     if-ok : {F : List Frame} {c₀ c : Context} (b x y a f : ℕ) (k : Block) (s : TerminalResult) → Entered t b F c₀ c → terminalAt t b ≡ if x y a f
         → visitTerminal t values inner (if x y a f) b k c ≡ ok s → StepOk F b (c .stack) s
     unfolding visitTerminal
@@ -363,7 +380,8 @@ module _ (t : Table) where
         subst (λ (z : Statement). JumpOk F g (some z)) (ok-eq h)
         (goes-as (jumpCompletion (k .kind) (k .target) continue) (continue-target t pl (p .framed) g (k .target) (k .kind) e) (run-continue (k .target) i (k .kind)))
 
-    jump-built : {F : List Frame} (b g : ℕ) (v : Variant) (s : Option Statement) → terminalAt t b ≡ goto g v → JumpOk F g s → Built t F b (instructionStatements t (instructionRowsAt t b) (followedBy s done))
+    jump-built : {F : List Frame} (b g : ℕ) (v : Variant) (s : Option Statement) → terminalAt t b ≡ goto g v → JumpOk F g s
+        → Built t F b (instructionStatements t (instructionRowsAt t b) (followedBy s done))
     jump-built b g v s e (goes-as z q r) = built-jump g v z (followedBy s done) e q r
 
     jump-ok : {F : List Frame} {c₀ c : Context} (b g i : ℕ) (v : Variant) (s : TerminalResult) → Entered t b F c₀ c → terminalAt t b ≡ goto g v
@@ -422,7 +440,7 @@ module _ (t : Table) where
         let m : Made F b (c₁ .stack) r = next-ok F b (c₁ .stack) (visitBlock t values inner n) s r (visit-block-ok n) (terminal-ok b (terminalAt t b) s q nb refl h₂) k₂ in
         record { tree = m .tree; left = and-then (m .left) (q .same) }
 
-  module _ (pl : Plain t) (rg : Ranged t) where
+  module _ (pl : PlainEnough t) (rg : Ranged t) where
     pub walk-ok : (d : ℕ) → WalkOk (traverseBlock t d)
     unfolding WalkOk traverseBlock
     walk-ok zero F b c r p nb e = absurd (refused-ok e)

@@ -11,12 +11,19 @@ use lib.ListN.{length}
 use lib.Dec.{T, eqb}
 use borrow.Author.Tests.{leb-false}
 use Rattle.table.specs.declared.columns.Span.{Span}
-use Rattle.table.specs.Table.{Table, Block, Terminal, Operation, other, load-local, store-local, absent, unreachable, throw, return, goto, if, branch, switch, do-while, while, for, for-of, for-in, logical, ternary, optional, sequence, maybe-throw, try, scope, codeOf, blockAt, terminalAt, instructionAt, instructionRowsAt, instructionRows, label}
+use Rattle.table.specs.Table.{Table, Block, Terminal, Operation, other, load-local, store-local, absent, unreachable, throw, return, goto, if, branch, switch}
+use Rattle.table.specs.Table.{do-while, while, for, for-of, for-in, logical, ternary, optional, sequence, maybe-throw, try, scope, codeOf, blockAt, terminalAt}
+use Rattle.table.specs.Table.{instructionAt, instructionRowsAt, instructionRows, label}
 use Rattle.definition.specs.Machine.{valueOut, updateOut}
 use Rattle.definition.specs.Result.{Result}
 use Rattle.definition.specs.Statement.{visitUpdate}
-use Rattle.definition.specs.Tree.{Value, PLAIN, LOAD, UNDEF, SEQ, LOGICAL, COND, OPTIONAL, Instructions, no-instructions, instruction, Row, row, valueRows, instructionsRows, countInstructions, instrRow}
-use Rattle.definition.specs.Value.{visitValueBlock, Ways, beginVisit, ValueBlockResult, ValueTerminalResult, TestBlockResult, VisitValueBlock, instructionsOf, wrapWithSequence, finalValue, storedToNamed, allButLast, last, extractValueBlockResult, extractOrRefuse, testBlockEnded, visitTestBlock, singleInstruction, visitValueBlockTerminal, thenFallthrough, branchValue, maybeThrowValue, visitValueBlockAt, appended, sequencedInstructions, innermostValue, loadedPlace, sameIdentifier, unlessSame, valueBlockResultToSequence}
+use Rattle.definition.specs.Tree.{Value, PLAIN, LOAD, UNDEF, SEQ, LOGICAL, COND, OPTIONAL, Instructions, no-instructions, instruction, Row, row}
+use Rattle.definition.specs.Tree.{valueRows, instructionsRows, countInstructions, instrRow}
+use Rattle.definition.specs.Value.{visitValueBlock, Ways, beginVisit, ValueBlockResult, ValueTerminalResult, TestBlockResult, VisitValueBlock}
+use Rattle.definition.specs.Value.{instructionsOf, wrapWithSequence, finalValue, storedToNamed, allButLast, last, extractValueBlockResult}
+use Rattle.definition.specs.Value.{extractOrRefuse, testBlockEnded, visitTestBlock, singleInstruction, visitValueBlockTerminal, thenFallthrough}
+use Rattle.definition.specs.Value.{branchValue, maybeThrowValue, visitValueBlockAt, appended, sequencedInstructions, innermostValue, loadedPlace}
+use Rattle.definition.specs.Value.{sameIdentifier, unlessSame, valueBlockResultToSequence}
 use Rattle.definition.proofs.Steps.{ofPaper, Fine, fine-bind, fine-unless, fine-map}
 
 -- ---- how many rows a value has
@@ -164,7 +171,8 @@ unfolding testBlockEnded
 test-ended-took t test none at before h = tt
 test-ended-took t test (some ways) at before h = h
 
-extract-took : (t : Table) (block : ℕ) (rows : List ℕ) (visits code at : ℕ) → T (ofPaper code) → (FewRows t → length rows ≤ 4096) → Fine (EnteredTook t visits) (extractOrRefuse t block rows visits code at)
+extract-took : (t : Table) (block : ℕ) (rows : List ℕ) (visits code at : ℕ) → T (ofPaper code) → (FewRows t → length rows ≤ 4096)
+    → Fine (EnteredTook t visits) (extractOrRefuse t block rows visits code at)
 unfolding extractOrRefuse
 extract-took t block [] visits code at c few = c
 extract-took t block (r ∷ rows) visits code at c few = unfold extractValueBlockResult in at-rest visits (λ f. omega (arith, extract-size t block r rows visits, few f))
@@ -222,7 +230,8 @@ module _ (t : Table) (visit : VisitValueBlock) (visit-took : VisitTook t visit) 
   terminal-took (try block handler fallthrough binding) id span visits at h = tt
   terminal-took (scope pruned block fallthrough number) id span visits at h = tt
 
-  then-fallthrough-took : (block : Block) (span : Span) (before : ℕ) (terminal : Result ValueTerminalResult) → (FewRows t → length (instructionRows block) ≤ 4096) → Fine (TerminalTook t before) terminal
+  then-fallthrough-took : (block : Block) (span : Span) (before : ℕ) (terminal : Result ValueTerminalResult)
+      → (FewRows t → length (instructionRows block) ≤ 4096) → Fine (TerminalTook t before) terminal
       → Fine (EnteredTook t before) (thenFallthrough t visit block span terminal)
   unfolding thenFallthrough
   then-fallthrough-took block span before terminal rows h =
@@ -245,7 +254,9 @@ module _ (t : Table) (visit : VisitValueBlock) (visit-took : VisitTook t visit) 
       rows : FewRows t → length (instructionRowsAt t number) ≤ 4096
       rows few = few number
 
-      through : (m : Terminal) → T (not (isMaybeThrow m)) → Fine (EnteredTook t visits) (thenFallthrough t visit (blockAt t number) span (visitValueBlockTerminal t visit m (blockAt t number .id) (blockAt t number .span) visits number))
+      through : (m : Terminal) → T (not (isMaybeThrow m))
+          → Fine (EnteredTook t visits) (thenFallthrough t visit (blockAt t number) span
+          (visitValueBlockTerminal t visit m (blockAt t number .id) (blockAt t number .span) visits number))
       through m h = then-fallthrough-took (blockAt t number) span visits _ rows (terminal-took m (blockAt t number .id) (blockAt t number .span) visits number h)
 
       at : (m : Terminal) → Fine (EnteredTook t visits) (visitValueBlockAt t visit m number (blockAt t number) outer span visits)

@@ -13,7 +13,7 @@ use Rattle.definition.specs.Statement.{breakResolved, continueResolved}
 use Rattle.definition.specs.Tree.{Row, Statement}
 use Rattle.control.specs.declared.Resolved.{Resolved}
 use Rattle.control.specs.declared.Resolved.the-variants.{Nothing, Found}
-use Rattle.control.specs.Abstraction.{resolvedOf}
+use Rattle.control.specs.Abstraction.{foundBlock, resolvedOf}
 use Rattle.rows.specs.Rows.{Holds}
 use Rattle.rows.specs.Stack.{pushed}
 use Rattle.table.specs.Words.{blockWord}
@@ -27,7 +27,7 @@ use Rattle.planner.specs.Planned.{Seen}
 -- the target that was found is one of the 1,024 blocks
 abbrev pub FoundBelow : Resolved → Type 0
 FoundBelow Nothing = Unit {0}
-FoundBelow (Found found) = found .target < 1024
+FoundBelow (Found found) = foundBlock found < 1024
 
 abbrev pub jumpedTo : Bool → Jumped → Option Statement → (visits : ℕ) → Result (Option Statement)
 jumpedTo true jump statement visits = ok statement

@@ -9,6 +9,7 @@ ghost use mathlib.Core.Path.{_≡_};
 ghost use Prim.Native.Nat.{ℕ, _<_};
 ghost use Rattle.definition.specs.Context.{Flags};
 ghost use Rattle.control.specs.declared.Resolved.the-variants.{Found};
+ghost use Rattle.control.specs.Abstraction.{foundBlock};
 ghost use Rattle.planner.specs.Jumps.{FoundBelow, refusingJump, JumpMet, breakOutcome, continueOutcome};
 
 // A jump's rows and statements, or its refusal.
@@ -38,11 +39,11 @@ fn break_to_found(
     id: u32,
     found: Resolution,
 ) -> Jumped
-    requires { ⌜ found .target < 1024 ⌝ }
+    requires { ⌜ foundBlock found < 1024 ⌝ }
     requires { ⌜ p .rows < 1000000000 ⌝ }
     ensures { λ r. ⌜ ((block : ℕ) → JumpMet (breakOutcome (p .block) block id (Found found)) (now (scopes .entry)) (p .visits) (p .rows) (now (tree .entry)) r (now (tree .exit))) ⌝ }
 {
-    let target = found.target;
+    let target = found.block();
     let kind = found.kind;
     let number = kind.number();
     let place = target as usize;
@@ -88,7 +89,7 @@ fn continue_to_found(tree: &mut [u32], rows: u32, id: u32, found: Resolution) ->
     requires { ⌜ rows < 1000000000 ⌝ }
     ensures { λ r. ⌜ ((block visits : ℕ) (scopes : Flags) → JumpMet (continueOutcome block id (Found found)) scopes visits rows (now (tree .entry)) r (now (tree .exit))) ⌝ }
 {
-    let target = found.target;
+    let target = found.block();
     let kind = found.kind;
     let number = kind.number();
     let after = put(tree, rows, CONTINUE, target as u32, id, number, 0, 0);

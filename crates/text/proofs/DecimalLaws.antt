@@ -17,7 +17,7 @@ steps-by k m n false e same p q =
     let h : 10 ≤ n = ltb-false n 10 e in
     rw e (ap (λ (l : List ℕ). l ++ ((48 + n % 10) ∷ [])) (same (n / 10) (omega arith) (omega arith)))
 
-steps : (k m n : ℕ) → n ≤ k → n ≤ m → digitsOf k n ≡ digitsOf m n
+pub steps : (k m n : ℕ) → n ≤ k → n ≤ m → digitsOf k n ≡ digitsOf m n
 unfolding digitsOf
 steps zero zero n p q = refl
 steps zero (suc m) n p q = rw (lt-ltb n 10 (omega arith))

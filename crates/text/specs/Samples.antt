@@ -41,7 +41,7 @@ sample-formed = record {
   identifiers = omega arith;
 }
 
-sample-good : Good (layout New)
+pub sample-good : Good (layout New)
     (ascii "entry blocks instructions cases places identifiers\n0 1 0 0 1 1\nfirst count code a b c d e id from to\n0 0 3 0 0 0 0 0 7 0 0\nid lvalue code p q from to\ntest block\nidentifier\n0\nnamed\n1\n")
     (0 ∷ 1 ∷ 0 ∷ 0 ∷ 1 ∷ 1 ∷ 0 ∷ 0 ∷ 3 ∷ 0 ∷ 0 ∷ 0 ∷ 0 ∷ 0 ∷ 7 ∷ 0 ∷ 0 ∷ 0 ∷ 1 ∷ [])
 unfolding sample line lines flat decimal digitsOf
@@ -65,7 +65,7 @@ old-sample-good : Good (layout Old)
 unfolding sample line lines flat decimal digitsOf
 old-sample-good = record { tables = sample (0 ∷ []); formed = old-sample-formed; text = refl; word = refl }
 
-sample-printed : printed 0 0 2 1 (22 ∷ 0 ∷ 7 ∷ 0 ∷ 0 ∷ 0 ∷ 9 ∷ 1 ∷ 0 ∷ 0 ∷ 0 ∷ 0 ∷ []) ≡ ascii "code at rows visits\n0 0 2 1\nop a b c d e\n22 0 7 0 0 0\n9 1 0 0 0 0\n"
+pub sample-printed : printed 0 0 2 1 (22 ∷ 0 ∷ 7 ∷ 0 ∷ 0 ∷ 0 ∷ 9 ∷ 1 ∷ 0 ∷ 0 ∷ 0 ∷ 0 ∷ []) ≡ ascii "code at rows visits\n0 0 2 1\nop a b c d e\n22 0 7 0 0 0\n9 1 0 0 0 0\n"
 unfolding printed treeLines rowsOf line lines decimal digitsOf
 sample-printed = refl
 

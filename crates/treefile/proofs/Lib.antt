@@ -1,3 +1,4 @@
 pub mod OutcomeLaws
 pub mod FileLaws
 pub mod OneText
+pub mod Sample

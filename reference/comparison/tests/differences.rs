@@ -84,3 +84,28 @@ fn visits() {
     assert!(walked.result.is_ok());
     assert_eq!(walked.visits, 12_288);
 }
+
+/// So many Labels, each in the one before, around a Return; their fallthrough is Unreachable.
+fn nested_labels(labels: u32) -> Vec<u32> {
+    let mut words = vec![0, labels + 2, 0, 0, 1, 1];
+    for label in 0..labels {
+        words.extend([0, 0, 16, label + 1, labels + 1, 0, 0, 0, 0, 0]);
+    }
+    words.extend([0, 0, 3, 0, 0, 0, 0, 0, 0, 0]);
+    words.extend([0, 0, 1, 0, 0, 0, 0, 0, 0, 0]);
+    words.extend([0, 1]);
+    words
+}
+
+#[test]
+fn depth_of_statements() {
+    let accepted = model(&nested_labels(127));
+    assert_eq!((accepted.code, accepted.visits), (40, 128));
+    assert_eq!(model(&nested_labels(128)), Outcome { code: 30, at: 128, rows: 0, visits: 128 });
+    let walked = reference::on_large_stack(|| {
+        let bounds = Bounds { depth: 1_024, visits: 1 << 30 };
+        reference::walk_within(&check(&nested_labels(128)).unwrap(), bounds).0
+    });
+    assert!(walked.result.is_ok());
+    assert_eq!(walked.visits, 129);
+}

@@ -1,3 +1,4 @@
+use mathlib.Core.Path.{refl}
 use borrow.Author.Needs.{needs}
 use Rattle.control.proofs.continue_to.Statement.{statement}
 use Rattle.control.proofs.continue_to.Tie as tie
@@ -5,11 +6,8 @@ use Rattle.control.proofs.continue_to.Tie as tie
 continue-kind-requires : tie.Need-continue-kind-requires
 continue-kind-requires c κs = search needs
 
-block-requires : tie.Need-block-requires
-block-requires c κs = search needs
-
 returns : tie.Need-returns
-returns c = rw (c .block .ensures, c .before .continue-kind .ensures)
+returns c = (refl, rw (c .continue-kind .ensures))
 
 pub continue-to-spec : {M : Type 1} → statement M
-continue-to-spec = tie.close (tie.spec continue-kind-requires block-requires returns)
+continue-to-spec = tie.close (tie.spec continue-kind-requires returns)

@@ -6,11 +6,17 @@ use borrow.Author.Needs.{needs}
 use Rattle.treebuild.proofs.main.Statement.{statement}
 use Rattle.treebuild.proofs.main.Tie as tie
 
-slice-aggregate-read-full : tie.Need-slice-aggregate-read-full
-slice-aggregate-read-full c = search needs
+slice-aggregate-read-all : tie.Need-slice-aggregate-read-all
+slice-aggregate-read-all c = search needs
 
-read-full-requires : tie.Need-read-full-requires
-read-full-requires c κs = search needs
+slice-aggregate-read-all-2 : tie.Need-slice-aggregate-read-all-2
+slice-aggregate-read-all-2 c = search needs
+
+read-all-requires : tie.Need-read-all-requires
+read-all-requires c κs = search needs
+
+returns : tie.Need-returns
+returns c = search needs
 
 array-share-prefix-file : tie.Need-array-share-prefix-file
 array-share-prefix-file c = search needs
@@ -27,15 +33,20 @@ build-file-requires c κs = search needs
 enum-known-written : tie.Need-enum-known-written
 enum-known-written c = search needs
 
+slice-aggregate-write-all : tie.Need-slice-aggregate-write-all
+slice-aggregate-write-all c = search needs
+
 array-share-prefix-out : tie.Need-array-share-prefix-out
 array-share-prefix-out c =
-    let built = c .before .before .before .before .build-file in
-    omega (arith, bytes-within _ _ _ _ (built .ensures .answer) (c .before .written .given .1), built .kept .1 .0)
+    let at-build : tie.After-build-file = search in
+    let at-bytes : tie.After-written = search in
+    omega (arith, bytes-within _ _ _ _ (at-build .build-file .ensures .answer) (at-bytes .written .given .1), at-build .build-file .kept .1 .0)
 
-slice-aggregate-write-all : tie.Need-slice-aggregate-write-all
-slice-aggregate-write-all c =
-    let built = c .before .before .before .before .before .build-file in
-    sym (length-take-le _ _ (omega (arith, bytes-within _ _ _ _ (built .ensures .answer) (c .before .before .written .given .1), built .kept .1 .0)))
+slice-aggregate-write-all-2 : tie.Need-slice-aggregate-write-all-2
+slice-aggregate-write-all-2 c =
+    let at-build : tie.After-build-file = search in
+    let at-bytes : tie.After-written = search in
+    sym (length-take-le _ _ (omega (arith, bytes-within _ _ _ _ (at-build .build-file .ensures .answer) (at-bytes .written .given .1), at-build .build-file .kept .1 .0)))
 
 write-all-requires : tie.Need-write-all-requires
 write-all-requires c κs = search needs
@@ -43,26 +54,29 @@ write-all-requires c κs = search needs
 enum-told : tie.Need-enum-told
 enum-told c = search needs
 
-returns : tie.Need-returns
-returns c = search needs
-
 returns-2 : tie.Need-returns-2
 returns-2 c = search needs
+
+returns-3 : tie.Need-returns-3
+returns-3 c = search needs
 
 pub main-spec : {M : Type 1} → statement M
 main-spec =
     tie.close
     (tie.spec
-    slice-aggregate-read-full
-    read-full-requires
+    slice-aggregate-read-all
+    slice-aggregate-read-all-2
+    read-all-requires
+    returns
     array-share-prefix-file
     slice-aggregate-build-file
     slice-aggregate-build-file-2
     build-file-requires
     enum-known-written
-    array-share-prefix-out
     slice-aggregate-write-all
+    array-share-prefix-out
+    slice-aggregate-write-all-2
     write-all-requires
     enum-told
-    returns
-    returns-2)
+    returns-2
+    returns-3)

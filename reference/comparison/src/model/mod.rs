@@ -1,5 +1,5 @@
-//! Paper 01 in plain Rust: vectors, recursion, nothing clever. It is written from the paper and
-//! not from the reference, so that each can be held against the other.
+//! Paper 01 in plain Rust: vectors, recursion, nothing clever. It follows the paper's rules, and
+//! its author had read the reference: a second opinion beside it, and not a blind one.
 
 pub mod check;
 pub mod columns;

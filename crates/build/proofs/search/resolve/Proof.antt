@@ -25,12 +25,12 @@ returns c = search needs
 returns-2 : tie.Need-returns-2
 returns-2 c =
     let at-enum-told2 : tie.After-enum-told2 = search in
-    rw (at-enum-told2 .enum-told2 .given .1) (ap some (c .break-to .ensures))
+    rw (at-enum-told2 .enum-told2 .given .1) (ap some (c .break-to .ensures .1))
 
 returns-3 : tie.Need-returns-3
 returns-3 c =
     let at-enum-told3 : tie.After-enum-told3 = search in
-    rw (at-enum-told3 .enum-told3 .given .1) (ap some (c .continue-to .ensures))
+    rw (at-enum-told3 .enum-told3 .given .1) (ap some (c .continue-to .ensures .1))
 
 pub resolve-spec : {M : Type 1} → statement M
 resolve-spec =

@@ -4,6 +4,9 @@ use borrow.Author.Needs.{needs}
 use Rattle.planner.proofs.jump.break_to_found.Statement.{statement}
 use Rattle.planner.proofs.jump.break_to_found.Tie as tie
 
+block-requires : tie.Need-block-requires
+block-requires c κs = search needs
+
 number-requires : tie.Need-number-requires
 number-requires c κs = search needs
 
@@ -17,8 +20,9 @@ returns : tie.Need-returns
 returns c =
     let at-if1 : tie.Then1 = search in
     let at-number : tie.After-number = search in
+    let at-block : tie.After-block = search in
     let at-entry : tie.Start = search in
-    break-scope (at-entry .args .p .block) (at-entry .args .id) (at-entry .args .scopes .now) (at-entry .args .p .visits) (at-entry .args .p .rows) (at-entry .args .found) _ _ (at-if1 .if1 .taken) (sym (at-number .number .ensures) ∙ c .if2 .taken) refl
+    break-scope (at-entry .args .p .block) (at-entry .args .id) (at-entry .args .scopes .now) (at-entry .args .p .visits) (at-entry .args .p .rows) (at-entry .args .found) _ _ (rw (at-block .block .ensures) at (at-if1 .if1 .taken)) (sym (at-number .number .ensures) ∙ c .if2 .taken) refl
 
 refuse-jump-requires : tie.Need-refuse-jump-requires
 refuse-jump-requires c κs = search needs
@@ -28,8 +32,9 @@ returns-2 c =
     let at-if2 : tie.Else2 = search in
     let at-if1 : tie.Then1 = search in
     let at-number : tie.After-number = search in
+    let at-block : tie.After-block = search in
     let at-entry : tie.Start = search in
-    break-out (at-entry .args .p .block) (at-entry .args .id) (at-entry .args .scopes .now) (at-entry .args .p .visits) (at-entry .args .p .rows) (at-entry .args .found) _ _ (at-if1 .if1 .taken) (λ z. at-if2 .if2 .left (at-number .number .ensures ∙ z)) (c .refuse-jump .ensures)
+    break-out (at-entry .args .p .block) (at-entry .args .id) (at-entry .args .scopes .now) (at-entry .args .p .visits) (at-entry .args .p .rows) (at-entry .args .found) _ _ (rw (at-block .block .ensures) at (at-if1 .if1 .taken)) (λ z. at-if2 .if2 .left (at-number .number .ensures ∙ z)) (c .refuse-jump .ensures)
 
 cast-put : tie.Need-cast-put
 cast-put c = search needs
@@ -45,13 +50,15 @@ returns-3 c =
     let at-put : tie.After-put = search in
     let at-if1 : tie.Else1 = search in
     let at-number : tie.After-number = search in
+    let at-block : tie.After-block = search in
     let at-entry : tie.Start = search in
-    break-row (at-entry .args .p .block) (at-entry .args .id) (at-entry .args .scopes .now) (at-entry .args .p .visits) (at-entry .args .p .rows) (at-put .put .result) (at-entry .args .found) 24 (at-entry .args .found .target) (at-number .number .result) _ _ _ (at-if1 .if1 .left) refl refl (at-number .number .ensures) (at-put .put .ensures) refl
+    break-row (at-entry .args .p .block) (at-entry .args .id) (at-entry .args .scopes .now) (at-entry .args .p .visits) (at-entry .args .p .rows) (at-put .put .result) (at-entry .args .found) 24 (at-block .block .result) (at-number .number .result) _ _ _ (rw (at-block .block .ensures) at (at-if1 .if1 .left)) refl (at-block .block .ensures) (at-number .number .ensures) (at-put .put .ensures) refl
 
 pub break-to-found-spec : {M : Type 1} → statement M
 break-to-found-spec =
     tie.close
     (tie.spec
+    block-requires
     number-requires
     cast-place
     element-copy-out-if1

@@ -1,0 +1,92 @@
+//! (a): an ordinary Rust program over the same words and rows, with vectors and recursion, written to be quick. It checks a row at a
+//! time, and looks for the first bad word only where a row is bad; then it walks as the model of paper 01 does.
+
+use comparison::model::check::check;
+use comparison::model::table::{HEAD_WORDS, LIMITS, Table};
+use comparison::model::{self, Outcome, Refusal};
+
+const LARGEST: u32 = 65_535;
+const NONE: u32 = 65_535;
+
+pub fn build(words: &[u32], buffer: &mut [u32]) -> Outcome {
+    match checked(words) {
+        Ok(table) => place(model::walk(&table), buffer),
+        Err(Refusal { code, at }) => {
+            buffer.fill(0);
+            Outcome { code, at, rows: 0, visits: 0 }
+        }
+    }
+}
+
+fn place(walked: model::Walked, buffer: &mut [u32]) -> Outcome {
+    let visits = walked.visits;
+    let (code, at, rows) = match &walked.result {
+        Err(refusal) => (refusal.code, refusal.at, 0),
+        Ok(rows) if rows.len() > buffer.len() / model::ROW_WORDS => (40, 0, rows.len()),
+        Ok(rows) => {
+            let (held, rest) = buffer.split_at_mut(rows.len() * model::ROW_WORDS);
+            held.copy_from_slice(rows.as_flattened());
+            rest.fill(0);
+            return Outcome { code: 0, at: 0, rows: rows.len() as u32, visits };
+        }
+    };
+    buffer.fill(0);
+    Outcome { code, at, rows: rows as u32, visits }
+}
+
+fn checked(words: &[u32]) -> Result<Table<'_>, Refusal> {
+    if words.len() < HEAD_WORDS || (0..5).any(|count| words[1 + count] > LIMITS[count]) {
+        return check(words);
+    }
+    let table = Table::of(words);
+    if words.len() == table.end && words[0] < words[1] && is_good(&table) { Ok(table) } else { check(words) }
+}
+
+fn is_good(table: &Table) -> bool {
+    let &[_, blocks, instructions, cases, places, identifiers, ..] = table.words else { return false };
+    let rows = |from: usize, to: usize| &table.words[from..to];
+    let block_rows = rows(HEAD_WORDS, table.instructions).as_chunks().0;
+    block_rows.iter().all(|row| block_row(row, blocks, places, instructions, cases))
+        && rows(table.instructions, table.cases).as_chunks().0.iter().all(|row| instruction_row(row, places))
+        && rows(table.cases, table.places).as_chunks().0.iter().all(|[test, block]| (*test < places || *test == NONE) && *block < blocks)
+        && rows(table.places, table.identifiers).iter().all(|identifier| *identifier < identifiers)
+        && rows(table.identifiers, table.end).iter().all(|named| *named <= 1)
+}
+
+fn block_row(row: &[u32; 10], blocks: u32, places: u32, instructions: u32, cases: u32) -> bool {
+    let [first, count, code, a, b, c, d, e, id, span] = *row;
+    let block = |word: u32| word < blocks;
+    let place = |word: u32| word < places;
+    let run = |first: u32, count: u32, rows: u32| first <= LARGEST && count <= LARGEST && first + count <= rows;
+    let columns = match code {
+        0 => return *row == [0; 10],
+        1 => (a | b | c | d | e) == 0,
+        2 | 3 => place(a) && (b | c | d | e) == 0,
+        4 => block(a) && b <= 2 && (c | d | e) == 0,
+        5 => place(a) && block(b) && block(c) && block(d) && e == 0,
+        6 => place(a) && block(b) && block(c) && (d | e) == 0,
+        7 => place(a) && run(b, c, cases) && block(d) && e == 0,
+        8 | 9 | 12 => block(a) && block(b) && block(c) && (d | e) == 0,
+        10 => block(a) && block(b) && (block(c) || c == NONE) && block(d) && block(e),
+        11 => block(a) && block(b) && block(c) && block(d) && e == 0,
+        13 => a <= 2 && block(b) && block(c) && (d | e) == 0,
+        14 | 16 | 17 => block(a) && block(b) && (c | d | e) == 0,
+        15 => a <= 1 && block(b) && block(c) && (d | e) == 0,
+        18 => block(a) && (b | c | d | e) == 0,
+        19 => block(a) && block(b) && block(c) && (place(d) || d == NONE) && e == 0,
+        20 | 21 => block(a) && block(b) && c <= LARGEST && (d | e) == 0,
+        _ => false,
+    };
+    columns && run(first, count, instructions) && id <= LARGEST && span <= LARGEST
+}
+
+fn instruction_row(row: &[u32; 6], places: u32) -> bool {
+    let [id, lvalue, code, p, q, span] = *row;
+    let operands = match code {
+        0 => (p | q) == 0,
+        1 => p < places && q == 0,
+        2 => p < places && q < places,
+        _ => false,
+    };
+    operands && lvalue < places && id <= LARGEST && span <= LARGEST
+}

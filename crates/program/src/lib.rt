@@ -1,0 +1,78 @@
+// What a program does with its standard input and output. A failed read or write is told on standard error, since the kit has no exit status.
+ghost use Prim.Native.Nat.{_+_, _≤_};
+ghost use lib.ListN.{length};
+ghost use Rattle.io.specs.Counts.{Counts};
+use libc::STDERR_FILENO;
+use libc::STDIN_FILENO;
+use libc::STDOUT_FILENO;
+
+// How many bytes were read; where a read failed, it may not be the whole input.
+pub struct Input {
+    pub count: usize,
+    pub failed: bool,
+}
+
+// One read into the bytes from `from` on; none at the input's end.
+fn read_from(fd: i32, bytes: &mut [u8], from: usize) -> Input
+    requires { ⌜ from ≤ length (now bytes) ⌝ }
+    ensures { λ r. ⌜ from + r .count ≤ length (now (bytes .entry)) ⌝ }
+{
+    let rest = &mut bytes[from..];
+    let got = libc::read(fd, rest);
+    Input {
+        count: io::count(got, rest),
+        failed: got < 0,
+    }
+}
+
+// Reads until the bytes are full, the input ends or a read fails.
+pub fn read_input(fd: i32, bytes: &mut [u8]) -> Input
+    ensures { λ r. ⌜ Counts (r .count) (now (bytes .exit)) ⌝ }
+{
+    let mut count = 0;
+    while count < bytes.len() {
+        let more = read_from(fd, bytes, count);
+        if more.failed {
+            return Input {
+                count: count,
+                failed: true,
+            };
+        }
+        if more.count == 0 {
+            break;
+        }
+        count += more.count;
+    }
+    Input {
+        count: count,
+        failed: false,
+    }
+}
+
+fn say(program: &[u8], words: &[u8]) {
+    io::write_all(STDERR_FILENO, program);
+    io::write_all(STDERR_FILENO, words);
+}
+
+// Reads standard input; where that fails it says so, with the program's name before it.
+pub fn read_all(program: &[u8], bytes: &mut [u8]) -> Input
+    ensures { λ r. ⌜ Counts (r .count) (now (bytes .exit)) ⌝ }
+{
+    let input = read_input(STDIN_FILENO, bytes);
+    if input.failed {
+        say(program, b": standard input cannot be read\n");
+    }
+    input
+}
+
+// Writes all of the bytes to standard output; where that fails it says so. Whether they were written.
+pub fn write_all(program: &[u8], bytes: &[u8]) -> bool {
+    let written = io::write_all(STDOUT_FILENO, bytes);
+    if !written {
+        say(
+            program,
+            b": standard output cannot be written: what is printed is not whole\n",
+        );
+    }
+    written
+}

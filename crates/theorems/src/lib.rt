@@ -1,0 +1,1 @@
+// The final theorems, and no code: proofs/Theorems.antt.
