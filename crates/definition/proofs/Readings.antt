@@ -11,7 +11,7 @@ use lib.ListN.{getD}
 use borrow.Author.Tests.{ne-eqb}
 use Rattle.table.specs.Words.{largest}
 use Rattle.table.specs.Table.{unlessNone}
-use Rattle.definition.specs.Tree.{Kind, implicit, labeled, unlabeled, Value, PLAIN, LOAD, UNDEF, SEQ, LOGICAL, COND, OPTIONAL, Instructions}
+use Rattle.definition.specs.Tree.{Kind, implicit, labeled, unlabeled, Value, PLAIN, LOAD, UNDEF, SEQ, LOGICAL, COND, OPTIONAL, Instructions, undefRow, instrRow, forOfRow, forInRow}
 use Rattle.definition.specs.Tree.{no-instructions, instruction, Statement, INSTR, IF, SWITCH, DOWHILE, WHILE, FOR, FOROF, FORIN, LABEL, TRY, SCOPE}
 use Rattle.definition.specs.Tree.{RETURN, THROW, BREAK, CONTINUE, Statements, done, _▸_, Cases, no-cases, CASE, Row, row, orNone, kindNumber, valueRows}
 use Rattle.definition.specs.Tree.{instructionsRows, countInstructions, countStatements, countCases, statementRows, statementsRows, blockRows, casesRows}

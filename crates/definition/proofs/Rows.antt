@@ -11,7 +11,7 @@ use Rattle.table.specs.declared.columns.Span.{Span}
 use Rattle.table.specs.Table.{Table, instructionAt}
 use Rattle.definition.specs.Machine.{valueOut, updateOut, statementOut, instructionsOut, blockRow, jumpOut, added, scopeRow}
 use Rattle.definition.specs.Statement.{instructionStatements, followedBy}
-use Rattle.definition.specs.Tree.{Value, PLAIN, LOAD, UNDEF, SEQ, LOGICAL, COND, OPTIONAL, Instructions, no-instructions, instruction, Statement, INSTR}
+use Rattle.definition.specs.Tree.{Value, PLAIN, LOAD, UNDEF, SEQ, LOGICAL, COND, OPTIONAL, Instructions, no-instructions, instruction, Statement, INSTR, instrRow, forOfRow, forInRow}
 use Rattle.definition.specs.Tree.{IF, SWITCH, DOWHILE, WHILE, FOR, FOROF, FORIN, LABEL, TRY, SCOPE, RETURN, THROW, BREAK, CONTINUE, Statements, done, _▸_}
 use Rattle.definition.specs.Tree.{Cases, no-cases, CASE, Row, row, valueRows, instructionsRows, updateRows, statementRows, statementsRows, blockRows}
 use Rattle.definition.specs.Tree.{casesRows, countStatements, countInstructions, countCases, orNone, updatePresent, instrRow, forOfRow, forInRow}

@@ -17,7 +17,7 @@ use Rattle.table.specs.Table.{instructionAt, instructionRowsAt, instructionRows
 use Rattle.definition.specs.Machine.{valueOut, updateOut}
 use Rattle.definition.specs.Result.{Result}
 use Rattle.definition.specs.Statement.{visitUpdate}
-use Rattle.definition.specs.Tree.{Value, PLAIN, LOAD, UNDEF, SEQ, LOGICAL, COND, OPTIONAL, Instructions, no-instructions, instruction, Row, row}
+use Rattle.definition.specs.Tree.{Value, PLAIN, LOAD, UNDEF, SEQ, LOGICAL, COND, OPTIONAL, Instructions, no-instructions, instruction, Row, row, instrRow}
 use Rattle.definition.specs.Tree.{valueRows, instructionsRows, countInstructions, instrRow}
 use Rattle.definition.specs.Value.{visitValueBlock, Ways, beginVisit, ValueBlockResult, ValueTerminalResult, TestBlockResult, VisitValueBlock}
 use Rattle.definition.specs.Value.{instructionsOf, wrapWithSequence, finalValue, storedToNamed, allButLast, last, extractValueBlockResult}

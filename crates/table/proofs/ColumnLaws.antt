@@ -12,9 +12,9 @@ use Rattle.table.proofs.TableLaws.{block-at, instruction-at, case-at}
 use Rattle.table.proofs.RangeLaws.{run-within, lvalue-below, operands-in-range, below-unless-none, case-block}
 
 module _ {ws : List ℕ} {b : ℕ} where
-  pub spans : {from to : ℕ} → b < blockCount ws → from ≡ blockWord ws b 9 → to ≡ blockWord ws b 10 → record { from = from; to = to } ≡ blockAt (tableOf ws) b .span
+  pub spans : {from to : ℕ} → Promise ws → b < blockCount ws → from ≡ blockWord ws b 9 → to ≡ blockWord ws b 10 → record { from = from; to = to } ≡ blockAt (tableOf ws) b .span
   unfolding blockOf
-  spans inside eb et = rw (block-at ws b inside, eb, et)
+  spans p inside eb et = rw (block-at ws b inside, eb, et)
 
   pub heads : {first count id : ℕ} {span : Span} → Promise ws → b < blockCount ws → first ≡ blockWord ws b 0 → count ≡ blockWord ws b 1 → id ≡ blockWord ws b 8 → span ≡ blockAt (tableOf ws) b .span
       → Heads ws b first count id span
