@@ -9,7 +9,8 @@
 extern "C" {
 #endif
 
-/* A row of the tree has six words: op, a, b, c, d, e (docs/FORMAT.md). */
+/* A row of the tree has six words: op, a, b, c, d, e (docs/FORMAT.md). In a BREAK (24) and a CONTINUE (25) d is the number of loops that the
+ * jump leaves before its target, at most 128. */
 #define REACTIVE_BUILD_ROW_WORDS 6
 
 /* Rows of a table: first, count, code, a, b, c, d, e, id, from, to of a block; id, lvalue, code, p, q, from, to of an instruction. */

@@ -1,7 +1,7 @@
-//! Where the archive is: the folder that REACTIVE_BUILD_DIR names.
+//! Where the archives are: the folder that REACTIVE_BUILD_DIR names. libbuild.a is always linked, libdot.a with the feature `dot`.
 
 use std::env;
-use std::path::PathBuf;
+use std::path::{Path, PathBuf};
 
 fn main() {
     println!("cargo::rerun-if-env-changed=REACTIVE_BUILD_DIR");
@@ -16,9 +16,16 @@ fn main() {
     } else {
         named
     };
-    let archive = folder.join("libbuild.a");
-    assert!(archive.is_file(), "REACTIVE_BUILD_DIR: no {}: `rt staticlib build` writes it", archive.display());
-    println!("cargo::rerun-if-changed={}", archive.display());
     println!("cargo::rustc-link-search=native={}", folder.display());
-    println!("cargo::rustc-link-lib=static=build");
+    link(&folder, "build");
+    if env::var_os("CARGO_FEATURE_DOT").is_some() {
+        link(&folder, "dot");
+    }
+}
+
+fn link(folder: &Path, name: &str) {
+    let archive = folder.join(format!("lib{name}.a"));
+    assert!(archive.is_file(), "REACTIVE_BUILD_DIR: no {}: `rt staticlib {name}` writes it", archive.display());
+    println!("cargo::rerun-if-changed={}", archive.display());
+    println!("cargo::rustc-link-lib=static={name}");
 }

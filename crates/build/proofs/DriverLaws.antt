@@ -3,7 +3,7 @@ use Prim.Native.Nat.{ℕ, zero, suc, _+_, _-_, _≤_, _<_}
 use native.Mathlib.Nat.{le-refl}
 use native.Mathlib.Omega.{arith}
 use mathlib.Core.Path.{_≡_, refl, sym, ap, _∙_, subst}
-use mathlib.Core.Bool.{Bool, true, false, _||_}
+use mathlib.Core.Bool.{Bool, true, false}
 use mathlib.Core.List.{List, [], _∷_, _++_}
 use mathlib.Core.Option.{Option, none, some}
 use lib.Dec.{eqb}
@@ -211,34 +211,34 @@ found-jump w cx p jump found S R e =
     subst (λ (z : Option definition.Resolution). Resolves (terminalAt (tableOf w) (p .block)) (contextOf (p .visits) cx) z) (sym (R (p .visits))) (S e .resolves (contextOf (p .visits) cx) refl refl)
 
 -- its target is one of the 1,024 blocks, as every entry's is
-break-below : (entries : List Entry) (n b : ℕ) (top above : Bool) → ((k : ℕ) → k < n → Named (getD entries k noEntry .target)) → (r : definition.Resolution) → definition.breakTargetFrom (stackOf entries n) b top above ≡ some r → r .target < 1024
+break-below : (entries : List Entry) (n b : ℕ) (top : Bool) (above : ℕ) → ((k : ℕ) → k < n → Named (getD entries k noEntry .target)) → (r : definition.Resolution) → definition.breakTargetFrom (stackOf entries n) b top above ≡ some r → r .target < 1024
 unfolding stackOf definition.breakTargetFrom
 break-below entries zero b top above named r e = absurd (none-some e)
 break-below entries (suc n) b top above named r e = at (eqb (definition.targetBlock (targetOf (getD entries n noEntry .target))) b) refl e (λ t a h. break-below entries n b t a (λ k l. named k (omega arith)) r h)
   where
     at : (y : Bool) → eqb (definition.targetBlock (targetOf (getD entries n noEntry .target))) b ≡ y
-        → elim y [ true ↦ some (record { target = b; kind = definition.breakKind (definition.isLoop (targetOf (getD entries n noEntry .target))) top above }) | false ↦ definition.breakTargetFrom (stackOf entries n) b false (above || definition.isLoop (targetOf (getD entries n noEntry .target))) ] ≡ some r
-        → ((t a : Bool) → definition.breakTargetFrom (stackOf entries n) b t a ≡ some r → r .target < 1024) → r .target < 1024
+        → elim y [ true ↦ some (record { target = b; kind = definition.breakKind (definition.isLoop (targetOf (getD entries n noEntry .target))) top above; loops = above }) | false ↦ definition.breakTargetFrom (stackOf entries n) b false (definition.loopsOf (targetOf (getD entries n noEntry .target)) + above) ] ≡ some r
+        → ((t : Bool) (a : ℕ) → definition.breakTargetFrom (stackOf entries n) b t a ≡ some r → r .target < 1024) → r .target < 1024
     at true q h again = let t : b ≡ r .target = ap target-or (h) in let same : definition.targetBlock (targetOf (getD entries n noEntry .target)) ≡ b = eqb-true _ _ q in omega (arith, t, same, named-block (getD entries n noEntry .target) (named n (omega arith)))
-    at false q h again = again false (above || definition.isLoop (targetOf (getD entries n noEntry .target))) h
+    at false q h again = again false (definition.loopsOf (targetOf (getD entries n noEntry .target)) + above) h
 
-continue-below : (entries : List Entry) (n b : ℕ) (top above : Bool) → ((k : ℕ) → k < n → Named (getD entries k noEntry .target)) → (r : definition.Resolution) → definition.continueTargetFrom (stackOf entries n) b top above ≡ some r → r .target < 1024
+continue-below : (entries : List Entry) (n b : ℕ) (top : Bool) (above : ℕ) → ((k : ℕ) → k < n → Named (getD entries k noEntry .target)) → (r : definition.Resolution) → definition.continueTargetFrom (stackOf entries n) b top above ≡ some r → r .target < 1024
 unfolding stackOf definition.continueTargetFrom
 continue-below entries zero b top above named r e = absurd (none-some e)
 continue-below entries (suc n) b top above named r e = at (definition.continuesAt (targetOf (getD entries n noEntry .target)) b) e (λ t a h. continue-below entries n b t a (λ k l. named k (omega arith)) r h)
   where
     at : (y : Bool)
-        → elim y [ true ↦ some (record { target = definition.targetBlock (targetOf (getD entries n noEntry .target)); kind = definition.continueKind top above }) | false ↦ definition.continueTargetFrom (stackOf entries n) b false (above || definition.isLoop (targetOf (getD entries n noEntry .target))) ] ≡ some r
-        → ((t a : Bool) → definition.continueTargetFrom (stackOf entries n) b t a ≡ some r → r .target < 1024) → r .target < 1024
+        → elim y [ true ↦ some (record { target = definition.targetBlock (targetOf (getD entries n noEntry .target)); kind = definition.continueKind top above; loops = above }) | false ↦ definition.continueTargetFrom (stackOf entries n) b false (definition.loopsOf (targetOf (getD entries n noEntry .target)) + above) ] ≡ some r
+        → ((t : Bool) (a : ℕ) → definition.continueTargetFrom (stackOf entries n) b t a ≡ some r → r .target < 1024) → r .target < 1024
     at true h again = let t : definition.targetBlock (targetOf (getD entries n noEntry .target)) ≡ r .target = ap target-or (h) in omega (arith, t, named-block (getD entries n noEntry .target) (named n (omega arith)))
-    at false h again = again false (above || definition.isLoop (targetOf (getD entries n noEntry .target))) h
+    at false h again = again false (definition.loopsOf (targetOf (getD entries n noEntry .target)) + above) h
 
 pub found-below : (cx : Context) (jump : Jump) (found : Resolved) → Whole cx → ((visits : ℕ) → resolvedOf found ≡ foundBy jump (contextOf visits cx)) → FoundBelow found
 unfolding contextOf definition.getBreakTarget definition.getContinueTarget
 found-below cx jump resolved.Nothing h e = tt
 found-below cx search.Nothing (resolved.Found r) h e = absurd (none-some (sym (e 0)))
-found-below cx (search.Break b) (resolved.Found r) h e = break-below (cx .stack) (cx .len) b true false (h .bounded .named) (resolutionOf r) (sym (rw (h .settled) at (e 0)))
-found-below cx (search.Continue b) (resolved.Found r) h e = continue-below (cx .stack) (cx .len) b true false (h .bounded .named) (resolutionOf r) (sym (rw (h .settled) at (e 0)))
+found-below cx (search.Break b) (resolved.Found r) h e = break-below (cx .stack) (cx .len) b true 0 (h .bounded .named) (resolutionOf r) (sym (rw (h .settled) at (e 0)))
+found-below cx (search.Continue b) (resolved.Found r) h e = continue-below (cx .stack) (cx .len) b true 0 (h .bounded .named) (resolutionOf r) (sym (rw (h .settled) at (e 0)))
 
 module _ (w : List ℕ) (pr : Promise w) (ck : Checked (tableOf w)) where
   -- where the loop begins

@@ -1,5 +1,5 @@
 -- What a block's jump looks for, and the search of the stack for it, an entry at a time.
-use Prim.Native.Nat.{ℕ, _-_, _<_, _≤_}
+use Prim.Native.Nat.{ℕ, _+_, _-_, _<_, _≤_}
 use native.Mathlib.Omega.{arith}
 use mathlib.Core.Path.{_≡_, refl, sym, ap, _∙_, subst}
 use mathlib.Core.Bool.{Bool, true, false, _||_}
@@ -11,7 +11,7 @@ use Rattle.table.specs.Promise.{Promise, InRange}
 use Rattle.table.specs.Table.{Terminal, absent, unreachable, throw, return, goto, if, branch, switch, do-while, while, for, for-of, for-in, logical, ternary, optional, label, sequence, maybe-throw, try, scope, Break, Continue, Try, codeOf, tableOf, terminalOf, terminalAt, variantOf}
 use Rattle.table.proofs.RangeLaws.{in-range}
 use Rattle.table.proofs.BlockLaws.{end-by, code-at, goto-at, branch-at, try-variant}
-use Rattle.definition.specs.Context.{Flags, has, isScheduled, isLoop, breakTargetFrom, continueTargetFrom, getBreakTarget, getContinueTarget}
+use Rattle.definition.specs.Context.{Flags, has, isScheduled, loopsOf, breakTargetFrom, continueTargetFrom, getBreakTarget, getContinueTarget}
 use Rattle.definition.specs.Context as definition
 use Rattle.control.specs.declared.Context.{Context}
 use Rattle.control.specs.declared.Entry.{Entry}
@@ -91,27 +91,29 @@ module _ (w : List ℕ) (S H : Flags) (b : ℕ) (pr : Promise w) (below : b < bl
 
 -- ---- the search
 
-abbrev foundAmong : Jump → List definition.Entry → (top loopAbove : Bool) → Option definition.Resolution
-foundAmong Nothing entries top loopAbove = none
-foundAmong (jump.Break block) entries top loopAbove = breakTargetFrom entries block top loopAbove
-foundAmong (jump.Continue block) entries top loopAbove = continueTargetFrom entries block top loopAbove
+abbrev foundAmong : Jump → List definition.Entry → (top : Bool) → (loopsAbove : ℕ) → Option definition.Resolution
+foundAmong Nothing entries top loopsAbove = none
+foundAmong (jump.Break block) entries top loopsAbove = breakTargetFrom entries block top loopsAbove
+foundAmong (jump.Continue block) entries top loopsAbove = continueTargetFrom entries block top loopsAbove
 
 -- the first so many entries give what all give
-pub record Searching (sought : Jump) (cx : Context) (at : ℕ) (top loopAbove : Bool) : Type 0 where
+pub record Searching (sought : Jump) (cx : Context) (at : ℕ) (top : Bool) (loopsAbove : ℕ) : Type 0 where
   pub settled : cx .pending ≡ false
-  pub within : at ≤ cx .len
-  pub rest : foundAmong sought (stackOf (cx .stack) (cx .len)) true false ≡ foundAmong sought (stackOf (cx .stack) at) top loopAbove
+  pub within : loopsAbove + at ≤ cx .len
+  pub rest : foundAmong sought (stackOf (cx .stack) (cx .len)) true 0 ≡ foundAmong sought (stackOf (cx .stack) at) top loopsAbove
 
-pub search-start : (sought : Jump) (cx : Context) (n : ℕ) → cx .pending ≡ false → n ≡ searchedFrom sought (cx .len) → Searching sought cx n true false
+pub search-start : (sought : Jump) (cx : Context) (n : ℕ) → cx .pending ≡ false → n ≡ searchedFrom sought (cx .len) → Searching sought cx n true 0
 search-start Nothing cx n s e = record { settled = s; within = omega (arith, e); rest = refl }
 search-start (jump.Break b) cx n s e = record { settled = s; within = omega (arith, e); rest = rw e refl }
 search-start (jump.Continue b) cx n s e = record { settled = s; within = omega (arith, e); rest = rw e refl }
 
-module _ (cx : Context) (at : ℕ) (top above : Bool) where
-  pub search-on : (sought : Jump) → Searching sought cx at top above → (at ≡ 0 → ⊥) → isMet sought (lastTarget (cx .stack) at) ≡ false → Searching sought cx (at - 1) false (above || isLoop (lastTarget (cx .stack) at))
-  search-on Nothing h f m = record { settled = h .settled; within = omega (arith, h .within); rest = refl }
-  search-on (jump.Break b) h f m = record { settled = h .settled; within = omega (arith, h .within); rest = h .rest ∙ break-missed _ _ _ _ _ f (eqb-false _ _ m) }
-  search-on (jump.Continue b) h f m = record { settled = h .settled; within = omega (arith, h .within); rest = h .rest ∙ continue-missed _ _ _ _ _ f m }
+module _ (cx : Context) (at : ℕ) (top : Bool) (above : ℕ) where
+  -- one entry further down, with the loops counted
+  pub search-on : {counted : ℕ} (sought : Jump) → Searching sought cx at top above → (at ≡ 0 → ⊥) → isMet sought (lastTarget (cx .stack) at) ≡ false
+      → (counted ≡ loopsOf (lastTarget (cx .stack) at) + above) × (counted ≤ above + 1) → Searching sought cx (at - 1) false counted
+  search-on Nothing h f m (e, one) = record { settled = h .settled; within = omega (arith, h .within, one); rest = refl }
+  search-on (jump.Break b) h f m (e, one) = record { settled = h .settled; within = omega (arith, h .within, one); rest = h .rest ∙ rw e (break-missed _ _ _ _ _ f (eqb-false _ _ m)) }
+  search-on (jump.Continue b) h f m (e, one) = record { settled = h .settled; within = omega (arith, h .within, one); rest = h .rest ∙ rw e (continue-missed _ _ _ _ _ f m) }
 
   pub search-none : (sought : Jump) → Searching sought cx at top above → at ≡ 0 → (visits : ℕ) → none ≡ foundBy sought (contextOf visits cx)
   unfolding getBreakTarget getContinueTarget contextOf

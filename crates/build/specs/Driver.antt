@@ -41,10 +41,10 @@ isMet Nothing target = false
 isMet (jump.Break block) target = eqb (targetBlock target) block
 isMet (jump.Continue block) target = continuesAt target block
 
-abbrev pub resolvedAt : Jump → definition.ControlFlowTarget → (top loopAbove : Bool) → Option definition.Resolution
-resolvedAt Nothing found top loopAbove = none
-resolvedAt (jump.Break block) found top loopAbove = some (breakTo found top loopAbove)
-resolvedAt (jump.Continue block) found top loopAbove = some (continueTo found top loopAbove)
+abbrev pub resolvedAt : Jump → definition.ControlFlowTarget → (top : Bool) → (loopsAbove : ℕ) → Option definition.Resolution
+resolvedAt Nothing found top loopsAbove = none
+resolvedAt (jump.Break block) found top loopsAbove = some (breakTo found top loopsAbove)
+resolvedAt (jump.Continue block) found top loopsAbove = some (continueTo found top loopsAbove)
 
 -- a search that finds what the block's terminal looks for
 pub record Searches (words : List ℕ) (scheduledSet handlerSet : Flags) (block : ℕ) (found : Jump) : Type 0 where

@@ -6,8 +6,8 @@ use crate::search::search_from;
 use control::Context;
 use control::ControlFlowTarget;
 use control::Resolved;
+use control::count_loop;
 use control::insert;
-use control::or_loop;
 use planner::fallthrough::narrow;
 use planner::plan::Change;
 use planner::plan::NONE;
@@ -156,7 +156,7 @@ pub fn walk(words: &[u32], tree: &mut [u32]) -> Walked
         let jump = jump_at(words, &cx.scheduled, &cx.catch_handlers, p);
         let mut at = search_from(jump, cx.len);
         let mut top = true;
-        let mut has_preceding_loop = false;
+        let mut loops: u32 = 0;
         let resolved = loop {
             if at == 0 {
                 break Resolved::Nothing;
@@ -165,9 +165,9 @@ pub fn walk(words: &[u32], tree: &mut [u32]) -> Walked
             let entry = cx.stack[at];
             let target = entry.target;
             if meets(jump, target) {
-                break resolve(jump, entry, top, has_preceding_loop);
+                break resolve(jump, entry, top, loops);
             }
-            has_preceding_loop = or_loop(has_preceding_loop, target);
+            loops = count_loop(loops, target);
             top = false;
         };
         let plan = plan_turn(

@@ -46,14 +46,14 @@ pub fn meets(jump: Jump, target: ControlFlowTarget) -> bool
     }
 }
 
-// What the jump resolves to at the entry that its search ended at.
-pub fn resolve(jump: Jump, found: Entry, top: bool, has_preceding_loop: bool) -> Resolved
-    ensures { λ r. ⌜ resolvedOf r ≡ resolvedAt jump (targetOf (found .target)) top «has_preceding_loop» ⌝ }
+// What the jump resolves to at the entry that its search ended at, below so many loops.
+pub fn resolve(jump: Jump, found: Entry, top: bool, loops: u32) -> Resolved
+    ensures { λ r. ⌜ resolvedOf r ≡ resolvedAt jump (targetOf (found .target)) top loops ⌝ }
 {
     match jump {
         Jump::Nothing => Resolved::Nothing,
-        Jump::Break(_) => Resolved::Found(break_to(found, top, has_preceding_loop)),
-        Jump::Continue(_) => Resolved::Found(continue_to(found, top, has_preceding_loop)),
+        Jump::Break(_) => Resolved::Found(break_to(found, top, loops)),
+        Jump::Continue(_) => Resolved::Found(continue_to(found, top, loops)),
     }
 }
 

@@ -64,7 +64,7 @@ abbrev pub foundBlock : Resolution → ℕ
 foundBlock resolution = targetBlock (targetOf (resolution .entry .target))
 
 abbrev pub resolutionOf : Resolution → definition.Resolution
-resolutionOf resolution = record { target = foundBlock resolution; kind = kindOf (resolution .kind) }
+resolutionOf resolution = record { target = foundBlock resolution; kind = kindOf (resolution .kind); loops = resolution .loops }
 
 abbrev pub resolvedOf : Resolved → Option definition.Resolution
 resolvedOf Nothing = none

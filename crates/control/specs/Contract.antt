@@ -95,8 +95,8 @@ pub record Unscheduled (last : Entry) (self r : Context) : Type 0 where
 
 -- ---- a jump's entry, once it is found
 
-abbrev pub breakTo : definition.ControlFlowTarget → (top loopAbove : Bool) → definition.Resolution
-breakTo found top loopAbove = record { target = targetBlock found; kind = breakKind (isLoop found) top loopAbove }
+abbrev pub breakTo : definition.ControlFlowTarget → (top : Bool) → (loopsAbove : ℕ) → definition.Resolution
+breakTo found top loopsAbove = record { target = targetBlock found; kind = breakKind (isLoop found) top loopsAbove; loops = loopsAbove }
 
-abbrev pub continueTo : definition.ControlFlowTarget → (top loopAbove : Bool) → definition.Resolution
-continueTo found top loopAbove = record { target = targetBlock found; kind = continueKind top loopAbove }
+abbrev pub continueTo : definition.ControlFlowTarget → (top : Bool) → (loopsAbove : ℕ) → definition.Resolution
+continueTo found top loopsAbove = record { target = targetBlock found; kind = continueKind top loopsAbove; loops = loopsAbove }

@@ -7,9 +7,9 @@
 // For the same reason a step copies the set that it changes into a local and back, each step writes `len`, and the scalars stand between the arrays.
 // (docs/PERFORMANCE.md has the times.)
 ghost use mathlib.Core.Path.{_≡_};
-ghost use Prim.Native.Nat.{_<_};
+ghost use Prim.Native.Nat.{_+_, _≤_, _<_};
 ghost use mathlib.Core.Bool.{_||_};
-ghost use Rattle.definition.specs.Context.{add, has, targetBlock, isLoop, continuesAt, blockAsked, blockedCode, scheduledBy, owns, breakKind, continueKind, unscheduledBy};
+ghost use Rattle.definition.specs.Context.{add, has, targetBlock, isLoop, loopsOf, continuesAt, blockAsked, blockedCode, scheduledBy, owns, breakKind, continueKind, unscheduledBy};
 ghost use Rattle.definition.specs.Tree.{kindNumber};
 ghost use Rattle.control.specs.Abstraction.{targetOf, kindOf, foundBlock, resolutionOf};
 ghost use Rattle.control.specs.Contract.{Named, Room, Last, blockedIn, refusalIf, Created, Scheduled, Unscheduled, breakTo, continueTo};
@@ -45,10 +45,11 @@ pub enum ReactiveTerminalTargetKind {
     Unlabeled,
 }
 
-// What a jump resolves to: the entry that was found, and the jump's kind.
+// What a jump resolves to: the entry that was found, the jump's kind, and how many loops lie above that entry.
 pub struct Resolution {
     pub entry: Entry,
     pub kind: ReactiveTerminalTargetKind,
+    pub loops: u32,
 }
 
 pub enum Resolved {
@@ -278,26 +279,32 @@ fn remove_target(scheduled: &mut [bool; 1024], target: ControlFlowTarget, owns_l
 
 // ---- the search of the stack for a jump's target
 
-// Whether a loop lies above the entry below this one.
-pub fn or_loop(has_preceding_loop: bool, target: ControlFlowTarget) -> bool
-    ensures { λ r. ⌜ r ≡ «has_preceding_loop» || isLoop (targetOf target) ⌝ }
+// The loops above the entry below this one.
+pub fn count_loop(loops: u32, target: ControlFlowTarget) -> u32
+    requires { ⌜ loops < 1152 ⌝ }
+    ensures { λ r. ⌜ (r ≡ loopsOf (targetOf target) + loops) × (r ≤ loops + 1) ⌝ }
 {
-    let loop_here = target.is_loop();
-    if has_preceding_loop {
-        return true;
+    match target {
+        ControlFlowTarget::If { block: _ } => loops,
+        ControlFlowTarget::Switch { block: _ } => loops,
+        ControlFlowTarget::Case { block: _ } => loops,
+        ControlFlowTarget::Loop {
+            block: _,
+            continue_block: _,
+            loop_block: _,
+        } => loops + 1,
     }
-    loop_here
 }
 
 // A loop gives Unlabeled, or Labeled if a loop lies above. Another entry gives Implicit at the top, else Labeled.
-fn break_kind(is_loop: bool, top: bool, has_preceding_loop: bool) -> ReactiveTerminalTargetKind
-    ensures { λ r. ⌜ kindOf r ≡ breakKind «is_loop» top «has_preceding_loop» ⌝ }
+fn break_kind(is_loop: bool, top: bool, loops: u32) -> ReactiveTerminalTargetKind
+    ensures { λ r. ⌜ kindOf r ≡ breakKind «is_loop» top loops ⌝ }
 {
     if is_loop {
-        if has_preceding_loop {
-            return ReactiveTerminalTargetKind::Labeled;
+        if loops == 0 {
+            return ReactiveTerminalTargetKind::Unlabeled;
         }
-        return ReactiveTerminalTargetKind::Unlabeled;
+        return ReactiveTerminalTargetKind::Labeled;
     }
     if top {
         return ReactiveTerminalTargetKind::Implicit;
@@ -306,10 +313,10 @@ fn break_kind(is_loop: bool, top: bool, has_preceding_loop: bool) -> ReactiveTer
 }
 
 // Labeled if a loop lies above, else Implicit at the top, else Unlabeled.
-fn continue_kind(top: bool, has_preceding_loop: bool) -> ReactiveTerminalTargetKind
-    ensures { λ r. ⌜ kindOf r ≡ continueKind top «has_preceding_loop» ⌝ }
+fn continue_kind(top: bool, loops: u32) -> ReactiveTerminalTargetKind
+    ensures { λ r. ⌜ kindOf r ≡ continueKind top loops ⌝ }
 {
-    if has_preceding_loop {
+    if loops > 0 {
         return ReactiveTerminalTargetKind::Labeled;
     }
     if top {
@@ -329,27 +336,29 @@ impl Resolution {
     }
 }
 
-// A break to the entry that was found.
-pub fn break_to(found: Entry, top: bool, has_preceding_loop: bool) -> Resolution
-    ensures { λ r. ⌜ (r .entry ≡ found) × (resolutionOf r ≡ breakTo (targetOf (found .target)) top «has_preceding_loop») ⌝ }
+// A break to the entry that was found below so many loops.
+pub fn break_to(found: Entry, top: bool, loops: u32) -> Resolution
+    ensures { λ r. ⌜ (r .entry ≡ found) × (resolutionOf r ≡ breakTo (targetOf (found .target)) top loops) ⌝ }
 {
     let target = found.target;
     let is_loop = target.is_loop();
-    let kind = break_kind(is_loop, top, has_preceding_loop);
+    let kind = break_kind(is_loop, top, loops);
     Resolution {
         entry: found,
         kind: kind,
+        loops: loops,
     }
 }
 
-// A continue of the loop that was found.
-pub fn continue_to(found: Entry, top: bool, has_preceding_loop: bool) -> Resolution
-    ensures { λ r. ⌜ (r .entry ≡ found) × (resolutionOf r ≡ continueTo (targetOf (found .target)) top «has_preceding_loop») ⌝ }
+// A continue of the loop that was found below so many loops.
+pub fn continue_to(found: Entry, top: bool, loops: u32) -> Resolution
+    ensures { λ r. ⌜ (r .entry ≡ found) × (resolutionOf r ≡ continueTo (targetOf (found .target)) top loops) ⌝ }
 {
-    let kind = continue_kind(top, has_preceding_loop);
+    let kind = continue_kind(top, loops);
     Resolution {
         entry: found,
         kind: kind,
+        loops: loops,
     }
 }
 

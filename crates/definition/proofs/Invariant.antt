@@ -395,13 +395,13 @@ UpdateTaken before r = Taken 0 (length (updateOut (r .value))) before (r .visits
 abbrev Jump : Option Statement → Type 0
 Jump o = (length (jumpOut o) ≤ 1) × ((n : ℕ) → added o n ≤ length (jumpOut o) + n)
 
-break-jump : (g i : ℕ) (k : Kind) → Jump (some (BREAK g i k))
+break-jump : (g i : ℕ) (k : Kind) (n : ℕ) → Jump (some (BREAK g i k n))
 unfolding statementOut
-break-jump g i k = (le-refl 1, λ n. omega arith)
+break-jump g i k n = (le-refl 1, λ m. omega arith)
 
-continue-jump : (g i : ℕ) (k : Kind) → Jump (some (CONTINUE g i k))
+continue-jump : (g i : ℕ) (k : Kind) (n : ℕ) → Jump (some (CONTINUE g i k n))
 unfolding statementOut
-continue-jump g i k = (le-refl 1, λ n. omega arith)
+continue-jump g i k n = (le-refl 1, λ m. omega arith)
 
 no-jump : Jump none
 no-jump = (omega arith, λ n. omega arith)
@@ -418,7 +418,7 @@ visitBreak-jump b g i c = at (getBreakTarget c g)
   where
     at : (r : Option Resolution) → Good Jump (breakResolved b g i c r)
     at none = unfold breakResolved in tt
-    at (some r) = unfold breakResolved in good-pick Jump (has (c .scopeFallthroughs) (r .target)) _ _ (scope-jump (r .kind) b (c .visits)) (break-jump (r .target) i (r .kind))
+    at (some r) = unfold breakResolved in good-pick Jump (has (c .scopeFallthroughs) (r .target)) _ _ (scope-jump (r .kind) b (c .visits)) (break-jump (r .target) i (r .kind) (r .loops))
 
 visitContinue-jump : (g i : ℕ) (c : Context) → Good (λ s. Jump (some s)) (visitContinue g i c)
 unfolding visitContinue
@@ -426,7 +426,7 @@ visitContinue-jump g i c = at (getContinueTarget c g)
   where
     at : (r : Option Resolution) → Good (λ s. Jump (some s)) (continueResolved g i c r)
     at none = unfold continueResolved in tt
-    at (some r) = unfold continueResolved in continue-jump (r .target) i (r .kind)
+    at (some r) = unfold continueResolved in continue-jump (r .target) i (r .kind) (r .loops)
 
 abbrev Jumped : Context → TerminalResult → Type 0
 Jumped c s = Jump (s .statement) × (s .next ≡ none) × (s .context ≡ c)

@@ -12,6 +12,7 @@ pub mod Checked
 pub mod Accepted
 pub mod Outcomes
 pub mod Readings
+pub mod Crossed
 pub mod Formed
 pub mod PlainEnough
 pub mod Loops
@@ -20,6 +21,7 @@ pub mod Resolve
 pub mod State
 pub mod Structure
 pub mod Law
+pub mod JumpRows
 pub mod PlainTest
 pub mod Example
 pub mod Samples

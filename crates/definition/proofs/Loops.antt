@@ -92,8 +92,8 @@ mutual
   takes-statement (SCOPE p s b) a = takes-statements b a
   takes-statement (RETURN v i) a = taken-none a
   takes-statement (THROW v i) a = taken-none a
-  takes-statement (BREAK t i k) a = taken-none a
-  takes-statement (CONTINUE t i k) a = taken-none a
+  takes-statement (BREAK t i k n) a = taken-none a
+  takes-statement (CONTINUE t i k n) a = taken-none a
 
   pub takes-statements : (s : Statements) (a : Answers) → Taken a (runStatements s a .left)
   takes-statements done a = taken-none a

@@ -267,7 +267,7 @@ unfolding continueResolved
 continue-resolved-fine g i c none = tt
 continue-resolved-fine g i c (some k) = tt
 
-abbrev StepAfter : Context → TerminalResult → Type 0
+abbrev pub StepAfter : Context → TerminalResult → Type 0
 StepAfter c s = After c (s .context)
 
 goto-fine : (v : Variant) (b g i : ℕ) (c : Context) → Fine (StepAfter c) (visitGoto v b g i c)
@@ -339,7 +339,7 @@ module _ (t : Table) (values : VisitValueBlock) (took : VisitTook t values) (inn
       (unschedule-if-fine (unlessScheduled c f) c (withVisits (r .visits) d) (on-if-after (unlessScheduled c f) c p (to-visited (r .visits) (after-refl d))))
       (λ e q. q)))
 
-  terminal-fine : (m : Terminal) (b : ℕ) (k : Block) (c : Context) → isAbsent m ≡ false → Fine (StepAfter c) (visitTerminal t values inner m b k c)
+  pub terminal-fine : (m : Terminal) (b : ℕ) (k : Block) (c : Context) → isAbsent m ≡ false → Fine (StepAfter c) (visitTerminal t values inner m b k c)
   unfolding visitTerminal WalkFine
   terminal-fine absent b k c h = absurd (true-false h)
   terminal-fine unreachable b k c h = after-refl c
@@ -409,7 +409,7 @@ module _ (t : Table) (values : VisitValueBlock) (took : VisitTook t values) (inn
   unfolding beginVisit
   begin-present b v = fine-unless (λ _. isAbsent (terminalAt t b) ≡ false) _ 31 b v _ tt (λ _. fine-unless (λ _. isAbsent (terminalAt t b) ≡ false) _ 10 b (suc v) _ tt (λ h. h))
 
-  enter-fine : (b : ℕ) (c : Context) → Fine (λ d. (isAbsent (terminalAt t b) ≡ false) × After c d) (enterBlock t b c)
+  pub enter-fine : (b : ℕ) (c : Context) → Fine (λ d. (isAbsent (terminalAt t b) ≡ false) × After c d) (enterBlock t b c)
   unfolding enterBlock
   enter-fine b c =
       fine-bind (λ _. isAbsent (terminalAt t b) ≡ false) (λ d. (isAbsent (terminalAt t b) ≡ false) × After c d) _ _ (begin-present b (c .visits))

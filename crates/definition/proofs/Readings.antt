@@ -77,8 +77,8 @@ asInstruction then more (TRY i l n b h) S = none
 asInstruction then more (SCOPE p s b) S = none
 asInstruction then more (RETURN v i) S = none
 asInstruction then more (THROW v i) S = none
-asInstruction then more (BREAK t i k) S = none
-asInstruction then more (CONTINUE t i k) S = none
+asInstruction then more (BREAK t i k n) S = none
+asInstruction then more (CONTINUE t i k n) S = none
 
 -- so many of them, the last first, before those that are taken already
 unfoldable takeInstructions : ℕ → Instructions → (Instructions → Step) → Step
@@ -136,8 +136,8 @@ closings a b c d e =
     ∷ takeBlock (λ s. pushes (statement (SCOPE true a s)))
     ∷ pushes (statement (RETURN a b))
     ∷ pushes (statement (THROW a b))
-    ∷ pushes (statement (BREAK a b (kindOf c)))
-    ∷ pushes (statement (CONTINUE a b (kindOf c)))
+    ∷ pushes (statement (BREAK a b (kindOf c) d))
+    ∷ pushes (statement (CONTINUE a b (kindOf c) d))
     ∷ []
 
 unfoldable close : Row → Step
@@ -358,10 +358,11 @@ mutual
       block-read b w (row 20 n 0 0 0 0 ∷ after) S ∙ closed (row 20 n 0 0 0 0) after (block b ∷ S) (statement (SCOPE false n b) ∷ S) refl
   statement-read (RETURN v i) w after S = closed (row 22 v i 0 0 0) after S (statement (RETURN v i) ∷ S) refl
   statement-read (THROW v i) w after S = closed (row 23 v i 0 0 0) after S (statement (THROW v i) ∷ S) refl
-  statement-read (BREAK t i k) w after S =
-      gives (row 24 t i (kindNumber k) 0 0) after S S (statement (BREAK t i (kindOf (kindNumber k)))) (statement (BREAK t i k)) refl (ap (λ (z : Kind). statement (BREAK t i z)) (kind-read k))
-  statement-read (CONTINUE t i k) w after S =
-      gives (row 25 t i (kindNumber k) 0 0) after S S (statement (CONTINUE t i (kindOf (kindNumber k)))) (statement (CONTINUE t i k)) refl (ap (λ (z : Kind). statement (CONTINUE t i z)) (kind-read k))
+  statement-read (BREAK t i k n) w after S =
+      gives (row 24 t i (kindNumber k) n 0) after S S (statement (BREAK t i (kindOf (kindNumber k)) n)) (statement (BREAK t i k n)) refl (ap (λ (z : Kind). statement (BREAK t i z n)) (kind-read k))
+  statement-read (CONTINUE t i k n) w after S =
+      gives (row 25 t i (kindNumber k) n 0) after S S (statement (CONTINUE t i (kindOf (kindNumber k)) n)) (statement (CONTINUE t i k n)) refl
+      (ap (λ (z : Kind). statement (CONTINUE t i z n)) (kind-read k))
 
   statements-read : (ss : Statements) → WellFormed ss → (after : List Row) (S : Stack) → read (statementsRows ss after) S ≡ read after (pushStatements ss S)
   statements-read done w after S = refl

@@ -1,13 +1,15 @@
 -- Over a plain table: a break or a continue that the stack resolves leads where its completion leads in the tree. For proofs/State and proofs/Structure.
 use mathlib.Core.Path.{_≡_, refl, sym, ap, _∙_, subst}
-use Prim.Native.Nat.{ℕ}
+use Prim.Native.Nat.{ℕ, zero, suc, _+_, _<_}
+use native.Mathlib.Omega.{arith}
 use mathlib.Core.List.{List, [], _∷_}
 use mathlib.Core.Option.{Option, some}
-use mathlib.Core.Bool.{Bool, true, false, _||_, not, cond}
+use mathlib.Core.Bool.{Bool, true, false, not, cond}
 use lib.Dec.{eqb, T}
 use borrow.Author.Tests.{eqb-true, eqb-false}
 use Rattle.table.specs.Table.{Table, while, terminalAt}
-use Rattle.definition.specs.Context.{Flags, has, target-if, target-loop, Entry, targetBlock, isLoop, continuesAt, breakKind, breakTargetFrom, Resolution, continueKind, continueTargetFrom}
+use Rattle.definition.specs.Context.{Flags, has, target-if, target-loop, Entry, targetBlock, isLoop, loopsOf, continuesAt, breakKind, breakTargetFrom}
+use Rattle.definition.specs.Context.{Resolution, continueKind, continueTargetFrom}
 use Rattle.definition.specs.Plain.{fallthroughOf}
 use Rattle.definition.specs.Completion.{break, continue}
 use Rattle.definition.specs.TreeRun.{jumpCompletion}
@@ -52,164 +54,170 @@ module _ (t : Table) where
   -- ---- break
 
   -- a break to a block that is no scope's fallthrough finds the label
-  break-at : {scopes : Flags} {F : List Frame} {S : List Entry} → Framed scopes F S → (g : ℕ) (top above : Bool) (c : Resolution) → has scopes g ≡ false
+  break-at : {scopes : Flags} {F : List Frame} {S : List Entry} → Framed scopes F S → (g : ℕ) (top : Bool) (above : ℕ) (c : Resolution) → has scopes g ≡ false
       → breakTargetFrom S g top above ≡ some c → breakAt F g ≡ some g
   unfolding breakTargetFrom
   break-at no-frame g top above c n e = absurd (none-some e)
   break-at {scopes} (label-framed {F} {S} i f p) g top above c n e =
-      found f g (eqb f g) (record { target = g; kind = breakKind false top above }) c (breakTargetFrom S g false (above || false)) (breakAt F g) refl e (λ h. break-at p g false (above || false) c n h)
+      found f g (eqb f g) (record { target = g; kind = breakKind false top above; loops = above }) c (breakTargetFrom S g false (0 + above)) (breakAt F g) refl
+      e (λ h. break-at p g false (0 + above) c n h)
   break-at {scopes} (scope-framed {F} {S} i f s p) g top above c n e =
-      passed f g (eqb f g) (record { target = g; kind = breakKind false top above }) c (breakTargetFrom S g false (above || false)) (breakAt F g) refl e
-      (λ h. true-false (sym s ∙ ap (has scopes) h ∙ n)) (λ h. break-at p g false (above || false) c n h)
+      passed f g (eqb f g) (record { target = g; kind = breakKind false top above; loops = above }) c (breakTargetFrom S g false (0 + above)) (breakAt F g) refl e
+      (λ h. true-false (sym s ∙ ap (has scopes) h ∙ n)) (λ h. break-at p g false (0 + above) c n h)
   break-at {scopes} (loop-framed {F} {S} i f x w l ll o s p) g top above c n e =
-      found f g (eqb f g) (record { target = g; kind = breakKind true top above }) c (breakTargetFrom S g false (above || true)) (breakAt F g) refl e (λ h. break-at p g false (above || true) c n h)
+      found f g (eqb f g) (record { target = g; kind = breakKind true top above; loops = above }) c (breakTargetFrom S g false (1 + above)) (breakAt F g) refl e
+      (λ h. break-at p g false (1 + above) c n h)
 
   apart : (k k′ : Kind) → T (not (eqb (kindNumber k) (kindNumber k′))) → k ≡ k′ → ⊥
   apart implicit k′ h e = subst (λ (z : Kind). T (not (eqb 0 (kindNumber z)))) (sym e) h
   apart labeled k′ h e = subst (λ (z : Kind). T (not (eqb 1 (kindNumber z)))) (sym e) h
   apart unlabeled k′ h e = subst (λ (z : Kind). T (not (eqb 2 (kindNumber z)))) (sym e) h
 
-  kind-above : (x top : Bool) → breakKind x top true ≡ unlabeled → ⊥
+  kind-above : (x top : Bool) (above : ℕ) → 0 < above → breakKind x top above ≡ unlabeled → ⊥
   unfolding breakKind
-  kind-above true top e = apart labeled unlabeled tt e
-  kind-above false true e = apart implicit unlabeled tt e
-  kind-above false false e = apart labeled unlabeled tt e
+  kind-above x top zero l e = omega (arith, l)
+  kind-above true top (suc n) l e = apart labeled unlabeled tt e
+  kind-above false true (suc n) l e = apart implicit unlabeled tt e
+  kind-above false false (suc n) l e = apart labeled unlabeled tt e
 
-  kind-other : (top above : Bool) → breakKind false top above ≡ unlabeled → ⊥
+  kind-other : (top : Bool) (above : ℕ) → breakKind false top above ≡ unlabeled → ⊥
   unfolding breakKind
   kind-other true above e = apart implicit unlabeled tt e
   kind-other false above e = apart labeled unlabeled tt e
 
-  kind-below : (x above : Bool) → breakKind x false above ≡ implicit → ⊥
+  kind-below : (x : Bool) (above : ℕ) → breakKind x false above ≡ implicit → ⊥
   unfolding breakKind
-  kind-below true true e = apart labeled implicit tt e
-  kind-below true false e = apart unlabeled implicit tt e
+  kind-below true (suc n) e = apart labeled implicit tt e
+  kind-below true zero e = apart unlabeled implicit tt e
   kind-below false above e = apart labeled implicit tt e
 
-  kind-loop : (top above : Bool) → breakKind true top above ≡ implicit → ⊥
+  kind-loop : (top : Bool) (above : ℕ) → breakKind true top above ≡ implicit → ⊥
   unfolding breakKind
-  kind-loop top true e = apart labeled implicit tt e
-  kind-loop top false e = apart unlabeled implicit tt e
+  kind-loop top (suc n) e = apart labeled implicit tt e
+  kind-loop top zero e = apart unlabeled implicit tt e
 
-  above-never : (S : List Entry) (g : ℕ) (top : Bool) (c : Resolution) → breakTargetFrom S g top true ≡ some c → c .kind ≡ unlabeled → ⊥
+  above-never : (S : List Entry) (g : ℕ) (top : Bool) (above : ℕ) (c : Resolution) → 0 < above → breakTargetFrom S g top above ≡ some c → c .kind ≡ unlabeled → ⊥
   unfolding breakTargetFrom
-  above-never [] g top c e k = none-some e
-  above-never (x ∷ S) g top c e k =
-      either (eqb (targetBlock (x .target)) g) (record { target = g; kind = breakKind (isLoop (x .target)) top true }) c (breakTargetFrom S g false true) ⊥ e
-      (λ h. kind-above (isLoop (x .target)) top (kind-of h ∙ k)) (λ h. above-never S g false c h k)
+  above-never [] g top above c l e k = none-some e
+  above-never (x ∷ S) g top above c l e k =
+      either (eqb (targetBlock (x .target)) g) (record { target = g; kind = breakKind (isLoop (x .target)) top above; loops = above }) c (breakTargetFrom S g false (loopsOf (x .target) + above)) ⊥ e
+      (λ h. kind-above (isLoop (x .target)) top above l (kind-of h ∙ k)) (λ h. above-never S g false (loopsOf (x .target) + above) c (omega (arith, l)) h k)
 
-  below-never : (S : List Entry) (g : ℕ) (above : Bool) (c : Resolution) → breakTargetFrom S g false above ≡ some c → c .kind ≡ implicit → ⊥
+  below-never : (S : List Entry) (g above : ℕ) (c : Resolution) → breakTargetFrom S g false above ≡ some c → c .kind ≡ implicit → ⊥
   unfolding breakTargetFrom
   below-never [] g above c e k = none-some e
   below-never (x ∷ S) g above c e k =
-      either (eqb (targetBlock (x .target)) g) (record { target = g; kind = breakKind (isLoop (x .target)) false above }) c (breakTargetFrom S g false (above || isLoop (x .target))) ⊥ e
-      (λ h. kind-below (isLoop (x .target)) above (kind-of h ∙ k)) (λ h. below-never S g (above || isLoop (x .target)) c h k)
+      either (eqb (targetBlock (x .target)) g) (record { target = g; kind = breakKind (isLoop (x .target)) false above; loops = above }) c (breakTargetFrom S g false (loopsOf (x .target) + above)) ⊥ e
+      (λ h. kind-below (isLoop (x .target)) above (kind-of h ∙ k)) (λ h. below-never S g (loopsOf (x .target) + above) c h k)
 
-  break-out : {scopes : Flags} {F : List Frame} {S : List Entry} → Framed scopes F S → (g : ℕ) (top : Bool) (c : Resolution) → breakTargetFrom S g top false ≡ some c
+  break-out : {scopes : Flags} {F : List Frame} {S : List Entry} → Framed scopes F S → (g : ℕ) (top : Bool) (c : Resolution) → breakTargetFrom S g top 0 ≡ some c
       → c .kind ≡ unlabeled → breakOut F ≡ some g
   unfolding breakTargetFrom
   break-out no-frame g top c e k = absurd (none-some e)
   break-out (label-framed {F} {S} i f p) g top c e k =
-      either (eqb f g) (record { target = g; kind = breakKind false top false }) c (breakTargetFrom S g false false) (breakOut F ≡ some g) e
-      (λ h. absurd (kind-other top false (kind-of h ∙ k))) (λ h. break-out p g false c h k)
+      either (eqb f g) (record { target = g; kind = breakKind false top 0; loops = 0 }) c (breakTargetFrom S g false 0) (breakOut F ≡ some g) e
+      (λ h. absurd (kind-other top 0 (kind-of h ∙ k))) (λ h. break-out p g false c h k)
   break-out (scope-framed {F} {S} i f s p) g top c e k =
-      either (eqb f g) (record { target = g; kind = breakKind false top false }) c (breakTargetFrom S g false false) (breakOut F ≡ some g) e
-      (λ h. absurd (kind-other top false (kind-of h ∙ k))) (λ h. break-out p g false c h k)
+      either (eqb f g) (record { target = g; kind = breakKind false top 0; loops = 0 }) c (breakTargetFrom S g false 0) (breakOut F ≡ some g) e
+      (λ h. absurd (kind-other top 0 (kind-of h ∙ k))) (λ h. break-out p g false c h k)
   break-out (loop-framed {F} {S} i f x w l ll o s p) g top c e k =
-      take f g (eqb f g) (record { target = g; kind = breakKind true top false }) c (breakTargetFrom S g false true) refl e (λ h. above-never S g false c h k)
+      take f g (eqb f g) (record { target = g; kind = breakKind true top 0; loops = 0 }) c (breakTargetFrom S g false 1) refl e (λ h. above-never S g false 1 c (omega arith) h k)
 
-  pub break-exit : {scopes : Flags} {F : List Frame} {S : List Entry} → Framed scopes F S → (g : ℕ) (top above : Bool) (c : Resolution) → breakTargetFrom S g top above ≡ some c
+  pub break-exit : {scopes : Flags} {F : List Frame} {S : List Entry} → Framed scopes F S → (g : ℕ) (top : Bool) (above : ℕ) (c : Resolution) → breakTargetFrom S g top above ≡ some c
       → c .kind ≡ implicit → exit F ≡ some g
   unfolding breakTargetFrom
   break-exit no-frame g top above c e k = absurd (none-some e)
   break-exit (label-framed {F} {S} i f p) g top above c e k =
-      take f g (eqb f g) (record { target = g; kind = breakKind false top above }) c (breakTargetFrom S g false (above || false)) refl e (λ h. below-never S g (above || false) c h k)
+      take f g (eqb f g) (record { target = g; kind = breakKind false top above; loops = above }) c (breakTargetFrom S g false (0 + above)) refl e (λ h. below-never S g (0 + above) c h k)
   break-exit (scope-framed {F} {S} i f s p) g top above c e k =
-      take f g (eqb f g) (record { target = g; kind = breakKind false top above }) c (breakTargetFrom S g false (above || false)) refl e (λ h. below-never S g (above || false) c h k)
+      take f g (eqb f g) (record { target = g; kind = breakKind false top above; loops = above }) c (breakTargetFrom S g false (0 + above)) refl e (λ h. below-never S g (0 + above) c h k)
   break-exit (loop-framed {F} {S} i f x w l ll o s p) g top above c e k =
-      either (eqb f g) (record { target = g; kind = breakKind true top above }) c (breakTargetFrom S g false (above || true)) (some x ≡ some g) e
-      (λ h. absurd (kind-loop top above (kind-of h ∙ k))) (λ h. absurd (below-never S g (above || true) c h k))
+      either (eqb f g) (record { target = g; kind = breakKind true top above; loops = above }) c (breakTargetFrom S g false (1 + above)) (some x ≡ some g) e
+      (λ h. absurd (kind-loop top above (kind-of h ∙ k))) (λ h. absurd (below-never S g (1 + above) c h k))
 
   -- a break resolves to the block it names
-  pub break-names : (S : List Entry) (g : ℕ) (top above : Bool) (c : Resolution) → breakTargetFrom S g top above ≡ some c → c .target ≡ g
+  pub break-names : (S : List Entry) (g : ℕ) (top : Bool) (above : ℕ) (c : Resolution) → breakTargetFrom S g top above ≡ some c → c .target ≡ g
   unfolding breakTargetFrom
   break-names [] g top above c e = absurd (none-some e)
   break-names (x ∷ S) g top above c e =
-      either (eqb (targetBlock (x .target)) g) (record { target = g; kind = breakKind (isLoop (x .target)) top above }) c (breakTargetFrom S g false (above || isLoop (x .target))) (c .target ≡ g) e
-      (λ h. sym (ap (λ (z : Resolution). z .target) h)) (λ h. break-names S g false (above || isLoop (x .target)) c h)
+      either (eqb (targetBlock (x .target)) g) (record { target = g; kind = breakKind (isLoop (x .target)) top above; loops = above }) c
+      (breakTargetFrom S g false (loopsOf (x .target) + above)) (c .target ≡ g) e
+      (λ h. sym (ap (λ (z : Resolution). z .target) h)) (λ h. break-names S g false (loopsOf (x .target) + above) c h)
 
   -- the break's row goes to its block
-  pub break-target : {scopes : Flags} {F : List Frame} {S : List Entry} → Framed scopes F S → (g : ℕ) (c : Resolution) → breakTargetFrom S g true false ≡ some c
+  pub break-target : {scopes : Flags} {F : List Frame} {S : List Entry} → Framed scopes F S → (g : ℕ) (c : Resolution) → breakTargetFrom S g true 0 ≡ some c
       → has scopes g ≡ false → (k : Kind) → c .kind ≡ k → target F (jumpCompletion k g break) ≡ some g
   unfolding jumpCompletion
-  break-target p g c e n implicit k = break-exit p g true false c e k
-  break-target p g c e n labeled k = break-at p g true false c n e
+  break-target p g c e n implicit k = break-exit p g true 0 c e k
+  break-target p g c e n labeled k = break-at p g true 0 c n e
   break-target p g c e n unlabeled k = break-out p g true c e k
 
   -- ---- continue
 
-  continue-above : (top : Bool) → continueKind top true ≡ labeled
+  continue-above : (top : Bool) (above : ℕ) → 0 < above → continueKind top above ≡ labeled
   unfolding continueKind
-  continue-above true = refl
-  continue-above false = refl
+  continue-above top zero l = absurd (omega (arith, l))
+  continue-above top (suc n) l = refl
 
-  continue-below : (above : Bool) → continueKind false above ≡ implicit → ⊥
+  continue-below : (above : ℕ) → continueKind false above ≡ implicit → ⊥
   unfolding continueKind
-  continue-below true e = apart labeled implicit tt e
-  continue-below false e = apart unlabeled implicit tt e
+  continue-below (suc n) e = apart labeled implicit tt e
+  continue-below zero e = apart unlabeled implicit tt e
 
-  continue-above-never : (S : List Entry) (g : ℕ) (top : Bool) (c : Resolution) → continueTargetFrom S g top true ≡ some c → c .kind ≡ labeled
+  continue-above-never : (S : List Entry) (g : ℕ) (top : Bool) (above : ℕ) (c : Resolution) → 0 < above → continueTargetFrom S g top above ≡ some c → c .kind ≡ labeled
   unfolding continueTargetFrom
-  continue-above-never [] g top c e = absurd (none-some e)
-  continue-above-never (x ∷ S) g top c e =
-      either (continuesAt (x .target) g) (record { target = targetBlock (x .target); kind = continueKind top true }) c (continueTargetFrom S g false true) (c .kind ≡ labeled) e
-      (λ h. sym (kind-of h) ∙ continue-above top) (λ h. continue-above-never S g false c h)
+  continue-above-never [] g top above c l e = absurd (none-some e)
+  continue-above-never (x ∷ S) g top above c l e =
+      either (continuesAt (x .target) g) (record { target = targetBlock (x .target); kind = continueKind top above; loops = above }) c
+      (continueTargetFrom S g false (loopsOf (x .target) + above)) (c .kind ≡ labeled) e
+      (λ h. sym (kind-of h) ∙ continue-above top above l) (λ h. continue-above-never S g false (loopsOf (x .target) + above) c (omega (arith, l)) h)
 
-  continue-below-never : (S : List Entry) (g : ℕ) (above : Bool) (c : Resolution) → continueTargetFrom S g false above ≡ some c → c .kind ≡ implicit → ⊥
+  continue-below-never : (S : List Entry) (g above : ℕ) (c : Resolution) → continueTargetFrom S g false above ≡ some c → c .kind ≡ implicit → ⊥
   unfolding continueTargetFrom
   continue-below-never [] g above c e k = none-some e
   continue-below-never (x ∷ S) g above c e k =
-      either (continuesAt (x .target) g) (record { target = targetBlock (x .target); kind = continueKind false above }) c
-      (continueTargetFrom S g false (above || isLoop (x .target))) ⊥ e
-      (λ h. continue-below above (kind-of h ∙ k)) (λ h. continue-below-never S g (above || isLoop (x .target)) c h k)
+      either (continuesAt (x .target) g) (record { target = targetBlock (x .target); kind = continueKind false above; loops = above }) c
+      (continueTargetFrom S g false (loopsOf (x .target) + above)) ⊥ e
+      (λ h. continue-below above (kind-of h ∙ k)) (λ h. continue-below-never S g (loopsOf (x .target) + above) c h k)
 
-  continue-out : {scopes : Flags} {F : List Frame} {S : List Entry} → Framed scopes F S → (g : ℕ) (top : Bool) (c : Resolution) → continueTargetFrom S g top false ≡ some c
+  continue-out : {scopes : Flags} {F : List Frame} {S : List Entry} → Framed scopes F S → (g : ℕ) (top : Bool) (c : Resolution) → continueTargetFrom S g top 0 ≡ some c
       → c .kind ≡ unlabeled → continueOut F ≡ some g
   unfolding continueTargetFrom
   continue-out no-frame g top c e k = absurd (none-some e)
   continue-out (label-framed {F} {S} i f p) g top c e k = continue-out p g false c e k
   continue-out (scope-framed {F} {S} i f s p) g top c e k = continue-out p g false c e k
   continue-out (loop-framed {F} {S} i f x w l ll o s p) g top c e k =
-      take x g (eqb x g) (record { target = f; kind = continueKind top false }) c (continueTargetFrom S g false true) refl e
-      (λ h. apart labeled unlabeled tt (sym (continue-above-never S g false c h) ∙ k))
+      take x g (eqb x g) (record { target = f; kind = continueKind top 0; loops = 0 }) c (continueTargetFrom S g false 1) refl e
+      (λ h. apart labeled unlabeled tt (sym (continue-above-never S g false 1 c (omega arith) h) ∙ k))
 
-  continue-exit : {scopes : Flags} {F : List Frame} {S : List Entry} → Framed scopes F S → (g : ℕ) (top above : Bool) (c : Resolution) → continueTargetFrom S g top above ≡ some c
+  continue-exit : {scopes : Flags} {F : List Frame} {S : List Entry} → Framed scopes F S → (g : ℕ) (top : Bool) (above : ℕ) (c : Resolution) → continueTargetFrom S g top above ≡ some c
       → c .kind ≡ implicit → exit F ≡ some g
   unfolding continueTargetFrom
   continue-exit no-frame g top above c e k = absurd (none-some e)
-  continue-exit (label-framed {F} {S} i f p) g top above c e k = absurd (continue-below-never S g (above || false) c e k)
-  continue-exit (scope-framed {F} {S} i f s p) g top above c e k = absurd (continue-below-never S g (above || false) c e k)
+  continue-exit (label-framed {F} {S} i f p) g top above c e k = absurd (continue-below-never S g (0 + above) c e k)
+  continue-exit (scope-framed {F} {S} i f s p) g top above c e k = absurd (continue-below-never S g (0 + above) c e k)
   continue-exit (loop-framed {F} {S} i f x w l ll o s p) g top above c e k =
-      take x g (eqb x g) (record { target = f; kind = continueKind top above }) c (continueTargetFrom S g false (above || true)) refl e
-      (λ h. continue-below-never S g (above || true) c h k)
+      take x g (eqb x g) (record { target = f; kind = continueKind top above; loops = above }) c (continueTargetFrom S g false (1 + above)) refl e
+      (λ h. continue-below-never S g (1 + above) c h k)
 
   -- the loop that was found is of a While with this test
   abbrev Of : ℕ → ℕ → Type 0
   Of g f = (w : ℕ) × (l : ℕ) × (terminalAt t w ≡ while g l f)
 
-  found-of : (x g f w l : ℕ) (k : Kind) (y : Bool) (c : Resolution) (q : Option Resolution) → eqb x g ≡ y → terminalAt t w ≡ while x l f
-      → elim y [ true ↦ some (record { target = f; kind = k }) | false ↦ q ] ≡ some c → (q ≡ some c → Of g (c .target)) → Of g (c .target)
-  found-of x g f w l k true c q h s e r =
+  found-of : (x g f w l : ℕ) (k : Kind) (n : ℕ) (y : Bool) (c : Resolution) (q : Option Resolution) → eqb x g ≡ y → terminalAt t w ≡ while x l f
+      → elim y [ true ↦ some (record { target = f; kind = k; loops = n }) | false ↦ q ] ≡ some c → (q ≡ some c → Of g (c .target)) → Of g (c .target)
+  found-of x g f w l k n true c q h s e r =
       (w, l, s ∙ ap (λ (z : ℕ). while z l f) (eqb-true x g h) ∙ ap (λ (z : Resolution). while g l (z .target)) (some-eq e))
-  found-of x g f w l k false c q h s e r = r e
+  found-of x g f w l k n false c q h s e r = r e
 
-  continue-of : {scopes : Flags} {F : List Frame} {S : List Entry} → Framed scopes F S → (g : ℕ) (top above : Bool) (c : Resolution) → continueTargetFrom S g top above ≡ some c → Of g (c .target)
+  continue-of : {scopes : Flags} {F : List Frame} {S : List Entry} → Framed scopes F S → (g : ℕ) (top : Bool) (above : ℕ) (c : Resolution)
+      → continueTargetFrom S g top above ≡ some c → Of g (c .target)
   unfolding continueTargetFrom
   continue-of no-frame g top above c e = absurd (none-some e)
-  continue-of (label-framed {F} {S} i f p) g top above c e = continue-of p g false (above || false) c e
-  continue-of (scope-framed {F} {S} i f s p) g top above c e = continue-of p g false (above || false) c e
+  continue-of (label-framed {F} {S} i f p) g top above c e = continue-of p g false (0 + above) c e
+  continue-of (scope-framed {F} {S} i f s p) g top above c e = continue-of p g false (0 + above) c e
   continue-of (loop-framed {F} {S} i f x w l ll o s p) g top above c e =
-      found-of x g f w l (continueKind top above) (eqb x g) c (continueTargetFrom S g false (above || true)) refl s e (λ h. continue-of p g false (above || true) c h)
+      found-of x g f w l (continueKind top above) above (eqb x g) c (continueTargetFrom S g false (1 + above)) refl s e (λ h. continue-of p g false (1 + above) c h)
 
   while-test : {x l f x′ l′ f′ : ℕ} → while x l f ≡ while x′ l′ f′ → x ≡ x′
   while-test e = cc
@@ -228,21 +236,21 @@ module _ (t : Table) where
         ap some (same-test w x l f′ w′ g l′ (s ∙ ap (λ (z : ℕ). while x l z) (eqb-true f f′ h)) s′)
     at-loop x g f f′ w l false r h s o k = k (eqb-false f f′ h)
 
-    continue-at : {scopes : Flags} {F : List Frame} {S : List Entry} → Framed scopes F S → (g : ℕ) (top above : Bool) (c : Resolution) → continueTargetFrom S g top above ≡ some c
+    continue-at : {scopes : Flags} {F : List Frame} {S : List Entry} → Framed scopes F S → (g : ℕ) (top : Bool) (above : ℕ) (c : Resolution) → continueTargetFrom S g top above ≡ some c
         → Of g (c .target) → continueAt F (c .target) ≡ some g
     unfolding continueTargetFrom
     continue-at no-frame g top above c e n = absurd (none-some e)
-    continue-at (label-framed {F} {S} i f p) g top above c e n = continue-at p g false (above || false) c e n
-    continue-at (scope-framed {F} {S} i f s p) g top above c e n = continue-at p g false (above || false) c e n
+    continue-at (label-framed {F} {S} i f p) g top above c e n = continue-at p g false (0 + above) c e n
+    continue-at (scope-framed {F} {S} i f s p) g top above c e n = continue-at p g false (0 + above) c e n
     continue-at (loop-framed {F} {S} i f x w l ll o s p) g top above c e n =
         at-loop x g f (c .target) w l (eqb f (c .target)) (continueAt F (c .target)) refl s n
-        (λ z. either (eqb x g) (record { target = f; kind = continueKind top above }) c (continueTargetFrom S g false (above || true)) (continueAt F (c .target) ≡ some g) e
-        (λ h. absurd (z (ap (λ (y : Resolution). y .target) h))) (λ h. continue-at p g false (above || true) c h n))
+        (λ z. either (eqb x g) (record { target = f; kind = continueKind top above; loops = above }) c (continueTargetFrom S g false (1 + above)) (continueAt F (c .target) ≡ some g) e
+        (λ h. absurd (z (ap (λ (y : Resolution). y .target) h))) (λ h. continue-at p g false (1 + above) c h n))
 
-    pub continue-target : {scopes : Flags} {F : List Frame} {S : List Entry} → Framed scopes F S → (g : ℕ) (f : ℕ) (k : Kind)
-        → continueTargetFrom S g true false ≡ some (record { target = f; kind = k }) → target F (jumpCompletion k f continue) ≡ some g
+    pub continue-target : {scopes : Flags} {F : List Frame} {S : List Entry} → Framed scopes F S → (g : ℕ) (f : ℕ) (k : Kind) (n : ℕ)
+        → continueTargetFrom S g true 0 ≡ some (record { target = f; kind = k; loops = n }) → target F (jumpCompletion k f continue) ≡ some g
     unfolding jumpCompletion
-    continue-target p g f implicit e = continue-exit p g true false (record { target = f; kind = implicit }) e refl
-    continue-target p g f labeled e =
-        continue-at p g true false (record { target = f; kind = labeled }) e (continue-of p g true false (record { target = f; kind = labeled }) e)
-    continue-target p g f unlabeled e = continue-out p g true (record { target = f; kind = unlabeled }) e refl
+    continue-target p g f implicit n e = continue-exit p g true 0 (record { target = f; kind = implicit; loops = n }) e refl
+    continue-target p g f labeled n e =
+        continue-at p g true 0 (record { target = f; kind = labeled; loops = n }) e (continue-of p g true 0 (record { target = f; kind = labeled; loops = n }) e)
+    continue-target p g f unlabeled n e = continue-out p g true (record { target = f; kind = unlabeled; loops = n }) e refl

@@ -70,8 +70,8 @@ mutual
   statement-append (SCOPE false s b) k l = block-append b (row 20 s 0 0 0 0 ∷ k) l
   statement-append (RETURN v i) k l = refl
   statement-append (THROW v i) k l = refl
-  statement-append (BREAK g i d) k l = refl
-  statement-append (CONTINUE g i d) k l = refl
+  statement-append (BREAK g i d n) k l = refl
+  statement-append (CONTINUE g i d n) k l = refl
 
   statements-append : (s : Statements) (k l : List Row) → statementsRows s (k ++ l) ≡ statementsRows s k ++ l
   statements-append done k l = refl

@@ -115,11 +115,11 @@ SCOPE scope = 20 ∷ scope ∷ 0 ∷ 0 ∷ 0 ∷ 0 ∷ []
 abbrev RETURN : (value id : ℕ) → List ℕ
 RETURN value id = 22 ∷ value ∷ id ∷ 0 ∷ 0 ∷ 0 ∷ []
 
-abbrev BREAK : (target id kind : ℕ) → List ℕ
-BREAK target id kind = 24 ∷ target ∷ id ∷ kind ∷ 0 ∷ 0 ∷ []
+abbrev BREAK : (target id kind loops : ℕ) → List ℕ
+BREAK target id kind loops = 24 ∷ target ∷ id ∷ kind ∷ loops ∷ 0 ∷ []
 
-abbrev CONTINUE : (target id kind : ℕ) → List ℕ
-CONTINUE target id kind = 25 ∷ target ∷ id ∷ kind ∷ 0 ∷ 0 ∷ []
+abbrev CONTINUE : (target id kind loops : ℕ) → List ℕ
+CONTINUE target id kind loops = 25 ∷ target ∷ id ∷ kind ∷ loops ∷ 0 ∷ []
 
 -- ---- the samples
 
@@ -144,8 +144,8 @@ samples =
     accepts file 12288 2 1 (RETURN 0 7 ++ BLOCK 1)
     ∷ accepts file 12 2 1 (RETURN 0 7 ++ BLOCK 1)
     ∷ refuses file 11 40 0 2 1
-    ∷ accepts W 36 6 4 (LOAD 0 ++ CONTINUE 3 3 0 ++ BLOCK 1 ++ WHILE 1 3 ++ RETURN 0 4 ++ BLOCK 2)
-    ∷ accepts W-break 45 6 4 (LOAD 0 ++ BREAK 3 3 2 ++ BLOCK 1 ++ WHILE 1 3 ++ RETURN 0 4 ++ BLOCK 2)
+    ∷ accepts W 36 6 4 (LOAD 0 ++ CONTINUE 3 3 0 0 ++ BLOCK 1 ++ WHILE 1 3 ++ RETURN 0 4 ++ BLOCK 2)
+    ∷ accepts W-break 45 6 4 (LOAD 0 ++ BREAK 3 3 2 0 ++ BLOCK 1 ++ WHILE 1 3 ++ RETURN 0 4 ++ BLOCK 2)
     ∷ refuses W-own-test 36 15 1 0 1
     ∷ refuses W-endless-test 36 30 1 0 128
     ∷ accepts scoped 27 4 3 (BLOCK 0 ++ SCOPE 5 ++ RETURN 0 4 ++ BLOCK 2)

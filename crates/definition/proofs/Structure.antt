@@ -328,57 +328,57 @@ module _ (t : Table) where
     pub data JumpOk (F : List Frame) (g : ℕ) (s : Option Statement) : Type 0 where
       goes-as : (e : Completion) → target F e ≡ some g → ((answers : Answers) → runStatements (followedBy s done) answers ≡ completed [] e answers) → JumpOk F g s
 
-    run-break : (g i : ℕ) (k : Kind) (answers : Answers) → runStatements (BREAK g i k ▸ done) answers ≡ completed [] (jumpCompletion k g break) answers
+    run-break : (g i : ℕ) (k : Kind) (n : ℕ) (answers : Answers) → runStatements (BREAK g i k n ▸ done) answers ≡ completed [] (jumpCompletion k g break) answers
     unfolding runStatements then thenOn prefix completed jumpCompletion
-    run-break g i implicit answers = refl
-    run-break g i labeled answers = refl
-    run-break g i unlabeled answers = refl
+    run-break g i implicit n answers = refl
+    run-break g i labeled n answers = refl
+    run-break g i unlabeled n answers = refl
 
     run-done : (g : ℕ) (answers : Answers) → runStatements done answers ≡ completed [] (jumpCompletion implicit g break) answers
     unfolding runStatements jumpCompletion
     run-done g answers = refl
 
     broke : {F : List Frame} {c : Context} (g i : ℕ) (r : Resolution) (s : Option Statement) (y : Bool) (x : Result (Option Statement)) → StateOk t F c
-        → breakTargetFrom (c .stack) g true false ≡ some r → r .target ≡ g → has (c .scopeFallthroughs) g ≡ y → elim y [ true ↦ x | false ↦ ok (some (BREAK g i (r .kind))) ] ≡ ok s
+        → breakTargetFrom (c .stack) g true 0 ≡ some r → r .target ≡ g → has (c .scopeFallthroughs) g ≡ y → elim y [ true ↦ x | false ↦ ok (some (BREAK g i (r .kind) (r .loops))) ] ≡ ok s
         → (x ≡ ok s → JumpOk F g s) → JumpOk F g s
     broke g i r s true x p e q n h z = z h
     broke {F} g i r s false x p e q n h z =
-        subst (λ (w : Option Statement). JumpOk F g w) (ok-eq h) (goes-as (jumpCompletion (r .kind) g break) (break-target t (p .framed) g r e n (r .kind) refl) (run-break g i (r .kind)))
+        subst (λ (w : Option Statement). JumpOk F g w) (ok-eq h) (goes-as (jumpCompletion (r .kind) g break) (break-target t (p .framed) g r e n (r .kind) refl) (run-break g i (r .kind) (r .loops)))
 
     -- to a scope: no row, as good as an Implicit one
-    to-scope : {F : List Frame} (c : Context) (b g : ℕ) (r : Resolution) (s : Option Statement) (k : Kind) → StateOk t F c → breakTargetFrom (c .stack) g true false ≡ some r → r .kind ≡ k
+    to-scope : {F : List Frame} (c : Context) (b g : ℕ) (r : Resolution) (s : Option Statement) (k : Kind) → StateOk t F c → breakTargetFrom (c .stack) g true 0 ≡ some r → r .kind ≡ k
         → breakToScope k b (c .visits) ≡ ok s → JumpOk F g s
     unfolding breakToScope jumpCompletion
     to-scope {F} c b g r s implicit p e k h =
-        subst (λ (w : Option Statement). JumpOk F g w) (ok-eq h) (goes-as (jumpCompletion implicit g break) (break-exit t (p .framed) g true false r e k) (run-done g))
+        subst (λ (w : Option Statement). JumpOk F g w) (ok-eq h) (goes-as (jumpCompletion implicit g break) (break-exit t (p .framed) g true 0 r e k) (run-done g))
     to-scope c b g r s labeled p e k h = absurd (refused-ok h)
     to-scope c b g r s unlabeled p e k h = absurd (refused-ok h)
 
-    break-ok : {F : List Frame} (c : Context) (b g i : ℕ) (r : Option Resolution) (s : Option Statement) → StateOk t F c → breakTargetFrom (c .stack) g true false ≡ r
+    break-ok : {F : List Frame} (c : Context) (b g i : ℕ) (r : Option Resolution) (s : Option Statement) → StateOk t F c → breakTargetFrom (c .stack) g true 0 ≡ r
         → breakResolved b g i c r ≡ ok s → JumpOk F g s
     unfolding breakResolved
     break-ok c b g i none s p e h = absurd (refused-ok h)
     break-ok c b g i (some r) s p e h =
-        let q : r .target ≡ g = break-names t (c .stack) g true false r e in
+        let q : r .target ≡ g = break-names t (c .stack) g true 0 r e in
         broke g i r s (has (c .scopeFallthroughs) g) (breakToScope (r .kind) b (c .visits)) p e q refl (named q h) (λ z. to-scope c b g r s (r .kind) p e refl z)
       where
-        named : {n : ℕ} → n ≡ g → elim (has (c .scopeFallthroughs) n) [ true ↦ breakToScope (r .kind) b (c .visits) | false ↦ ok (some (BREAK n i (r .kind))) ] ≡ ok s
-            → elim (has (c .scopeFallthroughs) g) [ true ↦ breakToScope (r .kind) b (c .visits) | false ↦ ok (some (BREAK g i (r .kind))) ] ≡ ok s
-        named z k = subst (λ (n : ℕ). elim (has (c .scopeFallthroughs) n) [ true ↦ breakToScope (r .kind) b (c .visits) | false ↦ ok (some (BREAK n i (r .kind))) ] ≡ ok s) z k
+        named : {n : ℕ} → n ≡ g → elim (has (c .scopeFallthroughs) n) [ true ↦ breakToScope (r .kind) b (c .visits) | false ↦ ok (some (BREAK n i (r .kind) (r .loops))) ] ≡ ok s
+            → elim (has (c .scopeFallthroughs) g) [ true ↦ breakToScope (r .kind) b (c .visits) | false ↦ ok (some (BREAK g i (r .kind) (r .loops))) ] ≡ ok s
+        named z k = subst (λ (n : ℕ). elim (has (c .scopeFallthroughs) n) [ true ↦ breakToScope (r .kind) b (c .visits) | false ↦ ok (some (BREAK n i (r .kind) (r .loops))) ] ≡ ok s) z k
 
-    run-continue : (f i : ℕ) (k : Kind) (answers : Answers) → runStatements (CONTINUE f i k ▸ done) answers ≡ completed [] (jumpCompletion k f continue) answers
+    run-continue : (f i : ℕ) (k : Kind) (n : ℕ) (answers : Answers) → runStatements (CONTINUE f i k n ▸ done) answers ≡ completed [] (jumpCompletion k f continue) answers
     unfolding runStatements then thenOn prefix completed jumpCompletion
-    run-continue f i implicit answers = refl
-    run-continue f i labeled answers = refl
-    run-continue f i unlabeled answers = refl
+    run-continue f i implicit n answers = refl
+    run-continue f i labeled n answers = refl
+    run-continue f i unlabeled n answers = refl
 
-    continue-ok : {F : List Frame} (c : Context) (g i : ℕ) (k : Option Resolution) (s : Statement) → StateOk t F c → continueTargetFrom (c .stack) g true false ≡ k
+    continue-ok : {F : List Frame} (c : Context) (g i : ℕ) (k : Option Resolution) (s : Statement) → StateOk t F c → continueTargetFrom (c .stack) g true 0 ≡ k
         → continueResolved g i c k ≡ ok s → JumpOk F g (some s)
     unfolding continueResolved
     continue-ok c g i none s p e h = absurd (refused-ok h)
     continue-ok {F} c g i (some k) s p e h =
         subst (λ (z : Statement). JumpOk F g (some z)) (ok-eq h)
-        (goes-as (jumpCompletion (k .kind) (k .target) continue) (continue-target t pl (p .framed) g (k .target) (k .kind) e) (run-continue (k .target) i (k .kind)))
+        (goes-as (jumpCompletion (k .kind) (k .target) continue) (continue-target t pl (p .framed) g (k .target) (k .kind) (k .loops) e) (run-continue (k .target) i (k .kind) (k .loops)))
 
     jump-built : {F : List Frame} (b g : ℕ) (v : Variant) (s : Option Statement) → terminalAt t b ≡ goto g v → JumpOk F g s
         → Built t F b (instructionStatements t (instructionRowsAt t b) (followedBy s done))
@@ -388,13 +388,13 @@ module _ (t : Table) where
         → visitGoto v b g i c ≡ ok s → StepOk F b (c .stack) s
     unfolding visitGoto visitBreak visitContinue getBreakTarget getContinueTarget
     jump-ok {F} {c₀} {c} b g i Break s p e h =
-        let (o, h₁, k₁) = bind-ok (breakResolved b g i c (breakTargetFrom (c .stack) g true false)) _ s h in
+        let (o, h₁, k₁) = bind-ok (breakResolved b g i c (breakTargetFrom (c .stack) g true 0)) _ s h in
         subst (λ (z : TerminalResult). StepOk F b (c .stack) z) (ok-eq k₁)
-        (ends-here refl (jump-built b g Break o e (break-ok c b g i (breakTargetFrom (c .stack) g true false) o (p .state) refl h₁)) (record { state = p .state; same = refl }))
+        (ends-here refl (jump-built b g Break o e (break-ok c b g i (breakTargetFrom (c .stack) g true 0) o (p .state) refl h₁)) (record { state = p .state; same = refl }))
     jump-ok {F} {c₀} {c} b g i Continue s p e h =
-        let (o, h₁, k₁) = bind-ok (continueResolved g i c (continueTargetFrom (c .stack) g true false)) _ s h in
+        let (o, h₁, k₁) = bind-ok (continueResolved g i c (continueTargetFrom (c .stack) g true 0)) _ s h in
         subst (λ (z : TerminalResult). StepOk F b (c .stack) z) (ok-eq k₁)
-        (ends-here refl (jump-built b g Continue (some o) e (continue-ok c g i (continueTargetFrom (c .stack) g true false) o (p .state) refl h₁)) (record { state = p .state; same = refl }))
+        (ends-here refl (jump-built b g Continue (some o) e (continue-ok c g i (continueTargetFrom (c .stack) g true 0) o (p .state) refl h₁)) (record { state = p .state; same = refl }))
     jump-ok b g i Try s p e h = absurd (pl .no-goto-try b g e)
 
     -- ---- every end

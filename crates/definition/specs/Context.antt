@@ -1,5 +1,5 @@
 -- The Rust's `ControlFlowTarget` and `Context`, with the count of visits.
-use Prim.Native.Nat.{ℕ, suc}
+use Prim.Native.Nat.{ℕ, zero, suc, _+_}
 use mathlib.Core.List.{List, [], _∷_}
 use mathlib.Core.Option.{Option, none, some}
 use mathlib.Core.Bool.{Bool, true, false, not, _||_}
@@ -46,6 +46,13 @@ isLoop (target-switch block) = false
 isLoop (target-case block) = false
 isLoop (target-loop block continueBlock loopBlock) = true
 
+-- an entry counted as a loop, or not
+abbrev pub loopsOf : ControlFlowTarget → ℕ
+loopsOf (target-if block) = 0
+loopsOf (target-switch block) = 0
+loopsOf (target-case block) = 0
+loopsOf (target-loop block continueBlock loopBlock) = 1
+
 abbrev pub continuesAt : ControlFlowTarget → ℕ → Bool
 continuesAt (target-if block) wanted = false
 continuesAt (target-switch block) wanted = false
@@ -57,6 +64,11 @@ pub record Entry : Type 0 where
   pub id : ℕ
   pub target : ControlFlowTarget
   pub ownsLoop : Bool
+
+-- the loops among some entries
+abbrev pub loopsOn : List Entry → ℕ
+loopsOn [] = 0
+loopsOn (entry ∷ below) = loopsOf (entry .target) + loopsOn below
 
 -- the stack's top comes first
 pub record Context : Type 0 where
@@ -160,44 +172,45 @@ unschedule id cx = unscheduleTop (cx .stack) id cx
 
 -- ---- get_break_target, get_continue_target
 
--- what a jump resolves to: the block that its row names, and its kind
+-- what a jump resolves to: the block that its row names, its kind, and (M-107) "the number of loops on the control stack above the one it found"
 pub record Resolution : Type 0 where
   pub target : ℕ
   pub kind : Kind
+  pub loops : ℕ
 
 -- "A loop gives Unlabeled, or Labeled if a loop lies above. Another entry gives Implicit at the top, else Labeled."
-unfoldable pub breakKind : (loop top loopAbove : Bool) → Kind
-breakKind true top true = labeled
-breakKind true top false = unlabeled
-breakKind false true loopAbove = implicit
-breakKind false false loopAbove = labeled
+unfoldable pub breakKind : (loop top : Bool) → (loopsAbove : ℕ) → Kind
+breakKind true top zero = unlabeled
+breakKind true top (suc loopsAbove) = labeled
+breakKind false true loopsAbove = implicit
+breakKind false false loopsAbove = labeled
 
 -- "A break resolves on the innermost stack entry whose block is the target."
-unfoldable pub breakTargetFrom : List Entry → (block : ℕ) → (top loopAbove : Bool) → Option Resolution
-breakTargetFrom [] block top loopAbove = none
-breakTargetFrom (entry ∷ below) block top loopAbove =
+unfoldable pub breakTargetFrom : List Entry → (block : ℕ) → (top : Bool) → (loopsAbove : ℕ) → Option Resolution
+breakTargetFrom [] block top loopsAbove = none
+breakTargetFrom (entry ∷ below) block top loopsAbove =
     elim (eqb (targetBlock (entry .target)) block) [
-      | true ↦ some (record { target = block; kind = breakKind (isLoop (entry .target)) top loopAbove })
-      | false ↦ breakTargetFrom below block false (loopAbove || isLoop (entry .target))
+      | true ↦ some (record { target = block; kind = breakKind (isLoop (entry .target)) top loopsAbove; loops = loopsAbove })
+      | false ↦ breakTargetFrom below block false (loopsOf (entry .target) + loopsAbove)
     ]
 
 unfoldable pub getBreakTarget : Context → (block : ℕ) → Option Resolution
-getBreakTarget cx block = breakTargetFrom (cx .stack) block true false
+getBreakTarget cx block = breakTargetFrom (cx .stack) block true 0
 
 -- "Labeled if a loop lies above, else Implicit at the top, else Unlabeled."
-unfoldable pub continueKind : (top loopAbove : Bool) → Kind
-continueKind top true = labeled
-continueKind true false = implicit
-continueKind false false = unlabeled
+unfoldable pub continueKind : (top : Bool) → (loopsAbove : ℕ) → Kind
+continueKind top (suc loopsAbove) = labeled
+continueKind true zero = implicit
+continueKind false zero = unlabeled
 
 -- "A continue resolves on the loop with that continue block … Its target is the loop's fallthrough." (The innermost, of several.)
-unfoldable pub continueTargetFrom : List Entry → (block : ℕ) → (top loopAbove : Bool) → Option Resolution
-continueTargetFrom [] block top loopAbove = none
-continueTargetFrom (entry ∷ below) block top loopAbove =
+unfoldable pub continueTargetFrom : List Entry → (block : ℕ) → (top : Bool) → (loopsAbove : ℕ) → Option Resolution
+continueTargetFrom [] block top loopsAbove = none
+continueTargetFrom (entry ∷ below) block top loopsAbove =
     elim (continuesAt (entry .target) block) [
-      | true ↦ some (record { target = targetBlock (entry .target); kind = continueKind top loopAbove })
-      | false ↦ continueTargetFrom below block false (loopAbove || isLoop (entry .target))
+      | true ↦ some (record { target = targetBlock (entry .target); kind = continueKind top loopsAbove; loops = loopsAbove })
+      | false ↦ continueTargetFrom below block false (loopsOf (entry .target) + loopsAbove)
     ]
 
 unfoldable pub getContinueTarget : Context → (block : ℕ) → Option Resolution
-getContinueTarget cx block = continueTargetFrom (cx .stack) block true false
+getContinueTarget cx block = continueTargetFrom (cx .stack) block true 0

@@ -1,13 +1,14 @@
 -- The tree that rows are read as. Rows write 65,535 for no label and nothing for an absent alternate, so that the tree has to be well-formed:
 -- then its rows are the rows of no other such tree (proofs/Readings).
 use mathlib.Core.Path.{_≡_}
-use Prim.Native.Nat.{ℕ, _<_, _*_}
-use mathlib.Core.List.{List}
+use Prim.Native.Nat.{ℕ, _≤_, _<_, _*_}
+use mathlib.Core.List.{List, [], _∷_}
 use mathlib.Core.Option.{Option, none, some}
-use mathlib.Core.Bool.{Bool, true, false}
+use mathlib.Core.Bool.{Bool, true, false, _||_}
+use lib.Dec.{eqb}
 use lib.ListN.{length, take}
 use Rattle.table.specs.Words.{largest}
-use Rattle.definition.specs.Tree.{Statement, INSTR, IF, SWITCH, DOWHILE, WHILE, FOR, FOROF, FORIN, LABEL, TRY, SCOPE, RETURN, THROW, BREAK, CONTINUE, Statements, done, _▸_, Cases, no-cases, CASE, Row, rows}
+use Rattle.definition.specs.Tree.{Statement, INSTR, IF, SWITCH, DOWHILE, WHILE, FOR, FOROF, FORIN, LABEL, TRY, SCOPE, RETURN, THROW, BREAK, CONTINUE, Statements, done, _▸_, Cases, no-cases, CASE, Row, row, rows}
 use Rattle.definition.specs.Build.{Outcome, wordsOf}
 
 -- "Label 65,535 is none", so that no label is 65,535; and no binding
@@ -36,8 +37,8 @@ unfoldable mutual
   WellFormedStatement (SCOPE pruned scope body) = WellFormed body
   WellFormedStatement (RETURN value id) = Unit {0}
   WellFormedStatement (THROW value id) = Unit {0}
-  WellFormedStatement (BREAK target id kind) = Unit {0}
-  WellFormedStatement (CONTINUE target id kind) = Unit {0}
+  WellFormedStatement (BREAK target id kind loops) = loops ≤ 128
+  WellFormedStatement (CONTINUE target id kind loops) = loops ≤ 128
 
   pub WellFormed : Statements → Type 0
   WellFormed done = Unit {0}
@@ -46,6 +47,14 @@ unfoldable mutual
   pub WellFormedCases : Cases → Type 0
   WellFormedCases no-cases = Unit {0}
   WellFormedCases (CASE test body rest) = WellFormed body × WellFormedCases rest
+
+-- M-107: a BREAK's and a CONTINUE's row has at most 128 in d
+abbrev pub JumpWithin : Row → Type 0
+JumpWithin (row op a b c d e) = elim (eqb op 24 || eqb op 25) [ true ↦ d ≤ 128 | false ↦ Unit {0} ]
+
+abbrev pub JumpsWithin : List Row → Type 0
+JumpsWithin [] = Unit {0}
+JumpsWithin (first ∷ rest) = JumpWithin first × JumpsWithin rest
 
 -- rows that are read as this tree
 pub record ReadAs (list : List Row) (root : Statements) : Type 0 where

@@ -77,7 +77,7 @@ breakResolved at block id cx none = refused 20 block (cx .visits)
 breakResolved at block id cx (some found) =
     elim (has (cx .scopeFallthroughs) (found .target)) [
       | true ↦ breakToScope (found .kind) at (cx .visits)
-      | false ↦ ok (some (BREAK (found .target) id (found .kind)))
+      | false ↦ ok (some (BREAK (found .target) id (found .kind) (found .loops)))
     ]
 
 unfoldable pub visitBreak : (at block id : ℕ) → Context → Result (Option Statement)
@@ -86,7 +86,7 @@ visitBreak at block id cx = breakResolved at block id cx (getBreakTarget cx bloc
 -- "21 no continue target (named)"
 unfoldable pub continueResolved : (block id : ℕ) → Context → Option Resolution → Result Statement
 continueResolved block id cx none = refused 21 block (cx .visits)
-continueResolved block id cx (some found) = ok (CONTINUE (found .target) id (found .kind))
+continueResolved block id cx (some found) = ok (CONTINUE (found .target) id (found .kind) (found .loops))
 
 unfoldable pub visitContinue : (block id : ℕ) → Context → Result Statement
 visitContinue block id cx = continueResolved block id cx (getContinueTarget cx block)

@@ -27,7 +27,7 @@ mutual
     instruction : (id lvalue : ℕ) (span : Span) → (value : Value) → (rest : Instructions) → Instructions
 
 -- "statements 4, 10 and 12 to 25". A BLOCK is a list of statements; SWITCH has its cases last first, as the rows have them.
--- An IF with no alternate has `present` false and an empty alternate. SCOPE is PRUNED where its flag says so
+-- A BREAK or CONTINUE has in `loops` the loops that it leaves before its target (M-107). An IF with no alternate has `present` false and an empty alternate. SCOPE is PRUNED where its flag says so
 mutual
   pub data Statement : Type 0 where
     INSTR : (id lvalue : ℕ) (span : Span) → (value : Value) → Statement
@@ -43,8 +43,8 @@ mutual
     SCOPE : (pruned : Bool) → (scope : ℕ) → (body : Statements) → Statement
     RETURN : (value id : ℕ) → Statement
     THROW : (value id : ℕ) → Statement
-    BREAK : (target id : ℕ) → (kind : Kind) → Statement
-    CONTINUE : (target id : ℕ) → (kind : Kind) → Statement
+    BREAK : (target id : ℕ) → (kind : Kind) → (loops : ℕ) → Statement
+    CONTINUE : (target id : ℕ) → (kind : Kind) → (loops : ℕ) → Statement
 
   pub data Statements : Type 0 where
     done : Statements
@@ -141,8 +141,8 @@ abbrev mutual
   statementRows (SCOPE false scope body) after = blockRows body (row 20 scope 0 0 0 0 ∷ after)
   statementRows (RETURN value id) after = row 22 value id 0 0 0 ∷ after
   statementRows (THROW value id) after = row 23 value id 0 0 0 ∷ after
-  statementRows (BREAK target id kind) after = row 24 target id (kindNumber kind) 0 0 ∷ after
-  statementRows (CONTINUE target id kind) after = row 25 target id (kindNumber kind) 0 0 ∷ after
+  statementRows (BREAK target id kind loops) after = row 24 target id (kindNumber kind) loops 0 ∷ after
+  statementRows (CONTINUE target id kind loops) after = row 25 target id (kindNumber kind) loops 0 ∷ after
 
   pub statementsRows : Statements → List Row → List Row
   statementsRows done after = after

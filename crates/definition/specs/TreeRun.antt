@@ -92,8 +92,8 @@ unfoldable mutual
   runStatement (SCOPE pruned scope body) answers = runStatements body answers
   runStatement (RETURN value id) answers = completed [] (stop (returned value id)) answers
   runStatement (THROW value id) answers = completed [] (stop (threw value id)) answers
-  runStatement (BREAK target id kind) answers = completed [] (jumpCompletion kind target break) answers
-  runStatement (CONTINUE target id kind) answers = completed [] (jumpCompletion kind target continue) answers
+  runStatement (BREAK target id kind loops) answers = completed [] (jumpCompletion kind target break) answers
+  runStatement (CONTINUE target id kind loops) answers = completed [] (jumpCompletion kind target continue) answers
   runStatement (SWITCH test id label cases) answers = completed [] (stop not-plain) answers
   runStatement (DOWHILE id label body test) answers = completed [] (stop not-plain) answers
   runStatement (FOR id label init test update body) answers = completed [] (stop not-plain) answers

@@ -34,7 +34,7 @@ scoped-break : (at id : ℕ) (O : Flags) (v : ℕ) (found : Resolution) (block :
     → breakOutcome at block id (Found found) C ≡ breakToScope (kindOf (found .kind)) at (C .visits)
 unfolding breakResolved has
 scoped-break at id O v found block C h s =
-    ap (λ (y : Bool). elim y [ true ↦ breakToScope (kindOf (found .kind)) at (C .visits) | false ↦ ok (some (BREAK (foundBlock found) id (kindOf (found .kind)))) ]) (ap (λ (l : Flags). getD l (foundBlock found) false) (s .scopeFallthroughs) ∙ h)
+    ap (λ (y : Bool). elim y [ true ↦ breakToScope (kindOf (found .kind)) at (C .visits) | false ↦ ok (some (BREAK (foundBlock found) id (kindOf (found .kind)) (found .loops))) ]) (ap (λ (l : Flags). getD l (foundBlock found) false) (s .scopeFallthroughs) ∙ h)
 
 pub break-scope : (at id : ℕ) (O : Flags) (v n : ℕ) (found : Resolution) (b : List ℕ) (r : Jumped) → getD O (foundBlock found) false ≡ true → kindNumber (kindOf (found .kind)) ≡ 0
     → r ≡ record { code = 0; at = 0; rows = n; count = 0 } → (block : ℕ) → JumpMet (breakOutcome at block id (Found found)) O v n b r b
@@ -57,13 +57,13 @@ break-out at id O v n found b r h k e block = subst (λ (z : Jumped). JumpMet (b
     loud unlabeled w q = unfold breakToScope in refl
 
 pub break-row : (at id : ℕ) (O : Flags) (v n n′ : ℕ) (found : Resolution) (op target number : ℕ) (b b′ : List ℕ) (r : Jumped) → getD O (foundBlock found) false ≡ false
-    → op ≡ 24 → target ≡ foundBlock found → number ≡ kindNumber (kindOf (found .kind)) → Written b n (row op target id number 0 0) b′ n′
+    → op ≡ 24 → target ≡ foundBlock found → number ≡ kindNumber (kindOf (found .kind)) → Written b n (row op target id number (found .loops) 0) b′ n′
     → r ≡ record { code = 0; at = 0; rows = n′; count = 1 } → (block : ℕ) → JumpMet (breakOutcome at block id (Found found)) O v n b r b′
 unfolding breakResolved has statementOut
 break-row at id O v n n′ found op target number b b′ r h o t k w e block = subst (λ (z : Jumped). JumpMet (breakOutcome at block id (Found found)) O v n b z b′) (sym e) (record {
-  statement = some (BREAK (foundBlock found) id (kindOf (found .kind)));
-  same = λ C s. ap (λ (y : Bool). elim y [ true ↦ breakToScope (kindOf (found .kind)) at (C .visits) | false ↦ ok (some (BREAK (foundBlock found) id (kindOf (found .kind)))) ]) (ap (λ (l : Flags). getD l (foundBlock found) false) (s .scopeFallthroughs) ∙ h);
-  held = λ _. row-held b b′ n n′ (row 24 (foundBlock found) id (kindNumber (kindOf (found .kind))) 0 0) (rw (o, t, k) at w);
+  statement = some (BREAK (foundBlock found) id (kindOf (found .kind)) (found .loops));
+  same = λ C s. ap (λ (y : Bool). elim y [ true ↦ breakToScope (kindOf (found .kind)) at (C .visits) | false ↦ ok (some (BREAK (foundBlock found) id (kindOf (found .kind)) (found .loops))) ]) (ap (λ (l : Flags). getD l (foundBlock found) false) (s .scopeFallthroughs) ∙ h);
+  held = λ _. row-held b b′ n n′ (row 24 (foundBlock found) id (kindNumber (kindOf (found .kind))) (found .loops) 0) (rw (o, t, k) at w);
   count = λ _. refl;
   most = omega (arith, w .count);
 })
@@ -74,13 +74,13 @@ continue-none block id n b r e v O = subst (λ (z : Jumped). JumpMet (continueOu
     (record { statement = none; same = λ C s. ap (λ (k : ℕ). refused 21 block k) (s .visits); held = λ z. absurd (omega (arith, z)); count = λ z. absurd (omega (arith, z)); most = omega arith })
 
 pub continue-row : (id n n′ : ℕ) (found : Resolution) (op target number : ℕ) (b b′ : List ℕ) (r : Jumped)
-    → op ≡ 25 → target ≡ foundBlock found → number ≡ kindNumber (kindOf (found .kind)) → Written b n (row op target id number 0 0) b′ n′
+    → op ≡ 25 → target ≡ foundBlock found → number ≡ kindNumber (kindOf (found .kind)) → Written b n (row op target id number (found .loops) 0) b′ n′
     → r ≡ record { code = 0; at = 0; rows = n′; count = 1 } → (block v : ℕ) (O : Flags) → JumpMet (continueOutcome block id (Found found)) O v n b r b′
 unfolding continueResolved _>>=_ statementOut
 continue-row id n n′ found op target number b b′ r o t k w e block v O = subst (λ (z : Jumped). JumpMet (continueOutcome block id (Found found)) O v n b z b′) (sym e) (record {
-  statement = some (CONTINUE (foundBlock found) id (kindOf (found .kind)));
+  statement = some (CONTINUE (foundBlock found) id (kindOf (found .kind)) (found .loops));
   same = λ C s. refl;
-  held = λ _. row-held b b′ n n′ (row 25 (foundBlock found) id (kindNumber (kindOf (found .kind))) 0 0) (rw (o, t, k) at w);
+  held = λ _. row-held b b′ n n′ (row 25 (foundBlock found) id (kindNumber (kindOf (found .kind))) (found .loops) 0) (rw (o, t, k) at w);
   count = λ _. refl;
   most = omega (arith, w .count);
 })

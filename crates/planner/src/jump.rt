@@ -46,6 +46,7 @@ fn break_to_found(
     let target = found.block();
     let kind = found.kind;
     let number = kind.number();
+    let loops = found.loops;
     let place = target as usize;
     if scopes[place] {
         if number == 0 {
@@ -58,7 +59,7 @@ fn break_to_found(
         }
         return refuse_jump(22, p.block, p.rows);
     }
-    let after = put(tree, p.rows, BREAK, target as u32, id, number, 0, 0);
+    let after = put(tree, p.rows, BREAK, target as u32, id, number, loops, 0);
     Jumped {
         code: 0,
         at: 0,
@@ -92,7 +93,8 @@ fn continue_to_found(tree: &mut [u32], rows: u32, id: u32, found: Resolution) ->
     let target = found.block();
     let kind = found.kind;
     let number = kind.number();
-    let after = put(tree, rows, CONTINUE, target as u32, id, number, 0, 0);
+    let loops = found.loops;
+    let after = put(tree, rows, CONTINUE, target as u32, id, number, loops, 0);
     Jumped {
         code: 0,
         at: 0,

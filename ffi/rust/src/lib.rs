@@ -1,8 +1,12 @@
 //! `build_reactive_function`, proved, from Rust.
 
+#[cfg(feature = "dot")]
+pub mod dot;
+
 use std::ffi::c_uint;
 
-/// Words in a row of the tree: op, a, b, c, d, e.
+/// Words in a row of the tree: op, a, b, c, d, e. In a BREAK (24) and a CONTINUE (25) d is the number of
+/// loops that the jump leaves before its target, at most 128.
 pub const ROW_WORDS: usize = 6;
 
 /// Words in a row of a table: first, count, code, a, b, c, d, e, id, from, to of a block.

@@ -1,16 +1,20 @@
 //! The seams for the proved libraries. With the feature `candidate` the comparison and the vectors
 //! run the build, with `candidate-check` the comparison runs the check, on every table, and hold
-//! their answers against the reference or the model.
+//! their answers against the reference or the model; with `candidate-dot` its own comparison runs the
+//! drawing.
 //!
-//! The archives `libbuild.a` and `libtable.a` are looked for in the folder that the variable
-//! CANDIDATE_DIR names. The build is called through the safe wrapper of ffi/rust.
+//! The archives `libbuild.a`, `libtable.a` and `libdot.a` are looked for in the folder that the
+//! variable CANDIDATE_DIR names. Build and drawing are called through the safe wrappers of ffi/rust.
 
 use crate::model::Outcome;
+use crate::model::dot::Drawn;
 
 pub type Candidate = fn(&[u32], &mut [u32]) -> Outcome;
 
 /// Code and place.
 pub type CandidateCheck = fn(&[u32]) -> (u32, u32);
+
+pub type CandidateDot = fn(&[u32], &mut [u8]) -> Drawn;
 
 #[cfg(not(feature = "candidate"))]
 pub const CANDIDATE: Option<Candidate> = None;
@@ -40,4 +44,16 @@ fn check(words: &[u32]) -> (u32, u32) {
     // SAFETY: the words are valid for their length, and `at` is apart from them.
     let code = unsafe { table_check(words.as_ptr(), words.len(), &mut at) };
     (code, at)
+}
+
+#[cfg(not(feature = "candidate-dot"))]
+pub const CANDIDATE_DOT: Option<CandidateDot> = None;
+
+#[cfg(feature = "candidate-dot")]
+pub const CANDIDATE_DOT: Option<CandidateDot> = Some(draw);
+
+#[cfg(feature = "candidate-dot")]
+fn draw(words: &[u32], text: &mut [u8]) -> Drawn {
+    let reactive_build::dot::Drawn { code, at, length } = reactive_build::dot::draw(words, text);
+    Drawn { code, at, length }
 }

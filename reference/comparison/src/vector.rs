@@ -20,7 +20,7 @@ impl Vector {
     pub fn answer(words: Vec<u32>, lent: impl Fn(usize) -> usize) -> Self {
         let (outcome, mut rows) = match check(&words) {
             Ok(table) => {
-                let (walked, _) = reference::walk(&table);
+                let (walked, _) = reference::walk_counted(&table);
                 let needed = ROW_WORDS * walked.result.as_ref().map_or(0, Vec::len);
                 let mut rows = vec![0; lent(needed)];
                 (model::finish(&walked, &mut rows), rows)

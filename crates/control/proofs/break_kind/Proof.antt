@@ -1,4 +1,5 @@
 use Rattle.definition.specs.Context.{breakKind}
+use Rattle.control.proofs.SearchLaws.{break-labeled}
 use Rattle.control.proofs.break_kind.Statement.{statement}
 use Rattle.control.proofs.break_kind.Tie as tie
 
@@ -7,8 +8,7 @@ unfolding breakKind
 returns c = rw (c .before .if1 .taken, c .if2 .taken)
 
 returns-2 : tie.Need-returns-2
-unfolding breakKind
-returns-2 c = rw (c .before .if1 .taken, c .if2 .left)
+returns-2 c = rw (c .before .if1 .taken, break-labeled _ _ (c .if2 .left))
 
 returns-3 : tie.Need-returns-3
 unfolding breakKind

@@ -31,9 +31,6 @@ loop-less c = omega arith
 loop-again : tie.Need-loop-again Inv-loop μ-loop
 loop-again c = tt
 
-left-requires : tie.Need-left-requires Inv-loop μ-loop
-left-requires c κs = search needs
-
 print-counts-requires : tie.Need-print-counts-requires Inv-loop μ-loop
 print-counts-requires c κs = search needs
 
@@ -53,6 +50,5 @@ replay-all-spec =
     add-i
     loop-less
     loop-again
-    left-requires
     print-counts-requires
     returns)

@@ -94,7 +94,7 @@ fn compare(seed: u64, number: u64, coverage: &mut Coverage) {
     }
     let expected = match checked {
         Ok(table) => {
-            let (walked, seen) = reference::walk(&table);
+            let (walked, seen) = reference::walk_counted(&table);
             coverage.walk(&words, &seen);
             if let Ok(rows) = &walked.result
                 && is_plain(&table)

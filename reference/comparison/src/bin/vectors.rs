@@ -8,7 +8,7 @@ use std::process::ExitCode;
 use std::slice;
 
 use comparison::candidate::{CANDIDATE, Candidate};
-use comparison::generate::{corners, limits, words};
+use comparison::generate::{corners, limits, samples, words};
 use comparison::model;
 use comparison::reference;
 use comparison::select::choose;
@@ -43,8 +43,9 @@ fn main() -> ExitCode {
     if good { ExitCode::SUCCESS } else { ExitCode::FAILURE }
 }
 
-/// The corners by hand, those at the limits, the word lists, and tables chosen for what they show.
+/// The samples, the corners by hand, those at the limits, the word lists, and tables chosen for what they show.
 fn make() -> Vec<Vector> {
+    let samples = samples::samples().into_iter().map(|(words, lent)| Vector::answer(words, |_| lent));
     let chosen = choose();
     let corners = corners::corners().into_iter().map(|(_, words)| words);
     let limits = (0..limits::COUNT).map(limits::limit);
@@ -62,7 +63,7 @@ fn make() -> Vec<Vector> {
             _ => needed,
         })
     });
-    vectors.filter(|vector| to_bytes(slice::from_ref(vector)).len() < MOST_BYTES).collect()
+    samples.chain(vectors).filter(|vector| to_bytes(slice::from_ref(vector)).len() < MOST_BYTES).collect()
 }
 
 fn replay(file: &str) -> bool {

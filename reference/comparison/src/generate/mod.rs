@@ -3,11 +3,13 @@
 pub mod corners;
 pub mod draft;
 pub mod files;
+pub mod graphs;
 pub mod limits;
 pub mod long;
 pub mod mutate;
 pub mod plain;
 pub mod program;
+pub mod samples;
 pub mod shared;
 pub mod small;
 pub mod words;

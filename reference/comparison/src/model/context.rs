@@ -119,20 +119,23 @@ impl Context {
         }
     }
 
-    /// The kind of a break to this block, or nothing if no entry has it. The innermost counts.
-    pub fn break_kind(&self, block: u32) -> Option<u32> {
+    /// The kind of a break to this block and the loops above its entry, or nothing if no entry has
+    /// it. The innermost counts.
+    pub fn break_kind(&self, block: u32) -> Option<(u32, u32)> {
         let found = self.stack.iter().rposition(|target| target.block() == block)?;
         let above = &self.stack[found + 1..];
-        Some(match self.stack[found] {
+        let kind = match self.stack[found] {
             Target::Loop { .. } if above.iter().any(|target| target.is_loop()) => LABELED,
             Target::Loop { .. } => UNLABELED,
             Target::Plain { .. } if above.is_empty() => IMPLICIT,
             Target::Plain { .. } => LABELED,
-        })
+        };
+        Some((kind, loops(above)))
     }
 
-    /// The end of the innermost loop with this continue block, and the kind of a continue to it.
-    pub fn continue_target(&self, block: u32) -> Option<(u32, u32)> {
+    /// The end of the innermost loop with this continue block, the kind of a continue to it and the
+    /// loops above it.
+    pub fn continue_target(&self, block: u32) -> Option<(u32, u32, u32)> {
         let found = self.stack.iter().rposition(|target| target.continues_at(block))?;
         let above = &self.stack[found + 1..];
         let kind = if above.iter().any(|target| target.is_loop()) {
@@ -142,6 +145,10 @@ impl Context {
         } else {
             UNLABELED
         };
-        Some((self.stack[found].block(), kind))
+        Some((self.stack[found].block(), kind, loops(above)))
     }
+}
+
+fn loops(entries: &[Target]) -> u32 {
+    entries.iter().filter(|target| target.is_loop()).count() as u32
 }

@@ -288,7 +288,7 @@ impl Walk<'_> {
 
     /// The number of statements that a break gives: none if it ends a scope.
     fn visit_break(&mut self, block: &Block, target: u32) -> Result<u32, Refusal> {
-        let Some(kind) = self.context.break_kind(target) else {
+        let Some((kind, loops)) = self.context.break_kind(target) else {
             return Err(Refusal { code: 20, at: target });
         };
         if self.context.is_scope_fallthrough(target) {
@@ -297,15 +297,15 @@ impl Walk<'_> {
             }
             return Ok(0);
         }
-        self.row([24, target, block.id, kind, 0, 0]);
+        self.row([24, target, block.id, kind, loops, 0]);
         Ok(1)
     }
 
     fn visit_continue(&mut self, block: &Block, target: u32) -> Result<u32, Refusal> {
-        let Some((end, kind)) = self.context.continue_target(target) else {
+        let Some((end, kind, loops)) = self.context.continue_target(target) else {
             return Err(Refusal { code: 21, at: target });
         };
-        self.row([25, end, block.id, kind, 0, 0]);
+        self.row([25, end, block.id, kind, loops, 0]);
         Ok(1)
     }
 }

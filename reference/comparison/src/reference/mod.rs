@@ -15,7 +15,11 @@ use oxc_react_compiler::react_compiler_reactive_scopes::build_reactive_function:
 use walk_observer::{Bounds, Seen, Stop};
 
 use crate::model::table::Table;
-use crate::model::{MAX_DEPTH, MAX_VISITS, Refusal, Walked};
+use crate::model::{self, MAX_DEPTH, MAX_VISITS, Refusal, Row, Walked};
+
+const BREAK: u32 = 24;
+const CONTINUE: u32 = 25;
+const LABELED: u32 = 1;
 
 /// A walk recurses some kilobytes for each of its 128 levels, and so does the tree that it gives.
 pub const STACK_BYTES: usize = 256 << 20;
@@ -43,6 +47,26 @@ pub fn on_large_stack<T: Send>(work: impl FnOnce() -> T + Send) -> T {
 /// The rows or the refusal, the visits and the greatest depth; and the blocks visited.
 pub fn walk(table: &Table) -> (Walked, Seen) {
     walk_within(table, Bounds { depth: MAX_DEPTH as usize, visits: MAX_VISITS })
+}
+
+/// The same, and in d of the jumps' rows how many loops each leaves (M-107). The Rust does not count
+/// them: the number is the model's, held to the Rust's kind. All else is the Rust's.
+pub fn walk_counted(table: &Table) -> (Walked, Seen) {
+    let (mut walked, seen) = walk(table);
+    if let (Ok(rows), Ok(counted)) = (&mut walked.result, model::walk(table).result) {
+        for (row, counted) in rows.iter_mut().zip(counted) {
+            if matches!(row[0], BREAK | CONTINUE) && row[0] == counted[0] {
+                row[4] = if fits_kind(row, counted[4]) { counted[4] } else { u32::MAX };
+            }
+        }
+    }
+    (walked, seen)
+}
+
+/// A continue is Labeled exactly when it leaves a loop, a break only if Labeled leaves any.
+fn fits_kind(row: &Row, loops: u32) -> bool {
+    let labeled = row[3] == LABELED;
+    if row[0] == CONTINUE { labeled == (loops > 0) } else { labeled || loops == 0 }
 }
 
 /// The same with other bounds than paper 01's. The Rust has none.

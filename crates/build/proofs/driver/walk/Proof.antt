@@ -30,11 +30,11 @@ record Inv (words buffer₀ buffer : List ℕ) (cx : Context) (frames : List Fra
   long : length buffer ≡ length buffer₀
 
 abbrev Inv-loop2 : tie.InvT-loop2
-Inv-loop2 words tree cx frames p frame jump at₀ top₀ has-preceding-loop₀ at top has-preceding-loop =
-    Searching jump cx at top has-preceding-loop
+Inv-loop2 words tree cx frames p frame jump at₀ top₀ loops₀ at top loops =
+    Searching jump cx at top loops
 
 abbrev μ-loop2 : tie.MeasureT-loop2
-μ-loop2 words tree cx frames p frame jump at₀ top₀ has-preceding-loop₀ at top has-preceding-loop =
+μ-loop2 words tree cx frames p frame jump at₀ top₀ loops₀ at top loops =
     at
 
 abbrev Inv-loop : tie.InvT-loop
@@ -110,8 +110,13 @@ meets-requires c κs = tt
 resolve-requires : tie.Need-resolve-requires Inv-loop2 μ-loop2 Inv-loop μ-loop
 resolve-requires c κs = tt
 
-or-loop-requires : tie.Need-or-loop-requires Inv-loop2 μ-loop2 Inv-loop μ-loop
-or-loop-requires c κs = tt
+count-loop-requires : tie.Need-count-loop-requires Inv-loop2 μ-loop2 Inv-loop μ-loop
+count-loop-requires c κs =
+    let else1 : tie.Else1 Inv-loop2 μ-loop2 Inv-loop μ-loop = search in
+    let at-loop2 : tie.At-loop2 Inv-loop2 μ-loop2 Inv-loop μ-loop = search in
+    let at-frame : tie.After-frame Inv-loop2 μ-loop2 Inv-loop μ-loop = search in
+    let at-loop : tie.At-loop Inv-loop2 μ-loop2 Inv-loop μ-loop = search in
+    omega (arith, else1 .if1 .left, at-loop2 .loop2 .inv .within, at-loop .loop .inv .walking .whole .bounded .most)
 
 loop2-less : tie.Need-loop2-less Inv-loop2 μ-loop2 Inv-loop μ-loop
 loop2-less c = search needs
@@ -122,7 +127,7 @@ loop2-again c =
     let at-meets : tie.After-meets Inv-loop2 μ-loop2 Inv-loop μ-loop = search in
     let else1 : tie.Else1 Inv-loop2 μ-loop2 Inv-loop μ-loop = search in
     let at-loop2 : tie.At-loop2 Inv-loop2 μ-loop2 Inv-loop μ-loop = search in
-    rw (c .or-loop .ensures) (search-on _ _ _ _ _ (at-loop2 .loop2 .inv) (else1 .if1 .left) (sym (at-meets .meets .ensures) ∙ else2 .if2 .left))
+    search-on _ _ _ _ _ (at-loop2 .loop2 .inv) (else1 .if1 .left) (sym (at-meets .meets .ensures) ∙ else2 .if2 .left) (c .count-loop .ensures)
 
 -- where the search has ended
 module _ (c : tie.Joined1 Inv-loop2 μ-loop2 Inv-loop μ-loop) where
@@ -495,7 +500,7 @@ walk-spec =
     element-copy-out-entry
     meets-requires
     resolve-requires
-    or-loop-requires
+    count-loop-requires
     loop2-less
     loop2-again
     plan-turn-requires

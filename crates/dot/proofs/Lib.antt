@@ -1,0 +1,3 @@
+pub mod DotLaws
+pub mod DrawnLaws
+pub mod Samples

@@ -1,0 +1,3 @@
+pub mod DrawingLaws
+pub mod FileLaws
+pub mod OneText
