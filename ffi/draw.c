@@ -4,7 +4,7 @@
 #include <inttypes.h>
 #include <stdio.h>
 
-enum { BLOCK_WORDS = 10 };
+enum { BLOCK_WORDS = 11 };
 
 static const struct {
     uint32_t head[6];

@@ -13,6 +13,31 @@ extern "C" {
  * jump leaves before its target, at most 128. */
 #define REACTIVE_BUILD_ROW_WORDS 6
 
+/* Rows of a table: first, count, code, a, b, c, d, e, id, from, to of a block; id, lvalue, code, p, q, from, to of an instruction. */
+#define REACTIVE_BUILD_BLOCK_WORDS 11
+#define REACTIVE_BUILD_INSTRUCTION_WORDS 7
+
+/* A span: where it begins and ends in the source. 0 and 0 is none. */
+typedef struct {
+    uint32_t from, to;
+} reactive_span;
+
+/* The span of a row of the tree: UNDEF's, INSTR's, FOROF's, FORIN's; none of any other row. */
+static inline reactive_span reactive_row_span(const uint32_t *row) {
+    reactive_span span = {0, 0};
+    switch (row[0]) {
+    case 3:
+        span.from = row[1], span.to = row[2];
+        break;
+    case 4:
+    case 16:
+    case 17:
+        span.from = row[3], span.to = row[4];
+        break;
+    }
+    return span;
+}
+
 /* Builds the tree of a table of blocks.
  *
  * words, word_count    the table, of any content and length

@@ -17,7 +17,7 @@ fn proved(words: &[u32], text: &mut [u8]) -> (u32, usize) {
 const BLOCKS: usize = 1024;
 const CASES: usize = 1024;
 // Words of a block's row.
-const BLOCK: usize = 10;
+const BLOCK: usize = 11;
 
 // What a plain engineer would write, given a table whose blocks are all Switches: a number by its digits, pushed one by one.
 fn push_number(text: &mut Vec<u8>, n: u32) {
@@ -36,7 +36,7 @@ fn push_line(text: &mut Vec<u8>, from: u32, to: u32) {
 }
 
 fn lines(words: &[u32], mut line: impl FnMut(u32, u32)) {
-    let cases = 6 + words[1] as usize * BLOCK + words[2] as usize * 6;
+    let cases = 6 + words[1] as usize * BLOCK + words[2] as usize * 7;
     for row in 0..words[1] {
         let at = 6 + row as usize * BLOCK;
         let (first, count, fallthrough) = (words[at + 4], words[at + 5], words[at + 6]);

@@ -15,6 +15,8 @@ fn proved(words: &[u32]) -> (u32, u32) {
 }
 
 const NONE: u32 = 65535;
+const BLOCK_WORDS: usize = 11;
+const INSTRUCTION_WORDS: usize = 7;
 const LIMITS: [u32; 5] = [1024, 4096, 1024, 4096, 4096];
 
 // What a plain engineer would write: refusals 1 to 4 of paper 01.
@@ -29,7 +31,7 @@ fn plain(words: &[u32]) -> (u32, u32) {
         }
     }
     let [entry, blocks, instructions, cases, places, identifiers] = [words[0], words[1], words[2], words[3], words[4], words[5]];
-    let begin = [6, blocks * 10, instructions * 6, cases * 2, places, identifiers];
+    let begin = [6, blocks * BLOCK_WORDS as u32, instructions * INSTRUCTION_WORDS as u32, cases * 2, places, identifiers];
     if words.len() as u64 != begin.iter().map(|n| *n as u64).sum::<u64>() {
         return (1, 0);
     }
@@ -39,13 +41,13 @@ fn plain(words: &[u32]) -> (u32, u32) {
     let mut at = 6usize;
     let place = |w: u32| w < places;
     let block = |w: u32| w < blocks;
-    for row in words[at..at + blocks as usize * 10].chunks_exact(10) {
+    for row in words[at..at + blocks as usize * BLOCK_WORDS].chunks_exact(BLOCK_WORDS) {
         if let Some(column) = bad_block(row, blocks, instructions, cases, places) {
             return (4, (at + column) as u32);
         }
-        at += 10;
+        at += BLOCK_WORDS;
     }
-    for row in words[at..at + instructions as usize * 6].chunks_exact(6) {
+    for row in words[at..at + instructions as usize * INSTRUCTION_WORDS].chunks_exact(INSTRUCTION_WORDS) {
         if row[0] > 65535 {
             return (4, at as u32);
         }
@@ -67,7 +69,10 @@ fn plain(words: &[u32]) -> (u32, u32) {
         if row[5] > 65535 {
             return (4, at as u32 + 5);
         }
-        at += 6;
+        if row[6] < row[5] || row[6] > 65535 {
+            return (4, at as u32 + 6);
+        }
+        at += INSTRUCTION_WORDS;
     }
     for row in words[at..at + cases as usize * 2].chunks_exact(2) {
         if row[0] != NONE && !place(row[0]) {
@@ -134,6 +139,9 @@ fn bad_block(row: &[u32], blocks: u32, instructions: u32, cases: u32, places: u3
     if row[9] > 65535 {
         return Some(9);
     }
+    if row[10] < row[9] || row[10] > 65535 {
+        return Some(10);
+    }
     None
 }
 
@@ -177,18 +185,20 @@ fn largest(n: &mut Numbers) -> Vec<u32> {
             _ => [blocks[0], blocks[1], n.below(65536), 0, 0],
         };
         if code == 0 {
-            words.extend([0; 10]);
+            words.extend([0; BLOCK_WORDS]);
         } else {
             words.extend([first, n.below(96), code]);
             words.extend(row);
-            words.extend([n.below(65536), n.below(65536)]);
+            let from = n.below(65536);
+            words.extend([n.below(65536), from, from + n.below(65536 - from)]);
         }
     }
     for _ in 0..4096 {
         let code = n.below(3);
         let p = if code == 0 { 0 } else { n.below(4096) };
         let q = if code == 2 { n.below(4096) } else { 0 };
-        words.extend([n.below(65536), n.below(4096), code, p, q, n.below(65536)]);
+        let from = n.below(65536);
+        words.extend([n.below(65536), n.below(4096), code, p, q, from, from + n.below(65536 - from)]);
     }
     for _ in 0..1024 {
         let test = if n.below(4) == 0 { NONE } else { n.below(4096) };

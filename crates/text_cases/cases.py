@@ -5,9 +5,9 @@ What is expected is worked out here from paper 01 alone, line by line and by reg
 if its whole lines are good and its last one begins a good line. The place is the longest start that can be continued."""
 import os, re, shutil
 
-NAMES = ["entry blocks instructions cases places identifiers", "first count code a b c d e id span", "id lvalue code p q span",
+NAMES = ["entry blocks instructions cases places identifiers", "first count code a b c d e id from to", "id lvalue code p q from to",
          "test block", "identifier", "named"]
-WIDTHS = [6, 10, 6, 2, 1, 1]
+WIDTHS = [len(names.split()) for names in NAMES]
 NUMBER = re.compile(r"(0|[1-9][0-9]{0,9})$")
 
 
@@ -82,10 +82,10 @@ def table_file(head, tables):
     return out
 
 
-SAMPLE = table_file([0, 1, 0, 0, 1, 1], [[[0, 0, 3, 0, 0, 0, 0, 0, 7, 0]], [], [], [[0]], [[1]]])
-WHILE = table_file([0, 4, 0, 0, 1, 1], [[[0, 0, 9, 1, 2, 3, 0, 0, 1, 0], [0, 0, 6, 0, 2, 3, 0, 0, 2, 0], [0, 0, 4, 1, 1, 0, 0, 0, 3, 0],
-                                         [0, 0, 3, 0, 0, 0, 0, 0, 4, 0]], [], [], [[0]], [[1]]])
-ALL = table_file([0, 1, 2, 3, 1, 2], [[[0, 2, 7, 0, 0, 3, 0, 0, 9, 65535]], [[1, 0, 2, 0, 0, 0], [2, 0, 1, 0, 0, 5]], [[0, 0], [1, 0], [65535, 0]],
+SAMPLE = table_file([0, 1, 0, 0, 1, 1], [[[0, 0, 3, 0, 0, 0, 0, 0, 7, 0, 0]], [], [], [[0]], [[1]]])
+WHILE = table_file([0, 4, 0, 0, 1, 1], [[[0, 0, 9, 1, 2, 3, 0, 0, 1, 0, 0], [0, 0, 6, 0, 2, 3, 0, 0, 2, 0, 9], [0, 0, 4, 1, 1, 0, 0, 0, 3, 5, 6],
+                                         [0, 0, 3, 0, 0, 0, 0, 0, 4, 0, 0]], [], [], [[0]], [[1]]])
+ALL = table_file([0, 1, 2, 3, 1, 2], [[[0, 2, 7, 0, 0, 3, 0, 0, 9, 65535, 65535]], [[1, 0, 2, 0, 0, 0, 0], [2, 0, 1, 0, 0, 5, 8]], [[0, 0], [1, 0], [65535, 0]],
                                       [[0]], [[1], [0]]])
 EMPTY = table_file([0, 0, 0, 0, 0, 0], [[], [], [], [], []])
 HEAD = NAMES[0] + "\n"
@@ -114,12 +114,12 @@ CASES = [
     SAMPLE.replace("0 1 0 0 1 1", "4294967300 1 0 0 1 1"), SAMPLE.replace("0 1 0 0 1 1", "42949672950 1 0 0 1 1"), SAMPLE.replace("0 1 0 0 1 1", "999999999999 1 0 0 1 1"),
     SAMPLE.replace("0 1 0 0 1 1", "0x1 1 0 0 1 1"), SAMPLE.replace("named\n1", "named\n4294967296"), SAMPLE.replace("named\n1", "named\n1a"),
     # columns: one too few, one too many
-    SAMPLE.replace("0 1 0 0 1 1", "0 1 0 0 1"), SAMPLE.replace("0 1 0 0 1 1", "0 1 0 0 1 1 0"), SAMPLE.replace("0 0 7 0\n", "0 0 7\n"),
+    SAMPLE.replace("0 1 0 0 1 1", "0 1 0 0 1"), SAMPLE.replace("0 1 0 0 1 1", "0 1 0 0 1 1 0"), SAMPLE.replace("0 0 7 0 0\n", "0 0 7 0\n"), SAMPLE.replace("0 0 7 0 0\n", "0 0 7 0 0 0\n"),
     # counts: a row too few, a row too many, over the limits
     SAMPLE.replace("0 1 0 0 1 1", "0 2 0 0 1 1"), SAMPLE.replace("0 1 0 0 1 1", "0 0 0 0 1 1"), SAMPLE.replace("0 1 0 0 1 1", "0 1 0 0 1 0"),
     SAMPLE.replace("0 1 0 0 1 1", "0 1 0 0 1 4294967295"), SAMPLE.replace("0 1 0 0 1 1", "0 1025 0 0 1 1"),
     # names
-    SAMPLE.replace("first", "First"), SAMPLE.replace("test block", "block test"), SAMPLE.replace("named", "names"), "\0\x01\xff\xfe",
+    SAMPLE.replace("first", "First"), SAMPLE.replace("test block", "block test"), SAMPLE.replace("named", "names"), SAMPLE.replace("from to", "span").replace("7 0 0", "7 0"), "\0\x01\xff\xfe",
     # length: the most, one more, far more, and as long but not in the form
     padded(32768), padded(32768) + "\n", "x" * 40000, padded(32768)[:-1] + "x",
 ]
@@ -137,7 +137,7 @@ def main():
             f.write(data)
         code, at, words = answer(data, 16384)
         out += lines_of(code, at, len(words), 0, words[:24])
-    for room in (17, 18):
+    for room in (18, 19):
         code, at, words = answer(SAMPLE.encode(), room)
         out += lines_of(code, at, len(words), 0, words[:24])
     out += lines_of(0, 2**32 - 1, 0, 2**32 - 1, [2**32 - 1, 0, 10, 99, 100, 10**9])

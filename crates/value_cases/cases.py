@@ -8,11 +8,12 @@ begins with a value (its entry ends in a value terminal or a loop) is compared w
 has the cases by hand only.
 
 A case is a run of numbers: the number of words and the words; what is asked: op (0 visit_value_block, 1 visit_value_block_terminal, 2 the
-first and value_block_result_to_sequence), block, fallthrough, span, levels, visits, words lent; the answer: code, at, block, place, id, rows,
+first and value_block_result_to_sequence), block, fallthrough, from, to, levels, visits, words lent; the answer: code, at, block, place, id, rows,
 visits; how many words of the buffer are compared, and these words."""
 import sys
 
 NONE = 65535
+BLOCK, INSTRUCTION = 11, 7     # words of a row; the last two are the ends of its span, which the walk hands on as one pair
 
 class Refused(Exception):
     pass
@@ -26,7 +27,7 @@ class Walk:
             at[0] += rows * width
             return got
         self.words, self.entry = words, entry
-        self.blocks, self.instructions, self.cases = table(nb, 10), table(ni, 6), table(nc, 2)
+        self.blocks, self.instructions, self.cases = table(nb, BLOCK), table(ni, INSTRUCTION), table(nc, 2)
         self.places, self.named = [r[0] for r in table(np, 1)], [r[0] for r in table(nn, 1)]
 
     def refuse(self, code, at):
@@ -35,7 +36,7 @@ class Walk:
     # values are nested tuples; an instruction is (id, lvalue, span, value)
     def own(self, b):
         first, count = self.blocks[b][:2]
-        return [(self.instructions[i][0], self.instructions[i][1], self.instructions[i][5], ("PLAIN", i)) for i in range(first, first + count)]
+        return [(self.instructions[i][0], self.instructions[i][1], tuple(self.instructions[i][5:]), ("PLAIN", i)) for i in range(first, first + count)]
 
     def wrap(self, instructions, id, value):
         return ("SEQ", instructions, id, value) if instructions else value
@@ -43,7 +44,7 @@ class Walk:
     def extract(self, b, ends_in):
         first, count = self.blocks[b][:2]
         last = first + count - 1
-        id, lvalue, code, p, q, span = self.instructions[last]
+        id, lvalue, code, p, q = self.instructions[last][:5]
         if code == 2 and self.named[self.places[p]] == 0:
             value, place = ("LOAD", q), p
         else:
@@ -83,14 +84,15 @@ class Walk:
         return block, place, value, id
 
     def terminal(self, at, levels):
-        _, _, code, a, b, c, _, _, id, span = self.blocks[at]
+        _, _, code, a, b, c, _, _, id = self.blocks[at][:9]
+        span = tuple(self.blocks[at][9:])
         if code == 17:
             _, place, value, _ = self.visit(a, b, span, levels)
             return value, place, b, id
         if code in (13, 14, 15):
             test, fallthrough = (a, b) if code == 14 else (b, c)
             block, place, value, test_id = self.test(test, span, levels, at)
-            consequent, alternate, branch_span = self.blocks[block][4], self.blocks[block][5], self.blocks[block][9]
+            consequent, alternate, branch_span = self.blocks[block][4], self.blocks[block][5], tuple(self.blocks[block][9:])
             _, way_place, way, way_id = self.visit(consequent, fallthrough, span, levels)
             if code == 15:
                 return ("OPTIONAL", a, ("SEQ", [(test_id, place, branch_span, value)], way_id, way)), way_place, fallthrough, id
@@ -119,7 +121,7 @@ def rows(value):
     if op == "LOAD":
         return row(2, value[1])
     if op == "UNDEF":
-        return row(3, value[1])
+        return row(3, *value[1])
     if op == "SEQ":
         return [r for i in value[1] for r in instruction(i)] + rows(value[3]) + row(5, len(value[1]), value[2])
     if op == "LOGICAL":
@@ -129,7 +131,7 @@ def rows(value):
     return rows(value[2]) + row(8, value[1])
 
 def instruction(i):
-    return rows(i[3]) + [[4, i[0], i[1], i[2], 0, 0]]
+    return rows(i[3]) + [[4, i[0], i[1], *i[2], 0]]
 
 def run(words, op, block, fallthrough, span, levels, visits):
     """code, at, block, place, id, visits, rows"""
@@ -147,13 +149,13 @@ def run(words, op, block, fallthrough, span, levels, visits):
 
 cases = []
 
-def case(words, op, block, fallthrough=NONE, span=0, levels=128, visits=0, spare=0):
+def case(words, op, block, fallthrough=NONE, span=(0, 0), levels=128, visits=0, spare=0):
     code, at, ends, place, id, seen, out = run(words, op, block, fallthrough, span, levels, visits)
     lent = min(len(out) * 6 + spare, 600)
     lent = max(lent, 0)
     compared = [x for r in out[:lent // 6] for x in r]
     n = len(out) if code == 0 else 0
-    cases.append([len(words)] + words + [op, block, fallthrough, span, levels, visits, lent, code, at, ends, place, id, n, seen, len(compared)] + compared)
+    cases.append([len(words)] + words + [op, block, fallthrough, *span, levels, visits, lent, code, at, ends, place, id, n, seen, len(compared)] + compared)
     return code, at, n, seen, out
 
 # ---- tables from the vectors: the first value that the build makes, at depth 2 with one visit begun
@@ -170,7 +172,7 @@ def compare(line):
     if asked is None or code == 15 or (end == 9 and code == 10 and at == entry[5]):
         return 0
     op, block = asked
-    got = case(words, op, block, NONE, entry[9], 127, 1, spare=len(cases) % 9)
+    got = case(words, op, block, NONE, tuple(entry[9:]), 127, 1, spare=len(cases) % 9)
     if got[0] != 0:
         assert (code, at, n, visits) == (got[0], got[1], 0, got[3]), (line, got)
     elif code == 0:
@@ -179,19 +181,23 @@ def compare(line):
         assert out[:len(before + value)] == before + value, (line, got)
     return 1
 
-# ---- corners, by hand: blocks as (instructions, code, columns.., id, span); instructions as (id, lvalue, code, p, q, span)
+# ---- corners, by hand: blocks as (instructions, code, columns.., id, span); instructions as (id, lvalue, code, p, q, from, to)
+
+def ends(span):
+    """A span by hand is told by where it begins: 0 is none, 7 begins at 0, others are 40 long."""
+    return (0, 0) if span == 0 else (0, 7) if span == 7 else (span, span + 40)
 
 def table(blocks, places, named):
     instructions, rows_ = [], []
     for own, code, columns, id, span in blocks:
-        rows_ += [len(instructions), len(own), code] + columns + [0] * (5 - len(columns)) + [id, span] if code else [0] * 10
+        rows_ += [len(instructions), len(own), code] + columns + [0] * (5 - len(columns)) + [id, *ends(span)] if code else [0] * BLOCK
         instructions += own
     return [0, len(blocks), len(instructions), 0, len(places), len(named)] + rows_ + [x for i in instructions for x in i] + places + named
 
 PLACES, NAMED = [0, 1, 2, 0, 1], [1, 0, 0]      # places 0 and 3 have identifier 0, which is named; 1 and 4 identifier 1, 2 identifier 2
-plain = lambda id, lvalue, span=0: (id, lvalue, 0, 0, 0, span)
-load = lambda id, lvalue, p, span=0: (id, lvalue, 1, p, 0, span)
-store = lambda id, lvalue, p, q, span=0: (id, lvalue, 2, p, q, span)
+plain = lambda id, lvalue, span=0: (id, lvalue, 0, 0, 0, *ends(span))
+load = lambda id, lvalue, p, span=0: (id, lvalue, 1, p, 0, *ends(span))
+store = lambda id, lvalue, p, q, span=0: (id, lvalue, 2, p, q, *ends(span))
 goto = lambda own, id=1, span=0: (own, 4, [0, 0], id, span)
 branch = lambda own, test, yes, no, id=2, span=0: (own, 6, [test, yes, no], id, span)
 
@@ -200,19 +206,19 @@ def corners():
     for op in (0, 2):
         for own in ([plain(5, 1, 7)], [load(5, 1, 4, 7)], [load(5, 1, 0, 7)], [load(5, 3, 0, 7)], [store(5, 2, 1, 4, 7)], [store(5, 2, 1, 0, 7)], [store(5, 2, 3, 4, 7)], [store(5, 2, 2, 1)],
                     [plain(3, 0, 6), load(5, 1, 4, 7)], [plain(3, 0, 6), store(4, 2, 1, 4), store(5, 2, 1, 4, 7)]):
-            case(t(goto(own)), op, 0, span=9)
-            case(t(branch(own, 0, 0, 0)), op, 0, span=9)
+            case(t(goto(own)), op, 0, span=(9, 31))
+            case(t(branch(own, 0, 0, 0)), op, 0, span=(9, 31))
             # through one MaybeThrow and two, with and without instructions, and by the continuation's empty Goto
-            case(t((own, 18, [1], 8, 0), goto([plain(6, 2)])), op, 0, span=9)
-            case(t((own, 18, [1], 8, 0), ([], 18, [2], 8, 0), goto([plain(3, 1), load(6, 2, 2)])), op, 0, span=9)
-            case(t(([], 18, [1], 8, 0), (own, 18, [2], 8, 0), goto([])), op, 0, span=9)
-            case(t((own, 18, [1], 8, 0), goto([])), op, 0, span=9)
+            case(t((own, 18, [1], 8, 0), goto([plain(6, 2)])), op, 0, span=(9, 31))
+            case(t((own, 18, [1], 8, 0), ([], 18, [2], 8, 0), goto([plain(3, 1), load(6, 2, 2)])), op, 0, span=(9, 31))
+            case(t(([], 18, [1], 8, 0), (own, 18, [2], 8, 0), goto([])), op, 0, span=(9, 31))
+            case(t((own, 18, [1], 8, 0), goto([])), op, 0, span=(9, 31))
             # a value terminal in a value block: the span passed down, and its fallthrough's value
             for code, columns in ((17, [1, 2]), (14, [1, 3]), (13, [2, 1, 3]), (15, [1, 1, 3])):
                 inner = goto(own) if code == 17 else branch([plain(11, 0)], 1, 4, 5, 12, 13)
-                case(t((own, code, columns, 14, 15), inner, goto([plain(21, 2)]), goto([load(22, 0, 3)]), goto([plain(23, 1)]), goto([plain(24, 2)])), op, 0, span=9)
+                case(t((own, code, columns, 14, 15), inner, goto([plain(21, 2)]), goto([load(22, 0, 3)]), goto([plain(23, 1)]), goto([plain(24, 2)])), op, 0, span=(9, 31))
         # a Branch with no instruction
-        case(t(branch([], 2, 0, 0, 17, 18)), op, 0, span=9)
+        case(t(branch([], 2, 0, 0, 17, 18)), op, 0, span=(9, 31))
         # refusals: 24, 28, 10 by the look-up and by the visit, 23, 25, 26, 27
         case(t(goto([])), op, 0)
         case(t(([], 18, [1], 8, 0), goto([])), op, 0)
@@ -254,7 +260,7 @@ def corners():
     case(doubled(0), 2, 0, visits=1)
     # buffers one row short, one word short, of no words
     for spare in (-1, -6, -7, -600, 5, 6):
-        case(t(([plain(3, 0, 6), store(4, 2, 1, 4)], 18, [1], 8, 0), goto([plain(5, 0), load(6, 2, 2)])), 2, 0, span=9, spare=spare)
+        case(t(([plain(3, 0, 6), store(4, 2, 1, 4)], 18, [1], 8, 0), goto([plain(5, 0), load(6, 2, 2)])), 2, 0, span=(9, 31), spare=spare)
 
 corners()
 by_hand = len(cases)
@@ -262,7 +268,7 @@ compared = sum(compare(l) for f in sys.argv[1:] for l in open(f).read().split("\
 open("stdin", "w").write("".join(" ".join(map(str, c)) + "\n" for c in cases))
 codes = {}
 for c in cases:
-    k = c[c[0] + 8]
+    k = c[c[0] + 9]
     codes[k] = codes.get(k, 0) + 1
 print(by_hand, "by hand,", compared, "from vectors; by code:", dict(sorted(codes.items())))
 print(sum(len(c) for c in cases), "numbers")

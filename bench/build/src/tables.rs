@@ -1,7 +1,7 @@
 //! The tables that are timed.
 
 use comparison::generate::program::program;
-use comparison::model::{check::check, walk};
+use comparison::model::{check::check, table::BlockRow, walk};
 use comparison::rng::Rng;
 
 pub struct Case {
@@ -12,7 +12,7 @@ pub struct Case {
 /// Blocks over one place, with so many instructions in each.
 pub struct Table {
     instructions: u32,
-    blocks: Vec<[u32; 10]>,
+    blocks: Vec<BlockRow>,
     cases: Vec<[u32; 2]>,
     pub entry: u32,
 }
@@ -29,7 +29,7 @@ impl Table {
     pub fn add(&mut self, code: u32, operands: &[u32]) -> u32 {
         let row = self.blocks.len() as u32;
         let first = row * self.instructions;
-        let mut words = [first, self.instructions, code, 0, 0, 0, 0, 0, row, 0];
+        let mut words = [first, self.instructions, code, 0, 0, 0, 0, 0, row, 0, 0];
         words[3..3 + operands.len()].copy_from_slice(operands);
         self.blocks.push(words);
         row
@@ -42,7 +42,7 @@ impl Table {
         let mut words = vec![self.entry, rows, instructions, cases, 1, 1];
         words.extend(self.blocks.as_flattened());
         for row in 0..instructions {
-            words.extend([row, 0, 0, 0, 0, 0]);
+            words.extend([row, 0, 0, 0, 0, row, row + 9]);
         }
         words.extend(self.cases.as_flattened());
         words.extend([0, 1]);

@@ -34,13 +34,13 @@ use Rattle.definition.specs.RunLaw.{RunLaw}
 use Rattle.definition.proofs.PlainTest.{is-plain}
 use Rattle.definition.proofs.Law.{run-law}
 
--- first, count, code, a to e, id, span
+-- first, count, code, a to e, id, from, to
 abbrev blockRow : (first count code a b c d e id : ℕ) → List ℕ
-blockRow first count code a b c d e id = first ∷ count ∷ code ∷ a ∷ b ∷ c ∷ d ∷ e ∷ id ∷ 0 ∷ []
+blockRow first count code a b c d e id = first ∷ count ∷ code ∷ a ∷ b ∷ c ∷ d ∷ e ∷ id ∷ 0 ∷ 0 ∷ []
 
--- id, lvalue, code, p, q, span: not a load and not a store
+-- id, lvalue, code, p, q, from, to: not a load and not a store
 abbrev plainInstruction : (id : ℕ) → List ℕ
-plainInstruction id = id ∷ 0 ∷ 0 ∷ 0 ∷ 0 ∷ 0 ∷ []
+plainInstruction id = id ∷ 0 ∷ 0 ∷ 0 ∷ 0 ∷ 0 ∷ 0 ∷ []
 
 -- W: 0 While(1,2,3) id 1; 1 Branch(0,2,3) id 2; 2 Goto(1,Continue) id 3; 3 Return(0) id 4, with one, two, one and one instruction
 abbrev pub W : List ℕ

@@ -10,6 +10,7 @@ use mathlib.Core.Bool.{Bool, true, false, not}
 use lib.ListN.{length, getD, set, length-set, length-append}
 use lib.Dec.{eqb, T}
 use borrow.Author.Tests.{leb-false}
+use Rattle.table.specs.declared.columns.Span.{Span}
 use Rattle.table.specs.Table.{Table, Terminal, absent, unreachable, throw, return, goto, if, branch, switch, do-while, while, for, for-of, for-in, logical}
 use Rattle.table.specs.Table.{ternary, optional, sequence, maybe-throw, try, scope, Variant, Break, Continue, Try, blockAt, terminalAt, instructionRowsAt}
 use Rattle.table.specs.Table.{isUnreachable, label}
@@ -27,7 +28,7 @@ use Rattle.definition.specs.Result.{refused, Result, ok, refuseIf}
 use Rattle.definition.specs.Statement.{breakToScope, visitBreak, visitContinue, breakResolved, continueResolved, visitUpdate, OptionalValue}
 use Rattle.definition.specs.Statement.{continueBlockOf, TerminalResult, enterBlock, unlessScheduled, unlessUnreachable, markScopeFallthroughIf, visitGoto}
 use Rattle.definition.specs.Statement.{loopIsTaken}
-use Rattle.definition.specs.Tree.{Kind, implicit, labeled, unlabeled, Statement, Row, row, BREAK, CONTINUE}
+use Rattle.definition.specs.Tree.{Kind, implicit, labeled, unlabeled, Statement, Row, row, BREAK, CONTINUE, instrRow}
 use Rattle.definition.specs.Value.{visitValueBlock, beginVisit, ValueBlockResult, ValueTerminalResult, VisitValueBlock, visitValueBlockTerminal, valueBlockResultToSequence}
 use Rattle.definition.proofs.Flags.{length-none, below-blocks}
 use Rattle.definition.proofs.Steps.{true-false, Any, Good, good-bind, good-unless, good-pick, good-any, fine-good}
@@ -449,15 +450,15 @@ module _ (t : Table) (ck : Checked t) (d : ℕ) where
   taken : {spare size before after : ℕ} → before ≤ 8192 → Took t spare size before after → Taken spare size before after
   taken h took = (took .rises, took .most h, took .paid (ck .counts))
 
-  values : (x : ℕ) (ft : Option ℕ) (span v : ℕ) → v ≤ 8192 → Good (BlockTaken v) (visit x ft span v)
+  values : (x : ℕ) (ft : Option ℕ) (span : Span) (v : ℕ) → v ≤ 8192 → Good (BlockTaken v) (visit x ft span v)
   unfolding VisitTook
   values x ft span v h = fine-good (BlockTook t v) (BlockTaken v) (visit x ft span v) (λ _ took. taken h took) (value-took t d x ft span v)
 
-  terminals : (e : Terminal) (id span v at : ℕ) → T (not (isMaybeThrow e)) → v ≤ 8192 → Good (TerminalTaken v) (visitValueBlockTerminal t visit e id span v at)
+  terminals : (e : Terminal) (id : ℕ) (span : Span) (v at : ℕ) → T (not (isMaybeThrow e)) → v ≤ 8192 → Good (TerminalTaken v) (visitValueBlockTerminal t visit e id span v at)
   terminals e id span v at m h =
       fine-good (TerminalTook t v) (TerminalTaken v) (visitValueBlockTerminal t visit e id span v at) (λ _ took. taken h took) (terminal-took t visit (value-took t d) e id span v at m)
 
-  updates : (u : Option ℕ) (span v : ℕ) → v ≤ 8192 → Good (UpdateTaken v) (visitUpdate visit u span v)
+  updates : (u : Option ℕ) (span : Span) (v : ℕ) → v ≤ 8192 → Good (UpdateTaken v) (visitUpdate visit u span v)
   updates u span v h =
       fine-good (λ r. Took t 0 (length (updateOut (r .value))) v (r .visits)) (UpdateTaken v) (visitUpdate visit u span v) (λ _ took. taken h took) (update-took t visit (value-took t d) u span v)
 
@@ -593,13 +594,13 @@ module _ (t : Table) (ck : Checked t) (d : ℕ) where
         at (unlessScheduled c g) (taken-below c g k) w q)
       where
         leaving : (g : Option ℕ) (w : ValueTerminalResult) (c₁ : Context) → TerminalTaken (c .visits) w → Below (length (t .blocks)) g → Inside p 2052 1 0 0 5 F (R ++ valueOut (w .value)) m c₁
-            → Fit t p (leave g F ((R ++ valueOut (w .value)) ++ (row 4 (w .id) (w .place) (blockAt t b .span) 0 0 ∷ [])) (suc m) c₁)
+            → Fit t p (leave g F ((R ++ valueOut (w .value)) ++ (instrRow (w .id) (w .place) (blockAt t b .span) ∷ [])) (suc m) c₁)
         leaving g w c₁ q k x =
-            leave-fit t g (inside-out t (row 4 (w .id) (w .place) (blockAt t b .span) 0 0 ∷ []) (suc m) 2 x (omega arith) (omega (arith, x .tallied)))
+            leave-fit t g (inside-out t (instrRow (w .id) (w .place) (blockAt t b .span) ∷ []) (suc m) 2 x (omega arith) (omega (arith, x .tallied)))
             (omega arith) (omega arith) (omega arith) f k
 
         at : (g : Option ℕ) → Below (length (t .blocks)) g → (w : ValueTerminalResult) → TerminalTaken (c .visits) w
-            → Fit t p (leave g F ((R ++ valueOut (w .value)) ++ (row 4 (w .id) (w .place) (blockAt t b .span) 0 0 ∷ [])) (suc m) (unscheduledIf g (withVisits (w .visits) (scheduledIf g c))))
+            → Fit t p (leave g F ((R ++ valueOut (w .value)) ++ (instrRow (w .id) (w .place) (blockAt t b .span) ∷ [])) (suc m) (unscheduledIf g (withVisits (w .visits) (scheduledIf g c))))
         at none k w q =
             leaving none w (withVisits (w .visits) c) q k
             (inside-visited t (valueOut (w .value)) (w .visits) 5 (inside-held t c 1 h (held c) (omega arith) (omega (arith, h .stack))) (q .0) (q .1)

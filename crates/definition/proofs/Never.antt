@@ -9,6 +9,7 @@ use mathlib.Core.Option.{Option, none, some}
 use mathlib.Core.Bool.{Bool, true, false, not, _&&_, _||_}
 use lib.Dec.{T, eqb, leb, leb→le}
 use borrow.Author.Tests.{eq-eqb}
+use Rattle.table.specs.declared.columns.Span.{Span}
 use Rattle.table.specs.Table.{Table, Block, Case, Terminal, absent, unreachable, throw, return, goto, if, branch, switch, do-while, while, for, for-of, for-in}
 use Rattle.table.specs.Table.{logical, ternary, optional, sequence, maybe-throw, try, scope, Variant, Break, Continue, Try, blockAt, terminalAt, isAbsent}
 use Rattle.table.specs.Table.{isUnreachable, label}
@@ -320,11 +321,11 @@ module _ (t : Table) (values : VisitValueBlock) (took : VisitTook t values) (inn
       fine-pick (λ r. After c (r .context)) (isScheduled c y) _ _
       (λ _. fine-bind Any (λ r. After c (r .context)) _ _ (break-resolved-fine b y i c _) (λ s _. after-refl c)) (λ _. wf y c)
 
-  value-fine : (x : ℕ) (ft : Option ℕ) (span v : ℕ) → Fine Any (values x ft span v)
+  value-fine : (x : ℕ) (ft : Option ℕ) (span : Span) (v : ℕ) → Fine Any (values x ft span v)
   unfolding VisitTook
   value-fine x ft span v = fine-map (BlockTook t v) Any (values x ft span v) (λ _ _. tt) (took x ft span v)
 
-  update-fine : (u : Option ℕ) (span v : ℕ) → Fine Any (visitUpdate values u span v)
+  update-fine : (u : Option ℕ) (span : Span) (v : ℕ) → Fine Any (visitUpdate values u span v)
   unfolding visitUpdate
   update-fine none span v = tt
   update-fine (some u) span v = fine-bind Any Any _ _ (value-fine u none span v) (λ r _. tt)

@@ -11,11 +11,11 @@ use lib.ListN.{getD}
 use borrow.Author.Tests.{ne-eqb}
 use Rattle.table.specs.Words.{largest}
 use Rattle.table.specs.Table.{unlessNone}
-use Rattle.definition.specs.Tree.{Kind, implicit, labeled, unlabeled, Value, PLAIN, LOAD, UNDEF, SEQ, LOGICAL, COND, OPTIONAL, Instructions}
+use Rattle.definition.specs.Tree.{Kind, implicit, labeled, unlabeled, Value, PLAIN, LOAD, UNDEF, SEQ, LOGICAL, COND, OPTIONAL, Instructions, undefRow, instrRow, forOfRow, forInRow}
 use Rattle.definition.specs.Tree.{no-instructions, instruction, Statement, INSTR, IF, SWITCH, DOWHILE, WHILE, FOR, FOROF, FORIN, LABEL, TRY, SCOPE}
 use Rattle.definition.specs.Tree.{RETURN, THROW, BREAK, CONTINUE, Statements, done, _▸_, Cases, no-cases, CASE, Row, row, orNone, kindNumber, valueRows}
 use Rattle.definition.specs.Tree.{instructionsRows, countInstructions, countStatements, countCases, statementRows, statementsRows, blockRows, casesRows}
-use Rattle.definition.specs.Tree.{rows}
+use Rattle.definition.specs.Tree.{rows, undefRow, instrRow, forOfRow, forInRow}
 use Rattle.definition.specs.Reading.{BelowNone, EmptyUnless, WellFormedStatement, WellFormed, WellFormedCases, ReadAs}
 use Rattle.definition.specs.Value.{appended}
 
@@ -115,8 +115,8 @@ closings a b c d e =
     (λ S. none)
     ∷ pushes (value (PLAIN a))
     ∷ pushes (value (LOAD a))
-    ∷ pushes (value (UNDEF a))
-    ∷ takeValue (λ v. pushes (statement (INSTR a b c v)))
+    ∷ pushes (value (UNDEF (record { from = a; to = b })))
+    ∷ takeValue (λ v. pushes (statement (INSTR a b (record { from = c; to = d }) v)))
     ∷ takeValue (λ v. takeInstructions a no-instructions (λ is. pushes (value (SEQ is b v))))
     ∷ takeValue (λ r. takeValue (λ l. pushes (value (LOGICAL a l r))))
     ∷ takeValue (λ z. takeValue (λ y. takeValue (λ x. pushes (value (COND x y z)))))
@@ -128,8 +128,8 @@ closings a b c d e =
     ∷ takeValue (λ t. takeBlock (λ s. pushes (statement (DOWHILE a (unlessNone b) s t))))
     ∷ takeBlock (λ s. takeValue (λ t. pushes (statement (WHILE a (unlessNone b) t s))))
     ∷ takeBlock (λ s. closeFor c a (unlessNone b) s)
-    ∷ takeBlock (λ s. takeValue (λ t. takeValue (λ n. pushes (statement (FOROF a (unlessNone b) c n t s)))))
-    ∷ takeBlock (λ s. takeValue (λ n. pushes (statement (FORIN a (unlessNone b) c n s))))
+    ∷ takeBlock (λ s. takeValue (λ t. takeValue (λ n. pushes (statement (FOROF a (unlessNone b) (record { from = c; to = d }) n t s)))))
+    ∷ takeBlock (λ s. takeValue (λ n. pushes (statement (FORIN a (unlessNone b) (record { from = c; to = d }) n s))))
     ∷ takeBlock (λ s. pushes (statement (LABEL a (unlessNone b) s)))
     ∷ takeBlock (λ h. takeBlock (λ s. pushes (statement (TRY a (unlessNone b) (unlessNone c) s h))))
     ∷ takeBlock (λ s. pushes (statement (SCOPE false a s)))
@@ -243,7 +243,7 @@ mutual
   value-read : (v : Value) (after : List Row) (S : Stack) → read (valueRows v after) S ≡ read after (value v ∷ S)
   value-read (PLAIN r) after S = closed (row 1 r 0 0 0 0) after S (value (PLAIN r) ∷ S) refl
   value-read (LOAD p) after S = closed (row 2 p 0 0 0 0) after S (value (LOAD p) ∷ S) refl
-  value-read (UNDEF s) after S = closed (row 3 s 0 0 0 0) after S (value (UNDEF s) ∷ S) refl
+  value-read (UNDEF s) after S = closed (undefRow s) after S (value (UNDEF s) ∷ S) refl
   value-read (SEQ is i v) after S =
       instructions-read is (valueRows v (row 5 (countInstructions is) i 0 0 0 ∷ after)) S
       ∙ value-read v (row 5 (countInstructions is) i 0 0 0 ∷ after) (pushInstructions is S)
@@ -264,8 +264,8 @@ mutual
   instructions-read : (is : Instructions) (after : List Row) (S : Stack) → read (instructionsRows is after) S ≡ read after (pushInstructions is S)
   instructions-read no-instructions after S = refl
   instructions-read (instruction i l s v r) after S =
-      value-read v (row 4 i l s 0 0 ∷ instructionsRows r after) S
-      ∙ closed (row 4 i l s 0 0) (instructionsRows r after) (value v ∷ S) (statement (INSTR i l s v) ∷ S) refl
+      value-read v (instrRow i l s ∷ instructionsRows r after) S
+      ∙ closed (instrRow i l s) (instructionsRows r after) (value v ∷ S) (statement (INSTR i l s v) ∷ S) refl
       ∙ instructions-read r after (statement (INSTR i l s v) ∷ S)
 
 -- ---- statements
@@ -294,7 +294,7 @@ mutual
 
   statement-read : (s : Statement) → WellFormedStatement s → (after : List Row) (S : Stack) → read (statementRows s after) S ≡ read after (statement s ∷ S)
   statement-read (INSTR i l s v) w after S =
-      value-read v (row 4 i l s 0 0 ∷ after) S ∙ closed (row 4 i l s 0 0) after (value v ∷ S) (statement (INSTR i l s v) ∷ S) refl
+      value-read v (instrRow i l s ∷ after) S ∙ closed (instrRow i l s) after (value v ∷ S) (statement (INSTR i l s v) ∷ S) refl
   statement-read (IF t i l c true a) w after S =
       block-read c (w .1) (blockRows a (row 10 t 1 i (orNone l) 0 ∷ after)) S
       ∙ block-read a (w .2) (row 10 t 1 i (orNone l) 0 ∷ after) (block c ∷ S)
@@ -333,15 +333,15 @@ mutual
       ∙ gives (row 15 i (orNone l) 1 0 0) after (block b ∷ value u ∷ value t ∷ value n ∷ S) S (statement (FOR i (unlessNone (orNone l)) n t (some u) b)) (statement (FOR i l n t (some u) b)) refl
       (ap (λ (z : Option ℕ). statement (FOR i z n t (some u) b)) (label-read l (w .0)))
   statement-read (FOROF i l s n t b) w after S =
-      value-read n (valueRows t (blockRows b (row 16 i (orNone l) s 0 0 ∷ after))) S
-      ∙ value-read t (blockRows b (row 16 i (orNone l) s 0 0 ∷ after)) (value n ∷ S)
-      ∙ block-read b (w .1) (row 16 i (orNone l) s 0 0 ∷ after) (value t ∷ value n ∷ S)
-      ∙ gives (row 16 i (orNone l) s 0 0) after (block b ∷ value t ∷ value n ∷ S) S (statement (FOROF i (unlessNone (orNone l)) s n t b)) (statement (FOROF i l s n t b)) refl
+      value-read n (valueRows t (blockRows b (forOfRow i (orNone l) s ∷ after))) S
+      ∙ value-read t (blockRows b (forOfRow i (orNone l) s ∷ after)) (value n ∷ S)
+      ∙ block-read b (w .1) (forOfRow i (orNone l) s ∷ after) (value t ∷ value n ∷ S)
+      ∙ gives (forOfRow i (orNone l) s) after (block b ∷ value t ∷ value n ∷ S) S (statement (FOROF i (unlessNone (orNone l)) s n t b)) (statement (FOROF i l s n t b)) refl
       (ap (λ (z : Option ℕ). statement (FOROF i z s n t b)) (label-read l (w .0)))
   statement-read (FORIN i l s n b) w after S =
-      value-read n (blockRows b (row 17 i (orNone l) s 0 0 ∷ after)) S
-      ∙ block-read b (w .1) (row 17 i (orNone l) s 0 0 ∷ after) (value n ∷ S)
-      ∙ gives (row 17 i (orNone l) s 0 0) after (block b ∷ value n ∷ S) S (statement (FORIN i (unlessNone (orNone l)) s n b)) (statement (FORIN i l s n b)) refl
+      value-read n (blockRows b (forInRow i (orNone l) s ∷ after)) S
+      ∙ block-read b (w .1) (forInRow i (orNone l) s ∷ after) (value n ∷ S)
+      ∙ gives (forInRow i (orNone l) s) after (block b ∷ value n ∷ S) S (statement (FORIN i (unlessNone (orNone l)) s n b)) (statement (FORIN i l s n b)) refl
       (ap (λ (z : Option ℕ). statement (FORIN i z s n b)) (label-read l (w .0)))
   statement-read (LABEL i l b) w after S =
       block-read b (w .1) (row 18 i (orNone l) 0 0 0 ∷ after) S

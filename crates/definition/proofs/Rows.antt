@@ -7,13 +7,14 @@ use mathlib.Core.List.{List, [], _∷_, _++_, append-assoc}
 use mathlib.Core.Option.{Option, none, some}
 use mathlib.Core.Bool.{Bool, true, false}
 use lib.ListN.{length}
+use Rattle.table.specs.declared.columns.Span.{Span}
 use Rattle.table.specs.Table.{Table, instructionAt}
 use Rattle.definition.specs.Machine.{valueOut, updateOut, statementOut, instructionsOut, blockRow, jumpOut, added, scopeRow}
 use Rattle.definition.specs.Statement.{instructionStatements, followedBy}
-use Rattle.definition.specs.Tree.{Value, PLAIN, LOAD, UNDEF, SEQ, LOGICAL, COND, OPTIONAL, Instructions, no-instructions, instruction, Statement, INSTR}
+use Rattle.definition.specs.Tree.{Value, PLAIN, LOAD, UNDEF, SEQ, LOGICAL, COND, OPTIONAL, Instructions, no-instructions, instruction, Statement, INSTR, instrRow, forOfRow, forInRow}
 use Rattle.definition.specs.Tree.{IF, SWITCH, DOWHILE, WHILE, FOR, FOROF, FORIN, LABEL, TRY, SCOPE, RETURN, THROW, BREAK, CONTINUE, Statements, done, _▸_}
 use Rattle.definition.specs.Tree.{Cases, no-cases, CASE, Row, row, valueRows, instructionsRows, updateRows, statementRows, statementsRows, blockRows}
-use Rattle.definition.specs.Tree.{casesRows, countStatements, countInstructions, countCases, orNone, updatePresent}
+use Rattle.definition.specs.Tree.{casesRows, countStatements, countInstructions, countCases, orNone, updatePresent, instrRow, forOfRow, forInRow}
 
 -- ---- the rows of a part and then others
 
@@ -34,7 +35,7 @@ mutual
   instructions-append : (is : Instructions) (k l : List Row) → instructionsRows is (k ++ l) ≡ instructionsRows is k ++ l
   instructions-append no-instructions k l = refl
   instructions-append (instruction i p s v r) k l =
-      ap (λ (z : List Row). valueRows v (row 4 i p s 0 0 ∷ z)) (instructions-append r k l) ∙ value-append v (row 4 i p s 0 0 ∷ instructionsRows r k) l
+      ap (λ (z : List Row). valueRows v (instrRow i p s ∷ z)) (instructions-append r k l) ∙ value-append v (instrRow i p s ∷ instructionsRows r k) l
 
 update-append : (v : Option Value) (k l : List Row) → updateRows v (k ++ l) ≡ updateRows v k ++ l
 update-append none k l = refl
@@ -42,7 +43,7 @@ update-append (some v) k l = value-append v k l
 
 mutual
   statement-append : (s : Statement) (k l : List Row) → statementRows s (k ++ l) ≡ statementRows s k ++ l
-  statement-append (INSTR i p s v) k l = value-append v (row 4 i p s 0 0 ∷ k) l
+  statement-append (INSTR i p s v) k l = value-append v (instrRow i p s ∷ k) l
   statement-append (IF x i g c true a) k l =
       ap (blockRows c) (block-append a (row 10 x 1 i (orNone g) 0 ∷ k) l) ∙ block-append c (blockRows a (row 10 x 1 i (orNone g) 0 ∷ k)) l
   statement-append (IF x i g c false a) k l = block-append c (row 10 x 0 i (orNone g) 0 ∷ k) l
@@ -57,11 +58,11 @@ mutual
       ∙ ap (valueRows n) (value-append v (updateRows u (blockRows b (row 15 i (orNone g) (updatePresent u) 0 0 ∷ k))) l)
       ∙ value-append n (valueRows v (updateRows u (blockRows b (row 15 i (orNone g) (updatePresent u) 0 0 ∷ k)))) l
   statement-append (FOROF i g s n v b) k l =
-      ap (λ (z : List Row). valueRows n (valueRows v z)) (block-append b (row 16 i (orNone g) s 0 0 ∷ k) l)
-      ∙ ap (valueRows n) (value-append v (blockRows b (row 16 i (orNone g) s 0 0 ∷ k)) l)
-      ∙ value-append n (valueRows v (blockRows b (row 16 i (orNone g) s 0 0 ∷ k))) l
+      ap (λ (z : List Row). valueRows n (valueRows v z)) (block-append b (forOfRow i (orNone g) s ∷ k) l)
+      ∙ ap (valueRows n) (value-append v (blockRows b (forOfRow i (orNone g) s ∷ k)) l)
+      ∙ value-append n (valueRows v (blockRows b (forOfRow i (orNone g) s ∷ k))) l
   statement-append (FORIN i g s n b) k l =
-      ap (valueRows n) (block-append b (row 17 i (orNone g) s 0 0 ∷ k) l) ∙ value-append n (blockRows b (row 17 i (orNone g) s 0 0 ∷ k)) l
+      ap (valueRows n) (block-append b (forInRow i (orNone g) s ∷ k) l) ∙ value-append n (blockRows b (forInRow i (orNone g) s ∷ k)) l
   statement-append (LABEL i g b) k l = block-append b (row 18 i (orNone g) 0 0 0 ∷ k) l
   statement-append (TRY i g n b h) k l =
       ap (blockRows b) (block-append h (row 19 i (orNone g) (orNone n) 0 0 ∷ k) l) ∙ block-append b (blockRows h (row 19 i (orNone g) (orNone n) 0 0 ∷ k)) l
@@ -141,12 +142,13 @@ pub rows-for : (R : List Row) (id : ℕ) (g : Option ℕ) (n v : Value) (u : Opt
 unfolding statementOut
 rows-for R id g n v u b = block-out (((R ++ valueOut n) ++ valueOut v) ++ updateOut u) b _ ∙ update-out ((R ++ valueOut n) ++ valueOut v) u _ ∙ value-out (R ++ valueOut n) v _ ∙ value-out R n _
 
-pub rows-for-of : (R : List Row) (id : ℕ) (g : Option ℕ) (s : ℕ) (n v : Value) (b : Statements)
-    → blockOut ((R ++ valueOut n) ++ valueOut v) b ++ (row 16 id (orNone g) s 0 0 ∷ []) ≡ R ++ statementOut (FOROF id g s n v b)
+pub rows-for-of : (R : List Row) (id : ℕ) (g : Option ℕ) (s : Span) (n v : Value) (b : Statements)
+    → blockOut ((R ++ valueOut n) ++ valueOut v) b ++ (forOfRow id (orNone g) s ∷ []) ≡ R ++ statementOut (FOROF id g s n v b)
 unfolding statementOut
 rows-for-of R id g s n v b = block-out ((R ++ valueOut n) ++ valueOut v) b _ ∙ value-out (R ++ valueOut n) v _ ∙ value-out R n _
 
-pub rows-for-in : (R : List Row) (id : ℕ) (g : Option ℕ) (s : ℕ) (n : Value) (b : Statements) → blockOut (R ++ valueOut n) b ++ (row 17 id (orNone g) s 0 0 ∷ []) ≡ R ++ statementOut (FORIN id g s n b)
+pub rows-for-in : (R : List Row) (id : ℕ) (g : Option ℕ) (s : Span) (n : Value) (b : Statements)
+    → blockOut (R ++ valueOut n) b ++ (forInRow id (orNone g) s ∷ []) ≡ R ++ statementOut (FORIN id g s n b)
 unfolding statementOut
 rows-for-in R id g s n b = block-out (R ++ valueOut n) b _ ∙ value-out R n _
 
@@ -163,7 +165,7 @@ unfolding statementOut
 rows-scope R true s b = block-out R b _
 rows-scope R false s b = block-out R b _
 
-pub rows-value : (R : List Row) (i l s : ℕ) (v : Value) → (R ++ valueOut v) ++ (row 4 i l s 0 0 ∷ []) ≡ R ++ statementOut (INSTR i l s v)
+pub rows-value : (R : List Row) (i l : ℕ) (s : Span) (v : Value) → (R ++ valueOut v) ++ (instrRow i l s ∷ []) ≡ R ++ statementOut (INSTR i l s v)
 unfolding statementOut
 rows-value R i l s v = value-out R v _
 
@@ -186,7 +188,7 @@ instructions-out : (t : Table) (rs : List ℕ) (s : Statements) → statementsOu
 unfolding instructionStatements statementsOut instructionsOut
 instructions-out t [] s = refl
 instructions-out t (r ∷ rs) s =
-    ap (λ (z : List Row). row 1 r 0 0 0 0 ∷ row 4 (instructionAt t r .id) (instructionAt t r .lvalue) (instructionAt t r .span) 0 0 ∷ z) (instructions-out t rs s)
+    ap (λ (z : List Row). row 1 r 0 0 0 0 ∷ instrRow (instructionAt t r .id) (instructionAt t r .lvalue) (instructionAt t r .span) ∷ z) (instructions-out t rs s)
 
 followed-out : (o : Option Statement) (s : Statements) → statementsOut (followedBy o s) ≡ jumpOut o ++ statementsOut s
 unfolding statementsOut statementOut

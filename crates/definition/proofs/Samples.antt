@@ -1,4 +1,4 @@
--- The ★ samples of paper 01, from their words and the length of a lent buffer: one tabulated claim over `built`, by computation. For the reader.
+-- The ★ samples of paper 01, and spans of paper 02 (M-108), from their words and the length of a lent buffer: one tabulated claim over `built`, by computation. For the reader.
 use mathlib.Core.Path.{_≡_, refl}
 use Prim.Native.Nat.{ℕ, _*_, _-_}
 use mathlib.Core.List.{List, [], _∷_, _++_, map}
@@ -53,9 +53,9 @@ MaybeThrow continuation = 18 ∷ continuation ∷ 0 ∷ 0 ∷ 0 ∷ 0 ∷ []
 abbrev Scope : (body fallthrough scope : ℕ) → List ℕ
 Scope body fallthrough scope = 20 ∷ body ∷ fallthrough ∷ scope ∷ 0 ∷ 0 ∷ []
 
--- a block with no instructions: first, count, its terminal, id, span
+-- a block with no instructions: first, count, its terminal, id, from, to
 abbrev empty : (terminal : List ℕ) → (id : ℕ) → List ℕ
-empty terminal id = 0 ∷ 0 ∷ terminal ++ id ∷ 0 ∷ []
+empty terminal id = 0 ∷ 0 ∷ terminal ++ id ∷ 0 ∷ 0 ∷ []
 
 -- six head words, so many blocks, of which 0 is the entry, and then one place and its identifier, which is named
 abbrev table : (number : ℕ) → (blocks : List ℕ) → List ℕ
@@ -88,10 +88,20 @@ scoped = table 3 (empty (Scope 1 2 5) 1 ++ empty (Goto 2 Break) 2 ++ empty (Retu
 abbrev same-ways : List ℕ
 same-ways = table 3 (empty (If 0 1 1 2) 1 ++ empty (Return 0) 2 ++ empty (Return 0) 4)
 
+-- paper 02, M-108: a block with a span, and its one instruction with another
+abbrev spanned : (from to from′ to′ : ℕ) → List ℕ
+spanned from to from′ to′ = 0 ∷ 1 ∷ 1 ∷ 0 ∷ 1 ∷ 1 ∷ 0 ∷ 1 ∷ Return 0 ++ 7 ∷ from ∷ to ∷ 5 ∷ 0 ∷ 0 ∷ 0 ∷ 0 ∷ from′ ∷ to′ ∷ 0 ∷ 1 ∷ []
+
 -- ---- the words of rows
+
+abbrev PLAIN : (instruction : ℕ) → List ℕ
+PLAIN instruction = 1 ∷ instruction ∷ 0 ∷ 0 ∷ 0 ∷ 0 ∷ []
 
 abbrev LOAD : (place : ℕ) → List ℕ
 LOAD place = 2 ∷ place ∷ 0 ∷ 0 ∷ 0 ∷ 0 ∷ []
+
+abbrev INSTR : (id lvalue from to : ℕ) → List ℕ
+INSTR id lvalue from to = 4 ∷ id ∷ lvalue ∷ from ∷ to ∷ 0 ∷ []
 
 abbrev BLOCK : (statements : ℕ) → List ℕ
 BLOCK statements = 9 ∷ statements ∷ 0 ∷ 0 ∷ 0 ∷ 0 ∷ []
@@ -140,6 +150,9 @@ samples =
     ∷ refuses W-endless-test 36 30 1 0 128
     ∷ accepts scoped 27 4 3 (BLOCK 0 ++ SCOPE 5 ++ RETURN 0 4 ++ BLOCK 2)
     ∷ refuses same-ways 24 11 1 0 3
+    ∷ accepts (spanned 0 5 3 9) 24 4 1 (PLAIN 0 ++ INSTR 5 0 3 9 ++ RETURN 0 7 ++ BLOCK 2)
+    ∷ refuses (spanned 5 4 3 9) 24 4 16 0 0
+    ∷ refuses (spanned 0 5 2 1) 24 4 23 0 0
     ∷ []
 
 abbrev pub builtFor : Sample → Outcome

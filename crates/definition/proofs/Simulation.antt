@@ -10,6 +10,7 @@ use lib.ListN.{length, getD, take, drop, length-drop, length-reverse}
 use lib.Seq.{take-suc, getD-drop}
 use lib.Dec.{eqb, T}
 use borrow.Author.Tests.{lt-leb, le-leb, eq-eqb}
+use Rattle.table.specs.declared.columns.Span.{Span}
 use Rattle.table.specs.Table.{Table, Block, Case, Terminal, absent, unreachable, throw, return, goto, if, branch, switch, do-while, while, for, for-of, for-in}
 use Rattle.table.specs.Table.{logical, ternary, optional, sequence, maybe-throw, try, scope, Variant, Break, Continue, Try, blockAt, terminalAt}
 use Rattle.table.specs.Table.{instructionRowsAt, isAbsent, label}
@@ -29,7 +30,7 @@ use Rattle.definition.specs.Statement.{traverseUnscheduled, AlternateRes
 use Rattle.definition.specs.Statement.{CasesResult, traverseCases, unscheduleAll, scheduleSwitch, scheduleIds, casesLastFirst, traverseConsequent}
 use Rattle.definition.specs.Statement.{visitValueStatement, visitTerminal, instructionStatements, followedBy, thenNext, visitBlock, traverseBlock}
 use Rattle.definition.specs.Statement.{buildTree}
-use Rattle.definition.specs.Tree.{Statement, Statements, done, Cases, no-cases, CASE, Row, row, orNone, countStatements, countCases, IF, INSTR, SWITCH, rows, updatePresent}
+use Rattle.definition.specs.Tree.{Statement, Statements, done, Cases, no-cases, CASE, Row, row, orNone, countStatements, countCases, IF, INSTR, SWITCH, rows, updatePresent, instrRow}
 use Rattle.definition.specs.Value.{visitValueBlock, beginVisit, ValueTerminalResult, VisitValueBlock, visitValueBlockTerminal, valueBlockResultToSequence}
 use Rattle.definition.proofs.Rows.{statementsOut, casesOut, blockOut, block-rows, rows-if, rows-else, rows-do-while, rows-while, rows-for, rows-for-of}
 use Rattle.definition.proofs.Rows.{rows-for-in, rows-label, rows-try, rows-scope, rows-value, rows-single, rows-case, rows-switch, rows-chain}
@@ -536,19 +537,19 @@ module _ (t : Table) (d : ℕ) (inner : TraverseBlock) (ws : Walks t d inner) (w
       seen (some f) r q = unfold withVisits in (rw (unscheduled-kept (withVisits (r .visits) (scheduledIf (some f) c))) q)
 
       X : ValueTerminalResult → Result State
-      X r = ok (leave g F ((R ++ valueOut (r .value)) ++ (row 4 (r .id) (r .place) (k .span) 0 0 ∷ [])) (suc n) (unscheduledIf g (withVisits (r .visits) (scheduledIf g c))))
+      X r = ok (leave g F ((R ++ valueOut (r .value)) ++ (instrRow (r .id) (r .place) (k .span) ∷ [])) (suc n) (unscheduledIf g (withVisits (r .visits) (scheduledIf g c))))
 
       Y : ValueTerminalResult → Result TerminalResult
       Y r = unscheduleIf g (c .nextId) (withVisits (r .visits) (scheduledIf g c)) >>= λ c2. ok (record { statement = some (INSTR (r .id) (r .place) (k .span) (r .value)); next = g; context = c2 })
 
-  values : (x : ℕ) (ft : Option ℕ) (span v : ℕ) → Good (λ r. v ≤ r .visits) (visit x ft span v)
+  values : (x : ℕ) (ft : Option ℕ) (span : Span) (v : ℕ) → Good (λ r. v ≤ r .visits) (visit x ft span v)
   unfolding VisitTook
   values x ft span v = fine-good (BlockTook t v) (λ r. v ≤ r .visits) (visit x ft span v) (λ _ h. h .rises) (value-took t d x ft span v)
 
   abbrev Updated : Option ℕ → ℕ → OptionalValue → Type 0
   Updated u v w = (v ≤ w .visits) × (updatePresent (w .value) ≡ updatePresent u)
 
-  updates : (u : Option ℕ) (span v : ℕ) → Good (Updated u v) (visitUpdate visit u span v)
+  updates : (u : Option ℕ) (span : Span) (v : ℕ) → Good (Updated u v) (visitUpdate visit u span v)
   unfolding visitUpdate
   updates none span v = (le-refl v, refl)
   updates (some u) span v = good-bind (λ r. v ≤ r .visits) (Updated (some u) v) _ _ (values u none span v) (λ r q. (q, refl))

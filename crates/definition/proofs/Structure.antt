@@ -7,6 +7,7 @@ use mathlib.Core.Option.{Option, none, some}
 use mathlib.Core.Bool.{Bool, true, false}
 use lib.Dec.{eqb}
 use borrow.Author.Tests.{eqb-true}
+use Rattle.table.specs.declared.columns.Span.{Span}
 use Rattle.table.specs.Table.{codeOf, Table, Block, Operation, other, load-local, store-local, Terminal, absent, unreachable, throw, return, goto, if, branch}
 use Rattle.table.specs.Table.{switch, do-while, while, for, for-of, for-in, logical, ternary, optional, sequence, maybe-throw, try, scope, Variant, Break}
 use Rattle.table.specs.Table.{Continue, Try, blockAt, terminalAt, instructionAt, instructionRowsAt, isAbsent, isUnreachable, label}
@@ -75,8 +76,8 @@ module _ (t : Table) where
 
   unfoldable pub TestOk : VisitValueBlock → Type 0
   TestOk values =
-      (x y c a span v : ℕ) (r : ValueBlockResult) → terminalAt t x ≡ branch y c a → endsInStore t (instructionRowsAt t x) ≡ false → values x none span v ≡ ok r
-      → performs (r .value) ≡ instructionRowsAt t x
+      (x y c a : ℕ) (span : Span) (v : ℕ) (r : ValueBlockResult) → terminalAt t x ≡ branch y c a → endsInStore t (instructionRowsAt t x) ≡ false → values x none
+      span v ≡ ok r → performs (r .value) ≡ instructionRowsAt t x
 
   pub value-ok : (d : ℕ) → TestOk (visitValueBlock t d)
   unfolding TestOk visitValueBlock visitValueBlockAt

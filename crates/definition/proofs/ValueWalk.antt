@@ -10,13 +10,15 @@ use mathlib.Core.Bool.{Bool, true, false, not}
 use lib.ListN.{length}
 use lib.Dec.{T, eqb}
 use borrow.Author.Tests.{leb-false}
+use Rattle.table.specs.declared.columns.Span.{Span}
 use Rattle.table.specs.Table.{Table, Block, Terminal, Operation, other, load-local, store-local, absent, unreachable, throw, return, goto, if, branch, switch}
 use Rattle.table.specs.Table.{do-while, while, for, for-of, for-in, logical, ternary, optional, sequence, maybe-throw, try, scope, codeOf, blockAt, terminalAt}
 use Rattle.table.specs.Table.{instructionAt, instructionRowsAt, instructionRows, label}
 use Rattle.definition.specs.Machine.{valueOut, updateOut}
 use Rattle.definition.specs.Result.{Result}
 use Rattle.definition.specs.Statement.{visitUpdate}
-use Rattle.definition.specs.Tree.{Value, PLAIN, LOAD, UNDEF, SEQ, LOGICAL, COND, OPTIONAL, Instructions, no-instructions, instruction, Row, row, valueRows, instructionsRows, countInstructions}
+use Rattle.definition.specs.Tree.{Value, PLAIN, LOAD, UNDEF, SEQ, LOGICAL, COND, OPTIONAL, Instructions, no-instructions, instruction, Row, row, instrRow}
+use Rattle.definition.specs.Tree.{valueRows, instructionsRows, countInstructions, instrRow}
 use Rattle.definition.specs.Value.{visitValueBlock, Ways, beginVisit, ValueBlockResult, ValueTerminalResult, TestBlockResult, VisitValueBlock}
 use Rattle.definition.specs.Value.{instructionsOf, wrapWithSequence, finalValue, storedToNamed, allButLast, last, extractValueBlockResult}
 use Rattle.definition.specs.Value.{extractOrRefuse, testBlockEnded, visitTestBlock, singleInstruction, visitValueBlockTerminal, thenFallthrough}
@@ -54,7 +56,7 @@ mutual
 
   instructions-rows-size : (is : Instructions) (after : List Row) → length (instructionsRows is after) ≡ sizeOfAll is + length after
   instructions-rows-size no-instructions after = omega arith
-  instructions-rows-size (instruction i l s v rest) after = omega (arith, value-rows-size v (row 4 i l s 0 0 ∷ instructionsRows rest after), instructions-rows-size rest after)
+  instructions-rows-size (instruction i l s v rest) after = omega (arith, value-rows-size v (instrRow i l s ∷ instructionsRows rest after), instructions-rows-size rest after)
 
 pub value-out-size : (v : Value) → length (valueOut v) ≡ sizeOf v
 unfolding valueOut
@@ -113,7 +115,7 @@ unfolding unlessSame
 unless-same-size true is = omega arith
 unless-same-size false is = le-refl _
 
-pub sequence-size : (t : Table) (result : ValueBlockResult) (span : ℕ) → sizeOf (valueBlockResultToSequence t result span) ≤ 3 + sizeOf (result .value)
+pub sequence-size : (t : Table) (result : ValueBlockResult) (span : Span) → sizeOf (valueBlockResultToSequence t result span) ≤ 3 + sizeOf (result .value)
 unfolding valueBlockResultToSequence
 sequence-size t result span =
     let innermost : Value = innermostValue (result .value) in
@@ -146,7 +148,7 @@ abbrev TestTook : Table → ℕ → TestBlockResult → Type 0
 TestTook t before r = BlockTook t before (r .test)
 
 unfoldable pub VisitTook : Table → VisitValueBlock → Type 0
-VisitTook t visit = (block : ℕ) (fallthrough : Option ℕ) (span visits : ℕ) → Fine (BlockTook t visits) (visit block fallthrough span visits)
+VisitTook t visit = (block : ℕ) (fallthrough : Option ℕ) (span : Span) (visits : ℕ) → Fine (BlockTook t visits) (visit block fallthrough span visits)
 
 -- nothing is visited, and the rows are those of the visit that has begun
 at-rest : {t : Table} {spare size : ℕ} (visits : ℕ) → (FewRows t → size ≤ spare) → Took t spare size visits visits
@@ -187,15 +189,15 @@ begin-visit-took t block visits =
     fine-unless (λ begun. (visits < 8192) × (begun ≡ suc visits)) _ 10 block (suc visits) _ tt (λ _. (leb-false 8192 visits h, refl)))
 
 module _ (t : Table) (visit : VisitValueBlock) (visit-took : VisitTook t visit) where
-  nested : (block : ℕ) (fallthrough : Option ℕ) (span visits : ℕ) → Fine (BlockTook t visits) (visit block fallthrough span visits)
+  nested : (block : ℕ) (fallthrough : Option ℕ) (span : Span) (visits : ℕ) → Fine (BlockTook t visits) (visit block fallthrough span visits)
   unfolding VisitTook
   nested block fallthrough span visits = visit-took block fallthrough span visits
 
-  test-took : (block span visits at : ℕ) → Fine (TestTook t visits) (visitTestBlock t visit block span visits at)
+  test-took : (block : ℕ) (span : Span) (visits at : ℕ) → Fine (TestTook t visits) (visitTestBlock t visit block span visits at)
   unfolding visitTestBlock
   test-took block span visits at = fine-bind (BlockTook t visits) (TestTook t visits) _ _ (nested block none span visits) (λ test h. test-ended-took t test _ at visits h)
 
-  pub terminal-took : (m : Terminal) (id span visits at : ℕ) → T (not (isMaybeThrow m)) → Fine (TerminalTook t visits) (visitValueBlockTerminal t visit m id span visits at)
+  pub terminal-took : (m : Terminal) (id : ℕ) (span : Span) (visits at : ℕ) → T (not (isMaybeThrow m)) → Fine (TerminalTook t visits) (visitValueBlockTerminal t visit m id span visits at)
   unfolding visitValueBlockTerminal
   terminal-took absent id span visits at h = tt
   terminal-took unreachable id span visits at h = tt
@@ -228,7 +230,8 @@ module _ (t : Table) (visit : VisitValueBlock) (visit-took : VisitTook t visit) 
   terminal-took (try block handler fallthrough binding) id span visits at h = tt
   terminal-took (scope pruned block fallthrough number) id span visits at h = tt
 
-  then-fallthrough-took : (block : Block) (span before : ℕ) (terminal : Result ValueTerminalResult) → (FewRows t → length (instructionRows block) ≤ 4096) → Fine (TerminalTook t before) terminal
+  then-fallthrough-took : (block : Block) (span : Span) (before : ℕ) (terminal : Result ValueTerminalResult)
+      → (FewRows t → length (instructionRows block) ≤ 4096) → Fine (TerminalTook t before) terminal
       → Fine (EnteredTook t before) (thenFallthrough t visit block span terminal)
   unfolding thenFallthrough
   then-fallthrough-took block span before terminal rows h =
@@ -236,7 +239,7 @@ module _ (t : Table) (visit : VisitValueBlock) (visit-took : VisitTook t visit) 
       fine-bind (BlockTook t (init .visits)) (EnteredTook t before) _ _ (nested _ _ _ _) (λ final b.
       with-rows (λ few. omega (arith, rows few, instructions-of-size t (instructionRows block) (singleInstruction (init .id) (init .place) span (init .value)))) (both a b)))
 
-  maybe-throw-took : (number continuation : ℕ) (rows : List ℕ) (fallthrough : Option ℕ) (span visits : ℕ) (own : Bool) → (FewRows t → length rows ≤ 4096)
+  maybe-throw-took : (number continuation : ℕ) (rows : List ℕ) (fallthrough : Option ℕ) (span : Span) (visits : ℕ) (own : Bool) → (FewRows t → length rows ≤ 4096)
       → Fine (EnteredTook t visits) (maybeThrowValue t visit number continuation rows fallthrough span visits own)
   unfolding maybeThrowValue
   maybe-throw-took number continuation rows fallthrough span visits true few = extract-took t continuation rows visits 28 number tt few
@@ -244,7 +247,7 @@ module _ (t : Table) (visit : VisitValueBlock) (visit-took : VisitTook t visit) 
       fine-bind (BlockTook t visits) (EnteredTook t visits) _ _ (nested continuation fallthrough span visits) (λ final a.
       with-rows (λ f. omega (arith, few f, wrapped-size t rows (final .id) (final .value))) a)
 
-  block-took : (m : Terminal) (number : ℕ) (outer : Option ℕ) (span visits : ℕ) → Fine (EnteredTook t visits) (visitValueBlockAt t visit m number (blockAt t number) outer span visits)
+  block-took : (m : Terminal) (number : ℕ) (outer : Option ℕ) (span : Span) (visits : ℕ) → Fine (EnteredTook t visits) (visitValueBlockAt t visit m number (blockAt t number) outer span visits)
   unfolding visitValueBlockAt
   block-took m number outer span visits = at m
     where
@@ -281,7 +284,7 @@ module _ (t : Table) (visit : VisitValueBlock) (visit-took : VisitTook t visit) 
       at (scope false block fallthrough scoped) = through (scope false block fallthrough scoped) tt
       at (scope true block fallthrough scoped) = through (scope true block fallthrough scoped) tt
 
-  pub update-took : (update : Option ℕ) (span visits : ℕ) → Fine (λ w. Took t 0 (length (updateOut (w .value))) visits (w .visits)) (visitUpdate visit update span visits)
+  pub update-took : (update : Option ℕ) (span : Span) (visits : ℕ) → Fine (λ w. Took t 0 (length (updateOut (w .value))) visits (w .visits)) (visitUpdate visit update span visits)
   unfolding visitUpdate updateOut
   update-took none span visits = at-rest visits (λ few. omega arith)
   update-took (some update) span visits =

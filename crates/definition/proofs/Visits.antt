@@ -9,6 +9,7 @@ use mathlib.Core.Bool.{Bool, true, false}
 use lib.ListN.{length}
 use lib.Dec.{eqb, leb}
 use borrow.Author.Tests.{leb-false}
+use Rattle.table.specs.declared.columns.Span.{Span}
 use Rattle.table.specs.Check.{Verdict, checked}
 use Rattle.table.specs.Check as check
 use Rattle.table.specs.Table.{Table, Block, Case, Terminal, absent, unreachable, throw, return, goto, if, branch, switch, do-while, while, for, for-of, for-in}
@@ -59,18 +60,18 @@ module _ (Q : ℕ → Type 0) (again : (visits : ℕ) → visits < mostVisits �
   test-ended-counted test (some ways) at h = h
 
   unfoldable pub VisitCounted : VisitValueBlock → Type 0
-  VisitCounted visit = (block : ℕ) (fallthrough : Option ℕ) (span visits : ℕ) → Q visits → Counted Q (λ r. r .visits) (visit block fallthrough span visits)
+  VisitCounted visit = (block : ℕ) (fallthrough : Option ℕ) (span : Span) (visits : ℕ) → Q visits → Counted Q (λ r. r .visits) (visit block fallthrough span visits)
 
   module _ (t : Table) (visit : VisitValueBlock) (visits-counted : VisitCounted visit) where
-    nested : (block : ℕ) (fallthrough : Option ℕ) (span visits : ℕ) → Q visits → Counted Q (λ r. r .visits) (visit block fallthrough span visits)
+    nested : (block : ℕ) (fallthrough : Option ℕ) (span : Span) (visits : ℕ) → Q visits → Counted Q (λ r. r .visits) (visit block fallthrough span visits)
     unfolding VisitCounted
     nested block fallthrough span visits h = visits-counted block fallthrough span visits h
 
-    test-counted : (block span visits at : ℕ) → Q visits → Counted Q (λ r. r .test .visits) (visitTestBlock t visit block span visits at)
+    test-counted : (block : ℕ) (span : Span) (visits at : ℕ) → Q visits → Counted Q (λ r. r .test .visits) (visitTestBlock t visit block span visits at)
     unfolding visitTestBlock
     test-counted block span visits at h = counted-bind Q (λ r. r .visits) (λ r. r .test .visits) _ _ (nested block none span visits h) (λ test k. test-ended-counted test _ at k)
 
-    value-terminal-counted : (m : Terminal) (id span visits at : ℕ) → Q visits → Counted Q (λ r. r .visits) (visitValueBlockTerminal t visit m id span visits at)
+    value-terminal-counted : (m : Terminal) (id : ℕ) (span : Span) (visits at : ℕ) → Q visits → Counted Q (λ r. r .visits) (visitValueBlockTerminal t visit m id span visits at)
     unfolding visitValueBlockTerminal
     value-terminal-counted absent id span visits at h = h
     value-terminal-counted unreachable id span visits at h = h
@@ -103,21 +104,21 @@ module _ (Q : ℕ → Type 0) (again : (visits : ℕ) → visits < mostVisits �
     value-terminal-counted (try block handler fallthrough binding) id span visits at h = h
     value-terminal-counted (scope pruned block fallthrough number) id span visits at h = h
 
-    maybe-throw-counted : (number continuation : ℕ) (rows : List ℕ) (fallthrough : Option ℕ) (span visits : ℕ) (own : Bool) → Q visits
+    maybe-throw-counted : (number continuation : ℕ) (rows : List ℕ) (fallthrough : Option ℕ) (span : Span) (visits : ℕ) (own : Bool) → Q visits
         → Counted Q (λ r. r .visits) (maybeThrowValue t visit number continuation rows fallthrough span visits own)
     unfolding maybeThrowValue
     maybe-throw-counted number continuation rows fallthrough span visits true h = extract-counted t continuation rows visits 28 number h
     maybe-throw-counted number continuation rows fallthrough span visits false h =
         counted-bind Q (λ r. r .visits) (λ r. r .visits) _ _ (nested continuation fallthrough span visits h) (λ final a. a)
 
-    through-counted : (m : Terminal) (number : ℕ) (block : Block) (span visits : ℕ) → Q visits
+    through-counted : (m : Terminal) (number : ℕ) (block : Block) (span : Span) (visits : ℕ) → Q visits
         → Counted Q (λ r. r .visits) (thenFallthrough t visit block span (visitValueBlockTerminal t visit m (block .id) (block .span) visits number))
     unfolding thenFallthrough
     through-counted m number block span visits h =
         counted-bind Q (λ r. r .visits) (λ r. r .visits) _ _ (value-terminal-counted m (block .id) (block .span) visits number h) (λ init a.
         counted-bind Q (λ r. r .visits) (λ r. r .visits) _ _ (nested _ _ _ _ a) (λ final b. b))
 
-    value-block-counted : (m : Terminal) (number : ℕ) (block : Block) (outer : Option ℕ) (span visits : ℕ) → Q visits
+    value-block-counted : (m : Terminal) (number : ℕ) (block : Block) (outer : Option ℕ) (span : Span) (visits : ℕ) → Q visits
         → Counted Q (λ r. r .visits) (visitValueBlockAt t visit m number block outer span visits)
     unfolding visitValueBlockAt
     value-block-counted absent number block outer span visits h = through-counted _ number block span visits h
@@ -143,7 +144,7 @@ module _ (Q : ℕ → Type 0) (again : (visits : ℕ) → visits < mostVisits �
     value-block-counted (try body handler fallthrough binding) number block outer span visits h = through-counted _ number block span visits h
     value-block-counted (scope pruned body fallthrough scoped) number block outer span visits h = through-counted _ number block span visits h
 
-    update-counted : (update : Option ℕ) (span visits : ℕ) → Q visits → Counted Q (λ w. w .visits) (visitUpdate visit update span visits)
+    update-counted : (update : Option ℕ) (span : Span) (visits : ℕ) → Q visits → Counted Q (λ w. w .visits) (visitUpdate visit update span visits)
     unfolding visitUpdate
     update-counted none span visits h = h
     update-counted (some update) span visits h = counted-bind Q (λ r. r .visits) (λ w. w .visits) _ _ (nested update none span visits h) (λ r a. a)
@@ -237,7 +238,7 @@ module _ (Q : ℕ → Type 0) (again : (visits : ℕ) → visits < mostVisits �
     unfolding WalkCounted
     inner block cx h = walk-counted block cx h
 
-    value : (block : ℕ) (span visits : ℕ) → Q visits → Counted Q (λ r. r .visits) (visit block none span visits)
+    value : (block : ℕ) (span : Span) (visits : ℕ) → Q visits → Counted Q (λ r. r .visits) (visit block none span visits)
     value block span visits h = nested t visit visits-counted block none span visits h
 
     unscheduled-counted : (block code at : ℕ) (cx : Context) → In cx → Counted Q (λ r. r .context .visits) (traverseUnscheduled traverse block code at cx)

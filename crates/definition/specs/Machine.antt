@@ -12,7 +12,7 @@ use Rattle.definition.specs.Build.{accepted, Report, rejected}
 use Rattle.definition.specs.Context.{target-if, target-switch, target-case, target-loop, Entry, Context, start, isScheduled, withVisits, scheduleCatchHandler, pushed, schedule, unscheduledBy, popped}
 use Rattle.definition.specs.Result.{refused, Result, ok, _>>=_, refuseIf}
 use Rattle.definition.specs.Statement.{visitUpdate, continueBlockOf, enterBlock, unlessScheduled, unlessUnreachable, markScopeFallthroughIf, visitBreak, visitGoto, loopIsTaken, casesLastFirst}
-use Rattle.definition.specs.Tree.{Value, Statement, Row, row, orNone, flagOf, updatePresent, valueRows, statementRows}
+use Rattle.definition.specs.Tree.{Value, Statement, Row, row, orNone, flagOf, updatePresent, valueRows, statementRows, instrRow, forOfRow, forInRow}
 use Rattle.definition.specs.Value.{visitValueBlock, mostDepth, VisitValueBlock, visitValueBlockTerminal, valueBlockResultToSequence}
 
 -- ---- frames and states
@@ -76,7 +76,7 @@ added (some statement) count = suc count
 
 unfoldable pub instructionsOut : Table → List ℕ → List Row
 instructionsOut t [] = []
-instructionsOut t (r ∷ rs) = row 1 r 0 0 0 0 ∷ row 4 (instructionAt t r .id) (instructionAt t r .lvalue) (instructionAt t r .span) 0 0 ∷ instructionsOut t rs
+instructionsOut t (r ∷ rs) = row 1 r 0 0 0 0 ∷ instrRow (instructionAt t r .id) (instructionAt t r .lvalue) (instructionAt t r .span) ∷ instructionsOut t rs
 
 abbrev pub scopeRow : Bool → ℕ → Row
 scopeRow true number = row 21 number 0 0 0 0
@@ -95,8 +95,8 @@ closingRowOf (switch test first number fallthrough) block second taken built = r
 closingRowOf (do-while loop test fallthrough) block second taken built = row 13 (block .id) (orNone taken) 0 0 0
 closingRowOf (while test loop fallthrough) block second taken built = row 14 (block .id) (orNone taken) 0 0 0
 closingRowOf (for init test update loop fallthrough) block second taken built = row 15 (block .id) (orNone taken) (updatePresent update) 0 0
-closingRowOf (for-of init test loop fallthrough) block second taken built = row 16 (block .id) (orNone taken) (block .span) 0 0
-closingRowOf (for-in init loop fallthrough) block second taken built = row 17 (block .id) (orNone taken) (block .span) 0 0
+closingRowOf (for-of init test loop fallthrough) block second taken built = forOfRow (block .id) (orNone taken) (block .span)
+closingRowOf (for-in init loop fallthrough) block second taken built = forInRow (block .id) (orNone taken) (block .span)
 closingRowOf (logical operator test fallthrough) block second taken built = row 0 0 0 0 0 0
 closingRowOf (ternary test fallthrough) block second taken built = row 0 0 0 0 0 0
 closingRowOf (optional flag test fallthrough) block second taken built = row 0 0 0 0 0 0
@@ -289,7 +289,7 @@ unfoldable pub valueTurn : Table → VisitValueBlock → Terminal → (at : ℕ)
 valueTurn t visit terminal at block fallthrough frames rows count cx =
     let taken : Option ℕ = unlessScheduled cx fallthrough in
     visitValueBlockTerminal t visit terminal (block .id) (block .span) (cx .visits) at >>= λ result.
-    ok (leave taken frames ((rows ++ valueOut (result .value)) ++ (row 4 (result .id) (result .place) (block .span) 0 0 ∷ [])) (suc count)
+    ok (leave taken frames ((rows ++ valueOut (result .value)) ++ (instrRow (result .id) (result .place) (block .span) ∷ [])) (suc count)
     (unscheduledIf taken (withVisits (result .visits) (scheduledIf taken cx))))
 
 unfoldable pub terminalTurn : Table → VisitValueBlock → Terminal → (at : ℕ) → Block → List Frame → List Row → (count : ℕ) → Context → Result State

@@ -5,6 +5,7 @@ use mathlib.Core.Option.{Option, none, some}
 use mathlib.Core.Bool.{Bool, true, false, not, _||_}
 use lib.ListN.{take, drop}
 use lib.Dec.{eqb}
+use Rattle.table.specs.declared.columns.Span.{Span}
 use Rattle.table.specs.Table.{Table, Block, Case, Terminal, Variant, absent, unreachable, throw, return, goto, if, branch, switch, do-while, while, for, for-of, for-in, logical, ternary, optional, sequence, maybe-throw, try, scope, Break, Continue, Try, isAbsent, isUnreachable, blockAt, terminalAt, instructionAt, instructionRowsAt, label}
 use Rattle.definition.specs.Context.{has, target-if, target-switch, target-case, target-loop, Context, start, isScheduled, emit, withVisits, markScopeFallthrough, scheduleCatchHandler, schedule, unschedule, Resolution, getBreakTarget, getContinueTarget}
 use Rattle.definition.specs.Result.{Result, ok, refused, _>>=_, refuseIf}
@@ -155,7 +156,7 @@ pub record OptionalValue : Type 0 where
   pub value : Option Value
   pub visits : ℕ
 
-unfoldable pub visitUpdate : VisitValueBlock → Option ℕ → (span visits : ℕ) → Result OptionalValue
+unfoldable pub visitUpdate : VisitValueBlock → Option ℕ → (span : Span) (visits : ℕ) → Result OptionalValue
 visitUpdate visit none span visits = ok (record { value = none; visits = visits })
 visitUpdate visit (some update) span visits = visit update none span visits >>= λ result. ok (record { value = some (result .value); visits = result .visits })
 

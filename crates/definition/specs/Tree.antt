@@ -4,6 +4,7 @@ use Prim.Native.Nat.{ℕ, suc}
 use mathlib.Core.List.{List, [], _∷_}
 use mathlib.Core.Option.{Option, none, some}
 use mathlib.Core.Bool.{Bool, true, false}
+use Rattle.table.specs.declared.columns.Span.{Span}
 use Rattle.table.specs.Words.{largest}
 
 -- "kind (0 Implicit, 1 Labeled, 2 Unlabeled)"
@@ -15,7 +16,7 @@ mutual
   pub data Value : Type 0 where
     PLAIN : (instructionRow : ℕ) → Value
     LOAD : (place : ℕ) → Value
-    UNDEF : (span : ℕ) → Value
+    UNDEF : (span : Span) → Value
     SEQ : (instructions : Instructions) → (id : ℕ) → (value : Value) → Value
     LOGICAL : (operator : ℕ) → (left right : Value) → Value
     COND : (test consequent alternate : Value) → Value
@@ -23,20 +24,20 @@ mutual
 
   pub data Instructions : Type 0 where
     no-instructions : Instructions
-    instruction : (id lvalue span : ℕ) → (value : Value) → (rest : Instructions) → Instructions
+    instruction : (id lvalue : ℕ) (span : Span) → (value : Value) → (rest : Instructions) → Instructions
 
 -- "statements 4, 10 and 12 to 25". A BLOCK is a list of statements; SWITCH has its cases last first, as the rows have them.
 -- A BREAK or CONTINUE has in `loops` the loops that it leaves before its target (M-107). An IF with no alternate has `present` false and an empty alternate. SCOPE is PRUNED where its flag says so
 mutual
   pub data Statement : Type 0 where
-    INSTR : (id lvalue span : ℕ) → (value : Value) → Statement
+    INSTR : (id lvalue : ℕ) (span : Span) → (value : Value) → Statement
     IF : (test id : ℕ) → (label : Option ℕ) → (consequent : Statements) → (present : Bool) → (alternate : Statements) → Statement
     SWITCH : (test id : ℕ) → (label : Option ℕ) → (cases : Cases) → Statement
     DOWHILE : (id : ℕ) → (label : Option ℕ) → (body : Statements) → (test : Value) → Statement
     WHILE : (id : ℕ) → (label : Option ℕ) → (test : Value) → (body : Statements) → Statement
     FOR : (id : ℕ) → (label : Option ℕ) → (init test : Value) → (update : Option Value) → (body : Statements) → Statement
-    FOROF : (id : ℕ) → (label : Option ℕ) → (span : ℕ) → (init test : Value) → (body : Statements) → Statement
-    FORIN : (id : ℕ) → (label : Option ℕ) → (span : ℕ) → (init : Value) → (body : Statements) → Statement
+    FOROF : (id : ℕ) → (label : Option ℕ) → (span : Span) → (init test : Value) → (body : Statements) → Statement
+    FORIN : (id : ℕ) → (label : Option ℕ) → (span : Span) → (init : Value) → (body : Statements) → Statement
     LABEL : (id : ℕ) → (label : Option ℕ) → (body : Statements) → Statement
     TRY : (id : ℕ) → (label : Option ℕ) → (binding : Option ℕ) → (body handler : Statements) → Statement
     SCOPE : (pruned : Bool) → (scope : ℕ) → (body : Statements) → Statement
@@ -58,6 +59,19 @@ infixr 40 _▸_
 
 pub data Row : Type 0 where
   row : (op a b c d e : ℕ) → Row
+
+-- the rows that have a span: its ends are two columns (paper 02, M-108). Nothing else takes a span apart
+abbrev pub undefRow : Span → Row
+undefRow span = row 3 (span .from) (span .to) 0 0 0
+
+abbrev pub instrRow : (id lvalue : ℕ) → Span → Row
+instrRow id lvalue span = row 4 id lvalue (span .from) (span .to) 0
+
+abbrev pub forOfRow : (id label : ℕ) → Span → Row
+forOfRow id label span = row 16 id label (span .from) (span .to) 0
+
+abbrev pub forInRow : (id label : ℕ) → Span → Row
+forInRow id label span = row 17 id label (span .from) (span .to) 0
 
 -- "Label 65,535 is none", and so is a TRY's binding
 abbrev pub orNone : Option ℕ → ℕ
@@ -95,7 +109,7 @@ abbrev mutual
   pub valueRows : Value → List Row → List Row
   valueRows (PLAIN instructionRow) after = row 1 instructionRow 0 0 0 0 ∷ after
   valueRows (LOAD place) after = row 2 place 0 0 0 0 ∷ after
-  valueRows (UNDEF span) after = row 3 span 0 0 0 0 ∷ after
+  valueRows (UNDEF span) after = undefRow span ∷ after
   valueRows (SEQ instructions id value) after = instructionsRows instructions (valueRows value (row 5 (countInstructions instructions) id 0 0 0 ∷ after))
   valueRows (LOGICAL operator left right) after = valueRows left (valueRows right (row 6 operator 0 0 0 0 ∷ after))
   valueRows (COND test consequent alternate) after = valueRows test (valueRows consequent (valueRows alternate (row 7 0 0 0 0 0 ∷ after)))
@@ -103,7 +117,7 @@ abbrev mutual
 
   pub instructionsRows : Instructions → List Row → List Row
   instructionsRows no-instructions after = after
-  instructionsRows (instruction id lvalue span value rest) after = valueRows value (row 4 id lvalue span 0 0 ∷ instructionsRows rest after)
+  instructionsRows (instruction id lvalue span value rest) after = valueRows value (instrRow id lvalue span ∷ instructionsRows rest after)
 
 abbrev pub updateRows : Option Value → List Row → List Row
 updateRows none after = after
@@ -111,7 +125,7 @@ updateRows (some value) after = valueRows value after
 
 abbrev mutual
   pub statementRows : Statement → List Row → List Row
-  statementRows (INSTR id lvalue span value) after = valueRows value (row 4 id lvalue span 0 0 ∷ after)
+  statementRows (INSTR id lvalue span value) after = valueRows value (instrRow id lvalue span ∷ after)
   statementRows (IF test id label consequent present alternate) after =
       blockRows consequent (elim present [ true ↦ blockRows alternate (row 10 test 1 id (orNone label) 0 ∷ after) | false ↦ row 10 test 0 id (orNone label) 0 ∷ after ])
   statementRows (SWITCH test id label cases) after = casesRows cases (row 12 test (countCases cases) id (orNone label) 0 ∷ after)
@@ -119,8 +133,8 @@ abbrev mutual
   statementRows (WHILE id label test body) after = valueRows test (blockRows body (row 14 id (orNone label) 0 0 0 ∷ after))
   statementRows (FOR id label init test update body) after =
       valueRows init (valueRows test (updateRows update (blockRows body (row 15 id (orNone label) (updatePresent update) 0 0 ∷ after))))
-  statementRows (FOROF id label span init test body) after = valueRows init (valueRows test (blockRows body (row 16 id (orNone label) span 0 0 ∷ after)))
-  statementRows (FORIN id label span init body) after = valueRows init (blockRows body (row 17 id (orNone label) span 0 0 ∷ after))
+  statementRows (FOROF id label span init test body) after = valueRows init (valueRows test (blockRows body (forOfRow id (orNone label) span ∷ after)))
+  statementRows (FORIN id label span init body) after = valueRows init (blockRows body (forInRow id (orNone label) span ∷ after))
   statementRows (LABEL id label body) after = blockRows body (row 18 id (orNone label) 0 0 0 ∷ after)
   statementRows (TRY id label binding body handler) after = blockRows body (blockRows handler (row 19 id (orNone label) (orNone binding) 0 0 ∷ after))
   statementRows (SCOPE true scope body) after = blockRows body (row 21 scope 0 0 0 0 ∷ after)

@@ -6,6 +6,7 @@ use mathlib.Core.Option.{Option, none, some}
 use mathlib.Core.Bool.{Bool, true, false, _&&_}
 use lib.ListN.{getD}
 use lib.Dec.{eqb, leb}
+use Rattle.table.specs.declared.columns.Span.{Span}
 use Rattle.table.specs.Table.{Table, Block, Terminal, Instruction, Operation, absent, unreachable, throw, return, goto, if, branch, switch, do-while, while, for, for-of, for-in, logical, ternary, optional, sequence, maybe-throw, try, scope, other, load-local, store-local, isAbsent, isGoto, blockAt, terminalAt, instructionAt, instructionRows, label}
 use Rattle.definition.specs.Result.{Result, ok, refused, _>>=_, refuseIf, maybeThrowInValueTerminal}
 use Rattle.definition.specs.Tree.{Value, PLAIN, LOAD, UNDEF, SEQ, LOGICAL, COND, OPTIONAL, Instructions, no-instructions, instruction}
@@ -110,7 +111,7 @@ extractOrRefuse t block (row ∷ rows) visits code at = ok (extractValueBlockRes
 
 -- a visit of a block: the fallthrough that must not be reached, if any, the span passed down, and the visits so far
 abbrev pub VisitValueBlock : Type 0
-VisitValueBlock = (block : ℕ) → (fallthrough : Option ℕ) → (span visits : ℕ) → Result ValueBlockResult
+VisitValueBlock = (block : ℕ) → (fallthrough : Option ℕ) → (span : Span) (visits : ℕ) → Result ValueBlockResult
 
 -- the two ways of a Branch, and none of another terminal
 pub record Ways : Type 0 where
@@ -149,14 +150,14 @@ unfoldable pub testBlockEnded : ValueBlockResult → Option Ways → (at : ℕ) 
 testBlockEnded test none at = refused 25 at (test .visits)
 testBlockEnded test (some ways) at = ok (record { test = test; ways = ways })
 
-unfoldable pub visitTestBlock : Table → VisitValueBlock → (block span visits at : ℕ) → Result TestBlockResult
+unfoldable pub visitTestBlock : Table → VisitValueBlock → (block : ℕ) (span : Span) (visits at : ℕ) → Result TestBlockResult
 visitTestBlock t visit block span visits at = visit block none span visits >>= λ test. testBlockEnded test (branchWays (terminalAt t (test .block))) at
 
-abbrev pub singleInstruction : (id lvalue span : ℕ) → Value → Instructions
+abbrev pub singleInstruction : (id lvalue : ℕ) (span : Span) → Value → Instructions
 singleInstruction id lvalue span value = instruction id lvalue span value no-instructions
 
 -- the value terminal at the end of the block `at`, with that block's id and span. "26 Label, 27 another kind, in a value block"
-unfoldable pub visitValueBlockTerminal : Table → VisitValueBlock → Terminal → (id span visits at : ℕ) → Result ValueTerminalResult
+unfoldable pub visitValueBlockTerminal : Table → VisitValueBlock → Terminal → (id : ℕ) (span : Span) (visits at : ℕ) → Result ValueTerminalResult
 visitValueBlockTerminal t visit absent id span visits at = refused 27 at visits
 visitValueBlockTerminal t visit unreachable id span visits at = refused 27 at visits
 visitValueBlockTerminal t visit (throw value) id span visits at = refused 27 at visits
@@ -213,7 +214,7 @@ visitValueBlockTerminal t visit (scope pruned block fallthrough number) id span 
 -- ---- a block in a value walk
 
 -- a value terminal's value becomes an instruction, and the value is that of its fallthrough. The instruction has the span passed down
-unfoldable pub thenFallthrough : Table → VisitValueBlock → Block → (span : ℕ) → Result ValueTerminalResult → Result ValueBlockResult
+unfoldable pub thenFallthrough : Table → VisitValueBlock → Block → (span : Span) → Result ValueTerminalResult → Result ValueBlockResult
 thenFallthrough t visit block span terminal =
     terminal >>= λ init. visit (init .fallthrough) none span (init .visits) >>= λ final.
     ok (record {
@@ -234,20 +235,20 @@ isEmptyGoto block = isEmpty (instructionRows block) && isGoto (block .terminal)
 
 -- "A value block ending in MaybeThrow whose continuation is an empty Goto block takes its own last instruction as value.
 -- With no instruction the Rust panics; here 28." The result's block is the continuation
-unfoldable pub maybeThrowValue : Table → VisitValueBlock → (number continuation : ℕ) → List ℕ → Option ℕ → (span visits : ℕ) → Bool → Result ValueBlockResult
+unfoldable pub maybeThrowValue : Table → VisitValueBlock → (number continuation : ℕ) → List ℕ → Option ℕ → (span : Span) (visits : ℕ) → Bool → Result ValueBlockResult
 maybeThrowValue t visit number continuation rows fallthrough span visits true = extractOrRefuse t continuation rows visits 28 number
 maybeThrowValue t visit number continuation rows fallthrough span visits false =
     visit continuation fallthrough span visits >>= λ final.
     ok (record { block = final .block; place = final .place; value = wrapWithSequence t rows (final .id) (final .value); id = final .id; visits = final .visits })
 
 -- of a block that ends in a value terminal, or in one that a value block must not have: the terminal, and then its fallthrough
-abbrev pub terminalThenFallthrough : Table → VisitValueBlock → Terminal → ℕ → Block → (span visits : ℕ) → Result ValueBlockResult
+abbrev pub terminalThenFallthrough : Table → VisitValueBlock → Terminal → ℕ → Block → (span : Span) (visits : ℕ) → Result ValueBlockResult
 terminalThenFallthrough t visit terminal number block span visits =
     thenFallthrough t visit block span (visitValueBlockTerminal t visit terminal (block .id) (block .span) visits number)
 
 -- by the terminal of the block `number`, which is present and not `outer`, the fallthrough that must not be reached.
 -- "24 empty Goto value block (named)". "That continuation is looked up first, before any visit: 10 if missing."
-unfoldable pub visitValueBlockAt : Table → VisitValueBlock → Terminal → ℕ → Block → (outer : Option ℕ) → (span visits : ℕ) → Result ValueBlockResult
+unfoldable pub visitValueBlockAt : Table → VisitValueBlock → Terminal → ℕ → Block → (outer : Option ℕ) → (span : Span) (visits : ℕ) → Result ValueBlockResult
 visitValueBlockAt t visit absent number block outer span visits = terminalThenFallthrough t visit absent number block span visits
 visitValueBlockAt t visit unreachable number block outer span visits = terminalThenFallthrough t visit unreachable number block span visits
 visitValueBlockAt t visit (throw value) number block outer span visits = terminalThenFallthrough t visit (throw value) number block span visits
@@ -337,7 +338,7 @@ unlessSame true instructions = no-instructions
 unlessSame false instructions = instructions
 
 -- "A final load of the result's own identifier is dropped."
-unfoldable pub valueBlockResultToSequence : Table → ValueBlockResult → (span : ℕ) → Value
+unfoldable pub valueBlockResultToSequence : Table → ValueBlockResult → (span : Span) → Value
 valueBlockResultToSequence t result span =
     let innermost : Value = innermostValue (result .value) in
     let final : Instructions = singleInstruction (result .id) (result .place) span innermost in

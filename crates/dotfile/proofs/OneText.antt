@@ -12,17 +12,17 @@ use Rattle.dotfile.specs.Prints.{printedDrawing, PrintsDrawing, PrintsRe
 module _ (file : List ℕ) (room : ℕ) (t u : List ℕ) where
   drawing-text : PrintsDrawing file room t → PrintsDrawing file room u → t ≡ u
   drawing-text p q =
-      let e = good-one file (p .words) (q .words) (p .accepted .good) (q .accepted .good) in
+      let e = good-one _ file (p .words) (q .words) (p .accepted .good) (q .accepted .good) in
       p .lines ∙ ap (λ (words : List ℕ). printedDrawing (drawn words room)) e ∙ sym (q .lines)
 
   refusal-text : PrintsRefusal file t → PrintsRefusal file u → t ≡ u
   refusal-text p q =
-      let e = refusal-one file (p .code) (q .code) (p .at) (q .at) (p .refusal) (q .refusal) in
+      let e = refusal-one _ file (p .code) (q .code) (p .at) (q .at) (p .refusal) (q .refusal) in
       p .lines ∙ ap₂ (λ (code at : ℕ). printed code at 0 0 []) (e .0) (e .1) ∙ sym (q .lines)
 
 -- no file prints both a drawing and a refusal
 not-both : (file : List ℕ) (room : ℕ) (t u : List ℕ) → PrintsDrawing file room t → PrintsRefusal file u → ⊥
-not-both file room t u p q = refusal-accepted file (p .words) (q .code) (q .at) (q .refusal) (p .accepted)
+not-both file room t u p q = refusal-accepted _ file (p .words) (q .code) (q .at) (q .refusal) (p .accepted)
 
 pub prints-one : (file : List ℕ) (room : ℕ) (t u : List ℕ) → Prints file room t → Prints file room u → t ≡ u
 prints-one file room t u p q =

@@ -7,6 +7,8 @@ use lib.Dec.{eqb}
 use lib.ListN.{length, take}
 use Rattle.text.specs.declared.write.Written.{Written}
 use Rattle.text.specs.declared.write.Written.the-variants.{Bytes}
+use Rattle.text.specs.Layout.{layout}
+use Rattle.text.specs.declared.version.Version.the-variants.{New}
 use Rattle.text.specs.Answer.{Accepted, Refusal}
 use Rattle.text.specs.Decimal.{choose}
 use Rattle.text.specs.Printed.{printed, writtenOf, lentOf}
@@ -19,13 +21,13 @@ printedDrawing drawing = choose (eqb (drawing .code) 0) (λ _. take (drawing .le
 -- a file in the form prints its table's drawing in `room` bytes; any other file prints its refusal
 pub record PrintsDrawing (file : List ℕ) (room : ℕ) (text : List ℕ) : Type 0 where
   pub words : List ℕ
-  pub accepted : Accepted file words
+  pub accepted : Accepted (layout New) file words
   pub lines : text ≡ printedDrawing (drawn words room)
 
 pub record PrintsRefusal (file text : List ℕ) : Type 0 where
   pub code : ℕ
   pub at : ℕ
-  pub refusal : Refusal file code at
+  pub refusal : Refusal (layout New) file code at
   pub lines : text ≡ printed code at 0 0 []
 
 abbrev pub Prints : (file : List ℕ) → (room : ℕ) → (text : List ℕ) → Type 0

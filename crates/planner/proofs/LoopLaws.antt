@@ -11,12 +11,13 @@ use lib.ListN.{length, getD, set}
 use lib.Seq.{getD-set-same, getD-set-other}
 use native.Mathlib.Decide.{ℕ-discrete}
 use borrow.Author.Tests.{eq-eqb, ne-eqb, eqb-true, eqb-false}
+use Rattle.table.specs.declared.columns.Span.{Span}
 use Rattle.table.specs.Words.{blockCount, placeCount, caseCount, blockWord, codeAt}
 use Rattle.table.specs.Promise.{Promise, InRange, BelowUnlessNone, Ends}
 use Rattle.table.specs.Table.{Table, Block, Terminal, absent, unreachable, throw, return, goto, if, branch, switch, do-while, while, for, for-of, for-in}
 use Rattle.table.specs.Table.{logical, ternary, optional, label, sequence, maybe-throw, try, scope, tableOf, terminalOf, terminalAt, blockAt, unlessNone}
 use Rattle.table.proofs.RangeLaws.{in-range}
-use Rattle.table.proofs.BlockLaws.{no-number, some-number, end-by, span-at}
+use Rattle.table.proofs.BlockLaws.{no-number, some-number, end-by}
 use Rattle.definition.proofs.Never.{or-false}
 use Rattle.definition.proofs.Simulation.{bind-assoc}
 use Rattle.definition.specs.Context.{Flags, has, add, remove, pushed, popped, target-if, target-loop, withVisits, schedule, unscheduledBy}
@@ -25,7 +26,7 @@ use Rattle.definition.specs.Machine.{State, visiting, turn, leave, intoLoop, sc
 use Rattle.definition.specs.Machine as machine
 use Rattle.definition.specs.Result.{Result, ok, refused, _>>=_, refuseIf}
 use Rattle.definition.specs.Statement.{unlessScheduled, unlessUnreachable, loopIsTaken, continueBlockOf, visitUpdate}
-use Rattle.definition.specs.Tree.{Row, row, Value}
+use Rattle.definition.specs.Tree.{Row, row, Value, instrRow}
 use Rattle.definition.specs.Value.{VisitValueBlock, ValueBlockResult, ValueTerminalResult, visitValueBlock, visitValueBlockTerminal}
 use Rattle.control.specs.Contract.{continueScheduled}
 use Rattle.rows.specs.Rows.{Holds, Written}
@@ -80,7 +81,7 @@ module _ {p : Position} {o : Result Made} {b₀ b : List ℕ} {before : Values} 
   pub still-refused : (k : Made → Result Made) (b′ : List ℕ) → (before .code ≡ 0 → ⊥) → Makes p (o >>= k) b₀ before b′
   still-refused k b′ f = record { out = []; same = made-off k f ∙ rw (ne-eqb (before .code) 0 f); held = λ e. absurd (f e) }
 
-  module _ {w : List ℕ} {x : Tally} {n : ℕ} {r : ValueResult} {b₁ : List ℕ} (visit : VisitValueBlock) (form : ValueBlockResult → Value) (block span : ℕ)
+  module _ {w : List ℕ} {x : Tally} {n : ℕ} {r : ValueResult} {b₁ : List ℕ} (visit : VisitValueBlock) (form : ValueBlockResult → Value) (block : ℕ) (span : Span)
       (e : before .code ≡ 0) (v : Met w blockResult (visit block (unlessNone 65535) span (before .visits)) x n b r b₁) where
     -- one value more was refused
     pub value-refused : (b′ : List ℕ) → (r .code ≡ 0 → ⊥) → Makes p (o >>= valueMade visit form block span) b₀ (valuesOf r) b′
@@ -103,7 +104,7 @@ module _ {p : Position} {b : List ℕ} (before : Values) where
   pub more-refused : (step : Made → Result Made) → (before .code ≡ 0 → ⊥) → Spent (noValues p) 6 before → MakesMore p step before b before b
   more-refused step f s = record { made = λ o first m. still-refused m step b f; spent = record { visits = s .visits; paid = omega arith } }
 
-  module _ {w : List ℕ} {r : ValueResult} {b₁ : List ℕ} (visit : VisitValueBlock) (form : ValueBlockResult → Value) (block span : ℕ)
+  module _ {w : List ℕ} {r : ValueResult} {b₁ : List ℕ} (visit : VisitValueBlock) (form : ValueBlockResult → Value) (block : ℕ) (span : Span)
       (e : before .code ≡ 0) (v : Met w blockResult (visit block (unlessNone 65535) span (before .visits)) (record { rows = before .rows; visits = before .visits }) 0 b r b₁) where
     value-more-refused : (r .code ≡ 0 → ⊥) → MakesMore p (valueMade visit form block span) before b (valuesOf r) b₁
     value-more-refused f = record { made = λ o first m. value-refused m visit form block span e v b₁ f; spent = record { visits = v .numbers .visits; paid = omega (arith, v .numbers .paid) } }
@@ -119,7 +120,7 @@ module _ {p : Position} {b : List ℕ} (before : Values) where
       spent = record { visits = rw t (v .numbers .visits); paid = omega (arith, v .numbers .paid, t, most) };
     }
 
-  pub plain-more : {w : List ℕ} {r : ValueResult} {b₁ : List ℕ} (visit : VisitValueBlock) (block span : ℕ) → before .code ≡ 0
+  pub plain-more : {w : List ℕ} {r : ValueResult} {b₁ : List ℕ} (visit : VisitValueBlock) (block : ℕ) (span : Span) → before .code ≡ 0
       → Met w blockResult (visit block (unlessNone 65535) span (before .visits)) (record { rows = before .rows; visits = before .visits }) 0 b r b₁ → (values : Values) → values ≡ valuesOf r
       → MakesMore p (valueMade visit plainForm block span) before b values b₁
   plain-more {r = r} {b₁ = b₁} visit block span e v values q = rw q (by (eqb (r .code) 0) refl)
@@ -129,12 +130,12 @@ module _ {p : Position} {b : List ℕ} (before : Values) where
       by false z = value-more visit plainForm block span e v (valuesOf r) refl (eqb-false (r .code) 0 z)
 
 -- a value, or an update, and then more
-value-then : {B : Type 0} (visit : VisitValueBlock) (form : ValueBlockResult → Value) (block span : ℕ) (made : Made) (k : Made → Result B)
+value-then : {B : Type 0} (visit : VisitValueBlock) (form : ValueBlockResult → Value) (block : ℕ) (span : Span) (made : Made) (k : Made → Result B)
     → (valueMade visit form block span made >>= k) ≡ (visit block none span (made .visits) >>= λ result. k (record { out = made .out ++ valueOut (form result); visits = result .visits }))
 unfolding valueMade _>>=_
 value-then visit form block span made k = bind-assoc (visit block none span (made .visits)) (λ result. ok (record { out = made .out ++ valueOut (form result); visits = result .visits })) k
 
-update-then : {B : Type 0} (visit : VisitValueBlock) (update : Option ℕ) (span : ℕ) (made : Made) (k : Made → Result B)
+update-then : {B : Type 0} (visit : VisitValueBlock) (update : Option ℕ) (span : Span) (made : Made) (k : Made → Result B)
     → (updateMade visit update span made >>= k) ≡ (visitUpdate visit update span (made .visits) >>= λ updated. k (record { out = made .out ++ updateOut (updated .value); visits = updated .visits }))
 unfolding visitUpdate updateOut _>>=_
 update-then visit none span made k = ap (λ (out : List Row). k (record { out = out; visits = made .visits })) (sym (append-nil (made .out)))
@@ -300,8 +301,8 @@ module _ (w : List ℕ) (S H : Flags) (p : Position) (en : Entered w p) where
   abbrev visit : VisitValueBlock
   visit = visitValueBlock (tableOf w) (127 - p .depth)
 
-  abbrev span : ℕ
-  span = blockWord w (p .block) 9
+  abbrev span : Span
+  span = blockAt (tableOf w) (p .block) .span
 
   -- the block's turn is that of a loop with these blocks, this label and these values
   abbrev Turns : (f c l n : ℕ) → (ℕ → Result Made) → Type 0
@@ -357,9 +358,6 @@ module _ (w : List ℕ) (S H : Flags) (p : Position) (en : Entered w p) where
       ∙ ap (λ (z : Option ℕ). turn (loopTurn (p .block) f c l z (p .count) values F R C))
       (label-scheduled w (en .promise) S H (p .visits) C seen f (few-blocks w (en .promise) f h) ∙ ap unlessNone (sym o))
 
-  span-is : blockAt (tableOf w) (p .block) .span ≡ span
-  span-is = span-at w (p .block) (en .block)
-
   do-while-turns : (l c f n : ℕ) → Is (do-while l c f) → f < blockCount w → n ≡ unlessTaken (has S f || has H f) f → Turns f c l n (λ v. ok (noneMade v))
   unfolding terminalTurn loopTurn _>>=_
   do-while-turns l c f n q h o = turns (do-while l c f) f c l n (λ v. ok (noneMade v)) q (λ F R C. then-same (schedule (target-loop f c l) C) _ _ (λ inside. rw (append-nil R))) h o
@@ -371,12 +369,12 @@ module _ (w : List ℕ) (S H : Flags) (p : Position) (en : Entered w p) where
 
   for-in-turns : (c l f n : ℕ) → Is (for-in c l f) → f < blockCount w → n ≡ unlessTaken (has S f || has H f) f → Turns f c l n (λ v. valueMade visit (flatForm (tableOf w) span) c span (noneMade v))
   unfolding terminalTurn loopTurn
-  for-in-turns c l f n q h o = turns (for-in c l f) f c l n _ q (λ F R C. rw span-is (then-same (schedule (target-loop f c l) C) _ _ (λ inside.
+  for-in-turns c l f n q h o = turns (for-in c l f) f c l n _ q (λ F R C. (then-same (schedule (target-loop f c l) C) _ _ (λ inside.
       sym (value-then visit (flatForm (tableOf w) span) c span (noneMade (inside .visits)) (body f l F R C inside (unlessScheduled C f)))))) h o
 
   for-of-turns : (c test l f n : ℕ) → Is (for-of c test l f) → f < blockCount w → n ≡ unlessTaken (has S f || has H f) f → Turns f c l n (λ v. forOfMade (tableOf w) visit c test span (noneMade v))
   unfolding terminalTurn loopTurn
-  for-of-turns c test l f n q h o = turns (for-of c test l f) f c l n _ q (λ F R C. rw span-is (then-same (schedule (target-loop f c l) C) _ _ (λ inside.
+  for-of-turns c test l f n q h o = turns (for-of c test l f) f c l n _ q (λ F R C. (then-same (schedule (target-loop f c l) C) _ _ (λ inside.
       let k : Made → Result State = body f l F R C inside (unlessScheduled C f) in
       let flat : ValueBlockResult → Value = flatForm (tableOf w) span in
       sym (bind-assoc (valueMade visit flat c span (noneMade (inside .visits))) (valueMade visit flat test span) k
@@ -390,7 +388,7 @@ module _ (w : List ℕ) (S H : Flags) (p : Position) (en : Entered w p) where
   unfolding terminalTurn loopTurn
   for-turns init test update l f n q h o =
       turns (for init test update l f) f (continueBlockOf update test) l n _ q
-      (λ F R C. rw span-is (then-same (schedule (target-loop f (continueBlockOf update test) l) C) _ _ (λ inside.
+      (λ F R C. (then-same (schedule (target-loop f (continueBlockOf update test) l) C) _ _ (λ inside.
       let k : Made → Result State = body f l F R C inside (unlessScheduled C f) in
       let flat : ValueBlockResult → Value = flatForm (tableOf w) span in
       let start : Result Made = valueMade visit flat init span (noneMade (inside .visits)) in
@@ -409,7 +407,7 @@ module _ (w : List ℕ) (S H : Flags) (p : Position) (en : Entered w p) where
       → terminalTurn (tableOf w) visit (while c l f) (p .block) (blockAt (tableOf w) (p .block)) F R (p .count) C
       ≡ unlessUnreachable (tableOf w) C f >>= λ taken. loopTurn (p .block) f c l taken (p .count) (λ v. valueMade visit plainForm c span (noneMade v)) F R C
   unfolding terminalTurn loopTurn
-  while-asks c l f F R C = rw span-is (then-same (unlessUnreachable (tableOf w) C f) _ _ (λ taken. then-same (schedule (target-loop f c l) C) _ _ (λ inside.
+  while-asks c l f F R C = (then-same (unlessUnreachable (tableOf w) C f) _ _ (λ taken. then-same (schedule (target-loop f c l) C) _ _ (λ inside.
       sym (value-then visit plainForm c span (noneMade (inside .visits)) (body f l F R C inside taken)))))
 
   while-turns : (c l f n : ℕ) → Is (while c l f) → f < blockCount w → (blockWord w f 2 ≡ 0 → ⊥) → n ≡ unlessTaken (eqb (blockWord w f 2) 1 || (has S f || has H f)) f
@@ -436,7 +434,7 @@ continue-is test update = at (eqb update 65535)
 
 for-turns-at : (w : List ℕ) (S H : Flags) (p : Position) (en : Entered w p) (init test update l f c n : ℕ) → terminalAt (tableOf w) (p .block) ≡ for init test (unlessNone update) l f
     → c ≡ continuesAt (eqb update 65535) test update → f < blockCount w → n ≡ unlessTaken (has S f || has H f) f
-    → Turns w S H p en f c l n (λ v. forMade (tableOf w) (visitValueBlock (tableOf w) (127 - p .depth)) init test (unlessNone update) (blockWord w (p .block) 9) (noneMade v))
+    → Turns w S H p en f c l n (λ v. forMade (tableOf w) (visitValueBlock (tableOf w) (127 - p .depth)) init test (unlessNone update) (blockAt (tableOf w) (p .block) .span) (noneMade v))
 for-turns-at w S H p en init test update l f c n q o h z = rw (o ∙ sym (continue-is test update)) (for-turns w S H p en init test (unlessNone update) l f n q h z)
 
 module _ {w : List ℕ} {block init test : ℕ} (update : ℕ) {l f : ℕ} (ends : Ends w block (for init test (unlessNone update) l f)) where
@@ -584,7 +582,7 @@ module _ (w : List ℕ) (S H : Flags) (p : Position) (en : Entered w p) (f : ℕ
 
   -- the statement, once its value is made
   left : List machine.Frame → List Row → definition.Context → ValueTerminalResult → Result State
-  left F R C result = ok (leave (unlessScheduled C f) F ((R ++ valueOut (result .value)) ++ (row 4 (result .id) (result .place) (blockAt (tableOf w) (p .block) .span) 0 0 ∷ [])) (suc (p .count))
+  left F R C result = ok (leave (unlessScheduled C f) F ((R ++ valueOut (result .value)) ++ (instrRow (result .id) (result .place) (blockAt (tableOf w) (p .block) .span) ∷ [])) (suc (p .count))
       (unscheduledIf (unlessScheduled C f) (withVisits (result .visits) (scheduledIf (unlessScheduled C f) C))))
 
   value-step : (F : List machine.Frame) (R : List Row) (C : definition.Context) → Seen S H (p .visits) C → terminalStep w p F R C ≡ outcome >>= left F R C
@@ -605,7 +603,7 @@ module _ (w : List ℕ) (S H : Flags) (p : Position) (en : Entered w p) (f : ℕ
     })
 
     pub value-statement-left : (n rows : ℕ) (plan : Plan) (b′ : List ℕ) → r .code ≡ 0 → n ≡ unlessTaken (has S f || has H f) f
-        → Written b₁ (r .tally .rows) (row 4 (r .id) (r .place) (blockWord w (p .block) 9) 0 0) b′ rows
+        → Written b₁ (r .tally .rows) (instrRow (r .id) (r .place) (blockAt (tableOf w) (p .block) .span)) b′ rows
         → plan ≡ leaving n (p .depth) (p .count + 1) rows (r .tally .visits) (brieflyIf (eqb n 65535) n) → PlannedRows w S H p b plan b′
     value-statement-left n rows plan b′ z o put e = subst (λ (y : Plan). PlannedRows w S H p b y b′) (sym e) (record {
       out = valueOut (v .value) ++ (last ∷ []);
@@ -628,7 +626,7 @@ module _ (w : List ℕ) (S H : Flags) (p : Position) (en : Entered w p) (f : ℕ
     })
       where
         last : Row
-        last = row 4 (r .id) (r .place) (blockWord w (p .block) 9) 0 0
+        last = instrRow (r .id) (r .place) (blockAt (tableOf w) (p .block) .span)
 
         free : Label S n
         free = rw o (label-taken S H false f (few-blocks w (en .promise) f fallthrough-below))
@@ -644,7 +642,6 @@ module _ (w : List ℕ) (S H : Flags) (p : Position) (en : Entered w p) (f : ℕ
             ∙ rw (
               label-scheduled w (en .promise) S H (p .visits) C seen f (few-blocks w (en .promise) f fallthrough-below) ∙ ap unlessNone (sym o),
               value-moved n (r .tally .visits) C,
-              span-at w (p .block) (en .block),
               append-assoc R (valueOut (v .value)) (last ∷ []),
             )
             (sym (leave-applied n (p .depth) (p .count + 1) rows (r .tally .visits) (brieflyIf (eqb n 65535) n) F (R ++ (valueOut (v .value) ++ (last ∷ []))) C _

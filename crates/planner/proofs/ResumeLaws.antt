@@ -13,7 +13,7 @@ use Rattle.table.specs.Table.{logical, ternary, optional, label, sequence, mayb
 use Rattle.table.specs.Table.{unlessNone}
 use Rattle.table.proofs.TableLaws.{case-at, length-blocks, length-cases}
 use Rattle.table.proofs.RangeLaws.{case-block}
-use Rattle.table.proofs.BlockLaws.{no-number, end-by, code-at, span-at}
+use Rattle.table.proofs.BlockLaws.{no-number, end-by, code-at}
 use Rattle.definition.specs.Build.{rejected, accepted}
 use Rattle.definition.specs.Context.{Flags, has, isScheduled, target-case, schedule, withVisits}
 use Rattle.definition.specs.Context as definition
@@ -273,17 +273,18 @@ module _ (w : List ℕ) (p : Position) (frame : Frame) where
       test-below = ranges w (re .promise) (frame .block) (re .block) _ do-while-at .1
 
       abbrev tests : ℕ → Result ValueBlockResult
-      tests visits = visitValueBlock (tableOf w) (128 - p .depth) (col 4) (unlessNone 65535) (col 9) visits
+      tests visits = visitValueBlock (tableOf w) (128 - p .depth) (col 4) (unlessNone 65535) (blockAt t (frame .block) .span) visits
 
       abbrev closes : List machine.Frame → List Row → definition.Context → ValueBlockResult → Result State
       closes F R C tested = ok (close t (frameOf frame) F (R ++ valueOut (tested .value)) (withVisits (tested .visits) C))
 
       test-step : (F : List machine.Frame) (R : List Row) (C : definition.Context) → C .visits ≡ p .visits → resumeStep w p frame F R C ≡ (tests (p .visits) >>= closes F R C)
       unfolding resumeAt
-      test-step F R C on = resume-at _ F R C do-while-at ∙ rw (no-number, span-at w (frame .block) (re .block), on)
+      test-step F R C on = resume-at _ F R C do-while-at ∙ rw (no-number, on)
 
       module _ (start : Tally) (buffer buffer₁ : List ℕ) (r : ValueResult)
-          (m : Met w blockResult (visitValueBlock (tableOf w) (128 - p .depth) (col 4) (unlessNone 65535) (col 9) (p .visits)) start 0 buffer r buffer₁) where
+          (m : Met w blockResult (visitValueBlock (tableOf w) (128 - p .depth) (col 4) (unlessNone 65535) (blockAt t (frame .block) .span) (p .visits)) start 0
+          buffer r buffer₁) where
         pub test-refused : (after : Position) (plan : Plan) → after .visits ≡ r .tally .visits → (r .code ≡ 0 → ⊥) → plan ≡ refusing after (r .code) (r .at) → PlannedOn w p frame buffer plan buffer₁
         test-refused after plan e nz q = subst (λ (y : Plan). PlannedOn w p frame buffer y buffer₁) (sym q) (record {
           out = [];

@@ -9,6 +9,7 @@ use mathlib.Core.Option.{Option, none, some}
 use lib.Dec.{eqb}
 use lib.ListN.{length}
 use borrow.Author.Tests.{ne-eqb}
+use Rattle.table.specs.declared.columns.Span.{Span}
 use Rattle.table.specs.Promise.{Ends, Heads}
 use Rattle.table.specs.Table.{unlessNone, throw, return, scope}
 use Rattle.table.proofs.BlockLaws.{no-number, some-number}
@@ -140,7 +141,7 @@ left-planned w p out b b′ rows′ count′ plan held same e = subst (λ (z : P
 pub row-held : (b b′ : List ℕ) (n n′ : ℕ) (r : Row) → Written b n r b′ n′ → (before : List Row) → Holds b n (stack.pushed before []) → Holds b′ n′ (stack.pushed (before ++ (r ∷ [])) [])
 row-held b b′ n n′ r h before k = rw (push-row-after) at (written-held h (stack.pushed before []) k)
 
-module _ {w : List ℕ} {p : Position} {plan : Plan} {b b′ : List ℕ} {rows′ v first count id span : ℕ} (en : Entered w p) (heads : Heads w (p .block) first count id span) where
+module _ {w : List ℕ} {p : Position} {plan : Plan} {b b′ : List ℕ} {rows′ v first count id : ℕ} {span : Span} (en : Entered w p) (heads : Heads w (p .block) first count id span) where
   pub return-left : Ends w (p .block) (return v) → Written b (p .rows) (row 22 v id 0 0 0) b′ rows′ → plan ≡ leaving 65535 (p .depth) (p .count + 1) rows′ (p .visits) Nothing
       → Planned (terminalStep w p) (SameVisits p) [] (p .depth) (p .rows) b plan b′
   unfolding terminalTurn

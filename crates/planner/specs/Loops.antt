@@ -5,9 +5,9 @@ use mathlib.Core.Bool.{Bool, true, false, _||_}
 use mathlib.Core.List.{List, [], _++_}
 use mathlib.Core.Option.{Option, none, some}
 use lib.Dec.{eqb}
-use Rattle.table.specs.Words.{blockWord}
+use Rattle.table.specs.declared.columns.Span.{Span}
 use Rattle.table.specs.Table.{Table, Terminal, absent, unreachable, throw, return, goto, if, branch, switch, do-while, while, for, for-of, for-in, logical}
-use Rattle.table.specs.Table.{ternary, optional, label, sequence, maybe-throw, try, scope, tableOf, unlessNone}
+use Rattle.table.specs.Table.{ternary, optional, label, sequence, maybe-throw, try, scope, tableOf, blockAt, unlessNone}
 use Rattle.definition.specs.Context.{Flags, has}
 use Rattle.definition.specs.Context as definition
 use Rattle.definition.specs.Machine.{State, intoLoop, valueOut}
@@ -46,7 +46,7 @@ abbrev pub noneMade : (visits : ℕ) → Made
 noneMade visits = record { out = []; visits = visits }
 
 -- the value of a block, put out in the form that `form` gives it
-unfoldable pub valueMade : VisitValueBlock → (form : ValueBlockResult → Value) → (block span : ℕ) → Made → Result Made
+unfoldable pub valueMade : VisitValueBlock → (form : ValueBlockResult → Value) → (block : ℕ) (span : Span) → Made → Result Made
 valueMade visit form block span made = visit block none span (made .visits) >>= λ result. ok (record { out = made .out ++ valueOut (form result); visits = result .visits })
 
 -- as it is
@@ -54,39 +54,41 @@ abbrev pub plainForm : ValueBlockResult → Value
 plainForm result = result .value
 
 -- flattened: init, and ForOf's test
-abbrev pub flatForm : Table → (span : ℕ) → ValueBlockResult → Value
+abbrev pub flatForm : Table → (span : Span) → ValueBlockResult → Value
 flatForm t span result = valueBlockResultToSequence t result span
 
-abbrev pub updateMade : VisitValueBlock → Option ℕ → (span : ℕ) → Made → Result Made
+abbrev pub updateMade : VisitValueBlock → Option ℕ → (span : Span) → Made → Result Made
 updateMade visit none span made = ok made
 updateMade visit (some update) span made = valueMade visit plainForm update span made
 
 -- For: init, test, update. ForOf: init, test
-abbrev pub testedMade : Table → VisitValueBlock → (init test span : ℕ) → Made → Result Made
+abbrev pub testedMade : Table → VisitValueBlock → (init test : ℕ) (span : Span) → Made → Result Made
 testedMade t visit init test span made = valueMade visit (flatForm t span) init span made >>= valueMade visit plainForm test span
 
-abbrev pub forMade : Table → VisitValueBlock → (init test : ℕ) → (update : Option ℕ) → (span : ℕ) → Made → Result Made
+abbrev pub forMade : Table → VisitValueBlock → (init test : ℕ) → (update : Option ℕ) → (span : Span) → Made → Result Made
 forMade t visit init test update span made = testedMade t visit init test span made >>= updateMade visit update span
 
-abbrev pub forOfMade : Table → VisitValueBlock → (init test span : ℕ) → Made → Result Made
+abbrev pub forOfMade : Table → VisitValueBlock → (init test : ℕ) (span : Span) → Made → Result Made
 forOfMade t visit init test span made = valueMade visit (flatForm t span) init span made >>= valueMade visit (flatForm t span) test span
 
 -- the same of a position's block: its depth and its span
 module _ (words : List ℕ) (p : Position) where
   abbrev pub plainMade : (block : ℕ) → Made → Result Made
-  plainMade block = valueMade (visitValueBlock (tableOf words) (127 - p .depth)) plainForm block (blockWord words (p .block) 9)
+  plainMade block = valueMade (visitValueBlock (tableOf words) (127 - p .depth)) plainForm block (blockAt (tableOf words) (p .block) .span)
 
   abbrev pub flatMade : (block : ℕ) → Made → Result Made
-  flatMade block = valueMade (visitValueBlock (tableOf words) (127 - p .depth)) (flatForm (tableOf words) (blockWord words (p .block) 9)) block (blockWord words (p .block) 9)
+  flatMade block = valueMade (visitValueBlock (tableOf words) (127 - p .depth)) (flatForm (tableOf words) (blockAt (tableOf words) (p .block) .span)) block (blockAt (tableOf words) (p .block) .span)
 
   abbrev pub testedValues : (init test : ℕ) → Result Made
-  testedValues init test = testedMade (tableOf words) (visitValueBlock (tableOf words) (127 - p .depth)) init test (blockWord words (p .block) 9) (noneMade (p .visits))
+  testedValues init test = testedMade (tableOf words) (visitValueBlock (tableOf words) (127 - p .depth)) init test (blockAt (tableOf words) (p .block) .span) (noneMade (p .visits))
 
   abbrev pub forValues : (init test update : ℕ) → Result Made
-  forValues init test update = forMade (tableOf words) (visitValueBlock (tableOf words) (127 - p .depth)) init test (unlessNone update) (blockWord words (p .block) 9) (noneMade (p .visits))
+  forValues init test update =
+      forMade (tableOf words) (visitValueBlock (tableOf words) (127 - p .depth)) init test (unlessNone update) (blockAt (tableOf words) (p .block) .span)
+      (noneMade (p .visits))
 
   abbrev pub forOfValues : (init test : ℕ) → Result Made
-  forOfValues init test = forOfMade (tableOf words) (visitValueBlock (tableOf words) (127 - p .depth)) init test (blockWord words (p .block) 9) (noneMade (p .visits))
+  forOfValues init test = forOfMade (tableOf words) (visitValueBlock (tableOf words) (127 - p .depth)) init test (blockAt (tableOf words) (p .block) .span) (noneMade (p .visits))
 
 -- ---- the code's values
 

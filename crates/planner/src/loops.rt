@@ -17,6 +17,7 @@ use control::ControlFlowTarget;
 use control::is_blocked;
 use rows::INSTR;
 use rows::put;
+use table::columns::span_at;
 use table::terminals::do_while_at;
 use table::terminals::for_at;
 use table::terminals::for_in_at;
@@ -88,7 +89,7 @@ fn plain_value(words: &[u32], tree: &mut [u32], p: Position, before: Values, blo
     if before.code != 0 {
         return before;
     }
-    let span = block_word(words, p.block, 9);
+    let span = span_at(words, p.block);
     let tally = Tally {
         rows: before.rows,
         visits: before.visits,
@@ -106,7 +107,7 @@ fn flat_value(words: &[u32], tree: &mut [u32], p: Position, before: Values, bloc
     if before.code != 0 {
         return before;
     }
-    let span = block_word(words, p.block, 9);
+    let span = span_at(words, p.block);
     let tally = Tally {
         rows: before.rows,
         visits: before.visits,
@@ -461,7 +462,7 @@ pub fn visit_value<'a>(
 {
     let fallthrough = block_word(words, p.block, column);
     let label = unless_scheduled(scheduled, catch_handlers, fallthrough);
-    let span = block_word(words, p.block, 9);
+    let span = span_at(words, p.block);
     let tally = Tally {
         rows: p.rows,
         visits: p.visits,
@@ -472,7 +473,16 @@ pub fn visit_value<'a>(
         let position = advance(p, p.count, after.rows, after.visits, Stage::Visit);
         return refuse(position, result.code, result.at);
     }
-    let rows = put(tree, after.rows, INSTR, result.id, result.place, span, 0, 0);
+    let rows = put(
+        tree,
+        after.rows,
+        INSTR,
+        result.id,
+        result.place,
+        span.from,
+        span.to,
+        0,
+    );
     leave(
         label,
         p.depth,

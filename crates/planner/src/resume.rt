@@ -31,6 +31,7 @@ use rows::SWITCH;
 use rows::TRY;
 use rows::WHILE;
 use rows::put;
+use table::columns::span_at;
 use table::words::block_word;
 use table::words::case_word;
 use value::result::Tally;
@@ -98,7 +99,7 @@ fn closing_row(words: &[u32], frame: Frame) -> ClosingRow
     let third = block_word(words, frame.block, 5);
     let binding = block_word(words, frame.block, 6);
     let id = block_word(words, frame.block, 8);
-    let span = block_word(words, frame.block, 9);
+    let span = span_at(words, frame.block);
     let alternate = flag(frame.second);
     let update = has_update(third);
     match block_word(words, frame.block, 2) {
@@ -107,8 +108,8 @@ fn closing_row(words: &[u32], frame: Frame) -> ClosingRow
         8 => row(DOWHILE, id, frame.label, 0, 0),
         9 => row(WHILE, id, frame.label, 0, 0),
         10 => row(FOR, id, frame.label, update, 0),
-        11 => row(FOROF, id, frame.label, span, 0),
-        12 => row(FORIN, id, frame.label, span, 0),
+        11 => row(FOROF, id, frame.label, span.from, span.to),
+        12 => row(FORIN, id, frame.label, span.from, span.to),
         16 => row(LABEL, id, frame.label, 0, 0),
         19 => row(TRY, id, frame.label, binding, 0),
         20 => row(SCOPE, third, 0, 0, 0),
@@ -254,7 +255,7 @@ fn resume_do_while(words: &[u32], tree: &mut [u32], p: Position, frame: Frame) -
     ensures { λ r. ⌜ PlannedOn (now (words .entry)) p frame (now (tree .entry)) r (now (tree .exit)) ⌝ }
 {
     let test = block_word(words, frame.block, 4);
-    let span = block_word(words, frame.block, 9);
+    let span = span_at(words, frame.block);
     let tally = Tally {
         rows: p.rows,
         visits: p.visits,

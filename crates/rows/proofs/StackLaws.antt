@@ -5,7 +5,8 @@ use Prim.Native.Nat.{ℕ, zero, suc, _+_}
 use native.Mathlib.Omega.{arith}
 use lib.ListN.{length}
 use Rattle.table.specs.Table.{Table, instructionAt, rowsFrom}
-use Rattle.definition.specs.Tree.{Row, row, Value, PLAIN, LOAD, UNDEF, SEQ, LOGICAL, COND, OPTIONAL, Instructions, no-instructions, instruction, valueRows, instructionsRows, countInstructions}
+use Rattle.definition.specs.Tree.{Row, row, Value, PLAIN, LOAD, UNDEF, SEQ, LOGICAL, COND, OPTIONAL, Instructions, no-instructions, instruction, valueRows}
+use Rattle.definition.specs.Tree.{instructionsRows, countInstructions, instrRow}
 use Rattle.definition.specs.Machine.{valueOut, instructionsOut}
 use Rattle.definition.specs.Value.{instructionsOf}
 use Rattle.rows.specs.Stack.{pushed, pushValue, pushInstructions, pushInstructionRows}
@@ -36,7 +37,7 @@ mutual
 
   instructions-pushed : (is : Instructions) (after below : List Row) → pushed (instructionsRows is after) below ≡ pushed after (pushInstructions is below)
   instructions-pushed no-instructions after below = refl
-  instructions-pushed (instruction i l s v rest) after below = value-pushed v (row 4 i l s 0 0 ∷ instructionsRows rest after) below ∙ instructions-pushed rest after _
+  instructions-pushed (instruction i l s v rest) after below = value-pushed v (instrRow i l s ∷ instructionsRows rest after) below ∙ instructions-pushed rest after _
 
 -- a value's rows, in the order of the tree's rows
 pub push-value : (v : Value) (below : List Row) → pushValue v below ≡ pushed (valueOut v) below
@@ -70,8 +71,8 @@ push-instructions-of t (i ∷ rows) more below = push-instructions-of t rows mor
 -- one row more, at the end
 pub push-next-row : (t : Table) (first count : ℕ) (below : List Row)
     → pushInstructionRows t (rowsFrom first (suc count)) below
-    ≡ row 4 (instructionAt t (first + count) .id) (instructionAt t (first + count) .lvalue) (instructionAt t (first + count) .span) 0 0 ∷ row 1 (first + count)
-    0 0 0 0 ∷ pushInstructionRows t (rowsFrom first count) below
+    ≡ instrRow (instructionAt t (first + count) .id) (instructionAt t (first + count) .lvalue) (instructionAt t (first + count) .span) ∷ row 1 (first + count) 0
+    0 0 0 ∷ pushInstructionRows t (rowsFrom first count) below
 unfolding pushInstructionRows
 push-next-row t first zero below =
     let e : first + 0 ≡ first = omega arith in rw e

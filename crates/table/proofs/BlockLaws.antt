@@ -23,7 +23,7 @@ module _ (ws : List ℕ) (b : ℕ) (h : b < blockCount ws) where
   unfolding blockOf
   id-at = ap (λ (k : Block). k .id) (block-at ws b h)
 
-  pub span-at : blockAt (tableOf ws) b .span ≡ blockWord ws b 9
+  pub span-at : blockAt (tableOf ws) b .span ≡ record { from = blockWord ws b 9; to = blockWord ws b 10 }
   unfolding blockOf
   span-at = ap (λ (k : Block). k .span) (block-at ws b h)
 

@@ -3,15 +3,20 @@ use mathlib.Core.Path.{_≡_, refl, ap, sym, subst, _∙_}
 use mathlib.Core.List.{List}
 use Prim.Native.Nat.{ℕ, _<_}
 use native.Mathlib.Omega.{arith}
+use Rattle.table.specs.declared.columns.Span.{Span}
 use Rattle.table.specs.Words.{blockCount, instructionCount, caseCount, placeCount, blockWord, instructionWord, caseWord, operationCodeAt}
 use Rattle.table.specs.Check.{caseRules, place-or-none}
-use Rattle.table.specs.Table.{Instruction, Operation, load-local, store-local, tableOf, blockOf, instructionOf, caseOf, operationOf, instructionRowsAt, rowsFrom}
+use Rattle.table.specs.Table.{Instruction, Operation, load-local, store-local, tableOf, blockAt, blockOf, instructionOf, caseOf, operationOf, instructionRowsAt, rowsFrom}
 use Rattle.table.specs.Promise.{Promise, OperandsInRange, Heads, Instructs, Operates, Chooses}
 use Rattle.table.proofs.TableLaws.{block-at, instruction-at, case-at}
 use Rattle.table.proofs.RangeLaws.{run-within, lvalue-below, operands-in-range, below-unless-none, case-block}
 
 module _ {ws : List ℕ} {b : ℕ} where
-  pub heads : {first count id span : ℕ} → Promise ws → b < blockCount ws → first ≡ blockWord ws b 0 → count ≡ blockWord ws b 1 → id ≡ blockWord ws b 8 → span ≡ blockWord ws b 9
+  pub spans : {from to : ℕ} → Promise ws → b < blockCount ws → from ≡ blockWord ws b 9 → to ≡ blockWord ws b 10 → record { from = from; to = to } ≡ blockAt (tableOf ws) b .span
+  unfolding blockOf
+  spans p inside eb et = rw (block-at ws b inside, eb, et)
+
+  pub heads : {first count id : ℕ} {span : Span} → Promise ws → b < blockCount ws → first ≡ blockWord ws b 0 → count ≡ blockWord ws b 1 → id ≡ blockWord ws b 8 → span ≡ blockAt (tableOf ws) b .span
       → Heads ws b first count id span
   unfolding blockOf
   heads p inside ef ec ei es =
@@ -21,24 +26,25 @@ module _ {ws : List ℕ} {b : ℕ} where
         is-first = rw (row, ef);
         is-count = rw (row, ec);
         is-id = rw (row, ei);
-        is-span = rw (row, es);
+        is-span = sym es;
         there = rw (ef, ec) (run-within ws p b inside);
       }
 
   -- "A block's instructions are `count` rows from `first`"
-  pub head-rows : {first count id span : ℕ} → Heads ws b first count id span → instructionRowsAt (tableOf ws) b ≡ rowsFrom first count
+  pub head-rows : {first count id : ℕ} {span : Span} → Heads ws b first count id span → instructionRowsAt (tableOf ws) b ≡ rowsFrom first count
   head-rows h = rw (h .is-first, h .is-count)
 
 module _ {ws : List ℕ} {i : ℕ} (p : Promise ws) (inside : i < instructionCount ws) where
-  pub instructs : {id lvalue span : ℕ} → id ≡ instructionWord ws i 0 → lvalue ≡ instructionWord ws i 1 → span ≡ instructionWord ws i 5 → Instructs ws i id lvalue span
+  pub instructs : {id lvalue from to : ℕ} → id ≡ instructionWord ws i 0 → lvalue ≡ instructionWord ws i 1 → from ≡ instructionWord ws i 5 → to ≡ instructionWord ws i 6
+      → Instructs ws i id lvalue (record { from = from; to = to })
   unfolding instructionOf
-  instructs ei el es =
+  instructs ei el eb et =
       let row = instruction-at ws i inside in
       record {
         few = p .sized .limited .places;
         is-id = rw (row, ei);
         is-lvalue = rw (row, el);
-        is-span = rw (row, es);
+        is-span = rw (row, eb, et);
         there = rw el (lvalue-below ws p i inside);
       }
 

@@ -113,8 +113,8 @@ module _ (ws : List ℕ) where
       record {
         sized = record { limited = limited ws (s .long) (s .counts); long = s .exact };
         entry = s .entry;
-        block = every ws (blockRules ws) 10 (block-width ws) blocksBegin (blockCount ws) (blocks .0);
-        instruction = every ws (instructionRules ws) 6 (instruction-width ws) (instructionsBegin ws) (instructionCount ws) (instructions .0);
+        block = every ws (blockRules ws) 11 (block-width ws) blocksBegin (blockCount ws) (blocks .0);
+        instruction = every ws (instructionRules ws) 7 (instruction-width ws) (instructionsBegin ws) (instructionCount ws) (instructions .0);
         case = every ws (caseRules ws) 2 (case-width ws) (casesBegin ws) (caseCount ws) (cases .0);
         place = λ i l. row-below _ _ (single _ (placesBegin ws) i (every ws (placeRules ws) 1 (place-width ws) (placesBegin ws) (placeCount ws) (places .0) i l 0 (omega arith)));
         identifier = λ i l. number-most _ _ (single _ (identifiersBegin ws) i (every ws (identifierRules ws) 1 (identifier-width ws) (identifiersBegin ws) (identifierCount ws) (places .1) i l 0 (omega arith)));
@@ -128,8 +128,8 @@ module _ (ws : List ℕ) where
   promise-checked p =
       let l : Limited ws = p .sized .limited in
       checked-words ws (l .head) (counts-all ws 1 limits (counts l)) (p .sized .long) (p .entry)
-      ∙ (on _ _ (every-row ws (blockRules ws) 10 (block-width ws) blocksBegin (blockCount ws) (p .block))
-      ∙ (on _ _ (every-row ws (instructionRules ws) 6 (instruction-width ws) (instructionsBegin ws) (instructionCount ws) (p .instruction))
+      ∙ (on _ _ (every-row ws (blockRules ws) 11 (block-width ws) blocksBegin (blockCount ws) (p .block))
+      ∙ (on _ _ (every-row ws (instructionRules ws) 7 (instruction-width ws) (instructionsBegin ws) (instructionCount ws) (p .instruction))
       ∙ (on _ _ (every-row ws (caseRules ws) 2 (case-width ws) (casesBegin ws) (caseCount ws) (p .case))
       ∙ (on _ _ (every-row ws (placeRules ws) 1 (place-width ws) (placesBegin ws) (placeCount ws) (λ i l k m. single _ (placesBegin ws) i k m (row-fitting _ _ (p .place i l))))
       ∙ every-row ws (identifierRules ws) 1 (identifier-width ws) (identifiersBegin ws) (identifierCount ws) (λ i l k m. single _ (identifiersBegin ws) i k m (number-fitting _ _ (p .identifier i l)))))))

@@ -106,11 +106,11 @@ module _ (ws : List ℕ) (p : Promise ws) (b : ℕ) (inside : b < blockCount ws)
   terminal-fits k l = rw (← (same ws b k l)) (p .block b inside (3 + k) (omega arith))
 
   -- a row with code 0 is 0 throughout
-  pub absent-zero : blockWord ws b 2 ≡ 0 → (k : ℕ) → k < 10 → blockWord ws b k ≡ 0
-  absent-zero z k l = unused-zero _ (rw (getD-replicate 10 k unused unused l) at (rw (absent-rules ws b z) at (p .block b inside k l)))
+  pub absent-zero : blockWord ws b 2 ≡ 0 → (k : ℕ) → k < 11 → blockWord ws b k ≡ 0
+  absent-zero z k l = unused-zero _ (rw (getD-replicate 11 k unused unused l) at (rw (absent-rules ws b z) at (p .block b inside k l)))
 
   -- the other columns, whatever the code
-  rule-at : (k : ℕ) {rule : Rule} → k < 10 → ((blockWord ws b 2 ≡ 0 → ⊥) → getD (blockRules ws b) k unused ≡ rule) → (t : Bool) → eqb (blockWord ws b 2) 0 ≡ t
+  rule-at : (k : ℕ) {rule : Rule} → k < 11 → ((blockWord ws b 2 ≡ 0 → ⊥) → getD (blockRules ws b) k unused ≡ rule) → (t : Bool) → eqb (blockWord ws b 2) 0 ≡ t
       → (blockWord ws b 2 ≡ 0) ⊎ (fits rule (blockWord ws b k) ≡ true)
   rule-at k l f true e = inl (eqb-true _ _ e)
   rule-at k l f false e = inr (rw (f (eqb-false _ _ e)) at (p .block b inside k l))

@@ -2,14 +2,14 @@
 use Prim.Native.Nat.{ℕ, zero, suc, _+_, _-_, _<_, _≤_}
 use mathlib.Core.Path.{_≡_, refl, sym, _∙_}
 use mathlib.Core.List.{List, [], _∷_, _++_}
-use mathlib.Core.Bool.{Bool, true, false, _||_, cond}
+use mathlib.Core.Bool.{Bool, true, false, _||_, _&&_, cond}
 use native.Mathlib.Omega.{arith}
 use types.Run.{OneOf}
 use lib.ListN.{length, replicate, List·getD-eq-default}
 use borrow.Author.Tests.{eq-eqb, ne-eqb, eqb-true, eqb-false, leb-true, leb-false, lt-ltb, le-ltb}
-use lib.Dec.{eqb, ltb}
+use lib.Dec.{eqb, leb, ltb}
 use Rattle.table.specs.Words.{blockWord, instructionCount, largest}
-use Rattle.table.specs.Check.{Rule, unused, number, row, row-or-none, rows-from, fits, rulesByCode, terminalRules, blockRules, operandsByCode, operandRules, instructionRules, caseRules, placeRules, identifierRules}
+use Rattle.table.specs.Check.{Rule, unused, number, row, row-or-none, rows-from, end-of, fits, rulesByCode, terminalRules, blockRules, operandsByCode, operandRules, instructionRules, caseRules, placeRules, identifierRules}
 use Rattle.table.specs.Answer.{limit, five}
 
 -- ---- a rule and its limit
@@ -31,6 +31,11 @@ fits-limit (row-or-none rows) w = go (eqb w largest) refl
     go false e = refl
 fits-limit (rows-from first rows) w =
     alike _ _ (λ e. lt-ltb w (suc rows - first) (omega (arith, leb-true (first + w) rows e))) (λ e. le-ltb w (suc rows - first) (omega (arith, leb-false (first + w) rows e)))
+fits-limit (end-of from) w = go (leb from w)
+  where
+    go : (t : Bool) → t && leb w largest ≡ ltb w (cond t (suc largest) 0)
+    go true = alike _ _ (λ e. lt-ltb w 65536 (omega (arith, leb-true w largest e))) (λ e. le-ltb w 65536 (omega (arith, leb-false w largest e)))
+    go false = sym (le-ltb w 0 (omega arith))
 
 pub below-fits : (rule : Rule) (w : ℕ) → w < limit rule w → fits rule w ≡ true
 below-fits rule w h = fits-limit rule w ∙ lt-ltb w (limit rule w) h
@@ -41,24 +46,24 @@ not-below-fits rule w h = fits-limit rule w ∙ le-ltb w (limit rule w) h
 -- ---- the rules of a row
 
 module _ (ws : List ℕ) (b : ℕ) where
-  pub absent : blockWord ws b 2 ≡ 0 → blockRules ws b ≡ replicate 10 unused
+  pub absent : blockWord ws b 2 ≡ 0 → blockRules ws b ≡ replicate 11 unused
   unfolding blockRules
   absent e = rw (eq-eqb (blockWord ws b 2) 0 e, blockRules)
 
   pub present : (blockWord ws b 2 ≡ 0 → ⊥) → blockRules ws b
       ≡ number largest ∷ rows-from (blockWord ws b 0) (instructionCount ws) ∷ number 21
-      ∷ five (terminalRules ws (blockWord ws b 2) (blockWord ws b 4)) ++ (number largest ∷ number largest ∷ [])
+      ∷ five (terminalRules ws (blockWord ws b 2) (blockWord ws b 4)) ++ (number largest ∷ number largest ∷ end-of (blockWord ws b 9) ∷ [])
   unfolding blockRules
   present f = rw (ne-eqb (blockWord ws b 2) 0 f, blockRules)
 
-  pub block-width : length (blockRules ws b) ≡ 10
+  pub block-width : length (blockRules ws b) ≡ 11
   block-width = go (eqb (blockWord ws b 2) 0) refl
     where
-      go : (t : Bool) → eqb (blockWord ws b 2) 0 ≡ t → length (blockRules ws b) ≡ 10
+      go : (t : Bool) → eqb (blockWord ws b 2) 0 ≡ t → length (blockRules ws b) ≡ 11
       go true e = rw (absent (eqb-true _ _ e))
       go false e = rw (present (eqb-false _ _ e))
 
-  pub instruction-width : length (instructionRules ws b) ≡ 6
+  pub instruction-width : length (instructionRules ws b) ≡ 7
   unfolding instructionRules
   instruction-width = refl
 

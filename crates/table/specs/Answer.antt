@@ -7,7 +7,7 @@ use lib.ListN.{getD}
 use Rattle.table.specs.Words.{word, largest}
 use Rattle.table.specs.declared.Checked.{Checked}
 use Rattle.table.specs.declared.Checked.the-variants.{Accepted, WrongLength, CountOverLimit, EntryOutOfRange, BadWord}
-use Rattle.table.specs.Check.{Verdict, accepted, refused, Rule, unused, number, row, row-or-none, rows-from, fits}
+use Rattle.table.specs.Check.{Verdict, accepted, refused, Rule, unused, number, row, row-or-none, rows-from, end-of, fits}
 
 -- "1 under six words, at 0; 2 the first count over its limit, at its word; 1 wrong length, at 0; 3 entry not below the block count, at 0;
 -- 4 first bad word, at it"
@@ -38,6 +38,7 @@ limit (number most) word = suc most
 limit (row rows) word = rows
 limit (row-or-none rows) word = cond (eqb word largest) (suc largest) rows
 limit (rows-from first rows) word = suc rows - first
+limit (end-of from) word = cond (leb from word) (suc largest) 0
 
 -- the limits of the words from `column` on
 abbrev pub limitsFrom : (ℕ → ℕ) → ℕ → List Rule → List ℕ

@@ -1,7 +1,7 @@
 -- Paper 01, "Whoever fills the words": refusals 1 to 4 with their places, in the paper's order.
 use Prim.Native.Nat.{ℕ, zero, suc, _+_}
 use mathlib.Core.List.{List, [], _∷_}
-use mathlib.Core.Bool.{Bool, true, false, _||_}
+use mathlib.Core.Bool.{Bool, true, false, _||_, _&&_}
 use lib.ListN.{getD, length, replicate}
 use lib.Dec.{eqb, leb, ltb}
 use Rattle.table.specs.Words.{word, entryWord, blockCount, instructionCount, caseCount, placeCount, identifierCount, blocksBegin, instructionsBegin, casesBegin, placesBegin, identifiersBegin, wordsNeeded, blockWord, instructionWord, largest}
@@ -21,6 +21,8 @@ pub data Rule : Type 0 where
   row-or-none : (rows : ℕ) → Rule
   -- a number of rows, from `first` on, of a table that has so many
   rows-from : (first rows : ℕ) → Rule
+  -- the end of a span that begins here: at least that, and a row word
+  end-of : (from : ℕ) → Rule
 
 unfoldable pub fits : Rule → ℕ → Bool
 fits unused w = eqb w 0
@@ -28,6 +30,7 @@ fits (number most) w = leb w most
 fits (row rows) w = ltb w rows
 fits (row-or-none rows) w = eqb w largest || ltb w rows
 fits (rows-from first rows) w = leb (first + w) rows
+fits (end-of from) w = leb from w && leb w largest
 
 -- the paper's words for the rules of a column
 module _ (ws : List ℕ) where
@@ -73,13 +76,14 @@ module _ (ws : List ℕ) where
   unfoldable pub terminalRules : (code firstCase : ℕ) → List Rule
   terminalRules code firstCase = getD (rulesByCode firstCase) code []
 
-  -- "0 no such block (whole row 0)"; else first, count, code, a to e, id, span. "a bad sum is charged to count"
+  -- "0 no such block (whole row 0)"; else first, count, code, a to e, id, from, to. "a bad sum is charged to count"; "4 is also
+  -- given at `to` where it is less than `from`"
   unfoldable pub blockRules : ℕ → List Rule
   blockRules b =
       let code : ℕ = blockWord ws b 2 in
       let terminal : List Rule = terminalRules code (blockWord ws b 4) in
       elim (eqb code 0) [
-        | true ↦ replicate 10 unused
+        | true ↦ replicate 11 unused
         | false ↦
             number largest
             ∷ rows-from (blockWord ws b 0) (instructionCount ws)
@@ -91,6 +95,7 @@ module _ (ws : List ℕ) where
             ∷ getD terminal 4 unused
             ∷ number largest
             ∷ number largest
+            ∷ end-of (blockWord ws b 9)
             ∷ []
       ]
 
@@ -101,11 +106,11 @@ module _ (ws : List ℕ) where
   unfoldable pub operandRules : (code : ℕ) → List Rule
   operandRules code = getD operandsByCode code []
 
-  -- id, lvalue, code, p, q, span
+  -- id, lvalue, code, p, q, from, to
   unfoldable pub instructionRules : ℕ → List Rule
   instructionRules i =
       let operands : List Rule = operandRules (instructionWord ws i 2) in
-      number largest ∷ place ∷ number 2 ∷ getD operands 0 unused ∷ getD operands 1 unused ∷ number largest ∷ []
+      number largest ∷ place ∷ number 2 ∷ getD operands 0 unused ∷ getD operands 1 unused ∷ number largest ∷ end-of (instructionWord ws i 5) ∷ []
 
   unfoldable pub caseRules : ℕ → List Rule
   caseRules i = place-or-none ∷ block ∷ []

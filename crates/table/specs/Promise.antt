@@ -6,6 +6,7 @@ use mathlib.Core.Option.{Option, none, some}
 use mathlib.Core.Bool.{true}
 use mathlib.Core.Path.{_≡_}
 use lib.ListN.{getD, length}
+use Rattle.table.specs.declared.columns.Span.{Span}
 use Rattle.table.specs.Words.{entryWord, blockCount, instructionCount, caseCount, placeCount, identifierCount, wordsNeeded, blockWord, instructionWord, caseWord, placeWord, identifierWord, largest}
 use Rattle.table.specs.Check.{unused, fits, blockRules, instructionRules, caseRules}
 use Rattle.table.specs.Table.{Terminal, absent, unreachable, throw, return, goto, if, branch, switch, do-while, while, for, for-of, for-in, logical, ternary, optional, label, sequence, maybe-throw, try, scope, Operation, other, load-local, store-local, Case, tableOf, blockAt, terminalAt, instructionAt, unlessNone}
@@ -28,8 +29,8 @@ pub record Sized (ws : List ℕ) : Type 0 where
 pub record Promise (ws : List ℕ) : Type 0 where
   pub sized : Sized ws
   pub entry : entryWord ws < blockCount ws
-  pub block : (row : ℕ) → row < blockCount ws → (column : ℕ) → column < 10 → fits (getD (blockRules ws row) column unused) (blockWord ws row column) ≡ true
-  pub instruction : (row : ℕ) → row < instructionCount ws → (column : ℕ) → column < 6
+  pub block : (row : ℕ) → row < blockCount ws → (column : ℕ) → column < 11 → fits (getD (blockRules ws row) column unused) (blockWord ws row column) ≡ true
+  pub instruction : (row : ℕ) → row < instructionCount ws → (column : ℕ) → column < 7
       → fits (getD (instructionRules ws row) column unused) (instructionWord ws row column) ≡ true
   pub case : (row : ℕ) → row < caseCount ws → (column : ℕ) → column < 2 → fits (getD (caseRules ws row) column unused) (caseWord ws row column) ≡ true
   pub place : (row : ℕ) → row < placeCount ws → placeWord ws row < identifierCount ws
@@ -73,7 +74,7 @@ pub record Ends (ws : List ℕ) (block : ℕ) (e : Terminal) : Type 0 where
   pub named : InRange (blockCount ws) (placeCount ws) (caseCount ws) e
 
 -- beside its terminal, the block's row says so, and its instructions are there
-pub record Heads (ws : List ℕ) (block first count id span : ℕ) : Type 0 where
+pub record Heads (ws : List ℕ) (block first count id : ℕ) (span : Span) : Type 0 where
   pub few : instructionCount ws ≤ 4096
   pub is-first : blockAt (tableOf ws) block .first ≡ first
   pub is-count : blockAt (tableOf ws) block .count ≡ count
@@ -95,7 +96,7 @@ pub record Operates (ws : List ℕ) (instruction : ℕ) (o : Operation) : Type 0
   pub named : OperandsInRange (placeCount ws) o
 
 -- beside its operation, the instruction's row says so, and its lvalue is there
-pub record Instructs (ws : List ℕ) (instruction id lvalue span : ℕ) : Type 0 where
+pub record Instructs (ws : List ℕ) (instruction id lvalue : ℕ) (span : Span) : Type 0 where
   pub few : placeCount ws ≤ 4096
   pub is-id : instructionAt (tableOf ws) instruction .id ≡ id
   pub is-lvalue : instructionAt (tableOf ws) instruction .lvalue ≡ lvalue

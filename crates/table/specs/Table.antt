@@ -5,6 +5,7 @@ use mathlib.Core.Option.{Option, none, some}
 use mathlib.Core.Bool.{Bool, true, false}
 use lib.ListN.{getD}
 use lib.Dec.{eqb}
+use Rattle.table.specs.declared.columns.Span.{Span}
 use Rattle.table.specs.Words.{entryWord, blockCount, instructionCount, caseCount, placeCount, identifierCount, blockWord, instructionWord, caseWord, placeWord, identifierWord, largest}
 
 -- "variant (0 Break, 1 Continue, 2 Try)"
@@ -70,12 +71,16 @@ isUnreachable terminal = eqb (codeOf terminal) 1
 abbrev pub isGoto : Terminal → Bool
 isGoto terminal = eqb (codeOf terminal) 4
 
+-- "A span becomes two words, from and to; none is 0 and 0": the record `Span`, which the code has too. It is handed on as one thing
+abbrev pub noSpan : Span
+noSpan = record { from = 0; to = 0 }
+
 pub record Block : Type 0 where
   pub first : ℕ
   pub count : ℕ
   pub terminal : Terminal
   pub id : ℕ
-  pub span : ℕ
+  pub span : Span
 
 -- "Code 0 other, 1 LoadLocal (p place), 2 StoreLocal (p stored to, q stored value)"
 pub data Operation : Type 0 where
@@ -87,7 +92,7 @@ pub record Instruction : Type 0 where
   pub id : ℕ
   pub lvalue : ℕ
   pub operation : Operation
-  pub span : ℕ
+  pub span : Span
 
 pub record Case : Type 0 where
   pub test : ℕ
@@ -143,22 +148,28 @@ terminalsByCode a b c d e =
 unfoldable pub terminalOf : (code a b c d e : ℕ) → Terminal
 terminalOf code a b c d e = getD (terminalsByCode a b c d e) code absent
 
--- "block, 10 words: first, count, code, a, b, c, d, e, id, span"
+-- "block: first, count, code, a, b, c, d, e, id, from, to"
 unfoldable pub blockOf : List ℕ → ℕ → Block
 blockOf ws row =
     let column : ℕ → ℕ = blockWord ws row in
-    record { first = column 0; count = column 1; terminal = terminalOf (column 2) (column 3) (column 4) (column 5) (column 6) (column 7); id = column 8; span = column 9 }
+    record {
+      first = column 0;
+      count = column 1;
+      terminal = terminalOf (column 2) (column 3) (column 4) (column 5) (column 6) (column 7);
+      id = column 8;
+      span = record { from = column 9; to = column 10 };
+    }
 
 unfoldable pub operationOf : (code p q : ℕ) → Operation
 operationOf zero p q = other
 operationOf (suc zero) p q = load-local p
 operationOf (suc (suc n)) p q = store-local p q
 
--- "instruction, 6: id, lvalue, code, p, q, span"
+-- "instruction: id, lvalue, code, p, q, from, to"
 unfoldable pub instructionOf : List ℕ → ℕ → Instruction
 instructionOf ws row =
     let column : ℕ → ℕ = instructionWord ws row in
-    record { id = column 0; lvalue = column 1; operation = operationOf (column 2) (column 3) (column 4); span = column 5 }
+    record { id = column 0; lvalue = column 1; operation = operationOf (column 2) (column 3) (column 4); span = record { from = column 5; to = column 6 } }
 
 -- "case, 2: test, block"
 unfoldable pub caseOf : List ℕ → ℕ → Case
@@ -182,10 +193,10 @@ tableOf ws = record {
 -- ---- looking rows up; beyond the table stands a row of zeros
 
 abbrev pub noBlock : Block
-noBlock = record { first = 0; count = 0; terminal = absent; id = 0; span = 0 }
+noBlock = record { first = 0; count = 0; terminal = absent; id = 0; span = noSpan }
 
 abbrev pub noInstruction : Instruction
-noInstruction = record { id = 0; lvalue = 0; operation = other; span = 0 }
+noInstruction = record { id = 0; lvalue = 0; operation = other; span = noSpan }
 
 abbrev pub blockAt : Table → ℕ → Block
 blockAt t b = getD (t .blocks) b noBlock

@@ -1,4 +1,4 @@
--- Paper 01, "Input words": six head words, then the five tables in the head's order, nothing after.
+-- Paper 01, "Input words", with spans of two words (paper 02, M-108): six head words, then the five tables in the head's order, nothing after.
 use Prim.Native.Nat.{ℕ, _+_, _*_}
 use mathlib.Core.List.{List}
 use lib.ListN.{getD}
@@ -26,15 +26,15 @@ placeCount ws = word ws 4
 unfoldable pub identifierCount : List ℕ → ℕ
 identifierCount ws = word ws 5
 
--- where each table begins. Words of a row: block 10, instruction 6, case 2, place 1, identifier 1
+-- where each table begins. Words of a row: block 11, instruction 7, case 2, place 1, identifier 1
 unfoldable pub blocksBegin : ℕ
 blocksBegin = 6
 
 unfoldable pub instructionsBegin : List ℕ → ℕ
-instructionsBegin ws = blocksBegin + blockCount ws * 10
+instructionsBegin ws = blocksBegin + blockCount ws * 11
 
 unfoldable pub casesBegin : List ℕ → ℕ
-casesBegin ws = instructionsBegin ws + instructionCount ws * 6
+casesBegin ws = instructionsBegin ws + instructionCount ws * 7
 
 unfoldable pub placesBegin : List ℕ → ℕ
 placesBegin ws = casesBegin ws + caseCount ws * 2
@@ -47,14 +47,14 @@ wordsNeeded ws = identifiersBegin ws + identifierCount ws
 
 -- the word in a column of a row of each table
 unfoldable pub blockWord : List ℕ → ℕ → ℕ → ℕ
-blockWord ws row column = word ws (blocksBegin + row * 10 + column)
+blockWord ws row column = word ws (blocksBegin + row * 11 + column)
 
 -- the code of a block's terminal
 abbrev pub codeAt : List ℕ → ℕ → ℕ
 codeAt ws row = blockWord ws row 2
 
 unfoldable pub instructionWord : List ℕ → ℕ → ℕ → ℕ
-instructionWord ws row column = word ws (instructionsBegin ws + row * 6 + column)
+instructionWord ws row column = word ws (instructionsBegin ws + row * 7 + column)
 
 -- the code of an instruction's operation
 abbrev pub operationCodeAt : List ℕ → ℕ → ℕ

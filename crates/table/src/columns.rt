@@ -5,7 +5,7 @@ use crate::words::instruction_word;
 ghost use mathlib.Core.Path.{_≡_};
 ghost use Prim.Native.Nat.{_<_};
 ghost use Rattle.table.specs.Words.{blockCount, instructionCount, caseCount, codeAt, operationCodeAt};
-ghost use Rattle.table.specs.Table.{load-local, store-local};
+ghost use Rattle.table.specs.Table.{load-local, store-local, tableOf, blockAt};
 ghost use Rattle.table.specs.Promise.{Promise, Heads, Instructs, Operates, Chooses};
 
 // The code of a block's terminal.
@@ -17,12 +17,29 @@ pub fn code_at(words: &[u32], block: u32) -> u32
     block_word(words, block, 2)
 }
 
+// Where a block's terminal or an instruction stands in the source. 0 and 0 is none.
+pub struct Span {
+    pub from: u32,
+    pub to: u32,
+}
+
+pub fn span_at(words: &[u32], block: u32) -> Span
+    requires { ⌜ Promise (now words) ⌝ }
+    requires { ⌜ block < blockCount (now words) ⌝ }
+    ensures { λ r. ⌜ r ≡ blockAt (tableOf (now (words .entry))) block .span ⌝ }
+{
+    Span {
+        from: block_word(words, block, 9),
+        to: block_word(words, block, 10),
+    }
+}
+
 // What a block has beside its terminal: its instructions are `count` rows from `first` on.
 pub struct BlockHead {
     pub first: u32,
     pub count: u32,
     pub id: u32,
-    pub span: u32,
+    pub span: Span,
 }
 
 pub fn block_at(words: &[u32], block: u32) -> BlockHead
@@ -34,7 +51,7 @@ pub fn block_at(words: &[u32], block: u32) -> BlockHead
         first: block_word(words, block, 0),
         count: block_word(words, block, 1),
         id: block_word(words, block, 8),
-        span: block_word(words, block, 9),
+        span: span_at(words, block),
     }
 }
 
@@ -42,7 +59,7 @@ pub fn block_at(words: &[u32], block: u32) -> BlockHead
 pub struct InstructionHead {
     pub id: u32,
     pub lvalue: u32,
-    pub span: u32,
+    pub span: Span,
 }
 
 pub fn instruction_at(words: &[u32], instruction: u32) -> InstructionHead
@@ -53,7 +70,10 @@ pub fn instruction_at(words: &[u32], instruction: u32) -> InstructionHead
     InstructionHead {
         id: instruction_word(words, instruction, 0),
         lvalue: instruction_word(words, instruction, 1),
-        span: instruction_word(words, instruction, 5),
+        span: Span {
+            from: instruction_word(words, instruction, 5),
+            to: instruction_word(words, instruction, 6),
+        },
     }
 }
 

@@ -9,7 +9,7 @@ ghost use lib.ListN.{replicate};
 ghost use Rattle.table.specs.Words.{blockCount, instructionCount, caseCount, placeCount, identifierCount};
 ghost use Rattle.table.specs.Words.{blocksBegin, instructionsBegin, casesBegin, placesBegin, identifiersBegin};
 ghost use Rattle.table.specs.Words.{blockWord, instructionWord, caseWord};
-ghost use Rattle.table.specs.Check.{unused, row-or-none, terminalRules, blockRules, operandRules, instructionRules, caseRules};
+ghost use Rattle.table.specs.Check.{unused, row-or-none, end-of, terminalRules, blockRules, operandRules, instructionRules, caseRules};
 ghost use Rattle.table.specs.Check.{placeRules, identifierRules, rowsVerdict};
 ghost use Rattle.table.specs.Answer.{verdictOf, limit, five, two, firstBad, firstNotBelow};
 ghost use Rattle.table.specs.Promise.{Sized};
@@ -35,14 +35,21 @@ fn rows_from(first: u32, rows: u32) -> u32
     if first <= rows { rows - first + 1 } else { 0 }
 }
 
-// The first column of a row with code 0 that is not 0; 10 where all are.
+// The limit of the end of a span that begins here: no word below `from` is good.
+fn end_of(from: u32, word: u32) -> u32
+    ensures { λ r. ⌜ r ≡ limit (end-of from) word ⌝ }
+{
+    if from <= word { ANY } else { 0 }
+}
+
+// The first column of a row with code 0 that is not 0; 11 where all are.
 fn absent_row(words: &[u32], row: u32) -> u32
     requires { ⌜ Sized (now words) ⌝ }
     requires { ⌜ row < blockCount (now words) ⌝ }
-    ensures { λ r. ⌜ r ≡ firstBad (blockWord (now (words .entry)) row) 0 (replicate 10 unused) ⌝ }
+    ensures { λ r. ⌜ r ≡ firstBad (blockWord (now (words .entry)) row) 0 (replicate 11 unused) ⌝ }
 {
     let mut column = 0;
-    while column < 10 {
+    while column < 11 {
         if words::block_word(words, row, column) != 0 {
             return column;
         }
@@ -113,7 +120,7 @@ fn terminal_columns(words: &[u32], row: u32, code: u32) -> u32
     }
 }
 
-// The first bad column of a block; 10 where there is none.
+// The first bad column of a block; 11 where there is none.
 fn block_row(words: &[u32], row: u32) -> u32
     requires { ⌜ Sized (now words) ⌝ }
     requires { ⌜ row < blockCount (now words) ⌝ }
@@ -141,10 +148,15 @@ fn block_row(words: &[u32], row: u32) -> u32
     if words::block_word(words, row, 8) >= ANY {
         return 8;
     }
-    if words::block_word(words, row, 9) >= ANY {
+    let from = words::block_word(words, row, 9);
+    if from >= ANY {
         return 9;
     }
-    10
+    let to = words::block_word(words, row, 10);
+    if to >= end_of(from, to) {
+        return 10;
+    }
+    11
 }
 
 // The first of p and q that is not below its limit; 5, the next column, where both are.
@@ -177,7 +189,7 @@ fn operand_columns(words: &[u32], row: u32, code: u32) -> u32
     }
 }
 
-// The first bad column of an instruction; 6 where there is none.
+// The first bad column of an instruction; 7 where there is none.
 fn instruction_row(words: &[u32], row: u32) -> u32
     requires { ⌜ Sized (now words) ⌝ }
     requires { ⌜ row < instructionCount (now words) ⌝ }
@@ -197,10 +209,15 @@ fn instruction_row(words: &[u32], row: u32) -> u32
     if column < 5 {
         return column;
     }
-    if words::instruction_word(words, row, 5) >= ANY {
+    let from = words::instruction_word(words, row, 5);
+    if from >= ANY {
         return 5;
     }
-    6
+    let to = words::instruction_word(words, row, 6);
+    if to >= end_of(from, to) {
+        return 6;
+    }
+    7
 }
 
 // The first bad column of a case; 2 where there is none.
@@ -227,8 +244,8 @@ pub fn check_blocks(words: &[u32]) -> Checked
     let mut block = 0;
     while block < blocks {
         let column = block_row(words, block);
-        if column < 10 {
-            return Checked::BadWord(6 + block * 10 + column);
+        if column < 11 {
+            return Checked::BadWord(6 + block * 11 + column);
         }
         block += 1;
     }
@@ -244,8 +261,8 @@ pub fn check_instructions(words: &[u32]) -> Checked
     let mut instruction = 0;
     while instruction < instructions {
         let column = instruction_row(words, instruction);
-        if column < 6 {
-            return Checked::BadWord(begin + instruction * 6 + column);
+        if column < 7 {
+            return Checked::BadWord(begin + instruction * 7 + column);
         }
         instruction += 1;
     }

@@ -52,28 +52,28 @@ pub fn identifier_count(words: &[u32]) -> u32
 
 pub fn instructions_begin(words: &[u32]) -> u32
     requires { ⌜ Limited (now words) ⌝ }
-    ensures { λ r. ⌜ (r ≡ instructionsBegin (now (words .entry))) × (r ≤ 10246) ⌝ }
+    ensures { λ r. ⌜ (r ≡ instructionsBegin (now (words .entry))) × (r ≤ 11270) ⌝ }
 {
-    6 + block_count(words) * 10
+    6 + block_count(words) * 11
 }
 
 pub fn cases_begin(words: &[u32]) -> u32
     requires { ⌜ Limited (now words) ⌝ }
-    ensures { λ r. ⌜ (r ≡ casesBegin (now (words .entry))) × (r ≤ 34822) ⌝ }
+    ensures { λ r. ⌜ (r ≡ casesBegin (now (words .entry))) × (r ≤ 39942) ⌝ }
 {
-    instructions_begin(words) + instruction_count(words) * 6
+    instructions_begin(words) + instruction_count(words) * 7
 }
 
 pub fn places_begin(words: &[u32]) -> u32
     requires { ⌜ Limited (now words) ⌝ }
-    ensures { λ r. ⌜ (r ≡ placesBegin (now (words .entry))) × (r ≤ 36870) ⌝ }
+    ensures { λ r. ⌜ (r ≡ placesBegin (now (words .entry))) × (r ≤ 41990) ⌝ }
 {
     cases_begin(words) + case_count(words) * 2
 }
 
 pub fn identifiers_begin(words: &[u32]) -> u32
     requires { ⌜ Limited (now words) ⌝ }
-    ensures { λ r. ⌜ (r ≡ identifiersBegin (now (words .entry))) × (r ≤ 40966) ⌝ }
+    ensures { λ r. ⌜ (r ≡ identifiersBegin (now (words .entry))) × (r ≤ 46086) ⌝ }
 {
     places_begin(words) + place_count(words)
 }
@@ -88,20 +88,20 @@ pub fn words_needed(words: &[u32]) -> u32
 pub fn block_word(words: &[u32], row: u32, column: u32) -> u32
     requires { ⌜ Sized (now words) ⌝ }
     requires { ⌜ row < blockCount (now words) ⌝ }
-    requires { ⌜ column < 10 ⌝ }
+    requires { ⌜ column < 11 ⌝ }
     ensures { λ r. ⌜ r ≡ blockWord (now (words .entry)) row column ⌝ }
 {
-    let at = (6 + row * 10 + column) as usize;
+    let at = (6 + row * 11 + column) as usize;
     words[at]
 }
 
 pub fn instruction_word(words: &[u32], row: u32, column: u32) -> u32
     requires { ⌜ Sized (now words) ⌝ }
     requires { ⌜ row < instructionCount (now words) ⌝ }
-    requires { ⌜ column < 6 ⌝ }
+    requires { ⌜ column < 7 ⌝ }
     ensures { λ r. ⌜ r ≡ instructionWord (now (words .entry)) row column ⌝ }
 {
-    let at = (instructions_begin(words) + row * 6 + column) as usize;
+    let at = (instructions_begin(words) + row * 7 + column) as usize;
     words[at]
 }
 

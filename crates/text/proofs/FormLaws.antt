@@ -11,7 +11,8 @@ use lib.Seq.{append-snoc}
 use borrow.Author.Tests.{ltb-true, ltb-false}
 use Rattle.text.specs.Decimal.{decimal}
 use Rattle.text.specs.Line.{after, line, lines, flat}
-use Rattle.text.specs.File.{Words, Row, Rows, Table, Tables, Formed, textOf, wordsOf, Good, headNames, blockNames, instructionNames, caseNames, placeNames, identifierNames}
+use Rattle.text.specs.File.{Words, Row, Rows, Table, Tables, Formed, textOf, wordsOf, Good}
+use Rattle.text.specs.Layout.{Layout}
 use Rattle.text.specs.Form.{Form, finished, byte, field, digits, ending, isZero, literal, row, rows, table, tables, whole, Text}
 use Rattle.text.proofs.DecimalLaws.{decimal-small, decimal-more, decimal-next}
 use Rattle.text.proofs.StepLaws.{ending-low}
@@ -230,26 +231,26 @@ assemble-words : {words r₁ r₂ r₃ r₄ r₅ r₆ : List ℕ} (a b c d e f :
     → words ≡ a ++ b ++ c ++ d ++ e ++ f
 assemble-words a b c d e f p q r s t u v = rw (regroup-words a b c d e f, p, q, r, s, t, u, v)
 
-abbrev body : List ℕ → Form
-body head = tables head finished
+abbrev body : Layout → List ℕ → Form
+body f head = tables f head finished
 
 finished-in : Text finished [] []
 unfolding Text
 finished-in = refl
 
-tables-in : (t : Tables) → Formed t → Text whole (textOf t) (wordsOf t)
+tables-in : (y : Layout) (t : Tables) → Formed y t → Text (whole y) (textOf y t) (wordsOf t)
 unfolding whole tables
-tables-in t f =
+tables-in y t f =
     let h = t .head in
-    let t₅ = table-in identifierNames 1 (getD h 5 0) (t .identifiers) finished [] [] (f .identifiers) finished-in in
-    let t₄ = table-in placeNames 1 (getD h 4 0) (t .places) _ _ _ (f .places) t₅ in
-    let t₃ = table-in caseNames 2 (getD h 3 0) (t .cases) _ _ _ (f .cases) t₄ in
-    let t₂ = table-in instructionNames 6 (getD h 2 0) (t .instructions) _ _ _ (f .instructions) t₃ in
-    let t₁ = table-in blockNames 10 (getD h 1 0) (t .blocks) _ _ _ (f .blocks) t₂ in
-    let r = row-in h [] body _ _ (f .head .words) t₁ in
-    let w = literal-in headNames (row 6 [] body) _ _ (rw (f .head .long) at r) in
+    let t₅ = table-in (y .identifiers .names) (y .identifiers .width) (getD h 5 0) (t .identifiers) finished [] [] (f .identifiers) finished-in in
+    let t₄ = table-in (y .places .names) (y .places .width) (getD h 4 0) (t .places) _ _ _ (f .places) t₅ in
+    let t₃ = table-in (y .cases .names) (y .cases .width) (getD h 3 0) (t .cases) _ _ _ (f .cases) t₄ in
+    let t₂ = table-in (y .instructions .names) (y .instructions .width) (getD h 2 0) (t .instructions) _ _ _ (f .instructions) t₃ in
+    let t₁ = table-in (y .blocks .names) (y .blocks .width) (getD h 1 0) (t .blocks) _ _ _ (f .blocks) t₂ in
+    let r = row-in h [] (body y) _ _ (f .head .words) t₁ in
+    let w = literal-in (y .head .names) (row (y .head .width) [] (body y)) _ _ (rw (f .head .long) at r) in
     rw (
-      regroup headNames (line h) blockNames (lines (t .blocks)) instructionNames (lines (t .instructions)) caseNames (lines (t .cases)) placeNames (lines (t .places)) identifierNames (lines (t .identifiers)),
+      regroup (y .head .names) (line h) (y .blocks .names) (lines (t .blocks)) (y .instructions .names) (lines (t .instructions)) (y .cases .names) (lines (t .cases)) (y .places .names) (lines (t .places)) (y .identifiers .names) (lines (t .identifiers)),
       regroup-words h (flat (t .blocks)) (flat (t .instructions)) (flat (t .cases)) (flat (t .places)) (flat (t .identifiers)),
     )
     w
@@ -259,25 +260,25 @@ unfolding Text
 finished-out [] words t = (refl, t)
 finished-out (c ∷ bytes) words t = absurd t
 
-pub good-text : (file words : List ℕ) → Good file words → Text whole file words
-good-text file words g = rw (g .text, g .word) (tables-in (g .tables) (g .formed))
+pub good-text : (y : Layout) (file words : List ℕ) → Good y file words → Text (whole y) file words
+good-text y file words g = rw (g .text, g .word) (tables-in y (g .tables) (g .formed))
 
-pub text-good : (file words : List ℕ) → Text whole file words → Good file words
+pub text-good : (y : Layout) (file words : List ℕ) → Text (whole y) file words → Good y file words
 unfolding whole tables
-text-good file words t =
-    let (rest, named, u) = literal-out headNames (row 6 [] body) file words t in
-    let r = row-out 6 [] body rest words u in
+text-good y file words t =
+    let (rest, named, u) = literal-out (y .head .names) (row (y .head .width) [] (body y)) file words t in
+    let r = row-out (y .head .width) [] (body y) rest words u in
     let h = r .ns in
-    let t₁ = table-out blockNames 10 (getD h 1 0) _ (r .rest) (r .more) (r .text) in
-    let t₂ = table-out instructionNames 6 (getD h 2 0) _ (t₁ .rest) (t₁ .more) (t₁ .text) in
-    let t₃ = table-out caseNames 2 (getD h 3 0) _ (t₂ .rest) (t₂ .more) (t₂ .text) in
-    let t₄ = table-out placeNames 1 (getD h 4 0) _ (t₃ .rest) (t₃ .more) (t₃ .text) in
-    let t₅ = table-out identifierNames 1 (getD h 5 0) _ (t₄ .rest) (t₄ .more) (t₄ .text) in
+    let t₁ = table-out (y .blocks .names) (y .blocks .width) (getD h 1 0) _ (r .rest) (r .more) (r .text) in
+    let t₂ = table-out (y .instructions .names) (y .instructions .width) (getD h 2 0) _ (t₁ .rest) (t₁ .more) (t₁ .text) in
+    let t₃ = table-out (y .cases .names) (y .cases .width) (getD h 3 0) _ (t₂ .rest) (t₂ .more) (t₂ .text) in
+    let t₄ = table-out (y .places .names) (y .places .width) (getD h 4 0) _ (t₃ .rest) (t₃ .more) (t₃ .text) in
+    let t₅ = table-out (y .identifiers .names) (y .identifiers .width) (getD h 5 0) _ (t₄ .rest) (t₄ .more) (t₄ .text) in
     let z = finished-out (t₅ .rest) (t₅ .more) (t₅ .text) in
     record {
       tables = record { head = h; blocks = t₁ .rs; instructions = t₂ .rs; cases = t₃ .rs; places = t₄ .rs; identifiers = t₅ .rs };
       formed = record { head = r .row; blocks = t₁ .table; instructions = t₂ .table; cases = t₃ .table; places = t₄ .table; identifiers = t₅ .table };
-      text = assemble headNames (line h) blockNames (lines (t₁ .rs)) instructionNames (lines (t₂ .rs)) caseNames (lines (t₃ .rs)) placeNames (lines (t₄ .rs)) identifierNames (lines (t₅ .rs))
+      text = assemble (y .head .names) (line h) (y .blocks .names) (lines (t₁ .rs)) (y .instructions .names) (lines (t₂ .rs)) (y .cases .names) (lines (t₃ .rs)) (y .places .names) (lines (t₄ .rs)) (y .identifiers .names) (lines (t₅ .rs))
           named (r .shown) (t₁ .shown) (t₂ .shown) (t₃ .shown) (t₄ .shown) (t₅ .shown) (z .0);
       word = assemble-words h (flat (t₁ .rs)) (flat (t₂ .rs)) (flat (t₃ .rs)) (flat (t₄ .rs)) (flat (t₅ .rs))
           (r .kept) (t₁ .kept) (t₂ .kept) (t₃ .kept) (t₄ .kept) (t₅ .kept) (z .1);

@@ -8,12 +8,12 @@ use native.Mathlib.Omega.{arith}
 use native.Mathlib.Numerals.{add-one}
 use lib.ListN.{length, take, drop, getD}
 use lib.Seq.{take-suc, take-length, split-at, append-snoc}
-use Rattle.text.specs.Form.{Form, finished, byte, field, digits, ending, Text, whole}
+use Rattle.text.specs.Form.{Form, finished, byte, field, digits, ending, Text}
 use Rattle.text.specs.Steps.{Reached, Stopped, NumberRead, numberRefused}
 use Rattle.text.specs.declared.number.Number.{Number}
 
 -- at first all of the file is to come
-pub reached-none : (file : List ℕ) → Reached file 0 [] whole
+pub reached-none : {root : Form} (file : List ℕ) → Reached root file 0 [] root
 reached-none file = record { sound = λ bytes more t. t; only = λ bytes all t. (all, refl, t) }
 
 -- the form takes the byte c, which completes these words, and goes on as `next`
@@ -33,12 +33,12 @@ inhabited (digits v last rest) =
     let (bytes, words, t) = inhabited (rest v) in
     (ending last ∷ bytes, v ∷ words, inl (refl, (words, refl, t)))
 
-module _ (file : List ℕ) (at : ℕ) (words : List ℕ) (form : Form) (h : Reached file at words form) where
+module _ {root : Form} (file : List ℕ) (at : ℕ) (words : List ℕ) (form : Form) (h : Reached root file at words form) where
   module _ (inside : at < length file) where
     front : (bytes : List ℕ) → take (at + 1) file ++ bytes ≡ take at file ++ (getD file at 0 ∷ bytes)
     front bytes = rw (add-one at, take-suc file at 0 inside) (append-snoc (take at file) (getD file at 0) bytes)
 
-    advance : (new : List ℕ) (next : Form) → Step form (getD file at 0) new next → Reached file (at + 1) (words ++ new) next
+    advance : (new : List ℕ) (next : Form) → Step form (getD file at 0) new next → Reached root file (at + 1) (words ++ new) next
     advance new next s = record {
       sound = λ bytes more t. rw (front bytes, append-assoc words new more) (h .sound (getD file at 0 ∷ bytes) (new ++ more) (s .sound bytes more t));
       only = λ bytes all t.
@@ -48,11 +48,11 @@ module _ (file : List ℕ) (at : ℕ) (words : List ℕ) (form : Form) (h : Reac
     }
 
     -- a step that completes no word
-    advance-in : (next : Form) → Step form (getD file at 0) [] next → Reached file (at + 1) words next
+    advance-in : (next : Form) → Step form (getD file at 0) [] next → Reached root file (at + 1) words next
     advance-in next s = rw (append-nil words) at (advance [] next s)
 
     -- the form does not take the byte
-    halt : ((bytes all : List ℕ) → Text form (getD file at 0 ∷ bytes) all → ⊥) → Stopped file at
+    halt : ((bytes all : List ℕ) → Text form (getD file at 0 ∷ bytes) all → ⊥) → Stopped root file at
     halt never =
         let (bytes, more, t) = inhabited form in
         record {
@@ -65,7 +65,7 @@ module _ (file : List ℕ) (at : ℕ) (words : List ℕ) (form : Form) (h : Reac
         }
 
   -- the file is at its end, and the form is not
-  halt-short : at ≡ length file → ((all : List ℕ) → Text form [] all → ⊥) → Stopped file at
+  halt-short : at ≡ length file → ((all : List ℕ) → Text form [] all → ⊥) → Stopped root file at
   halt-short end never =
       let (bytes, more, t) = inhabited form in
       let e : file ≡ take at file ++ [] = rw (end, take-length file, append-nil file) in
@@ -80,26 +80,26 @@ module _ (file : List ℕ) (at : ℕ) (words : List ℕ) (form : Form) (h : Reac
 
 -- ---- a byte of a line of names
 
-module _ (file : List ℕ) (at : ℕ) (words : List ℕ) (b : ℕ) (next : Form) (h : Reached file at words (byte b next)) where
-  pub byte-taken : at < length file → getD file at 0 ≡ b → Reached file (at + 1) words next
+module _ {root : Form} (file : List ℕ) (at : ℕ) (words : List ℕ) (b : ℕ) (next : Form) (h : Reached root file at words (byte b next)) where
+  pub byte-taken : at < length file → getD file at 0 ≡ b → Reached root file (at + 1) words next
   unfolding Text
   byte-taken p e = advance-in file at words (byte b next) h p next (record {
     sound = λ bytes more t. (e, t);
     only = λ bytes all t. (all, refl, t .1);
   })
 
-  pub byte-other : at < length file → (getD file at 0 ≡ b → ⊥) → Stopped file at
+  pub byte-other : at < length file → (getD file at 0 ≡ b → ⊥) → Stopped root file at
   unfolding Text
   byte-other p f = halt file at words (byte b next) h p (λ bytes all t. f (t .0))
 
-  pub byte-missing : at ≡ length file → Stopped file at
+  pub byte-missing : at ≡ length file → Stopped root file at
   unfolding Text
   byte-missing e = halt-short file at words (byte b next) h e (λ all t. t)
 
 -- ---- the first digit of a number
 
-module _ (file : List ℕ) (at : ℕ) (words : List ℕ) (last : Bool) (rest : ℕ → Form) (h : Reached file at words (field last rest)) where
-  pub first-taken : (d : ℕ) → at < length file → d < 10 → getD file at 0 ≡ 48 + d → Reached file (at + 1) words (digits d last rest)
+module _ {root : Form} (file : List ℕ) (at : ℕ) (words : List ℕ) (last : Bool) (rest : ℕ → Form) (h : Reached root file at words (field last rest)) where
+  pub first-taken : (d : ℕ) → at < length file → d < 10 → getD file at 0 ≡ 48 + d → Reached root file (at + 1) words (digits d last rest)
   unfolding Text
   first-taken d p q e = advance-in file at words (field last rest) h p (digits d last rest) (record {
     sound = λ bytes more t. (d, q, e, t);
@@ -108,11 +108,11 @@ module _ (file : List ℕ) (at : ℕ) (words : List ℕ) (last : Bool) (rest : �
         (all, refl, subst (λ (k : ℕ). Text (digits k last rest) bytes all) same (t .3));
   })
 
-  pub first-other : at < length file → ((d : ℕ) → d < 10 → getD file at 0 ≡ 48 + d → ⊥) → Stopped file at
+  pub first-other : at < length file → ((d : ℕ) → d < 10 → getD file at 0 ≡ 48 + d → ⊥) → Stopped root file at
   unfolding Text
   first-other p f = halt file at words (field last rest) h p (λ bytes all t. f (t .0) (t .1) (t .2))
 
-  pub first-missing : at ≡ length file → Stopped file at
+  pub first-missing : at ≡ length file → Stopped root file at
   unfolding Text
   first-missing e = halt-short file at words (field last rest) h e (λ all t. t)
 
@@ -122,8 +122,8 @@ pub ending-low : (last : Bool) → ending last < 48
 ending-low true = omega arith
 ending-low false = omega arith
 
-module _ (file : List ℕ) (at : ℕ) (words : List ℕ) (v : ℕ) (last : Bool) (rest : ℕ → Form) (h : Reached file at words (digits v last rest)) where
-  pub digit-taken : (d : ℕ) → at < length file → d < 10 → getD file at 0 ≡ 48 + d → 0 < v → v * 10 + d < 2 ^ 32 → Reached file (at + 1) words (digits (v * 10 + d) last rest)
+module _ {root : Form} (file : List ℕ) (at : ℕ) (words : List ℕ) (v : ℕ) (last : Bool) (rest : ℕ → Form) (h : Reached root file at words (digits v last rest)) where
+  pub digit-taken : (d : ℕ) → at < length file → d < 10 → getD file at 0 ≡ 48 + d → 0 < v → v * 10 + d < 2 ^ 32 → Reached root file (at + 1) words (digits (v * 10 + d) last rest)
   unfolding Text
   digit-taken d p q e r m = advance-in file at words (digits v last rest) h p (digits (v * 10 + d) last rest) (record {
     sound = λ bytes more t. inr (d, q, e, r, m, t);
@@ -136,7 +136,7 @@ module _ (file : List ℕ) (at : ℕ) (words : List ℕ) (v : ℕ) (last : Bool)
         t;
   })
 
-  pub end-taken : at < length file → getD file at 0 ≡ ending last → Reached file (at + 1) (words ++ (v ∷ [])) (rest v)
+  pub end-taken : at < length file → getD file at 0 ≡ ending last → Reached root file (at + 1) (words ++ (v ∷ [])) (rest v)
   unfolding Text
   end-taken p e = advance file at words (digits v last rest) h p (v ∷ []) (rest v) (record {
     sound = λ bytes more t. inl (e, (more, refl, t));
@@ -148,24 +148,24 @@ module _ (file : List ℕ) (at : ℕ) (words : List ℕ) (v : ℕ) (last : Bool)
   })
 
   -- a byte that is neither the end nor a digit that may follow
-  pub digit-other : at < length file → (getD file at 0 ≡ ending last → ⊥) → ((d : ℕ) → d < 10 → getD file at 0 ≡ 48 + d → 0 < v → v * 10 + d < 2 ^ 32 → ⊥) → Stopped file at
+  pub digit-other : at < length file → (getD file at 0 ≡ ending last → ⊥) → ((d : ℕ) → d < 10 → getD file at 0 ≡ 48 + d → 0 < v → v * 10 + d < 2 ^ 32 → ⊥) → Stopped root file at
   unfolding Text
   digit-other p f g = halt file at words (digits v last rest) h p (λ bytes all t. ⊎-elim (λ w. f (w .0)) (λ w. g (w .0) (w .1) (w .2) (w .3) (w .4)) t)
 
-  pub digit-missing : at ≡ length file → Stopped file at
+  pub digit-missing : at ≡ length file → Stopped root file at
   unfolding Text
   digit-missing e = halt-short file at words (digits v last rest) h e (λ all t. t)
 
 -- ---- the end of the file
 
-module _ (file : List ℕ) (at : ℕ) (words : List ℕ) (h : Reached file at words finished) where
-  pub finished-good : at ≡ length file → Text whole file words
+module _ {root : Form} (file : List ℕ) (at : ℕ) (words : List ℕ) (h : Reached root file at words finished) where
+  pub finished-good : at ≡ length file → Text root file words
   unfolding Text
   finished-good e =
       let f : take at file ++ [] ≡ file = rw (e, take-length file, append-nil file) in
       rw f at (rw (append-nil words) at (h .sound [] [] refl))
 
-  pub finished-more : at < length file → Stopped file at
+  pub finished-more : at < length file → Stopped root file at
   unfolding Text
   finished-more p = halt file at words finished h p (λ bytes all t. t)
 
@@ -178,10 +178,10 @@ pub false-true : false ≡ true → ⊥
 false-true e = true-false (sym e)
 
 pub number-refused : {file : List ℕ} {start : ℕ} {last : Bool} {r : Number} {at : ℕ} → r ≡ numberRefused at → at ≤ length file
-    → ((words : List ℕ) (next : ℕ → Form) → Reached file start words (field last next) → Stopped file at) → NumberRead file start last r
+    → ((root : Form) (words : List ℕ) (next : ℕ → Form) → Reached root file start words (field last next) → Stopped root file at) → NumberRead file start last r
 number-refused e p f = rw e (record {
   within = p;
   long = λ g. absurd (true-false g);
-  stopped = λ words next h g. f words next h;
-  reached = λ words next h g. absurd (true-false g);
+  stopped = λ root words next h g. f root words next h;
+  reached = λ root words next h g. absurd (true-false g);
 })

@@ -5,7 +5,7 @@ use mathlib.Core.List.{List, [], _∷_, _++_}
 use mathlib.Core.Logic.{_⊎_}
 use Prim.Native.Nat.{ℕ, zero, suc, _+_, _*_, _^_, _<_}
 use lib.ListN.{getD}
-use Rattle.text.specs.File.{headNames, blockNames, instructionNames, caseNames, placeNames, identifierNames}
+use Rattle.text.specs.Layout.{Layout}
 
 pub data Form : Type 0 where
   finished : Form
@@ -43,17 +43,17 @@ unfoldable pub table : List ℕ → ℕ → ℕ → Form → Form
 table names width count rest = literal names (rows width count rest)
 
 -- the five tables that the head counts
-unfoldable pub tables : List ℕ → Form → Form
-tables head rest =
-    table blockNames 10 (getD head 1 0)
-    (table instructionNames 6 (getD head 2 0)
-    (table caseNames 2 (getD head 3 0)
-    (table placeNames 1 (getD head 4 0)
-    (table identifierNames 1 (getD head 5 0)
+unfoldable pub tables : Layout → List ℕ → Form → Form
+tables f head rest =
+    table (f .blocks .names) (f .blocks .width) (getD head 1 0)
+    (table (f .instructions .names) (f .instructions .width) (getD head 2 0)
+    (table (f .cases .names) (f .cases .width) (getD head 3 0)
+    (table (f .places .names) (f .places .width) (getD head 4 0)
+    (table (f .identifiers .names) (f .identifiers .width) (getD head 5 0)
     rest))))
 
-unfoldable pub whole : Form
-whole = literal headNames (row 6 [] λ head. tables head finished)
+unfoldable pub whole : Layout → Form
+whole f = literal (f .head .names) (row (f .head .width) [] λ head. tables f head finished)
 
 -- the bytes are in the form and have these words
 unfoldable pub Text : Form → List ℕ → List ℕ → Type 0

@@ -1,8 +1,9 @@
 -- The definitions that the contracts of `text` cite.
--- File says what a good file is, Answer what reading gives, Printed what is written. Form and Steps are for the functions below `read`.
+-- Layout has the two forms of a file; File says what a good file is, Answer what reading gives, Printed what is written. Form and Steps are for the functions below `read`.
 pub mod Ascii
 pub mod Decimal
 pub mod Line
+pub mod Layout
 pub mod File
 pub mod Lent
 pub mod Form

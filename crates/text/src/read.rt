@@ -1,7 +1,10 @@
 ghost use lib.ListN.{length};
+ghost use Rattle.text.specs.Layout.{layout};
 ghost use Rattle.text.specs.Answer.{Answered};
+ghost use Rattle.text.specs.declared.version.Version.the-variants.{New};
 use crate::lent::clear_words;
 use crate::table::read_file;
+use crate::version::Version;
 
 // What reading a file gives.
 pub enum Answer {
@@ -13,15 +16,15 @@ pub enum Answer {
     NoRoom,
 }
 
-// Reads a file: its words into the lent ones, then zeros. Where there is no such answer the lent words are all zeros.
-pub fn read(file: &[u8], words: &mut [u32]) -> Answer
-    ensures { λ r. ⌜ Answered (now (file .entry)) (length (now (words .entry))) (now (words .exit)) r ⌝ }
+// Reads a file of this form: its words into the lent ones, then zeros. Where there is no such answer the lent words are all zeros.
+pub fn read_as(file: &[u8], version: Version, words: &mut [u32]) -> Answer
+    ensures { λ r. ⌜ Answered (layout version) (now (file .entry)) (length (now (words .entry))) (now (words .exit)) r ⌝ }
 {
     if 32768 < file.len() {
         clear_words(words, 0);
         return Answer::Refused { code: 51, at: 0 };
     }
-    let end = read_file(file, words);
+    let end = read_file(file, version, words);
     if end.refused {
         clear_words(words, 0);
         return Answer::Refused {
@@ -35,4 +38,11 @@ pub fn read(file: &[u8], words: &mut [u32]) -> Answer
     }
     clear_words(words, end.count);
     Answer::Words(end.count)
+}
+
+// Reads a file of the form of today.
+pub fn read(file: &[u8], words: &mut [u32]) -> Answer
+    ensures { λ r. ⌜ Answered (layout New) (now (file .entry)) (length (now (words .entry))) (now (words .exit)) r ⌝ }
+{
+    read_as(file, Version::New, words)
 }

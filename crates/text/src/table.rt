@@ -1,11 +1,13 @@
 // The file from its first line to its end: lines of names, rows, tables.
 ghost use mathlib.Core.Path.{_≡_};
 ghost use lib.ListN.{length};
+ghost use Rattle.text.specs.Layout.{layout, blockColumns, instructionColumns};
 ghost use Rattle.text.specs.Form.{rows, table, tables};
 ghost use Rattle.text.specs.Steps.{Near, NamesRead, PartRead, RowRead, HeadRead, FileRead, cursorAt, cursorRefused};
 use crate::lent::put_word;
 use crate::lent::put_words;
 use crate::number::read_number;
+use crate::version::Version;
 
 // How far the reading has come: the next byte and the number of words so far; or the byte that it is refused at.
 pub struct Cursor {
@@ -115,31 +117,65 @@ fn read_table(
     read_rows(file, r, width, lines, words)
 }
 
+// Reads the table of blocks.
+fn read_blocks(file: &[u8], from: Cursor, version: Version, lines: u32, words: &mut [u32]) -> Cursor
+    requires { ⌜ Near (now file) from ⌝ }
+    ensures { λ r. ⌜ PartRead (now (file .entry)) (table (blockColumns version .names) (blockColumns version .width) lines) from (now (words .entry)) r (now (words .exit)) ⌝ }
+{
+    match version {
+        Version::Old => read_table(
+            file,
+            from,
+            b"first count code a b c d e id span\n",
+            10,
+            lines,
+            words,
+        ),
+        Version::New => read_table(
+            file,
+            from,
+            b"first count code a b c d e id from to\n",
+            11,
+            lines,
+            words,
+        ),
+    }
+}
+
+// Reads the table of instructions.
+fn read_instructions(
+    file: &[u8],
+    from: Cursor,
+    version: Version,
+    lines: u32,
+    words: &mut [u32],
+) -> Cursor
+    requires { ⌜ Near (now file) from ⌝ }
+    ensures { λ r. ⌜ PartRead (now (file .entry)) (table (instructionColumns version .names) (instructionColumns version .width) lines) from (now (words .entry)) r (now (words .exit)) ⌝ }
+{
+    match version {
+        Version::Old => read_table(file, from, b"id lvalue code p q span\n", 6, lines, words),
+        Version::New => read_table(file, from, b"id lvalue code p q from to\n", 7, lines, words),
+    }
+}
+
 // Reads the five tables that the head counts.
-fn read_tables(file: &[u8], from: Cursor, head: &[u32], words: &mut [u32]) -> Cursor
+fn read_tables(
+    file: &[u8],
+    from: Cursor,
+    version: Version,
+    head: &[u32],
+    words: &mut [u32],
+) -> Cursor
     requires { ⌜ Near (now file) from ⌝ }
     requires { ⌜ length (now head) ≡ 6 ⌝ }
-    ensures { λ r. ⌜ PartRead (now (file .entry)) (tables (now (head .entry))) from (now (words .entry)) r (now (words .exit)) ⌝ }
+    ensures { λ r. ⌜ PartRead (now (file .entry)) (tables (layout version) (now (head .entry))) from (now (words .entry)) r (now (words .exit)) ⌝ }
 {
-    let blocks = read_table(
-        file,
-        from,
-        b"first count code a b c d e id span\n",
-        10,
-        head[1],
-        words,
-    );
+    let blocks = read_blocks(file, from, version, head[1], words);
     if blocks.refused {
         return blocks;
     }
-    let instructions = read_table(
-        file,
-        blocks,
-        b"id lvalue code p q span\n",
-        6,
-        head[2],
-        words,
-    );
+    let instructions = read_instructions(file, blocks, version, head[2], words);
     if instructions.refused {
         return instructions;
     }
@@ -154,7 +190,7 @@ fn read_tables(file: &[u8], from: Cursor, head: &[u32], words: &mut [u32]) -> Cu
     read_table(file, places, b"named\n", 1, head[5], words)
 }
 
-// Reads the head: its line of names and its row.
+// Reads the head: its line of names and its row, which are the same in both forms.
 fn read_head(file: &[u8], head: &mut [u32]) -> Cursor
     requires { ⌜ length (now head) ≡ 6 ⌝ }
     ensures { λ r. ⌜ HeadRead (now (file .entry)) r (now (head .exit)) ⌝ }
@@ -171,8 +207,8 @@ fn read_head(file: &[u8], head: &mut [u32]) -> Cursor
 }
 
 // Reads the file's words, as far as there are places for them, and counts them.
-pub fn read_file(file: &[u8], words: &mut [u32]) -> Cursor
-    ensures { λ r. ⌜ FileRead (now (file .entry)) r (now (words .exit)) ⌝ }
+pub fn read_file(file: &[u8], version: Version, words: &mut [u32]) -> Cursor
+    ensures { λ r. ⌜ FileRead (layout version) (now (file .entry)) r (now (words .exit)) ⌝ }
 {
     let mut head = [0u32; 6];
     let counts = read_head(file, &mut head);
@@ -180,7 +216,7 @@ pub fn read_file(file: &[u8], words: &mut [u32]) -> Cursor
         return counts;
     }
     put_words(words, &head);
-    let end = read_tables(file, counts, &head, words);
+    let end = read_tables(file, counts, version, &head, words);
     if end.refused {
         return end;
     }

@@ -87,10 +87,10 @@ fn run_named(name: &[u8], words: &mut [u32]) {
     run(&file[..n], words);
 }
 
-// The 56 files of data/.
+// The 58 files of data/.
 fn run_all(words: &mut [u32]) {
     let mut i: u8 = 0;
-    while i < 56 {
+    while i < 58 {
         let name = [b'0' + i / 10, b'0' + i % 10];
         run_named(&name, words);
         i += 1;
@@ -101,9 +101,9 @@ fn main() {
     let mut words = [0u32; 16384];
     run_all(&mut words);
     // The sample into one word less than it has, and into as many.
-    let mut few = [0u32; 17];
+    let mut few = [0u32; 18];
     run_named(b"00", &mut few);
-    let mut enough = [0u32; 18];
+    let mut enough = [0u32; 19];
     run_named(b"00", &mut enough);
     // Numbers at the ends of their range.
     print(

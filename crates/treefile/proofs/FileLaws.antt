@@ -9,6 +9,8 @@ use mathlib.Core.Logic.{⊎-elim, inl, inr}
 use native.Mathlib.Omega.{arith}
 use lib.ListN.{length, take, length-append, length-replicate}
 use lib.Seq.{take-at}
+use Rattle.text.specs.Layout.{layout}
+use Rattle.text.specs.declared.version.Version.the-variants.{New}
 use Rattle.text.specs.Answer.{Refusal, Answered}
 use Rattle.text.specs.Printed.{printed, writtenOf, lentOf}
 use Rattle.text.specs.declared.read.Answer.the-variants.{Words}
@@ -22,15 +24,15 @@ use Rattle.treefile.specs.Prints.{lentWords, printedOutcome, FileBuilt}
 use Rattle.treefile.proofs.OutcomeLaws.{refusal-lines}
 
 -- the words that were read stand in the buffer
-pub words-within : (file lent : List ℕ) (room count : ℕ) → Answered file room lent (Words count) → count ≤ length lent
+pub words-within : (file lent : List ℕ) (room count : ℕ) → Answered (layout New) file room lent (Words count) → count ≤ length lent
 words-within file lent room count h =
     rw (h .4) (simp (length-append, length-replicate) (omega (arith, h .2, h .3)))
 
-words-read : (file lent : List ℕ) (room count : ℕ) (h : Answered file room lent (Words count)) → take count lent ≡ h .0
+words-read : (file lent : List ℕ) (room count : ℕ) (h : Answered (layout New) file room lent (Words count)) → take count lent ≡ h .0
 words-read file lent room count h = rw (h .4) (take-at (h .0) _ count (h .2))
 
 module _ (file out : List ℕ) (space : ℕ) (r : Written) where
-  pub tree-built : (lent : List ℕ) (room count : ℕ) → Answered file room lent (Words count)
+  pub tree-built : (lent : List ℕ) (room count : ℕ) → Answered (layout New) file room lent (Words count)
       → r ≡ writtenOf space (printedOutcome (built (take count lent) lentWords))
       → out ≡ lentOf space (printedOutcome (built (take count lent) lentWords))
       → (135245 ≤ space → r ≡ Bytes (length (printedOutcome (built (take count lent) lentWords))))
@@ -43,7 +45,7 @@ module _ (file out : List ℕ) (space : ℕ) (r : Written) where
     enough = enough;
   }
 
-  pub refusal-built : (code at : ℕ) (tree : List ℕ) → Refusal file code at
+  pub refusal-built : (code at : ℕ) (tree : List ℕ) → Refusal (layout New) file code at
       → r ≡ writtenOf space (printed code at 0 0 tree)
       → out ≡ lentOf space (printed code at 0 0 tree)
       → (135245 ≤ space → r ≡ Bytes (length (printed code at 0 0 tree)))
@@ -56,11 +58,11 @@ module _ (file out : List ℕ) (space : ℕ) (r : Written) where
     enough = enough;
   }
     where
-      not-zero : Refusal file code at → code ≡ 0 → ⊥
+      not-zero : Refusal (layout New) file code at → code ≡ 0 → ⊥
       not-zero d e = ⊎-elim (λ w. omega (arith, w .0, e)) (λ w. omega (arith, w .0, e)) d
 
-  pub never-short : (lent : List ℕ) (room : ℕ) → 16384 ≤ room → Answered file room lent read.NoRoom → FileBuilt file space r out
-  never-short lent room p h = absurd (room-enough file lent room p h)
+  pub never-short : (lent : List ℕ) (room : ℕ) → 16384 ≤ room → Answered (layout New) file room lent read.NoRoom → FileBuilt file space r out
+  never-short lent room p h = absurd (room-enough _ file lent room p h)
 
 -- what was written lies within the lent bytes
 pub bytes-within : (room end : ℕ) (text : List ℕ) (r : Written) → r ≡ writtenOf room text → r ≡ Bytes end → end ≤ room

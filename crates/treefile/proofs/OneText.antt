@@ -12,17 +12,17 @@ use Rattle.treefile.specs.Prints.{lentWords, printedOutcome, PrintsTree,
 module _ (file t u : List ℕ) where
   tree-text : PrintsTree file t → PrintsTree file u → t ≡ u
   tree-text p q =
-      let e = good-one file (p .words) (q .words) (p .accepted .good) (q .accepted .good) in
+      let e = good-one _ file (p .words) (q .words) (p .accepted .good) (q .accepted .good) in
       p .lines ∙ ap (λ (words : List ℕ). printedOutcome (built words lentWords)) e ∙ sym (q .lines)
 
   refusal-text : PrintsRefusal file t → PrintsRefusal file u → t ≡ u
   refusal-text p q =
-      let e = refusal-one file (p .code) (q .code) (p .at) (q .at) (p .refusal) (q .refusal) in
+      let e = refusal-one _ file (p .code) (q .code) (p .at) (q .at) (p .refusal) (q .refusal) in
       p .lines ∙ ap₂ (λ (code at : ℕ). printed code at 0 0 []) (e .0) (e .1) ∙ sym (q .lines)
 
 -- no file prints both a tree and a refusal
 not-both : (file t u : List ℕ) → PrintsTree file t → PrintsRefusal file u → ⊥
-not-both file t u p q = refusal-accepted file (p .words) (q .code) (q .at) (q .refusal) (p .accepted)
+not-both file t u p q = refusal-accepted _ file (p .words) (q .code) (q .at) (q .refusal) (p .accepted)
 
 pub prints-one : (file t u : List ℕ) → Prints file t → Prints file u → t ≡ u
 prints-one file t u p q =

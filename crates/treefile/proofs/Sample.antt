@@ -11,7 +11,7 @@ use Rattle.treefile.specs.Prints.{lentWords, printedOutcome, Prints}
 -- "Lines of input", "Output"
 pub sample-prints :
     Prints
-    (ascii "entry blocks instructions cases places identifiers\n0 1 0 0 1 1\nfirst count code a b c d e id span\n0 0 3 0 0 0 0 0 7 0\nid lvalue code p q span\ntest block\nidentifier\n0\nnamed\n1\n")
+    (ascii "entry blocks instructions cases places identifiers\n0 1 0 0 1 1\nfirst count code a b c d e id from to\n0 0 3 0 0 0 0 0 7 0 0\nid lvalue code p q from to\ntest block\nidentifier\n0\nnamed\n1\n")
     (ascii "code at rows visits\n0 0 2 1\nop a b c d e\n22 0 7 0 0 0\n9 1 0 0 0 0\n")
 unfolding printedOutcome
 sample-prints = inl (record {

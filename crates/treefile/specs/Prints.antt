@@ -7,6 +7,8 @@ use lib.ListN.{length, take}
 use Rattle.text.specs.declared.write.Written.{Written}
 use Rattle.text.specs.declared.write.Written.the-variants.{Bytes}
 use Rattle.definition.specs.Build.{Outcome, built}
+use Rattle.text.specs.Layout.{layout}
+use Rattle.text.specs.declared.version.Version.the-variants.{New}
 use Rattle.text.specs.Answer.{Accepted, Refusal}
 use Rattle.text.specs.Printed.{printed, writtenOf, lentOf}
 
@@ -21,13 +23,13 @@ printedOutcome outcome = printed (outcome .code) (outcome .at) (outcome .rows) (
 -- a file in the form prints what its table's words give; any other file prints its refusal, "rows and visits 0"
 pub record PrintsTree (file text : List ℕ) : Type 0 where
   pub words : List ℕ
-  pub accepted : Accepted file words
+  pub accepted : Accepted (layout New) file words
   pub lines : text ≡ printedOutcome (built words lentWords)
 
 pub record PrintsRefusal (file text : List ℕ) : Type 0 where
   pub code : ℕ
   pub at : ℕ
-  pub refusal : Refusal file code at
+  pub refusal : Refusal (layout New) file code at
   pub lines : text ≡ printed code at 0 0 []
 
 abbrev pub Prints : (file text : List ℕ) → Type 0

@@ -7,6 +7,7 @@ use Prim.Native.Nat.{ℕ, zero, suc, _+_, _-_, _≤_, _<_}
 use native.Mathlib.Omega.{arith}
 use lib.Dec.{eqb}
 use borrow.Author.Tests.{eqb-true, eqb-false}
+use Rattle.table.specs.declared.columns.Span.{Span}
 use Rattle.table.specs.Words.{instructionCount, placeCount, identifierCount, placeWord, identifierWord, operationCodeAt}
 use Rattle.table.specs.Table.{Table, Instruction, Operation, other, load-local, store-local, tableOf, instructionOf, operationOf, instructionAt, instructionRowsAt, rowsFrom}
 use Rattle.table.specs.Promise.{Promise, Heads, Instructs, Operates}
@@ -87,7 +88,7 @@ loads-place {place = place} o = record { same = low-number place (omega (arith, 
 pub place-identifier : {ws : List ℕ} {place identifier : ℕ} → Promise ws → place < placeCount ws → identifier ≡ placeWord ws place → identifier < identifierCount ws
 place-identifier {place = place} p h e = rw e (p .place place h)
 
-module _ {ws : List ℕ} {i id lvalue span : ℕ} (head : Instructs ws i id lvalue span) (block visits : ℕ) where
+module _ {ws : List ℕ} {i id lvalue : ℕ} {span : Span} (head : Instructs ws i id lvalue span) (block visits : ℕ) where
   -- "Last instruction StoreLocal to an unnamed identifier"
   pub extract-load : {to value : ℕ} → Operates ws i (store-local to value) → unnamedStore ws i ≡ true
       → extractValueBlockResult (tableOf ws) block i [] visits ≡ record { block = block; place = to; value = LOAD value; id = id; visits = visits }
@@ -123,7 +124,7 @@ rows-more : (first : ℕ) {count : ℕ} → (count ≡ 0 → ⊥) → rowsFrom f
 rows-more first {count = zero} f = absurd (f refl)
 rows-more first {count = suc n} f = let e : suc n - 1 ≡ n = omega arith in rw e
 
-module _ {ws : List ℕ} {block first count id span : ℕ} (head : Heads ws block first count id span) (ends-in visits : ℕ) where
+module _ {ws : List ℕ} {block first count id : ℕ} {span : Span} (head : Heads ws block first count id span) (ends-in visits : ℕ) where
   abbrev rows : List ℕ
   rows = instructionRowsAt (tableOf ws) block
 

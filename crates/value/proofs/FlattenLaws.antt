@@ -5,8 +5,9 @@ use mathlib.Core.Bool.{Bool, true, false}
 use mathlib.Core.List.{List, _∷_}
 use Prim.Native.Nat.{ℕ, suc, _+_, _-_}
 use native.Mathlib.Omega.{arith}
+use Rattle.table.specs.declared.columns.Span.{Span}
 use Rattle.table.specs.Table.{Table}
-use Rattle.definition.specs.Tree.{Row, row, Value, PLAIN, LOAD, UNDEF, SEQ, LOGICAL, COND, OPTIONAL, Instructions, no-instructions, instruction, countInstructions}
+use Rattle.definition.specs.Tree.{Row, row, Value, PLAIN, LOAD, UNDEF, SEQ, LOGICAL, COND, OPTIONAL, Instructions, no-instructions, instruction, countInstructions, undefRow, instrRow}
 use Rattle.definition.specs.Value.{ValueBlockResult, appended, sequencedInstructions, innermostValue, loadedPlace, sameIdentifier, unlessSame, singleInstruction, valueBlockResultToSequence}
 use Rattle.value.specs.Met.{trailingSequences, trailingInstructions}
 use Rattle.rows.specs.Rows.{Holds}
@@ -73,7 +74,7 @@ holds-load t b place (COND x y z) n below e h = let w : _≡_ {A = ℕ} 0 1 = cc
 holds-load t b place (OPTIONAL f v) n below e h = let z : _≡_ {A = ℕ} 0 1 = cc in absurd (omega arith)
 
 -- the rows of the flattened value
-module _ (t : Table) (r : ValueBlockResult) (span : ℕ) (below : List Row) where
+module _ (t : Table) (r : ValueBlockResult) (span : Span) (below : List Row) where
   abbrev final : Instructions
   final = singleInstruction (r .id) (r .place) span (innermostValue (r .value))
 
@@ -81,15 +82,15 @@ module _ (t : Table) (r : ValueBlockResult) (span : ℕ) (below : List Row) wher
   drops = sameIdentifier t (r .place) (loadedPlace t (innermostValue (r .value)))
 
   flatten-by : (y : Bool) → drops ≡ y → pushValue (valueBlockResultToSequence t r span) below
-      ≡ row 5 (trailingInstructions (r .value) + countInstructions (unlessSame y final)) (r .id) 0 0 0 ∷ row 3 span 0 0 0 0 ∷ pushInstructions (unlessSame y final) (leading (r .value) below)
+      ≡ row 5 (trailingInstructions (r .value) + countInstructions (unlessSame y final)) (r .id) 0 0 0 ∷ undefRow span ∷ pushInstructions (unlessSame y final) (leading (r .value) below)
   unfolding pushValue valueBlockResultToSequence
   flatten-by y e = rw e (rw (count-sequenced (r .value) (unlessSame y final), push-sequenced (r .value) (unlessSame y final) below))
 
-  pub flatten-same : drops ≡ true → pushValue (valueBlockResultToSequence t r span) below ≡ row 5 (trailingInstructions (r .value)) (r .id) 0 0 0 ∷ row 3 span 0 0 0 0 ∷ leading (r .value) below
+  pub flatten-same : drops ≡ true → pushValue (valueBlockResultToSequence t r span) below ≡ row 5 (trailingInstructions (r .value)) (r .id) 0 0 0 ∷ undefRow span ∷ leading (r .value) below
   unfolding unlessSame pushValue
-  flatten-same e = flatten-by true e ∙ ap (λ (n : ℕ). row 5 n (r .id) 0 0 0 ∷ row 3 span 0 0 0 0 ∷ leading (r .value) below) (omega arith)
+  flatten-same e = flatten-by true e ∙ ap (λ (n : ℕ). row 5 n (r .id) 0 0 0 ∷ undefRow span ∷ leading (r .value) below) (omega arith)
 
   pub flatten-other : drops ≡ false → pushValue (valueBlockResultToSequence t r span) below
-      ≡ row 5 (trailingInstructions (r .value) + 1) (r .id) 0 0 0 ∷ row 3 span 0 0 0 0 ∷ row 4 (r .id) (r .place) span 0 0 ∷ pushValue (innermostValue (r .value)) (leading (r .value) below)
+      ≡ row 5 (trailingInstructions (r .value) + 1) (r .id) 0 0 0 ∷ undefRow span ∷ instrRow (r .id) (r .place) span ∷ pushValue (innermostValue (r .value)) (leading (r .value) below)
   unfolding unlessSame pushValue
   flatten-other e = flatten-by false e

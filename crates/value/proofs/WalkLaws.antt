@@ -8,6 +8,7 @@ use native.Mathlib.Numerals.{add-one}
 use native.Mathlib.Omega.{arith}
 use lib.Dec.{eqb, leb}
 use borrow.Author.Tests.{eq-eqb, ne-eqb, eqb-true, lt-leb}
+use Rattle.table.specs.declared.columns.Span.{Span}
 use Rattle.table.specs.Words.{blockCount, codeAt, largest}
 use Rattle.table.specs.Table.{Table, Block, Terminal, absent, unreachable, throw, return, goto, if, branch, switch, do-while, while, for, for-of, for-in, logical, ternary, optional, label, sequence, maybe-throw, try, scope, tableOf, terminalOf, terminalAt, blockAt, instructionRowsAt, rowsFrom, codeOf, isAbsent, isGoto, unlessNone}
 use Rattle.table.specs.Promise.{Promise, Ends, Heads}
@@ -23,11 +24,11 @@ use Rattle.value.proofs.MetLaws.{wrap, unless-on, unless-off, defined, 
 
 -- ---- a visit
 
-abbrev begun : Table → VisitValueBlock → (block : ℕ) → Option ℕ → (span : ℕ) → Result ℕ → Result ValueBlockResult
+abbrev begun : Table → VisitValueBlock → (block : ℕ) → Option ℕ → (span : Span) → Result ℕ → Result ValueBlockResult
 begun t deeper block fallthrough span begin =
     begin >>= λ visits. refuseIf (isFallthrough fallthrough block) 23 block visits >>= λ _. visitValueBlockAt t deeper (terminalAt t block) block (blockAt t block) fallthrough span visits
 
-visit-more : (t : Table) {levels : ℕ} → (levels ≡ 0 → ⊥) → (block : ℕ) (fallthrough : Option ℕ) (span visits : ℕ)
+visit-more : (t : Table) {levels : ℕ} → (levels ≡ 0 → ⊥) → (block : ℕ) (fallthrough : Option ℕ) (span : Span) (visits : ℕ)
     → visitValueBlock t levels block fallthrough span visits ≡ begun t (visitValueBlock t (levels - 1)) block fallthrough span (beginVisit t block visits)
 unfolding visitValueBlock
 visit-more t {levels = zero} f block ft span visits = absurd (f refl)
@@ -51,7 +52,7 @@ this-is fallthrough block h = by (eqb fallthrough largest) refl
 abbrev pub begunTally : Tally → Tally
 begunTally tally = record { rows = tally .rows; visits = tally .visits + 1 }
 
-module _ {ws : List ℕ} {tally : Tally} {block : ℕ} (fit : Fit ws tally 0 block) (levels fallthrough span : ℕ) where
+module _ {ws : List ℕ} {tally : Tally} {block : ℕ} (fit : Fit ws tally 0 block) (levels fallthrough : ℕ) (span : Span) where
   abbrev t : Table
   t = tableOf ws
 
@@ -107,7 +108,7 @@ module _ {ws : List ℕ} {tally : Tally} {block : ℕ} (fit : Fit ws tally 0 blo
         visit-on f = rw (add-one visits) (reaches false (ne-eqb fallthrough block (λ e. f (sym e))))
 
 -- the visit has begun, and its fallthrough is not reached: the value is what the block's end gives
-pub visit-begun : {ws : List ℕ} {tally : Tally} {block code n : ℕ} {b b′ : List ℕ} {r : ValueResult} (fit : Fit ws tally 0 block) (levels fallthrough span : ℕ)
+pub visit-begun : {ws : List ℕ} {tally : Tally} {block code n : ℕ} {b b′ : List ℕ} {r : ValueResult} (fit : Fit ws tally 0 block) (levels fallthrough : ℕ) (span : Span)
     → (levels ≡ 0 → ⊥) → (tally .visits ≡ 8192 → ⊥) → code ≡ codeAt ws block → (code ≡ 0 → ⊥) → (block ≡ fallthrough → ⊥)
     → Met ws blockResult (blockOutcome ws (levels - 1) block fallthrough span (tally .visits + 1)) (begunTally tally) n b r b′ → n ≤ 8200
     → Met ws blockResult (visit ws levels block (unlessNone fallthrough) span (tally .visits)) tally 0 b r b′
@@ -127,7 +128,7 @@ some-block ws {block} h few = low-number block (omega arith)
 
 -- ---- by the block's code
 
-other-end : (t : Table) (deeper : VisitValueBlock) (m : Terminal) (number : ℕ) (block : Block) (fallthrough : Option ℕ) (span visits : ℕ)
+other-end : (t : Table) (deeper : VisitValueBlock) (m : Terminal) (number : ℕ) (block : Block) (fallthrough : Option ℕ) (span : Span) (visits : ℕ)
     → (codeOf m ≡ 4 → ⊥) → (codeOf m ≡ 6 → ⊥) → (codeOf m ≡ 18 → ⊥)
     → visitValueBlockAt t deeper m number block fallthrough span visits ≡ thenFallthrough t deeper block span (visitValueBlockTerminal t deeper m (block .id) (block .span) visits number)
 unfolding visitValueBlockAt
@@ -153,7 +154,7 @@ other-end t v (maybe-throw x) n k ft s w f g e = absurd (e refl)
 other-end t v (try x y z a) n k ft s w f g e = refl
 other-end t v (scope x y z a) n k ft s w f g e = refl
 
-no-value : (t : Table) (deeper : VisitValueBlock) (m : Terminal) (id span visits at : ℕ) → (12 < codeOf m → codeOf m < 19 → ⊥)
+no-value : (t : Table) (deeper : VisitValueBlock) (m : Terminal) (id : ℕ) (span : Span) (visits at : ℕ) → (12 < codeOf m → codeOf m < 19 → ⊥)
     → visitValueBlockTerminal t deeper m id span visits at ≡ refused 27 at visits
 unfolding visitValueBlockTerminal
 no-value t v absent i s w a f = refl
@@ -205,7 +206,7 @@ module _ (ws : List ℕ) (block levels : ℕ) where
   abbrev table : Table
   table = tableOf ws
 
-  module _ (fallthrough span visits : ℕ) where
+  module _ (fallthrough : ℕ) (span : Span) (visits : ℕ) where
     abbrev by-end : Terminal → Result ValueBlockResult
     by-end m = visitValueBlockAt table (visit ws levels) m block (blockAt table block) (unlessNone fallthrough) span visits
 
@@ -247,7 +248,7 @@ module _ (ws : List ℕ) (block levels : ℕ) where
         unfolding maybeThrowValue
         maybe-throw-own e = goes-on true e
 
-        pub maybe-throw-visits : {first count id own : ℕ} → Heads ws block first count id own → empty ≡ false
+        pub maybe-throw-visits : {first count id : ℕ} {own : Span} → Heads ws block first count id own → empty ≡ false
             → ends-so ≡ (visit ws levels next (unlessNone fallthrough) span visits >>= λ final. ok (wrap ws first count final))
         unfolding maybeThrowValue
         maybe-throw-visits head e = goes-on false e
@@ -255,10 +256,10 @@ module _ (ws : List ℕ) (block levels : ℕ) where
 
   -- the value terminal at the end of a block
   module _ (visits : ℕ) where
-    abbrev with-end : Terminal → ℕ → ℕ → Result ValueTerminalResult
+    abbrev with-end : Terminal → ℕ → Span → Result ValueTerminalResult
     with-end m id span = visitValueBlockTerminal table (visit ws levels) m id span visits block
 
-    pub terminal-by : {e : Terminal} {first count id span : ℕ} → Ends ws block e → Heads ws block first count id span → terminalOutcome ws levels block visits ≡ with-end e id span
+    pub terminal-by : {e : Terminal} {first count id : ℕ} {span : Span} → Ends ws block e → Heads ws block first count id span → terminalOutcome ws levels block visits ≡ with-end e id span
     terminal-by ends head = rw (ends .is, head .is-id, head .is-span)
 
     module _ (h : block < blockCount ws) where
@@ -277,7 +278,7 @@ module _ (ws : List ℕ) (block levels : ℕ) where
 
 -- ---- an empty Goto block
 
-module _ {ws : List ℕ} {block first count id span : ℕ} (head : Heads ws block first count id span) where
+module _ {ws : List ℕ} {block first count id : ℕ} {span : Span} (head : Heads ws block first count id span) where
   goto-by : (rows : List ℕ) → rowsFrom first count ≡ rows → isEmptyGoto (blockAt (tableOf ws) block) ≡ isEmpty rows && isGoto (terminalAt (tableOf ws) block)
   unfolding isEmptyGoto
   goto-by rows e = ap (λ (l : List ℕ). isEmpty l && isGoto (terminalAt (tableOf ws) block)) (head-rows head ∙ e)

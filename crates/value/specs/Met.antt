@@ -4,8 +4,9 @@ use mathlib.Core.Bool.{Bool, true, false}
 use mathlib.Core.List.{List, _∷_}
 use Prim.Native.Nat.{ℕ, suc, _+_, _*_, _≤_, _<_}
 use lib.Dec.{eqb}
+use Rattle.table.specs.declared.columns.Span.{Span}
 use Rattle.table.specs.Words.{blockCount, placeCount, largest}
-use Rattle.table.specs.Table.{tableOf, blockAt, instructionAt, unlessNone, rowsFrom}
+use Rattle.table.specs.Table.{tableOf, blockAt, instructionAt, unlessNone, rowsFrom, noSpan}
 use Rattle.table.specs.Promise.{Promise}
 use Rattle.definition.specs.Result.{Result, ok, refused}
 use Rattle.definition.specs.Tree.{Row, row, Value, PLAIN, LOAD, UNDEF, SEQ, LOGICAL, COND, OPTIONAL, countInstructions}
@@ -106,7 +107,7 @@ pub record Met {A : Type 0} (words : List ℕ) (of : ValueResult → Value → A
 
 -- a test block with no Branch at its end, or none that counts
 abbrev pub noBranch : ValueResult → TestBlock
-noBranch test = record { test = test; consequent = 0; alternate = 0; «branch_span» = 0 }
+noBranch test = record { test = test; consequent = 0; alternate = 0; «branch_span» = noSpan }
 
 -- a test, with its Branch's ways and span
 pub record TestMet (words : List ℕ) (outcome : Result TestBlockResult) (start : Tally) (buffer : List ℕ) (r : TestBlock) (buffer′ : List ℕ) : Type 0 where
@@ -165,7 +166,7 @@ pub record Flattens (words : List ℕ) (result : ValueResult) : Type 0 where
   pub room : result .tally .rows < 3000000000
 
 -- the buffer held the rows of the result's value, and holds those of the flattened value
-pub record Flattened (words : List ℕ) (result : ValueResult) (span : ℕ) (buffer : List ℕ) (buffer′ : List ℕ) (rows′ : ℕ) : Type 0 where
+pub record Flattened (words : List ℕ) (result : ValueResult) (span : Span) (buffer : List ℕ) (buffer′ : List ℕ) (rows′ : ℕ) : Type 0 where
   pub held : (value : Value) → Ends words value (result .trailing) → (stack : List Row) → Holds buffer (result .tally .rows) (pushValue value stack)
       → Holds buffer′ rows′ (pushValue (valueBlockResultToSequence (tableOf words) (blockResult result value) span) stack)
   pub most : rows′ ≤ result .tally .rows + 3

@@ -1,6 +1,7 @@
 -- The definition's outcomes over the words, as the contracts of the walk cite them.
 use mathlib.Core.List.{List}
 use Prim.Native.Nat.{ℕ, suc}
+use Rattle.table.specs.declared.columns.Span.{Span}
 use Rattle.table.specs.Table.{tableOf, terminalAt, blockAt, instructionRowsAt, rowsFrom, unlessNone}
 use Rattle.definition.specs.Result.{Result, ok}
 use Rattle.definition.specs.Value.{ValueBlockResult, ValueTerminalResult, TestBlockResult, VisitValueBlock, visitValueBlock, visitValueBlockAt, visitValueBlockTerminal, visitTestBlock, extractValueBlockResult, extractOrRefuse, branchValue, thenFallthrough}
@@ -10,7 +11,7 @@ abbrev pub visit : List ℕ → (depthLeft : ℕ) → VisitValueBlock
 visit words depthLeft = visitValueBlock (tableOf words) depthLeft
 
 -- a block, by its end: what a visit gives once it has begun
-abbrev pub blockOutcome : List ℕ → (depthLeft block fallthrough span visits : ℕ) → Result ValueBlockResult
+abbrev pub blockOutcome : List ℕ → (depthLeft block fallthrough : ℕ) (span : Span) (visits : ℕ) → Result ValueBlockResult
 blockOutcome words depthLeft block fallthrough span visits =
     visitValueBlockAt (tableOf words) (visit words depthLeft) (terminalAt (tableOf words) block) block (blockAt (tableOf words) block) (unlessNone fallthrough) span visits
 
@@ -31,9 +32,9 @@ terminalOutcome words depthLeft block visits =
     visitValueBlockTerminal (tableOf words) (visit words depthLeft) (terminalAt (tableOf words) block) (blockAt (tableOf words) block .id) (blockAt (tableOf words) block .span) visits block
 
 -- that terminal's value as an instruction, and the value of its fallthrough
-abbrev pub fallthroughOutcome : List ℕ → (depthLeft block span visits : ℕ) → Result ValueBlockResult
+abbrev pub fallthroughOutcome : List ℕ → (depthLeft block : ℕ) (span : Span) (visits : ℕ) → Result ValueBlockResult
 fallthroughOutcome words depthLeft block span visits =
     thenFallthrough (tableOf words) (visit words depthLeft) (blockAt (tableOf words) block) span (terminalOutcome words depthLeft block visits)
 
-abbrev pub testOutcome : List ℕ → (depthLeft block span visits at : ℕ) → Result TestBlockResult
+abbrev pub testOutcome : List ℕ → (depthLeft block : ℕ) (span : Span) (visits at : ℕ) → Result TestBlockResult
 testOutcome words depthLeft block span visits at = visitTestBlock (tableOf words) (visit words depthLeft) block span visits at

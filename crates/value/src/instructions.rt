@@ -21,7 +21,16 @@ pub fn put_instructions(words: &[u32], buffer: &mut [u32], rows: u32, first: u32
         let i = first + k;
         let head = instruction_at(words, i);
         out = put(buffer, out, PLAIN, i, 0, 0, 0, 0);
-        out = put(buffer, out, INSTR, head.id, head.lvalue, head.span, 0, 0);
+        out = put(
+            buffer,
+            out,
+            INSTR,
+            head.id,
+            head.lvalue,
+            head.span.from,
+            head.span.to,
+            0,
+        );
         k += 1;
     }
     out

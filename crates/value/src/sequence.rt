@@ -5,6 +5,7 @@ use rows::INSTR;
 use rows::SEQ;
 use rows::UNDEF;
 use rows::put;
+use table::columns::Span;
 use table::words::place_word;
 ghost use mathlib.Core.Path.{_≡_};
 ghost use Prim.Native.Nat.{_+_, _<_};
@@ -36,7 +37,7 @@ pub fn value_block_result_to_sequence(
     words: &[u32],
     buffer: &mut [u32],
     result: ValueResult,
-    span: u32,
+    span: Span,
 ) -> u32
     requires { ⌜ Flattens (now words) result ⌝ }
     ensures { λ r. ⌜ Flattened (now (words .entry)) result span (now (buffer .entry)) (now (buffer .exit)) r ⌝ }
@@ -44,11 +45,20 @@ pub fn value_block_result_to_sequence(
     let trailing = result.trailing;
     let rows = result.tally.rows - trailing.sequences;
     if loads_same_identifier(words, result.place, trailing.loaded) {
-        let rows = put(buffer, rows - 1, UNDEF, span, 0, 0, 0, 0);
+        let rows = put(buffer, rows - 1, UNDEF, span.from, span.to, 0, 0, 0);
         return put(buffer, rows, SEQ, trailing.instructions, result.id, 0, 0, 0);
     }
-    let rows = put(buffer, rows, INSTR, result.id, result.place, span, 0, 0);
-    let rows = put(buffer, rows, UNDEF, span, 0, 0, 0, 0);
+    let rows = put(
+        buffer,
+        rows,
+        INSTR,
+        result.id,
+        result.place,
+        span.from,
+        span.to,
+        0,
+    );
+    let rows = put(buffer, rows, UNDEF, span.from, span.to, 0, 0, 0);
     put(
         buffer,
         rows,

@@ -5,9 +5,10 @@ use crate::result::Trailing;
 use crate::result::ValueResult;
 use rows::INSTR;
 use rows::put;
+use table::columns::Span;
 ghost use mathlib.Core.Path.{_≡_};
 ghost use Prim.Native.Nat.{_<_};
-ghost use Rattle.definition.specs.Tree.{row};
+ghost use Rattle.definition.specs.Tree.{row, instrRow};
 ghost use Rattle.value.specs.Met.{loads, refusal, finished, RowPut};
 
 // The end of a value that is one row: the place that it loads, or NONE.
@@ -66,11 +67,11 @@ pub fn put_row(buffer: &mut [u32], tally: Tally, op: u32, a: u32, b: u32) -> Tal
 }
 
 // Puts the INSTR row of the value whose rows are out.
-pub fn put_instr(buffer: &mut [u32], tally: Tally, id: u32, lvalue: u32, span: u32) -> Tally
+pub fn put_instr(buffer: &mut [u32], tally: Tally, id: u32, lvalue: u32, span: Span) -> Tally
     requires { ⌜ tally .rows < 4000000000 ⌝ }
-    ensures { λ r. ⌜ RowPut (now (buffer .entry)) tally (row 4 id lvalue span 0 0) (now (buffer .exit)) r ⌝ }
+    ensures { λ r. ⌜ RowPut (now (buffer .entry)) tally (instrRow id lvalue span) (now (buffer .exit)) r ⌝ }
 {
-    let rows = put(buffer, tally.rows, INSTR, id, lvalue, span, 0, 0);
+    let rows = put(buffer, tally.rows, INSTR, id, lvalue, span.from, span.to, 0);
     Tally {
         rows,
         visits: tally.visits,

@@ -17,6 +17,7 @@ use rows::COND;
 use rows::LOGICAL;
 use rows::OPTIONAL;
 use rows::SEQ;
+use table::columns::Span;
 use table::columns::block_at;
 use table::columns::code_at;
 use table::terminals::branch_at;
@@ -39,7 +40,7 @@ pub fn visit_value_block(
     levels: u32,
     block: u32,
     fallthrough: u32,
-    span: u32,
+    span: Span,
 ) -> ValueResult
     requires { ⌜ Fit (now words) tally 0 block ⌝ }
     ensures { λ r. ⌜ Met (now (words .entry)) blockResult (visit (now (words .entry)) levels block (unlessNone fallthrough) span (tally .visits)) tally 0 (now (buffer .entry)) r (now (buffer .exit)) ⌝ }
@@ -80,7 +81,7 @@ fn maybe_throw_value(
     levels: u32,
     block: u32,
     fallthrough: u32,
-    span: u32,
+    span: Span,
 ) -> ValueResult
     requires { ⌜ Fit (now words) tally 8200 block ⌝ }
     requires { ⌜ codeAt (now words) block ≡ 18 ⌝ }
@@ -113,7 +114,7 @@ fn then_fallthrough(
     tally: Tally,
     levels: u32,
     block: u32,
-    span: u32,
+    span: Span,
 ) -> ValueResult
     requires { ⌜ Fit (now words) tally 8200 block ⌝ }
     ensures { λ r. ⌜ Met (now (words .entry)) blockResult (fallthroughOutcome (now (words .entry)) levels block span (tally .visits)) tally 8200 (now (buffer .entry)) r (now (buffer .exit)) ⌝ }
@@ -167,7 +168,7 @@ pub struct TestBlock {
     pub test: ValueResult,
     pub consequent: u32,
     pub alternate: u32,
-    pub branch_span: u32,
+    pub branch_span: Span,
 }
 
 fn no_branch(test: ValueResult) -> TestBlock
@@ -177,7 +178,7 @@ fn no_branch(test: ValueResult) -> TestBlock
         test,
         consequent: 0,
         alternate: 0,
-        branch_span: 0,
+        branch_span: Span { from: 0, to: 0 },
     }
 }
 
@@ -188,7 +189,7 @@ fn visit_test_block(
     tally: Tally,
     levels: u32,
     block: u32,
-    span: u32,
+    span: Span,
     at: u32,
 ) -> TestBlock
     requires { ⌜ Fit (now words) tally 0 block ⌝ }
@@ -202,11 +203,13 @@ fn visit_test_block(
         return no_branch(refused(25, at, test.tally));
     }
     let branch = branch_at(words, test.block);
+    let head = block_at(words, test.block);
+    let branch_span = head.span;
     TestBlock {
         test,
         consequent: branch.consequent,
         alternate: branch.alternate,
-        branch_span: block_at(words, test.block).span,
+        branch_span,
     }
 }
 
@@ -224,20 +227,13 @@ fn logical_value(
 {
     let terminal = logical_at(words, block);
     let head = block_at(words, block);
-    let tested = visit_test_block(
-        words,
-        buffer,
-        tally,
-        levels,
-        terminal.test,
-        head.span,
-        block,
-    );
+    let span = head.span;
+    let tested = visit_test_block(words, buffer, tally, levels, terminal.test, span, block);
     let test = tested.test;
     if test.code != 0 {
         return test;
     }
-    let instr = put_instr(buffer, test.tally, test.id, test.place, head.span);
+    let instr = put_instr(buffer, test.tally, test.id, test.place, span);
     let left = visit_value_block(
         words,
         buffer,
@@ -245,7 +241,7 @@ fn logical_value(
         levels,
         tested.consequent,
         terminal.fallthrough,
-        head.span,
+        span,
     );
     if left.code != 0 {
         return left;
@@ -258,7 +254,7 @@ fn logical_value(
         levels,
         tested.alternate,
         terminal.fallthrough,
-        head.span,
+        span,
     );
     if right.code != 0 {
         return right;
@@ -287,15 +283,8 @@ fn ternary_value(
 {
     let terminal = ternary_at(words, block);
     let head = block_at(words, block);
-    let tested = visit_test_block(
-        words,
-        buffer,
-        tally,
-        levels,
-        terminal.test,
-        head.span,
-        block,
-    );
+    let span = head.span;
+    let tested = visit_test_block(words, buffer, tally, levels, terminal.test, span, block);
     let test = tested.test;
     if test.code != 0 {
         return test;
@@ -307,7 +296,7 @@ fn ternary_value(
         levels,
         tested.consequent,
         terminal.fallthrough,
-        head.span,
+        span,
     );
     if consequent.code != 0 {
         return consequent;
@@ -319,7 +308,7 @@ fn ternary_value(
         levels,
         tested.alternate,
         terminal.fallthrough,
-        head.span,
+        span,
     );
     if alternate.code != 0 {
         return alternate;
@@ -348,20 +337,14 @@ fn optional_value(
 {
     let terminal = optional_at(words, block);
     let head = block_at(words, block);
-    let tested = visit_test_block(
-        words,
-        buffer,
-        tally,
-        levels,
-        terminal.test,
-        head.span,
-        block,
-    );
+    let span = head.span;
+    let tested = visit_test_block(words, buffer, tally, levels, terminal.test, span, block);
     let test = tested.test;
     if test.code != 0 {
         return test;
     }
-    let instr = put_instr(buffer, test.tally, test.id, test.place, tested.branch_span);
+    let branch_span = tested.branch_span;
+    let instr = put_instr(buffer, test.tally, test.id, test.place, branch_span);
     let consequent = visit_value_block(
         words,
         buffer,
@@ -369,7 +352,7 @@ fn optional_value(
         levels,
         tested.consequent,
         terminal.fallthrough,
-        head.span,
+        span,
     );
     if consequent.code != 0 {
         return consequent;
@@ -399,6 +382,7 @@ fn sequence_value(
 {
     let terminal = sequence_at(words, block);
     let head = block_at(words, block);
+    let span = head.span;
     let inner = visit_value_block(
         words,
         buffer,
@@ -406,7 +390,7 @@ fn sequence_value(
         levels,
         terminal.block,
         terminal.fallthrough,
-        head.span,
+        span,
     );
     if inner.code != 0 {
         return inner;

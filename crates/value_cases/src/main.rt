@@ -2,6 +2,7 @@
 // says what they are and how they were made.
 use libc::STDIN_FILENO;
 use libc::STDOUT_FILENO;
+use table::columns::Span;
 use table::words::block_count;
 use value::result::Tally;
 use value::result::ValueResult;
@@ -123,12 +124,15 @@ fn block_answer(
     requires { ⌜ block < blockCount (now words) ⌝ }
     requires { ⌜ Small tally ⌝ }
 {
-    let span = at(asked, 3);
+    let span = Span {
+        from: at(asked, 3),
+        to: at(asked, 4),
+    };
     let result = visit_value_block(
         words,
         buffer,
         tally,
-        at(asked, 4),
+        at(asked, 5),
         block,
         at(asked, 2),
         span,
@@ -154,7 +158,7 @@ fn terminal_answer(
     requires { ⌜ block < blockCount (now words) ⌝ }
     requires { ⌜ Small tally ⌝ }
 {
-    let result = visit_value_block_terminal(words, buffer, tally, at(asked, 4), block);
+    let result = visit_value_block_terminal(words, buffer, tally, at(asked, 5), block);
     given(result, result.tally.rows)
 }
 
@@ -187,7 +191,7 @@ fn run_case(words: &[u32], buffer: &mut [u32], asked: &[u32]) -> Answer {
     if block >= block_count(words) {
         return disorder();
     }
-    let visits = at(asked, 5);
+    let visits = at(asked, 6);
     if visits > 8192 {
         return disorder();
     }
@@ -199,25 +203,25 @@ fn run_case(words: &[u32], buffer: &mut [u32], asked: &[u32]) -> Answer {
 }
 
 fn same_answer(answer: Answer, asked: &[u32]) -> bool {
-    if answer.code != at(asked, 7) {
+    if answer.code != at(asked, 8) {
         return false;
     }
-    if answer.at != at(asked, 8) {
+    if answer.at != at(asked, 9) {
         return false;
     }
-    if answer.block != at(asked, 9) {
+    if answer.block != at(asked, 10) {
         return false;
     }
-    if answer.place != at(asked, 10) {
+    if answer.place != at(asked, 11) {
         return false;
     }
-    if answer.id != at(asked, 11) {
+    if answer.id != at(asked, 12) {
         return false;
     }
-    if answer.rows != at(asked, 12) {
+    if answer.rows != at(asked, 13) {
         return false;
     }
-    answer.visits == at(asked, 13)
+    answer.visits == at(asked, 14)
 }
 
 fn same_words(buffer: &[u32], expected: &[u32]) -> bool {
@@ -249,7 +253,7 @@ fn differs(words: &[u32], buffer: &mut [u32], asked: &[u32], expected: &[u32]) -
 fn differs_in(words: &[u32], buffer: &mut [u32], asked: &[u32], expected: &[u32]) -> u64
     ensures { λ r. ⌜ r ≤ 1 ⌝ }
 {
-    let lent = at(asked, 6) as usize;
+    let lent = at(asked, 7) as usize;
     if lent > buffer.len() {
         return 1;
     }
@@ -271,12 +275,12 @@ fn run(numbers: &[u32], buffer: &mut [u32]) -> Counts
         let words = at(numbers, i) as usize;
         let first = i + 1;
         let asked = first + words;
-        let count = at(numbers, asked + 14) as usize;
-        let rows = asked + 15;
+        let count = at(numbers, asked + 15) as usize;
+        let rows = asked + 16;
         differences += differs_in(
             part(numbers, first, words),
             buffer,
-            part(numbers, asked, 15),
+            part(numbers, asked, 16),
             part(numbers, rows, count),
         );
         cases += 1;

@@ -1,8 +1,7 @@
 //! Draws W of paper 01, a while loop, and prints the text; then with a buffer that is too short by a byte.
 
+use reactive_build::BLOCK_WORDS;
 use reactive_build::dot::{Drawn, draw, text};
-
-const BLOCK_WORDS: usize = 10;
 
 const BLOCKS: [[u32; 9]; 4] = [
     [0, 0, 9, 1, 2, 3, 0, 0, 1], // 0 While: test 1, loop 2, fallthrough 3

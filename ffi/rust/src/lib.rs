@@ -9,6 +9,31 @@ use std::ffi::c_uint;
 /// loops that the jump leaves before its target, at most 128.
 pub const ROW_WORDS: usize = 6;
 
+/// Words in a row of a table: first, count, code, a, b, c, d, e, id, from, to of a block.
+pub const BLOCK_WORDS: usize = 11;
+
+/// The same of an instruction: id, lvalue, code, p, q, from, to.
+pub const INSTRUCTION_WORDS: usize = 7;
+
+/// Where something begins and ends in the source.
+#[derive(Clone, Copy, Debug, PartialEq, Eq)]
+pub struct Span {
+    pub from: u32,
+    pub to: u32,
+}
+
+impl Span {
+    /// The span of a row of the tree: of UNDEF, INSTR, FOROF and FORIN. 0 and 0 is none.
+    pub fn of_row(row: &[u32; ROW_WORDS]) -> Option<Self> {
+        let (from, to) = match *row {
+            [3, from, to, ..] => (from, to),
+            [4 | 16 | 17, _, _, from, to, _] => (from, to),
+            _ => return None,
+        };
+        ((from, to) != (0, 0)).then_some(Self { from, to })
+    }
+}
+
 /// Code (0 accepted), at, rows and visits.
 #[derive(Clone, Copy, Debug, PartialEq, Eq)]
 pub struct Outcome {

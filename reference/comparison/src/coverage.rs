@@ -3,6 +3,7 @@
 use walk_observer::{Seen, Walk};
 
 use crate::generate::FAMILIES;
+use crate::model::table::Table;
 use crate::model::{Outcome, ROW_WORDS};
 
 /// The refusals of paper 01 for a call, in order.
@@ -95,8 +96,9 @@ impl Coverage {
     /// Counts the ends of the blocks that the reference visited, and its greatest depth.
     pub fn walk(&mut self, words: &[u32], seen: &Seen) {
         self.compared += 1;
+        let table = Table::of(words);
         for (block, walk) in &seen.trail {
-            let end = words[6 + 10 * *block as usize + 2] as usize;
+            let end = table.block(*block)[2] as usize;
             match walk {
                 Walk::Statement => self.statement_ends[end] += 1,
                 Walk::Value => self.value_ends[end] += 1,

@@ -4,6 +4,7 @@ use std::collections::BTreeSet;
 
 use walk_observer::{Seen, Walk};
 
+use crate::model::table::Table;
 use crate::model::{Refusal, Row, Walked};
 
 /// What features of two visits or two rows in a row begin with.
@@ -13,7 +14,8 @@ pub const PAIR: &str = "pair";
 /// refusal and the end of the block at which it was made.
 pub fn features(words: &[u32], walked: &Walked, seen: &Seen) -> BTreeSet<String> {
     let mut features = BTreeSet::new();
-    let end = |block: u32| words[6 + 10 * block as usize + 2];
+    let table = Table::of(words);
+    let end = |block: u32| table.block(block)[2];
     let mut before = String::from("entry");
     for (block, walk) in &seen.trail {
         let walk = if *walk == Walk::Statement { 's' } else { 'v' };

@@ -2,7 +2,7 @@
 //! same with the same answers (demand 3); here that is tried on the reference's trees.
 
 use crate::model::Row;
-use crate::model::table::Table;
+use crate::model::table::{BlockRow, Table};
 
 /// Why a run stopped.
 #[derive(Clone, Copy, Debug, PartialEq, Eq)]
@@ -23,12 +23,12 @@ pub struct Run {
 /// Whether a checked table is plain.
 pub fn is_plain(table: &Table) -> bool {
     let [entry, blocks, ..] = *table.words else { unreachable!() };
-    let present: Vec<(u32, &[u32; 10])> = (0..blocks)
+    let present: Vec<(u32, &BlockRow)> = (0..blocks)
         .map(|number| (number, table.block(number)))
         .filter(|(_, row)| row[2] != 0)
         .collect();
     let whiles = || present.iter().filter(|(_, row)| row[2] == 9).map(|(_, row)| row);
-    let fallthrough = |row: &[u32; 10]| match row[2] {
+    let fallthrough = |row: &BlockRow| match row[2] {
         5 => Some(row[6]),
         9 => Some(row[5]),
         16 | 20 | 21 => Some(row[4]),

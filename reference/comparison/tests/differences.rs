@@ -6,21 +6,21 @@ use comparison::reference;
 use walk_observer::Bounds;
 
 /// No such block: the Rust's map of blocks panics.
-const MISSING: [u32; 16] = [0, 1, 0, 0, 0, 0, 0, 0, 0, 0, 0, 0, 0, 0, 0, 0];
+const MISSING: [u32; 17] = [0, 1, 0, 0, 0, 0, 0, 0, 0, 0, 0, 0, 0, 0, 0, 0, 0];
 
 /// Sequence(1, 2); empty MaybeThrow(2); empty Goto(0): the Rust panics.
-const NO_INSTRUCTION: [u32; 36] = [
+const NO_INSTRUCTION: [u32; 39] = [
     0, 3, 0, 0, 0, 0, //
-    0, 0, 17, 1, 2, 0, 0, 0, 0, 0, //
-    0, 0, 18, 2, 0, 0, 0, 0, 0, 0, //
-    0, 0, 4, 0, 0, 0, 0, 0, 0, 0,
+    0, 0, 17, 1, 2, 0, 0, 0, 0, 0, 0, //
+    0, 0, 18, 2, 0, 0, 0, 0, 0, 0, 0, //
+    0, 0, 4, 0, 0, 0, 0, 0, 0, 0, 0,
 ];
 
 /// Sequence(0, 1), and no block 1: the Rust recurses for ever.
-const ENDLESS: [u32; 26] = [
+const ENDLESS: [u32; 28] = [
     0, 2, 0, 0, 0, 0, //
-    0, 0, 17, 0, 1, 0, 0, 0, 0, 0, //
-    0, 0, 0, 0, 0, 0, 0, 0, 0, 0,
+    0, 0, 17, 0, 1, 0, 0, 0, 0, 0, 0, //
+    0, 0, 0, 0, 0, 0, 0, 0, 0, 0, 0,
 ];
 
 fn model(words: &[u32]) -> Outcome {
@@ -56,17 +56,17 @@ fn endless() {
 
 /// A value whose parts are visited twice on each of `levels` levels, under one statement.
 fn doubling(levels: u32) -> Vec<u32> {
-    let mut blocks = vec![[0, 0, 3, 0, 0, 0, 0, 0, 0, 0], [0, 1, 4, 0, 0, 0, 0, 0, 0, 0]];
+    let mut blocks = vec![[0, 0, 3, 0, 0, 0, 0, 0, 0, 0, 0], [0, 1, 4, 0, 0, 0, 0, 0, 0, 0, 0]];
     for _ in 0..levels {
         let inner = blocks.len() as u32 - 1;
-        blocks.push([0, 0, 18, inner, 0, 0, 0, 0, 0, 0]);
-        blocks.push([0, 0, 17, inner, inner + 1, 0, 0, 0, 0, 0]);
+        blocks.push([0, 0, 18, inner, 0, 0, 0, 0, 0, 0, 0]);
+        blocks.push([0, 0, 17, inner, inner + 1, 0, 0, 0, 0, 0, 0]);
     }
     let entry = blocks.len() as u32;
-    blocks.push([0, 0, 17, entry - 1, 0, 0, 0, 0, 0, 0]);
+    blocks.push([0, 0, 17, entry - 1, 0, 0, 0, 0, 0, 0, 0]);
     let mut words = vec![entry, entry + 1, 1, 0, 1, 1];
     words.extend(blocks.as_flattened());
-    words.extend([0, 0, 0, 0, 0, 0, 0, 1]);
+    words.extend([0, 0, 0, 0, 0, 0, 0, 0, 1]);
     words
 }
 

@@ -1,4 +1,5 @@
-//! Paper 01's own samples, on the reference and on the model.
+//! Paper 01's own samples, and corners of spans with two ends (paper 02, M-108), on the reference and
+//! on the model.
 
 use comparison::model::check::check;
 use comparison::model::{self, Outcome, text};
@@ -8,7 +9,7 @@ use comparison::reference;
 fn table(blocks: &[(u32, &[u32], u32)]) -> Vec<u32> {
     let mut words = vec![0, blocks.len() as u32, 0, 0, 1, 1];
     for (code, operands, id) in blocks {
-        let mut row = [0, 0, *code, 0, 0, 0, 0, 0, *id, 0];
+        let mut row = [0, 0, *code, 0, 0, 0, 0, 0, *id, 0, 0];
         row[3..3 + operands.len()].copy_from_slice(operands);
         words.extend(row);
     }
@@ -74,7 +75,7 @@ fn scope() {
 }
 
 const FILE: &str = "entry blocks instructions cases places identifiers\n0 1 0 0 1 1\n\
-    first count code a b c d e id span\n0 0 3 0 0 0 0 0 7 0\nid lvalue code p q span\n\
+    first count code a b c d e id from to\n0 0 3 0 0 0 0 0 7 0 0\nid lvalue code p q from to\n\
     test block\nidentifier\n0\nnamed\n1\n";
 
 #[test]
@@ -87,4 +88,37 @@ fn the_file() {
     let outcome = model::build(&words, &mut buffer);
     assert_eq!(outcome, Outcome { code: 40, at: 0, rows: 2, visits: 1 });
     assert_eq!(buffer, [0; 11]);
+}
+
+/// Paper 02, M-108: a block with a span, and its instruction with another.
+fn spans(code: u32, [from, to]: [u32; 2], instruction: [u32; 2]) -> Vec<u32> {
+    let present = u32::from(code > 0);
+    let mut words = vec![0, 1, 1, 0, 1, 1];
+    words.extend([0, present, code, 0, 0, 0, 0, 0, 7 * present, from, to]);
+    words.extend([5, 0, 0, 0, 0, instruction[0], instruction[1]]);
+    words.extend([0, 1]);
+    words
+}
+
+#[test]
+fn two_ends() {
+    let rows = |[from, to]: [u32; 2]| {
+        [[1, 0, 0, 0, 0, 0], [4, 5, 0, from, to, 0], [22, 0, 7, 0, 0, 0], [9, 2, 0, 0, 0, 0]]
+    };
+    for span in [[3, 9], [0, 5], [5, 5], [0, 0], [0, 65_535]] {
+        both(&spans(3, [0, 5], span), accepted(4, 1), &rows(span));
+    }
+    let refused_at = |words: &[u32]| check(words).err().map(|refusal| (refusal.code, refusal.at));
+    assert_eq!(refused_at(&spans(3, [5, 4], [3, 9])), Some((4, 16)));
+    assert_eq!(refused_at(&spans(3, [70_000, 0], [3, 9])), Some((4, 15)));
+    assert_eq!(refused_at(&spans(3, [65_535, 65_534], [3, 9])), Some((4, 16)));
+    assert_eq!(refused_at(&spans(3, [0, 5], [2, 1])), Some((4, 23)));
+    assert_eq!(refused_at(&spans(3, [5, 4], [2, 1])), Some((4, 16)));
+    assert_eq!(refused_at(&spans(0, [0, 1], [3, 9])), Some((4, 16)));
+}
+
+#[test]
+fn an_old_file() {
+    let old = FILE.replace("from to", "span");
+    assert_eq!(text::treebuild(old.as_bytes()), "code at rows visits\n50 93 0 0\n");
 }

@@ -10,7 +10,7 @@ abbrev Inv-loop : tie.InvT-loop
 Inv-loop words₀ i₀ words i = length words ≡ length words₀
 
 abbrev μ-loop : tie.MeasureT-loop
-μ-loop words₀ i₀ words i = 56 - i
+μ-loop words₀ i₀ words i = 58 - i
 
 loop-holds : tie.Need-loop-holds Inv-loop μ-loop
 loop-holds c = refl

@@ -12,6 +12,9 @@ at-requires-2 c κs = search needs
 at-requires-3 : tie.Need-at-requires-3
 at-requires-3 c κs = search needs
 
+at-requires-4 : tie.Need-at-requires-4
+at-requires-4 c κs = search needs
+
 visit-value-block-requires : tie.Need-visit-value-block-requires
 visit-value-block-requires c κs = search needs
 
@@ -24,8 +27,8 @@ same-length c = search needs
 returns : tie.Need-returns
 returns c = search needs
 
-at-requires-4 : tie.Need-at-requires-4
-at-requires-4 c κs = search needs
+at-requires-5 : tie.Need-at-requires-5
+at-requires-5 c κs = search needs
 
 given-requires-2 : tie.Need-given-requires-2
 given-requires-2 c κs = search needs
@@ -38,12 +41,13 @@ returns-2 c = search needs
 
 value-block-result-to-sequence-requires : tie.Need-value-block-result-to-sequence-requires
 value-block-result-to-sequence-requires c κs =
-    let at-if1 = c .before .before .before in
-    let at-visit-value-block = at-if1 .before .before .before .before in
-    let at-entry = at-visit-value-block .before .before .before .before .before .before .before .before in
-    let v = at-visit-value-block .visit-value-block .ensures in
-    let f = v .found (at-if1 .if1 .left) in
-    record { promise = at-entry .pre .0; place = f .place; there = f .ends .there; more = omega (arith, f .more); room = omega (arith, v .numbers, at-entry .pre .1 .1) }
+    let found : tie.Else1 = search in
+    let visited : tie.After-visit-value-block = search in
+    let levels : tie.After-at3 = search in
+    let start : tie.Start = search in
+    let v = visited .visit-value-block .ensures in
+    let f = v .found (found .if1 .left) in
+    record { promise = start .pre .0; place = f .place; there = f .ends .there; more = omega (arith, f .more); room = omega (arith, v .numbers, start .pre .1 .1) }
 
 given-requires-3 : tie.Need-given-requires-3
 given-requires-3 c κs = search needs
@@ -61,11 +65,12 @@ block-answer-spec =
     at-requires
     at-requires-2
     at-requires-3
+    at-requires-4
     visit-value-block-requires
     given-requires
     same-length
     returns
-    at-requires-4
+    at-requires-5
     given-requires-2
     same-length-2
     returns-2

@@ -23,8 +23,15 @@ fn main() -> ExitCode {
     let mut mutants = read(&list);
     mutants.retain(|mutant| mutant.name.contains(&part));
     fs::create_dir_all(WORK).expect("a folder");
-    for part in ["Cargo.toml", "comparison", "oxc_react_compiler", "stand-ins"] {
-        let copied = Command::new("cp").args(["-rpu", part, WORK]).status().expect("cp");
+    // Beside the folder as beside `reference`: ffi/rust, which the comparison can be built with.
+    for (part, to) in [
+        ("Cargo.toml", WORK),
+        ("comparison", WORK),
+        ("oxc_react_compiler", WORK),
+        ("stand-ins", WORK),
+        ("../ffi", "target/mutants"),
+    ] {
+        let copied = Command::new("cp").args(["-rpu", part, to]).status().expect("cp");
         assert!(copied.success());
     }
     let right = |mutant: &Mutant| {

@@ -2,6 +2,7 @@
 
 use super::draft::Draft;
 use crate::model::columns::NONE;
+use crate::model::table::BLOCK_WORDS;
 
 /// First and number of instructions, code, columns. Ids and spans follow from the block's number.
 type BlockSpec<'s> = (u32, u32, u32, &'s [u32]);
@@ -10,19 +11,19 @@ type BlockSpec<'s> = (u32, u32, u32, &'s [u32]);
 /// places 0 and 2 have identifier 0, unnamed; place 1 has identifier 1, named; place 3 has 2, unnamed.
 fn table(blocks: &[BlockSpec], cases: &[[u32; 2]]) -> Vec<u32> {
     let instructions = vec![
-        [30, 0, 0, 0, 0, 50], // 0: other
-        [31, 1, 0, 0, 0, 0],  // 1: other
-        [32, 1, 1, 0, 0, 52], // 2: loads another identifier than its own
-        [33, 0, 1, 2, 0, 53], // 3: loads its own identifier by another place
-        [34, 3, 2, 0, 1, 54], // 4: stores to an unnamed identifier
-        [35, 3, 2, 0, 2, 55], // 5: stores an identifier to itself, unnamed
-        [36, 3, 2, 1, 0, 56], // 6: stores to a named identifier
-        [37, 0, 2, 3, 0, 0],  // 7: stores to an unnamed identifier
+        [30, 0, 0, 0, 0, 50, 60], // 0: other
+        [31, 1, 0, 0, 0, 0, 0],   // 1: other, no span
+        [32, 1, 1, 0, 0, 52, 52], // 2: loads another identifier than its own
+        [33, 0, 1, 2, 0, 53, 63], // 3: loads its own identifier by another place
+        [34, 3, 2, 0, 1, 54, 64], // 4: stores to an unnamed identifier
+        [35, 3, 2, 0, 2, 55, 65], // 5: stores an identifier to itself, unnamed
+        [36, 3, 2, 1, 0, 56, 66], // 6: stores to a named identifier
+        [37, 0, 2, 3, 0, 0, 67],  // 7: stores to an unnamed identifier, a span from 0
     ];
     let rows = blocks.iter().zip(0..).map(|((first, count, code, operands), number)| {
-        let mut row = [*first, *count, *code, 0, 0, 0, 0, 0, 10 + number, 20 + number];
+        let mut row = [*first, *count, *code, 0, 0, 0, 0, 0, 10 + number, 20 + number, 40 + number];
         row[3..3 + operands.len()].copy_from_slice(operands);
-        if *code == 0 { [0; 10] } else { row }
+        if *code == 0 { [0; BLOCK_WORDS] } else { row }
     });
     Draft {
         entry: 0,
@@ -38,7 +39,7 @@ fn table(blocks: &[BlockSpec], cases: &[[u32; 2]]) -> Vec<u32> {
 /// Paper 01's own samples: one place, one identifier, no instruction, no span.
 fn sample(blocks: &[(u32, &[u32], u32)]) -> Vec<u32> {
     let rows = blocks.iter().map(|(code, operands, id)| {
-        let mut row = [0, 0, *code, 0, 0, 0, 0, 0, *id, 0];
+        let mut row = [0, 0, *code, 0, 0, 0, 0, 0, *id, 0, 0];
         row[3..3 + operands.len()].copy_from_slice(operands);
         row
     });

@@ -1,14 +1,14 @@
 //! A table under construction.
 
 use crate::model::columns::{Column, LARGEST, NONE, operand_columns, terminal_columns};
-use crate::model::table::LIMITS;
+use crate::model::table::{BLOCK_WORDS, BlockRow, InstructionRow, LIMITS};
 use crate::rng::Rng;
 
 #[derive(Clone, Debug, Default)]
 pub struct Draft {
     pub entry: u32,
-    pub blocks: Vec<[u32; 10]>,
-    pub instructions: Vec<[u32; 6]>,
+    pub blocks: Vec<BlockRow>,
+    pub instructions: Vec<InstructionRow>,
     pub cases: Vec<[u32; 2]>,
     pub places: Vec<u32>,
     pub identifiers: Vec<u32>,
@@ -44,7 +44,7 @@ impl Draft {
 
     /// A new block, missing until it is given an end.
     pub fn fresh(&mut self) -> u32 {
-        self.blocks.push([0; 10]);
+        self.blocks.push([0; BLOCK_WORDS]);
         self.blocks.len() as u32 - 1
     }
 
@@ -82,11 +82,12 @@ impl Draft {
         self.blocks[block as usize][1] = count;
     }
 
-    pub fn any_instruction(&self, rng: &mut Rng) -> [u32; 6] {
+    pub fn any_instruction(&self, rng: &mut Rng) -> InstructionRow {
         let code = rng.below(3);
         let operands = operand_columns(code).map(|column| self.any_word(column, rng));
         let lvalue = self.any_place(rng);
-        [any_id(rng), lvalue, code, operands[0], operands[1], any_span(rng)]
+        let ([p, q], [from, to]) = (operands, any_span(rng));
+        [any_id(rng), lvalue, code, p, q, from, to]
     }
 
     /// Gives the block its end.
@@ -96,13 +97,13 @@ impl Draft {
         row[3..8].fill(0);
         row[3..3 + operands.len()].copy_from_slice(operands);
         row[8] = any_id(rng);
-        row[9] = any_span(rng);
+        row[9..].copy_from_slice(&any_span(rng));
     }
 
     /// Gives the block any end of this code, over the blocks that are there.
     pub fn end_anyhow(&mut self, block: u32, code: u32, rng: &mut Rng) {
         if code == 0 {
-            self.blocks[block as usize] = [0; 10];
+            self.blocks[block as usize] = [0; BLOCK_WORDS];
             return;
         }
         if code == 7 {
@@ -121,7 +122,7 @@ impl Draft {
 
     /// Gives the blocks other numbers: block `n` becomes block `to[n]`.
     pub fn renumber(&mut self, to: &[u32]) {
-        let mut blocks = vec![[0; 10]; self.blocks.len()];
+        let mut blocks = vec![[0; BLOCK_WORDS]; self.blocks.len()];
         for (row, number) in self.blocks.iter().zip(to) {
             blocks[*number as usize] = *row;
         }
@@ -143,10 +144,10 @@ impl Draft {
         self.blocks = blocks;
     }
 
-    /// Any word that the column allows. Counts of rows are not asked for here.
+    /// Any word that the column allows. Counts of rows and ends of spans are not asked for here.
     pub fn any_word(&self, column: Column, rng: &mut Rng) -> u32 {
         match column {
-            Column::Zero | Column::InstructionCount | Column::CaseCount => 0,
+            Column::Zero | Column::InstructionCount | Column::CaseCount | Column::To => 0,
             Column::Any => any_id(rng),
             Column::UpTo(largest) => rng.from_to(0, largest),
             Column::Block => self.any_block(rng),
@@ -159,8 +160,17 @@ impl Draft {
     }
 }
 
-pub fn any_span(rng: &mut Rng) -> u32 {
-    if rng.percent(30) { 0 } else { any_id(rng) }
+/// None, and spans whose ends tell one from the other: from 0, up to the largest end, any; and now
+/// and then one that ends where it begins.
+pub fn any_span(rng: &mut Rng) -> [u32; 2] {
+    let from = any_id(rng);
+    match rng.below(20) {
+        0..=4 => [0, 0],
+        5..=6 => [0, from],
+        7 => [from, from],
+        8 => [from, LARGEST],
+        _ => [from, (from + 1 + rng.below(100)).min(LARGEST)],
+    }
 }
 
 /// A number that the walk only copies: small as a rule, the largest now and then.

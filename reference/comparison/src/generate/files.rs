@@ -3,7 +3,7 @@
 use super::corners::corners;
 use super::generate;
 use crate::model::check::check;
-use crate::model::table::Table;
+use crate::model::table::{BLOCK_WORDS, INSTRUCTION_WORDS, NAMES, Table};
 use crate::model::text::{MAX_BYTES, write_file};
 
 /// Every fault at every kind of place, the lengths about the limit, and some good files.
@@ -45,8 +45,6 @@ fn changed(file: &str) -> Vec<Vec<u8>> {
     files.into_iter().step_by(7).collect()
 }
 
-const BEFORE_ENTRY: &str = "entry blocks instructions cases places identifiers\n";
-
 /// Numbers at and past 32 bits, with leading zeros and signs, as the first number of a file.
 fn numbers() -> Vec<Vec<u8>> {
     let numbers = [
@@ -73,9 +71,10 @@ fn numbers() -> Vec<Vec<u8>> {
         " 1",
         "1 ",
     ];
-    let rest = " 0 0 0 0 0\nfirst count code a b c d e id span\nid lvalue code p q span\n\
-                test block\nidentifier\nnamed\n";
-    numbers.iter().map(|number| format!("{BEFORE_ENTRY}{number}{rest}").into_bytes()).collect()
+    let [head, tables @ ..] = NAMES;
+    let tables = tables.join("\n");
+    let file = |number: &&str| format!("{head}\n{number} 0 0 0 0 0\n{tables}\n").into_bytes();
+    numbers.iter().map(file).collect()
 }
 
 /// Counts over their limits, with their lines and without.
@@ -90,11 +89,9 @@ fn counts() -> Vec<Vec<u8>> {
         let mut head = [0; 6];
         head[count] = u32::MAX;
         let head: Vec<String> = head.iter().map(u32::to_string).collect();
-        let head = head.join(" ");
-        files.push(format!("{BEFORE_ENTRY}{head}\n").into_bytes());
-        files.push(
-            format!("{BEFORE_ENTRY}{head}\nfirst count code a b c d e id span\n").into_bytes(),
-        );
+        let head = format!("{}\n{}\n", NAMES[0], head.join(" "));
+        files.push(head.clone().into_bytes());
+        files.push((head + NAMES[1] + "\n").into_bytes());
     }
     files
 }
@@ -112,13 +109,13 @@ fn long() -> Vec<Vec<u8>> {
     files
 }
 
-/// A good and accepted file of exactly this many bytes: block lines of twenty bytes, place lines
+/// A good and accepted file of exactly this many bytes: block lines of 22 bytes, place lines
 /// of five, and an id that is as long as is left.
 pub fn good_of_length(length: usize) -> Vec<u8> {
     let file = |blocks: usize, places: usize, id: u32| {
         let mut words = vec![0, blocks as u32, 0, 0, places as u32, 2_000];
-        words.extend([0, 0, 3, 0, 0, 0, 0, 0, id, 0]);
-        words.extend(vec![0; 10 * (blocks - 1)]);
+        words.extend([0, 0, 3, 0, 0, 0, 0, 0, id, 0, 0]);
+        words.extend(vec![0; BLOCK_WORDS * (blocks - 1)]);
         words.extend(vec![1_111; places]);
         words.extend(vec![1; 2_000]);
         write_file(&words)
@@ -151,9 +148,9 @@ fn good() -> Vec<Vec<u8>> {
 
 /// One block of so many instructions: two rows for each, and two more.
 pub fn many_rows(instructions: u32) -> Vec<u32> {
-    let mut words = vec![0, 1, instructions, 0, 1, 1, 0, instructions, 3, 0, 0, 0, 0, 0, 1, 0];
+    let mut words = vec![0, 1, instructions, 0, 1, 1, 0, instructions, 3, 0, 0, 0, 0, 0, 1, 0, 0];
     for _ in 0..instructions {
-        words.extend([0; 6]);
+        words.extend([0; INSTRUCTION_WORDS]);
     }
     words.extend([0, 1]);
     assert!(check(&words).is_ok());

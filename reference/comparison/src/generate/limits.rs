@@ -43,7 +43,7 @@ pub fn limit(number: u64) -> Vec<u32> {
 /// One place, one unnamed identifier, one instruction.
 fn base() -> Draft {
     Draft {
-        instructions: vec![[1, 0, 0, 0, 0, 0]],
+        instructions: vec![[1, 0, 0, 0, 0, 0, 0]],
         places: vec![0],
         identifiers: vec![0],
         ..Draft::default()
@@ -51,7 +51,7 @@ fn base() -> Draft {
 }
 
 fn add(draft: &mut Draft, count: u32, code: u32, operands: &[u32]) -> u32 {
-    let mut row = [0, count, code, 0, 0, 0, 0, 0, 2, 3];
+    let mut row = [0, count, code, 0, 0, 0, 0, 0, 2, 3, 4];
     row[3..3 + operands.len()].copy_from_slice(operands);
     draft.blocks.push(row);
     draft.blocks.len() as u32 - 1
@@ -144,17 +144,17 @@ fn over(count: usize) -> Vec<u32> {
 fn full() -> Draft {
     let [blocks, instructions, cases, places, identifiers] = LIMITS;
     let mut draft = Draft {
-        instructions: (0..instructions).map(|row| [row, places - 1 - row, 0, 0, 0, 7]).collect(),
+        instructions: (0..instructions).map(|row| [row, places - 1 - row, 0, 0, 0, 7, 8]).collect(),
         cases: (0..cases).map(|row| [row, blocks - 1]).collect(),
         places: (0..places).map(|row| identifiers - 1 - row).collect(),
         identifiers: (0..identifiers).map(|row| row % 2).collect(),
         ..Draft::default()
     };
     for row in 0..blocks - 2 {
-        draft.blocks.push([4 * row, 4, 18, row + 1, 0, 0, 0, 0, 65_535, 65_535]);
+        draft.blocks.push([4 * row, 4, 18, row + 1, 0, 0, 0, 0, 65_535, 65_535, 65_535]);
     }
-    draft.blocks.push([4_095, 1, 7, 4_095, 0, cases, blocks - 1, 0, 5, 6]);
-    draft.blocks.push([4_096, 0, 3, 4_095, 0, 0, 0, 0, 8, 9]);
+    draft.blocks.push([4_095, 1, 7, 4_095, 0, cases, blocks - 1, 0, 5, 6, 7]);
+    draft.blocks.push([4_096, 0, 3, 4_095, 0, 0, 0, 0, 8, 9, 9]);
     draft
 }
 
@@ -201,7 +201,7 @@ fn tall_stack() -> Draft {
 /// A ForIn whose init value is flattened from as many sequences as the depth allows.
 fn long_sequence(blocks: u32, instructions: u32) -> Draft {
     let mut draft = base();
-    draft.instructions = vec![[1, 0, 0, 0, 0, 0]; instructions as usize];
+    draft.instructions = vec![[1, 0, 0, 0, 0, 0, 0]; instructions as usize];
     let out = add(&mut draft, 0, 3, &[0]);
     let body = add(&mut draft, 0, 3, &[0]);
     let mut value = add(&mut draft, instructions, 6, &[0, body, out]);

@@ -7,7 +7,7 @@ struct Long(Draft);
 impl Long {
     fn new() -> Self {
         Self(Draft {
-            instructions: vec![[1, 0, 1, 0, 0, 5], [2, 0, 0, 0, 0, 6]],
+            instructions: vec![[1, 0, 1, 0, 0, 5, 6], [2, 0, 0, 0, 0, 6, 8]],
             places: vec![0],
             identifiers: vec![1],
             ..Draft::default()
@@ -21,7 +21,7 @@ impl Long {
     }
 
     fn set(&mut self, number: u32, code: u32, operands: &[u32]) {
-        let mut row = [0, 2, code, 0, 0, 0, 0, 0, number, 7];
+        let mut row = [0, 2, code, 0, 0, 0, 0, 0, number, 7, 9];
         row[3..3 + operands.len()].copy_from_slice(operands);
         self.0.blocks[number as usize] = row;
     }

@@ -3,7 +3,7 @@
 
 use super::draft::Draft;
 use crate::model::columns::{Column, terminal_columns};
-use crate::model::table::{LIMITS, Table};
+use crate::model::table::{BLOCK_WORDS, HEAD_WORDS, INSTRUCTION_WORDS, LIMITS, Table};
 use crate::rng::Rng;
 
 /// One change after which the words still pass the check.
@@ -96,10 +96,10 @@ pub fn shuffle(draft: &mut Draft, rng: &mut Rng) {
     draft.renumber(&to);
 }
 
-/// Spoils the words: a word out of its range, a head count, the length.
+/// Spoils the words: a word out of its range, the end of a span, a head count, the length.
 pub fn spoil(words: &mut Vec<u32>, rng: &mut Rng) {
     let length = words.len() as u32;
-    match rng.below(10) {
+    match rng.below(11) {
         0 => words[0] = any_bad_word(words, rng),
         1 => {
             let count = rng.from_to(1, 5) as usize;
@@ -112,11 +112,18 @@ pub fn spoil(words: &mut Vec<u32>, rng: &mut Rng) {
                 words.push(rng.below(3));
             }
         }
-        4 if length > 16 => {
+        4 if length as usize > HEAD_WORDS + BLOCK_WORDS => {
             // A column of a block's row: its code's columns are the rule's largest part.
             let table = Table::of(words);
             let at = rng.from_to(6, (table.instructions as u32).min(length) - 1);
             words[at as usize] = any_bad_word(words, rng);
+        }
+        5 => {
+            let at = any_end_of_a_span(words, rng);
+            if at < words.len() {
+                let from = words[at - 1];
+                words[at] = rng.pick(&[0, from.wrapping_sub(1), from, from.wrapping_add(1)]);
+            }
         }
         _ if length > 6 => {
             let at = rng.from_to(6, length - 1) as usize;
@@ -124,6 +131,17 @@ pub fn spoil(words: &mut Vec<u32>, rng: &mut Rng) {
         }
         _ => {}
     }
+}
+
+/// The place of a `to`, in the words if they are as long as their head says.
+fn any_end_of_a_span(words: &[u32], rng: &mut Rng) -> usize {
+    let (table, count, width) = if rng.percent(50) {
+        (HEAD_WORDS, words[1], BLOCK_WORDS)
+    } else {
+        (Table::of(words).instructions, words[2], INSTRUCTION_WORDS)
+    };
+    let row = rng.below(count.max(1)) as usize;
+    table + width * row + width - 1
 }
 
 /// Words at and about the ends of every range.

@@ -1,7 +1,7 @@
 //! The samples of paper 01, with buffers of exactly the rows, too short and too long; depths 128 and
 //! 129; 8,192 and 8,193 visits.
 
-use crate::model::table::{LIMITS, Table};
+use crate::model::table::{BlockRow, LIMITS, Table};
 use crate::model::{MAX_DEPTH, MAX_VISITS, walk};
 
 /// Blocks over one place and one named identifier, with or without the one instruction.
@@ -9,12 +9,12 @@ use crate::model::{MAX_DEPTH, MAX_VISITS, walk};
 struct Blocks {
     entry: u32,
     instructions: u32,
-    rows: Vec<[u32; 10]>,
+    rows: Vec<BlockRow>,
 }
 
 impl Blocks {
     fn add(&mut self, count: u32, code: u32, operands: &[u32], id: u32) -> u32 {
-        let mut row = [0, count, code, 0, 0, 0, 0, 0, id, 0];
+        let mut row = [0, count, code, 0, 0, 0, 0, 0, id, 0, 0];
         row[3..3 + operands.len()].copy_from_slice(operands);
         self.rows.push(row);
         self.rows.len() as u32 - 1
@@ -24,7 +24,7 @@ impl Blocks {
         assert!(self.rows.len() <= LIMITS[0] as usize);
         let mut words = vec![self.entry, self.rows.len() as u32, self.instructions, 0, 1, 1];
         words.extend(self.rows.as_flattened());
-        words.extend([1, 0, 0, 0, 0, 0].repeat(self.instructions as usize));
+        words.extend([1, 0, 0, 0, 0, 0, 0].repeat(self.instructions as usize));
         words.extend([0, 1]);
         words
     }

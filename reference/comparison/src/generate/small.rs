@@ -4,6 +4,7 @@ use std::sync::LazyLock;
 
 use super::draft::Draft;
 use crate::model::columns::NONE;
+use crate::model::table::BLOCK_WORDS;
 use crate::rng::Rng;
 
 /// Every end over two blocks, with each of its block columns free; operators, flags, bindings and
@@ -61,7 +62,7 @@ pub fn exhaustive(number: u64) -> Vec<u32> {
     assert_eq!(ALL.len() as u64, ENDS);
     let choices = [number % (2 * ENDS), number / (2 * ENDS)];
     let mut draft = Draft {
-        instructions: vec![[5, 1, 1, 0, 0, 6], [7, 2, 2, 1, 2, 8]],
+        instructions: vec![[5, 1, 1, 0, 0, 6, 7], [7, 2, 2, 1, 2, 0, 8]],
         cases: vec![[0, 0], [65_535, 1], [1, 0]],
         places: vec![0, 1, 0],
         identifiers: vec![0, 1],
@@ -69,12 +70,13 @@ pub fn exhaustive(number: u64) -> Vec<u32> {
     };
     for (block, choice) in choices.into_iter().enumerate() {
         let end = &ALL[(choice / 2) as usize];
-        let mut row = [0; 10];
+        let mut row = [0; BLOCK_WORDS];
         row[2..2 + end.len()].copy_from_slice(end);
         if end[0] != 0 {
             row[1] = 2 * (choice % 2) as u32;
             row[8] = 10 + block as u32;
             row[9] = 20 + block as u32;
+            row[10] = 30 + block as u32;
         }
         draft.blocks.push(row);
     }

@@ -5,7 +5,7 @@ use std::collections::BTreeSet;
 
 use super::draft::Draft;
 use crate::model::columns::{Column, NONE, operand_columns, terminal_columns};
-use crate::model::table::LIMITS;
+use crate::model::table::{BLOCK_WORDS, HEAD_WORDS, INSTRUCTION_WORDS, LIMITS, Table};
 
 /// All of them, the plainest first.
 pub fn word_lists() -> Vec<Vec<u32>> {
@@ -19,6 +19,7 @@ pub fn word_lists() -> Vec<Vec<u32>> {
     }
     lists.extend(other_rows());
     lists.extend(orders());
+    lists.extend(spans());
     let mut known = BTreeSet::new();
     lists.retain(|words| known.insert(words.clone()));
     lists
@@ -27,16 +28,16 @@ pub fn word_lists() -> Vec<Vec<u32>> {
 /// A good table whose block 1 ends in this code, with two rows or more in every table.
 fn with_block(code: u32) -> Draft {
     let mut draft = Draft {
-        instructions: vec![[3, 1, 0, 0, 0, 4], [5, 0, 1, 1, 0, 6], [7, 1, 2, 0, 1, 0]],
+        instructions: vec![[3, 1, 0, 0, 0, 4, 5], [5, 0, 1, 1, 0, 0, 6], [7, 1, 2, 0, 1, 0, 0]],
         cases: vec![[NONE, 0], [1, 1]],
         places: vec![1, 0],
         identifiers: vec![0, 1],
         ..Draft::default()
     };
-    draft.blocks.push([0, 1, 3, 0, 0, 0, 0, 0, 8, 9]);
-    draft.blocks.push([0; 10]);
+    draft.blocks.push([0, 1, 3, 0, 0, 0, 0, 0, 8, 9, 10]);
+    draft.blocks.push([0; BLOCK_WORDS]);
     if code > 0 {
-        let mut row = [1, 2, code, 0, 0, 0, 0, 0, 10, 11];
+        let mut row = [1, 2, code, 0, 0, 0, 0, 0, 10, 11, 13];
         for (at, column) in terminal_columns(code).into_iter().enumerate() {
             row[3 + at] = match column {
                 Column::Zero => 0,
@@ -55,7 +56,7 @@ fn with_block(code: u32) -> Draft {
 /// The words about the edges of a column: good and bad.
 fn edges(column: Column, limit: u32) -> Vec<u32> {
     match column {
-        Column::Any => vec![0, 65_535, 65_536, u32::MAX],
+        Column::Any | Column::To => vec![0, 65_535, 65_536, u32::MAX],
         Column::Zero => vec![1, 65_535],
         Column::UpTo(largest) => vec![0, largest, largest + 1, u32::MAX],
         Column::Block | Column::Place | Column::Identifier => {
@@ -70,28 +71,26 @@ fn edges(column: Column, limit: u32) -> Vec<u32> {
     }
 }
 
+/// Where the row of block 1 begins.
+const BLOCK_1: usize = HEAD_WORDS + BLOCK_WORDS;
+
 fn block_rows(code: u32) -> Vec<Vec<u32>> {
     let good = with_block(code).words();
     let mut lists = vec![good.clone()];
     let mut columns = vec![Column::Any, Column::InstructionCount, Column::UpTo(21)];
     let operands = if code == 0 { [Column::Zero; 5] } else { terminal_columns(code) };
     columns.extend(operands);
-    columns.extend(if code == 0 { [Column::Zero; 2] } else { [Column::Any; 2] });
-    for (at, column) in columns.into_iter().enumerate() {
-        for word in edges(column, 2) {
-            let mut words = good.clone();
-            words[16 + at] = word;
-            lists.push(words);
-        }
-    }
+    let last = [Column::Any, Column::Any, Column::To];
+    columns.extend(if code == 0 { [Column::Zero; 3] } else { last });
+    lists.extend(change_row(&good, BLOCK_1, &columns));
     lists
 }
 
 fn instruction_rows(code: u32) -> Vec<Vec<u32>> {
     let good = with_block(1).words();
-    let row = 26 + 6 * code as usize;
+    let row = Table::of(&good).instructions + INSTRUCTION_WORDS * code as usize;
     let [p, q] = operand_columns(code);
-    let columns = [Column::Any, Column::Place, Column::UpTo(2), p, q, Column::Any];
+    let columns = [Column::Any, Column::Place, Column::UpTo(2), p, q, Column::Any, Column::To];
     change_row(&good, row, &columns)
 }
 
@@ -111,10 +110,11 @@ fn change_row(good: &[u32], row: usize, columns: &[Column]) -> Vec<Vec<u32>> {
 fn other_rows() -> Vec<Vec<u32>> {
     let good = with_block(7).words();
     let case = [Column::PlaceOrNone, Column::Block];
-    let mut lists = change_row(&good, 44, &case);
-    lists.extend(change_row(&good, 46, &case));
-    lists.extend(change_row(&good, 48, &[Column::Identifier, Column::Identifier]));
-    lists.extend(change_row(&good, 50, &[Column::UpTo(1), Column::UpTo(1)]));
+    let Table { cases, places, identifiers, .. } = Table::of(&good);
+    let mut lists = change_row(&good, cases, &case);
+    lists.extend(change_row(&good, cases + 2, &case));
+    lists.extend(change_row(&good, places, &[Column::Identifier, Column::Identifier]));
+    lists.extend(change_row(&good, identifiers, &[Column::UpTo(1), Column::UpTo(1)]));
     lists
 }
 
@@ -138,12 +138,10 @@ fn heads() -> Vec<Vec<u32>> {
         }
         // The count at its limit with all its rows, and one over.
         for number in [limit, limit + 1] {
-            let width = [10, 6, 2, 1, 1][count - 1];
-            let mut words = vec![0; 6];
+            let mut words = vec![0; HEAD_WORDS];
             words[count] = number;
             if count != 1 {
                 words[1] = 1;
-                words.extend([0; 10]);
             }
             if count != 4 && count != 1 {
                 words[4] += 1;
@@ -151,10 +149,7 @@ fn heads() -> Vec<Vec<u32>> {
             if count != 5 {
                 words[5] += 1;
             }
-            let rows = words[2] * 6 + words[3] * 2 + words[4] + words[5];
-            let blocks = if count == 1 { number * 10 } else { 0 };
-            words.extend(vec![0; (blocks + rows) as usize]);
-            assert!(words.len() > (number * width) as usize);
+            words.resize(Table::of(&words).end, 0);
             lists.push(words);
         }
     }
@@ -168,8 +163,8 @@ fn heads() -> Vec<Vec<u32>> {
     lists.push(words);
     // Counts whose lengths wrap if they are added carelessly.
     for counts in [
-        [429_496_730, 0, 0, 0, 0],
-        [0, 715_827_883, 0, 0, 0],
+        [390_451_573, 0, 0, 0, 0],
+        [0, 613_566_757, 0, 0, 0],
         [0, 0, 1 << 31, 0, 0],
         [0, 0, 0, u32::MAX, 1],
         [0, 0, 0, 1, u32::MAX],
@@ -188,10 +183,10 @@ fn lengths() -> Vec<Vec<u32>> {
     for code in [0, 3, 7] {
         let good = with_block(code).words();
         let length = good.len();
-        for other in [6, 7, 15, 16, length - 10, length - 2, length - 1] {
+        for other in [6, 7, 16, 17, length - BLOCK_WORDS, length - 2, length - 1] {
             lists.push(good[..other].to_vec());
         }
-        for more in [1, 2, 10] {
+        for more in [1, 2, BLOCK_WORDS] {
             let mut words = good.clone();
             words.resize(length + more, 0);
             lists.push(words);
@@ -215,39 +210,93 @@ fn orders() -> Vec<Vec<u32>> {
         }
         words
     };
+    let Table { instructions, cases, .. } = Table::of(&good);
+    let [first, count, code, a, b, c, .., id, from, to] = columns_of(BLOCK_1);
     let mut lists = vec![
-        change(&[(0, 2), (16, 65_536)]),
-        change(&[(16, 65_536), (17, 65_536)]),
-        change(&[(17, 65_536), (18, 22)]),
-        change(&[(17, 3), (18, 22)]),
-        change(&[(18, 22), (19, 65_536)]),
-        change(&[(18, 22), (15, 65_536)]),
-        change(&[(21, 2), (26, 65_536)]),
+        change(&[(0, 2), (first, 65_536)]),
+        change(&[(first, 65_536), (count, 65_536)]),
+        change(&[(count, 65_536), (code, 22)]),
+        change(&[(count, 3), (code, 22)]),
+        change(&[(code, 22), (a, 65_536)]),
+        change(&[(code, 22), (first - 1, 65_536)]),
+        change(&[(c, 2), (instructions, 65_536)]),
         change(&[(length - 1, 2), (length - 2, 2)]),
-        change(&[(length - 1, 2), (44, 2)]),
+        change(&[(length - 1, 2), (cases, 2)]),
         // A run that begins past the last row is charged to its count, even when it is empty.
-        change(&[(16, 3), (17, 0)]),
-        change(&[(16, 4), (17, 0)]),
-        change(&[(16, 65_535), (17, 0)]),
-        change(&[(16, 65_535), (17, 65_535)]),
-        change(&[(16, 0), (17, 3)]),
-        change(&[(16, 0), (17, 4)]),
-        // No such block: the first word of the row that is not 0.
-        change(&[(18, 0)]),
-        change(&[(18, 0), (16, 0)]),
-        change(&[(18, 0), (16, 0), (17, 0)]),
-        change(&[(18, 0), (16, 9), (17, 9)]),
-        change(&[(18, 0), (16, 0), (17, 0), (19, 0), (20, 0), (21, 0)]),
-        change(&[(18, 0), (16, 0), (17, 0), (19, 0), (20, 0), (21, 0), (24, 0)]),
-        change(&[(18, 0), (16, 0), (17, 0), (19, 0), (20, 0), (21, 0), (24, 0), (25, 0)]),
+        change(&[(first, 3), (count, 0)]),
+        change(&[(first, 4), (count, 0)]),
+        change(&[(first, 65_535), (count, 0)]),
+        change(&[(first, 65_535), (count, 65_535)]),
+        change(&[(first, 0), (count, 3)]),
+        change(&[(first, 0), (count, 4)]),
     ];
+    // No such block: the first word of the row that is not 0.
+    let mut absent = vec![(code, 0)];
+    lists.push(change(&absent));
+    lists.push(change(&[(code, 0), (first, 9), (count, 9)]));
+    for column in [first, count, a, b, c, id, from, to] {
+        absent.push((column, 0));
+        lists.push(change(&absent));
+    }
     // The run of cases, charged to c.
     let switch = with_block(7).words();
     for (first, count) in [(2, 0), (3, 0), (1, 1), (1, 2), (0, 3), (65_535, 1), (65_536, 0)] {
         let mut words = switch.clone();
-        words[20] = first;
-        words[21] = count;
+        words[b] = first;
+        words[c] = count;
         lists.push(words);
     }
     lists
 }
+
+/// The places of a block's words, whose row begins here.
+fn columns_of(row: usize) -> [usize; BLOCK_WORDS] {
+    std::array::from_fn(|column| row + column)
+}
+
+/// Spans about every edge: none, from 0, empty ones, ends below their beginnings, words too large;
+/// in a block's row, an instruction's, both, and in the row of no block.
+fn spans() -> Vec<Vec<u32>> {
+    let good = with_block(3).words();
+    let to_of_block = BLOCK_1 + BLOCK_WORDS - 1;
+    let to_of_instruction = Table::of(&good).instructions + INSTRUCTION_WORDS - 1;
+    let absent = with_block(0).words();
+    let mut lists = Vec::new();
+    for (from, to) in SPANS {
+        for (words, ends) in [
+            (&good, &[to_of_block][..]),
+            (&good, &[to_of_instruction]),
+            (&good, &[to_of_block, to_of_instruction]),
+            (&absent, &[to_of_block]),
+        ] {
+            let mut words = words.clone();
+            for end in ends {
+                words[end - 1] = from;
+                words[*end] = to;
+            }
+            lists.push(words);
+        }
+    }
+    lists
+}
+
+const SPANS: [(u32, u32); 18] = [
+    (0, 0),
+    (0, 1),
+    (0, 5),
+    (0, 65_535),
+    (0, 65_536),
+    (1, 0),
+    (1, 1),
+    (2, 1),
+    (5, 4),
+    (5, 5),
+    (5, 65_535),
+    (5, 65_536),
+    (65_535, 65_534),
+    (65_535, 65_535),
+    (65_535, 65_536),
+    (65_536, 0),
+    (65_536, 65_536),
+    (u32::MAX, u32::MAX),
+];

@@ -53,14 +53,14 @@ fn bad_in_block(table: &Table, row: usize) -> Option<usize> {
     let head = [Column::Any, Column::InstructionCount, Column::UpTo(21)];
     bad_in_columns(table, row, &head)
         .or_else(|| bad_in_columns(table, row + 3, &terminal_columns(code)))
-        .or_else(|| bad_in_columns(table, row + 8, &[Column::Any, Column::Any]))
+        .or_else(|| bad_in_columns(table, row + 8, &[Column::Any, Column::Any, Column::To]))
 }
 
 fn bad_in_instruction(table: &Table, row: usize) -> Option<usize> {
     let code = table.words[row + 2];
     bad_in_columns(table, row, &[Column::Any, Column::Place, Column::UpTo(2)])
         .or_else(|| bad_in_columns(table, row + 3, &operand_columns(code)))
-        .or_else(|| bad_in_columns(table, row + 5, &[Column::Any]))
+        .or_else(|| bad_in_columns(table, row + 5, &[Column::Any, Column::To]))
 }
 
 fn bad_in_columns(table: &Table, first: usize, columns: &[Column]) -> Option<usize> {
@@ -83,5 +83,6 @@ fn is_good(table: &Table, at: usize, column: Column) -> bool {
         Column::Identifier => word < words[5],
         Column::InstructionCount => run_fits(words[2]),
         Column::CaseCount => run_fits(words[3]),
+        Column::To => word <= LARGEST && words[at - 1] <= word,
     }
 }

@@ -21,6 +21,8 @@ pub enum Column {
     /// How many rows of a table are meant, from the one that the column before names.
     InstructionCount,
     CaseCount,
+    /// The end of a span: up to `LARGEST`, and not below the word before it.
+    To,
 }
 
 /// Columns a to e of a block whose row ends in this code, 1 to 21.

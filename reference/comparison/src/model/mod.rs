@@ -10,7 +10,7 @@ pub mod table;
 pub mod text;
 mod values;
 
-use table::Table;
+use table::{Span, Table};
 
 /// Code (0 accepted), at, rows and visits.
 #[derive(Clone, Copy, Debug, PartialEq, Eq)]
@@ -93,7 +93,7 @@ struct Block {
     code: u32,
     operands: [u32; 5],
     id: u32,
-    span: u32,
+    span: Span,
 }
 
 impl<'w> Walk<'w> {
@@ -118,23 +118,29 @@ impl<'w> Walk<'w> {
 
     /// Looks at a block without visiting it: 10 if it is missing.
     fn look_up(&self, number: u32) -> Result<Block, Refusal> {
-        let [first, count, code, a, b, c, d, e, id, span] = *self.table.block(number);
+        let [first, count, code, a, b, c, d, e, id, from, to] = *self.table.block(number);
         if code == 0 {
             return Err(Refusal { code: 10, at: number });
         }
-        Ok(Block { number, first, count, code, operands: [a, b, c, d, e], id, span })
+        let (operands, span) = ([a, b, c, d, e], Span { from, to });
+        Ok(Block { number, first, count, code, operands, id, span })
     }
 
     fn row(&mut self, row: Row) {
         self.rows.push(row);
     }
 
+    /// INSTR.
+    fn instruction_row(&mut self, id: u32, lvalue: u32, span: Span) {
+        self.row([4, id, lvalue, span.from, span.to, 0]);
+    }
+
     /// INSTR rows, each after its PLAIN, for instruction rows from `first`.
     fn instruction_rows(&mut self, first: u32, count: u32) {
         for instruction in first..first + count {
-            let [id, lvalue, _, _, _, span] = *self.table.instruction(instruction);
+            let [id, lvalue, _, _, _, from, to] = *self.table.instruction(instruction);
             self.row([1, instruction, 0, 0, 0, 0]);
-            self.row([4, id, lvalue, span, 0, 0]);
+            self.instruction_row(id, lvalue, Span { from, to });
         }
     }
 }

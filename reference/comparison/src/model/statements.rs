@@ -2,6 +2,7 @@
 
 use super::columns::NONE;
 use super::context::IMPLICIT;
+use super::table::Span;
 use super::{Block, Refusal, Walk};
 
 /// What the end of a block gives besides its rows: how many statements they are, and the block
@@ -220,7 +221,8 @@ impl Walk<'_> {
         self.visit_flattened(test, block.span, depth + 1)?;
         self.loop_body(block, loop_block, free, depth)?;
         self.context.unschedule();
-        Ok(self.statement([16, block.id, label(taken), block.span, 0, 0], taken))
+        let Span { from, to } = block.span;
+        Ok(self.statement([16, block.id, label(taken), from, to, 0], taken))
     }
 
     fn for_in_statement(&mut self, block: &Block, depth: u32) -> Result<Ended, Refusal> {
@@ -231,7 +233,8 @@ impl Walk<'_> {
         self.visit_flattened(init, block.span, depth + 1)?;
         self.loop_body(block, loop_block, free, depth)?;
         self.context.unschedule();
-        Ok(self.statement([17, block.id, label(taken), block.span, 0, 0], taken))
+        let Span { from, to } = block.span;
+        Ok(self.statement([17, block.id, label(taken), from, to, 0], taken))
     }
 
     /// A value terminal as a statement: one INSTR with the terminal's own span.
@@ -244,7 +247,8 @@ impl Walk<'_> {
         let taken = self.take_fallthrough(fallthrough, Asks::Nothing)?;
         let value = self.visit_value_block_terminal(block, depth)?;
         self.leave(taken);
-        Ok(self.statement([4, block.id, value.place, block.span, 0, 0], taken))
+        let Span { from, to } = block.span;
+        Ok(self.statement([4, block.id, value.place, from, to, 0], taken))
     }
 
     fn label_statement(&mut self, block: &Block, depth: u32) -> Result<Ended, Refusal> {

@@ -1,20 +1,10 @@
 //! The program `treebuild` (paper 01, "Samples"): the file form, refusals 50 and 51, the output.
 
-use super::table::{BLOCK_WORDS, CASE_WORDS, HEAD_WORDS, INSTRUCTION_WORDS};
+use super::table::{NAMES, WIDTHS};
 use super::{Outcome, ROW_WORDS, Refusal, build};
 
 pub const MAX_BYTES: usize = 32_768;
 pub const LENT_ROWS: usize = 2_048;
-
-/// Each table's line of names, and how many numbers its lines hold.
-const TABLES: [(&str, usize); 6] = [
-    ("entry blocks instructions cases places identifiers", HEAD_WORDS),
-    ("first count code a b c d e id span", BLOCK_WORDS),
-    ("id lvalue code p q span", INSTRUCTION_WORDS),
-    ("test block", CASE_WORDS),
-    ("identifier", 1),
-    ("named", 1),
-];
 
 /// What the program prints for this input.
 pub fn treebuild(input: &[u8]) -> String {
@@ -33,7 +23,7 @@ pub fn parse(input: &[u8]) -> Result<Vec<u32>, Refusal> {
     }
     let mut reader = Reader { input, at: 0 };
     let mut words = Vec::new();
-    for (table, (names, width)) in TABLES.into_iter().enumerate() {
+    for (table, (names, width)) in NAMES.into_iter().zip(WIDTHS).enumerate() {
         let lines = if table == 0 { 1 } else { words[table] };
         reader.names(names)?;
         for _ in 0..lines {
@@ -102,7 +92,7 @@ impl Reader<'_> {
 pub fn write_file(words: &[u32]) -> String {
     let mut file = String::new();
     let mut rest = words;
-    for (table, (names, width)) in TABLES.into_iter().enumerate() {
+    for (table, (names, width)) in NAMES.into_iter().zip(WIDTHS).enumerate() {
         let lines = if table == 0 { 1 } else { words[table] };
         file += names;
         file.push('\n');

@@ -1,5 +1,6 @@
 //! The value walk.
 
+use super::table::Span;
 use super::{Block, Refusal, Row, Walk};
 
 /// What a value visit gives besides its rows: the block that ended it, its place and its id.
@@ -20,7 +21,7 @@ struct Test {
     value: Value,
     consequent: u32,
     alternate: u32,
-    branch_span: u32,
+    branch_span: Span,
 }
 
 impl Walk<'_> {
@@ -29,7 +30,7 @@ impl Walk<'_> {
     pub fn visit_value_block(
         &mut self,
         number: u32,
-        span: u32,
+        span: Span,
         forbidden: Option<u32>,
         depth: u32,
     ) -> Result<Value, Refusal> {
@@ -49,7 +50,7 @@ impl Walk<'_> {
             _ => {
                 self.instruction_rows(block.first, block.count);
                 let init = self.visit_value_block_terminal(&block, depth)?;
-                self.row([4, block.id, init.place, span, 0, 0]);
+                self.instruction_row(block.id, init.place, span);
                 let last = self.visit_value_block(init.fallthrough, span, None, depth + 1)?;
                 self.row([5, block.count + 1, last.id, 0, 0, 0]);
                 Ok(last)
@@ -60,7 +61,7 @@ impl Walk<'_> {
     fn maybe_throw_value(
         &mut self,
         block: &Block,
-        span: u32,
+        span: Span,
         forbidden: Option<u32>,
         depth: u32,
     ) -> Result<Value, Refusal> {
@@ -84,7 +85,7 @@ impl Walk<'_> {
         let others = block.count - 1;
         let last = block.first + others;
         self.instruction_rows(block.first, others);
-        let [id, lvalue, code, p, q, _] = *self.table.instruction(last);
+        let [id, lvalue, code, p, q, ..] = *self.table.instruction(last);
         let stores_unnamed = code == 2 && !self.table.is_named(self.table.identifier_of(p));
         let (row, place) =
             if stores_unnamed { ([2, q, 0, 0, 0, 0], p) } else { ([1, last, 0, 0, 0, 0], lvalue) };
@@ -107,7 +108,7 @@ impl Walk<'_> {
         let (place, fallthrough) = match block.code {
             13 => {
                 let test = self.visit_test_block(block, b, inner)?;
-                self.row([4, test.value.id, test.value.place, span, 0, 0]);
+                self.instruction_row(test.value.id, test.value.place, span);
                 let left = self.visit_value_block(test.consequent, span, Some(c), inner)?;
                 self.row([5, 1, left.id, 0, 0, 0]);
                 self.visit_value_block(test.alternate, span, Some(c), inner)?;
@@ -123,7 +124,7 @@ impl Walk<'_> {
             }
             15 => {
                 let test = self.visit_test_block(block, b, inner)?;
-                self.row([4, test.value.id, test.value.place, test.branch_span, 0, 0]);
+                self.instruction_row(test.value.id, test.value.place, test.branch_span);
                 let call = self.visit_value_block(test.consequent, span, Some(c), inner)?;
                 self.row([5, 1, call.id, 0, 0, 0]);
                 self.row([8, a, 0, 0, 0, 0]);
@@ -150,7 +151,7 @@ impl Walk<'_> {
     /// Visits a value and flattens it through every trailing sequence: the SEQ rows at the end are
     /// taken back, and the value that they led to becomes one more instruction, unless it is a
     /// load of the result's own identifier.
-    pub fn visit_flattened(&mut self, number: u32, span: u32, depth: u32) -> Result<(), Refusal> {
+    pub fn visit_flattened(&mut self, number: u32, span: Span, depth: u32) -> Result<(), Refusal> {
         let result = self.visit_value_block(number, span, None, depth)?;
         let mut instructions = 0;
         while let Some([5, number_of, ..]) = self.rows.last() {
@@ -161,10 +162,10 @@ impl Walk<'_> {
         if self.loaded_identifier(value) == Some(self.table.identifier_of(result.place)) {
             self.rows.pop();
         } else {
-            self.row([4, result.id, result.place, span, 0, 0]);
+            self.instruction_row(result.id, result.place, span);
             instructions += 1;
         }
-        self.row([3, span, 0, 0, 0, 0]);
+        self.row([3, span.from, span.to, 0, 0, 0]);
         self.row([5, instructions, result.id, 0, 0, 0]);
         Ok(())
     }
@@ -173,7 +174,7 @@ impl Walk<'_> {
     fn loaded_identifier(&self, row: Row) -> Option<u32> {
         match row {
             [1, instruction, ..] => match *self.table.instruction(instruction) {
-                [_, _, 1, place, _, _] => Some(self.table.identifier_of(place)),
+                [_, _, 1, place, ..] => Some(self.table.identifier_of(place)),
                 _ => None,
             },
             [2, place, ..] => Some(self.table.identifier_of(place)),

@@ -12,14 +12,13 @@ use oxc_react_compiler::react_compiler_utils::OrderedMap;
 use oxc_span::Span;
 use oxc_str::Ident;
 
-use crate::model::columns::NONE;
+use crate::model::columns::{LARGEST, NONE};
 use crate::model::table::Table;
 
-/// What a span stands for. The reference copies spans and never looks into one, so a place's and a
-/// value's can carry its row through the walk.
-pub const TABLE_SPAN: u32 = 0;
-pub const PLACE_ROW: u32 = 1;
-pub const INSTRUCTION_ROW: u32 = 2;
+/// Ends of spans that are no table's, since a table's end is at most `LARGEST`. The reference copies
+/// spans and never looks into one, so a place's and a value's can carry its row through the walk.
+pub const PLACE_ROW: u32 = LARGEST + 1;
+pub const INSTRUCTION_ROW: u32 = LARGEST + 2;
 
 /// Makes the parts of a function from a table's rows.
 pub struct Lowering<'w, 'a> {
@@ -65,7 +64,7 @@ impl<'a> Lowering<'_, 'a> {
     }
 
     fn instruction(&self, row: u32) -> Instruction<'a> {
-        let [id, lvalue, code, p, q, own_span] = *self.table.instruction(row);
+        let [id, lvalue, code, p, q, from, to] = *self.table.instruction(row);
         let span = Some(Span { start: row, end: INSTRUCTION_ROW });
         let value = match code {
             0 => InstructionValue::Debugger { span },
@@ -76,7 +75,7 @@ impl<'a> Lowering<'_, 'a> {
             }
         };
         let id = EvaluationOrder::new(id);
-        Instruction { id, lvalue: self.place(lvalue), value, span: table_span(own_span) }
+        Instruction { id, lvalue: self.place(lvalue), value, span: table_span(from, to) }
     }
 
     fn place(&self, row: u32) -> Place {
@@ -97,9 +96,9 @@ impl<'a> Lowering<'_, 'a> {
 
     /// Branch fallthroughs and MaybeThrow handlers have no column and are never read.
     fn terminal(&self, number: u32) -> Option<Terminal<'a>> {
-        let [_, _, code, a, b, c, d, e, id, span] = *self.table.block(number);
+        let [_, _, code, a, b, c, d, e, id, from, to] = *self.table.block(number);
         let id = EvaluationOrder::new(id);
-        let span = table_span(span);
+        let span = table_span(from, to);
         let block = BlockId::new;
         Some(match code {
             0 => return None,
@@ -212,8 +211,9 @@ impl<'a> Lowering<'_, 'a> {
     }
 }
 
-fn table_span(span: u32) -> Option<Span> {
-    (span != 0).then_some(Span { start: span, end: TABLE_SPAN })
+/// 0 and 0 alone is none.
+fn table_span(start: u32, end: u32) -> Option<Span> {
+    ((start, end) != (0, 0)).then_some(Span { start, end })
 }
 
 fn goto_variant(number: u32) -> GotoVariant {

@@ -8,9 +8,9 @@ use oxc_react_compiler::react_compiler_hir::{
 };
 use oxc_span::Span;
 
-use super::hir::{INSTRUCTION_ROW, PLACE_ROW, TABLE_SPAN};
+use super::hir::{INSTRUCTION_ROW, PLACE_ROW};
 use crate::model::Row;
-use crate::model::columns::NONE;
+use crate::model::columns::{LARGEST, NONE};
 
 /// Rows in the order in which they are closed.
 #[derive(Default)]
@@ -50,7 +50,8 @@ impl Rows {
     fn instruction(&mut self, instruction: &ReactiveInstruction) {
         self.value(&instruction.value);
         let lvalue = place(&instruction.lvalue.expect("the walk gives every instruction a place"));
-        self.close([4, order(instruction.id), lvalue, span(instruction.span)]);
+        let [from, to] = span(instruction.span);
+        self.close([4, order(instruction.id), lvalue, from, to]);
     }
 
     fn value(&mut self, value: &ReactiveValue) {
@@ -96,7 +97,10 @@ impl Rows {
                 assert_eq!(*end, INSTRUCTION_ROW);
                 self.close([1, *start]);
             }
-            InstructionValue::Primitive { span: own, .. } => self.close([3, span(*own)]),
+            InstructionValue::Primitive { span: own, .. } => {
+                let [from, to] = span(*own);
+                self.close([3, from, to]);
+            }
             _ => unreachable!("every value of the table has its row"),
         }
     }
@@ -145,12 +149,14 @@ impl Rows {
                 self.value(init);
                 self.value(test);
                 self.block(loop_block);
-                self.close([16, order(*id), label, span(*own)]);
+                let [from, to] = span(*own);
+                self.close([16, order(*id), label, from, to]);
             }
             ReactiveTerminal::ForIn { init, loop_block, id, span: own } => {
                 self.value(init);
                 self.block(loop_block);
-                self.close([17, order(*id), label, span(*own)]);
+                let [from, to] = span(*own);
+                self.close([17, order(*id), label, from, to]);
             }
             ReactiveTerminal::If { test, consequent, alternate, id } => {
                 self.block(consequent);
@@ -184,10 +190,10 @@ fn label(label: &Option<ReactiveLabel>) -> u32 {
     label.as_ref().map_or(NONE, |label| block(label.id))
 }
 
-fn span(span: Option<Span>) -> u32 {
-    span.map_or(0, |span| {
-        assert_eq!(span.end, TABLE_SPAN);
-        span.start
+fn span(span: Option<Span>) -> [u32; 2] {
+    span.map_or([0, 0], |Span { start, end }| {
+        assert!(end <= LARGEST, "a span of the table");
+        [start, end]
     })
 }
 

@@ -14,8 +14,8 @@ returns c =
     let start : tie.Start = search in
     more-refused (start .args .before) _ (c .if1 .taken) (start .pre .1 .1)
 
-block-word-requires : tie.Need-block-word-requires
-block-word-requires c κs = search needs
+span-at-requires : tie.Need-span-at-requires
+span-at-requires c κs = search needs
 
 sub-visit-value-block : tie.Need-sub-visit-value-block
 sub-visit-value-block c = search needs
@@ -33,13 +33,12 @@ returns-2 : tie.Need-returns-2
 returns-2 c =
     let then2 : tie.Then2 = search in
     let at-visit-value-block : tie.After-visit-value-block = search in
-    let at-block-word : tie.After-block-word = search in
+    let at-span : tie.After-span-at = search in
     let else1 : tie.Else1 = search in
     let start : tie.Start = search in
-    rw (← (at-block-word .block-word .ensures))
-    (value-more (start .args .before) (visitValueBlock (tableOf (start .args .words .now)) (127 - start .args .p .depth))
-    (flatForm (tableOf (start .args .words .now)) (at-block-word .block-word .result)) (start .args .block) (at-block-word .block-word .result)
-    (else1 .if1 .left) (at-visit-value-block .visit-value-block .ensures) _ (c .values-of .ensures) (then2 .if2 .taken))
+    rw (← (at-span .span-at .ensures)) (value-more (start .args .before) (visitValueBlock (tableOf (start .args .words .now)) (127 - start .args .p .depth))
+    (flatForm (tableOf (start .args .words .now)) (at-span .span-at .result)) (start .args .block) (at-span .span-at .result) (else1 .if1 .left)
+    (at-visit-value-block .visit-value-block .ensures) _ (c .values-of .ensures) (then2 .if2 .taken))
 
 value-block-result-to-sequence-requires : tie.Need-value-block-result-to-sequence-requires
 value-block-result-to-sequence-requires c κs =
@@ -72,13 +71,12 @@ returns-3 c =
     let at-value-block-result-to-sequence : tie.After-value-block-result-to-sequence = search in
     let else2 : tie.Else2 = search in
     let at-visit-value-block : tie.After-visit-value-block = search in
-    let at-block-word : tie.After-block-word = search in
+    let at-span : tie.After-span-at = search in
     let else1 : tie.Else1 = search in
     let start : tie.Start = search in
-    rw (← (at-block-word .block-word .ensures))
-    (flat-more (start .args .before) (visitValueBlock (tableOf (start .args .words .now)) (127 - start .args .p .depth))
-    (flatForm (tableOf (start .args .words .now)) (at-block-word .block-word .result)) (start .args .block) (at-block-word .block-word .result)
-    (else1 .if1 .left) (at-visit-value-block .visit-value-block .ensures) _ _ (else2 .if2 .left) refl refl
+    rw (← (at-span .span-at .ensures)) (flat-more (start .args .before) (visitValueBlock (tableOf (start .args .words .now)) (127 - start .args .p .depth))
+    (flatForm (tableOf (start .args .words .now)) (at-span .span-at .result)) (start .args .block) (at-span .span-at .result) (else1 .if1 .left)
+    (at-visit-value-block .visit-value-block .ensures) _ _ (else2 .if2 .left) refl refl
     (at-value-block-result-to-sequence .value-block-result-to-sequence .ensures .most)
     (λ below h. at-value-block-result-to-sequence .value-block-result-to-sequence .ensures .held (at-visit-value-block .visit-value-block .ensures .value)
     (at-visit-value-block .visit-value-block .ensures .found (else2 .if2 .left) .ends) below h))
@@ -88,7 +86,7 @@ flat-value-spec =
     tie.close
     (tie.spec
     returns
-    block-word-requires
+    span-at-requires
     sub-visit-value-block
     visit-value-block-requires
     values-of-requires

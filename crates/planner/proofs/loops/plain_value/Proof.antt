@@ -11,8 +11,8 @@ returns c =
     let start : tie.Start = search in
     more-refused (start .args .before) _ (c .if1 .taken) (start .pre .1 .1)
 
-block-word-requires : tie.Need-block-word-requires
-block-word-requires c κs = search needs
+span-at-requires : tie.Need-span-at-requires
+span-at-requires c κs = search needs
 
 sub-visit-value-block : tie.Need-sub-visit-value-block
 sub-visit-value-block c = search needs
@@ -29,19 +29,18 @@ same-length c = search needs
 returns-2 : tie.Need-returns-2
 returns-2 c =
     let at-visit-value-block : tie.After-visit-value-block = search in
-    let at-block-word : tie.After-block-word = search in
+    let at-span : tie.After-span-at = search in
     let else1 : tie.Else1 = search in
     let start : tie.Start = search in
-    rw (← (at-block-word .block-word .ensures))
-    (plain-more (start .args .before) (visitValueBlock (tableOf (start .args .words .now)) (127 - start .args .p .depth)) (start .args .block)
-    (at-block-word .block-word .result) (else1 .if1 .left) (at-visit-value-block .visit-value-block .ensures) _ (c .values-of .ensures))
+    rw (← (at-span .span-at .ensures)) (plain-more (start .args .before) (visitValueBlock (tableOf (start .args .words .now)) (127 - start .args .p .depth))
+    (start .args .block) (at-span .span-at .result) (else1 .if1 .left) (at-visit-value-block .visit-value-block .ensures) _ (c .values-of .ensures))
 
 pub plain-value-spec : {M : Type 1} → statement M
 plain-value-spec =
     tie.close
     (tie.spec
     returns
-    block-word-requires
+    span-at-requires
     sub-visit-value-block
     visit-value-block-requires
     values-of-requires

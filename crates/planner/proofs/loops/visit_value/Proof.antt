@@ -15,8 +15,8 @@ unless-scheduled-requires c κs =
     (rw (c .block-word .ensures) (fallthrough-below (at-entry .args .words .now) (at-entry .args .scheduled .now) (at-entry .args .catch-handlers .now)
     (at-entry .args .p) (at-entry .pre .0) _ (at-entry .pre .1 .1)))
 
-block-word-requires-2 : tie.Need-block-word-requires-2
-block-word-requires-2 c κs = search needs
+span-at-requires : tie.Need-span-at-requires
+span-at-requires c κs = search needs
 
 sub-visit-value-block-terminal : tie.Need-sub-visit-value-block-terminal
 sub-visit-value-block-terminal c = search needs
@@ -79,15 +79,15 @@ returns-2 c =
     let at-put : tie.After-put = search in
     let at-if1 : tie.Else1 = search in
     let at-visit-value-block-terminal : tie.After-visit-value-block-terminal = search in
-    let at-block-word2 : tie.After-block-word2 = search in
+    let at-span : tie.After-span-at = search in
     let at-unless-scheduled : tie.After-unless-scheduled = search in
     let at-block-word : tie.After-block-word = search in
     let at-entry : tie.Start = search in
     value-statement-left (at-entry .args .words .now) (at-entry .args .scheduled .now) (at-entry .args .catch-handlers .now) (at-entry .args .p)
     (at-entry .pre .0) _ (at-entry .pre .1 .1) (at-visit-value-block-terminal .visit-value-block-terminal .ensures)
     (at-unless-scheduled .unless-scheduled .result) _ _ _ (at-if1 .if1 .left)
-    (rw (at-block-word .block-word .ensures) at (at-unless-scheduled .unless-scheduled .ensures))
-    (rw (at-block-word2 .block-word2 .ensures) at (at-put .put .ensures)) (rw (← (at-schedule-briefly .schedule-briefly .ensures)) (c .leave .ensures))
+    (rw (at-block-word .block-word .ensures) at (at-unless-scheduled .unless-scheduled .ensures)) (rw (at-span .span-at .ensures) at (at-put .put .ensures))
+    (rw (← (at-schedule-briefly .schedule-briefly .ensures)) (c .leave .ensures))
 
 pub visit-value-spec : {M : Type 1} → statement M
 visit-value-spec =
@@ -95,7 +95,7 @@ visit-value-spec =
     (tie.spec
     block-word-requires
     unless-scheduled-requires
-    block-word-requires-2
+    span-at-requires
     sub-visit-value-block-terminal
     visit-value-block-terminal-requires
     advance-requires

@@ -8,8 +8,8 @@ use Rattle.planner.proofs.resume.resume_do_while.Tie as tie
 block-word-requires : tie.Need-block-word-requires
 block-word-requires c κs = search needs
 
-block-word-requires-2 : tie.Need-block-word-requires-2
-block-word-requires-2 c κs = search needs
+span-at-requires : tie.Need-span-at-requires
+span-at-requires c κs = search needs
 
 sub-visit-value-block : tie.Need-sub-visit-value-block
 sub-visit-value-block c = search needs
@@ -41,14 +41,14 @@ returns c =
     let at-if1 : tie.Then1 = search in
     let at-advance : tie.After-advance = search in
     let at-visit-value-block : tie.After-visit-value-block = search in
-    let at-block-word2 : tie.After-block-word2 = search in
+    let at-span : tie.After-span-at = search in
     let at-block-word : tie.After-block-word = search in
     let at-entry : tie.Start = search in
     test-refused (at-entry .args .words .now) (at-entry .args .p) (at-entry .args .frame) (at-entry .pre .0) (at-entry .pre .1)
     (record { rows = at-entry .args .p .rows; visits = at-entry .args .p .visits }) (at-entry .args .tree .now) _
     (at-visit-value-block .visit-value-block .result)
-    (rw (at-block-word .block-word .ensures, at-block-word2 .block-word2 .ensures) at (at-visit-value-block .visit-value-block .ensures)) _ _ refl
-    (at-if1 .if1 .taken) (rw (at-advance .advance .ensures) at (c .refuse .ensures))
+    (rw (at-block-word .block-word .ensures, at-span .span-at .ensures) at (at-visit-value-block .visit-value-block .ensures)) _ _ refl (at-if1 .if1 .taken)
+    (rw (at-advance .advance .ensures) at (c .refuse .ensures))
 
 close-statement-requires : tie.Need-close-statement-requires
 close-statement-requires c κs =
@@ -75,21 +75,21 @@ returns-2 c =
     let at-if1 : tie.Else1 = search in
     let at-advance : tie.After-advance = search in
     let at-visit-value-block : tie.After-visit-value-block = search in
-    let at-block-word2 : tie.After-block-word2 = search in
+    let at-span : tie.After-span-at = search in
     let at-block-word : tie.After-block-word = search in
     let at-entry : tie.Start = search in
     test-closed (at-entry .args .words .now) (at-entry .args .p) (at-entry .args .frame) (at-entry .pre .0) (at-entry .pre .1)
     (record { rows = at-entry .args .p .rows; visits = at-entry .args .p .visits }) (at-entry .args .tree .now) _
     (at-visit-value-block .visit-value-block .result)
-    (rw (at-block-word .block-word .ensures, at-block-word2 .block-word2 .ensures) at (at-visit-value-block .visit-value-block .ensures)) _ _ refl
-    (at-if1 .if1 .left) (rw (at-advance .advance .ensures) at (at-close-statement .close-statement .ensures))
+    (rw (at-block-word .block-word .ensures, at-span .span-at .ensures) at (at-visit-value-block .visit-value-block .ensures)) _ _ refl (at-if1 .if1 .left)
+    (rw (at-advance .advance .ensures) at (at-close-statement .close-statement .ensures))
 
 pub resume-do-while-spec : {M : Type 1} → statement M
 resume-do-while-spec =
     tie.close
     (tie.spec
     block-word-requires
-    block-word-requires-2
+    span-at-requires
     sub-visit-value-block
     visit-value-block-requires
     advance-requires

@@ -12,6 +12,9 @@ instruction-word-requires-2 c κs = search needs
 instruction-word-requires-3 : tie.Need-instruction-word-requires-3
 instruction-word-requires-3 c κs = search needs
 
+instruction-word-requires-4 : tie.Need-instruction-word-requires-4
+instruction-word-requires-4 c κs = search needs
+
 returns : tie.Need-returns
 returns c = search instructs
 
@@ -22,4 +25,5 @@ instruction-at-spec =
     instruction-word-requires
     instruction-word-requires-2
     instruction-word-requires-3
+    instruction-word-requires-4
     returns)

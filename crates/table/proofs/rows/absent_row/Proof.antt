@@ -12,10 +12,10 @@ use Rattle.table.proofs.rows.absent_row.Statement.{statement}
 use Rattle.table.proofs.rows.absent_row.Tie as tie
 
 abbrev Inv-loop : tie.InvT-loop
-Inv-loop words row column₀ column = (firstBad (blockWord words row) 0 (replicate 10 unused) ≡ firstBad (blockWord words row) column (replicate (10 - column) unused)) × (column ≤ 10)
+Inv-loop words row column₀ column = (firstBad (blockWord words row) 0 (replicate 11 unused) ≡ firstBad (blockWord words row) column (replicate (11 - column) unused)) × (column ≤ 11)
 
 abbrev μ-loop : tie.MeasureT-loop
-μ-loop words row column₀ column = 10 - column
+μ-loop words row column₀ column = 11 - column
 
 loop-holds : tie.Need-loop-holds Inv-loop μ-loop
 loop-holds c = (refl, omega arith)
@@ -27,7 +27,7 @@ returns : tie.Need-returns Inv-loop μ-loop
 returns c =
     let at-block-word = c .before in
     let at-loop = at-block-word .before .before in
-    unused-off _ _ 10 (omega arith) (at-block-word .block-word .ensures) (c .if1 .taken) ∙ sym (at-loop .loop .inv .0)
+    unused-off _ _ 11 (omega arith) (at-block-word .block-word .ensures) (c .if1 .taken) ∙ sym (at-loop .loop .inv .0)
 
 add-column : tie.Need-add-column Inv-loop μ-loop
 add-column c = omega arith
@@ -39,10 +39,10 @@ loop-again : tie.Need-loop-again Inv-loop μ-loop
 loop-again c =
     let at-block-word = c .before in
     let at-loop = at-block-word .before .before in
-    (at-loop .loop .inv .0 ∙ unused-on _ _ 10 (omega arith) (at-block-word .block-word .ensures) (c .if1 .left), omega arith)
+    (at-loop .loop .inv .0 ∙ unused-on _ _ 11 (omega arith) (at-block-word .block-word .ensures) (c .if1 .left), omega arith)
 
 returns-2 : tie.Need-returns-2 Inv-loop μ-loop
-returns-2 c = unused-last _ _ 10 (omega arith) ∙ sym (c .before .loop .inv .0)
+returns-2 c = unused-last _ _ 11 (omega arith) ∙ sym (c .before .loop .inv .0)
 
 pub absent-row-spec : {M : Type 1} → statement M
 absent-row-spec =

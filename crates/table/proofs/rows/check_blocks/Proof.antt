@@ -11,7 +11,7 @@ use Rattle.table.proofs.rows.check_blocks.Statement.{statement}
 use Rattle.table.proofs.rows.check_blocks.Tie as tie
 
 abbrev Inv-loop : tie.InvT-loop
-Inv-loop words rows row₀ row = (rowsVerdict words (blockRules words) blocksBegin 0 (blockCount words) ≡ rowsVerdict words (blockRules words) (blocksBegin + row * 10) row (blockCount words - row)) × (row ≤ blockCount words)
+Inv-loop words rows row₀ row = (rowsVerdict words (blockRules words) blocksBegin 0 (blockCount words) ≡ rowsVerdict words (blockRules words) (blocksBegin + row * 11) row (blockCount words - row)) × (row ≤ blockCount words)
 
 abbrev μ-loop : tie.MeasureT-loop
 μ-loop words rows row₀ row = blockCount words - row
@@ -20,7 +20,7 @@ block-count-requires : tie.Need-block-count-requires Inv-loop μ-loop
 block-count-requires c κs = search needs
 
 loop-holds : tie.Need-loop-holds Inv-loop μ-loop
-loop-holds c = (rows-first _ _ 10 (block-width _) _ _, omega arith)
+loop-holds c = (rows-first _ _ 11 (block-width _) _ _, omega arith)
 
 block-row-requires : tie.Need-block-row-requires Inv-loop μ-loop
 block-row-requires c κs = search needs
@@ -39,7 +39,7 @@ unfolding blockWord blocksBegin
 returns c =
     let at-block-row = c .before in
     let at-loop = at-block-row .before .before in
-    rows-off _ _ 10 (block-width _) _ _ _ (omega arith) (at-block-row .block-row .ensures) (c .if1 .taken) refl ∙ sym (at-loop .loop .inv .0)
+    rows-off _ _ 11 (block-width _) _ _ _ (omega arith) (at-block-row .block-row .ensures) (c .if1 .taken) refl ∙ sym (at-loop .loop .inv .0)
 
 add-block : tie.Need-add-block Inv-loop μ-loop
 add-block c = omega arith
@@ -52,10 +52,10 @@ unfolding blockWord
 loop-again c =
     let at-block-row = c .before in
     let at-loop = at-block-row .before .before in
-    (at-loop .loop .inv .0 ∙ rows-on _ _ 10 (block-width _) _ _ _ (omega arith) (at-block-row .block-row .ensures) (c .if1 .left), omega arith)
+    (at-loop .loop .inv .0 ∙ rows-on _ _ 11 (block-width _) _ _ _ (omega arith) (at-block-row .block-row .ensures) (c .if1 .left), omega arith)
 
 returns-2 : tie.Need-returns-2 Inv-loop μ-loop
-returns-2 c = sym (c .before .loop .inv .0 ∙ rows-last _ _ 10 (block-width _) _ _ _ (omega arith))
+returns-2 c = sym (c .before .loop .inv .0 ∙ rows-last _ _ 11 (block-width _) _ _ _ (omega arith))
 
 pub check-blocks-spec : {M : Type 1} → statement M
 check-blocks-spec =

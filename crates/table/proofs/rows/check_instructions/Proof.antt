@@ -11,7 +11,7 @@ use Rattle.table.proofs.rows.check_instructions.Statement.{statement}
 use Rattle.table.proofs.rows.check_instructions.Tie as tie
 
 abbrev Inv-loop : tie.InvT-loop
-Inv-loop words begin rows row₀ row = (rowsVerdict words (instructionRules words) (instructionsBegin words) 0 (instructionCount words) ≡ rowsVerdict words (instructionRules words) (instructionsBegin words + row * 6) row (instructionCount words - row)) × (row ≤ instructionCount words)
+Inv-loop words begin rows row₀ row = (rowsVerdict words (instructionRules words) (instructionsBegin words) 0 (instructionCount words) ≡ rowsVerdict words (instructionRules words) (instructionsBegin words + row * 7) row (instructionCount words - row)) × (row ≤ instructionCount words)
 
 abbrev μ-loop : tie.MeasureT-loop
 μ-loop words begin rows row₀ row = instructionCount words - row
@@ -23,7 +23,7 @@ instruction-count-requires : tie.Need-instruction-count-requires Inv-loop μ-loo
 instruction-count-requires c κs = search needs
 
 loop-holds : tie.Need-loop-holds Inv-loop μ-loop
-loop-holds c = (rows-first _ _ 6 (instruction-width _) _ _, omega arith)
+loop-holds c = (rows-first _ _ 7 (instruction-width _) _ _, omega arith)
 
 instruction-row-requires : tie.Need-instruction-row-requires Inv-loop μ-loop
 instruction-row-requires c κs = search needs
@@ -43,7 +43,7 @@ returns c =
     let at-instruction-row = c .before in
     let at-loop = at-instruction-row .before .before in
     let at-instructions-begin = at-loop .before .before in
-    rows-off _ _ 6 (instruction-width _) _ _ _ (omega arith) (at-instruction-row .instruction-row .ensures) (c .if1 .taken) (at-instructions-begin .instructions-begin .ensures .0) ∙ sym (at-loop .loop .inv .0)
+    rows-off _ _ 7 (instruction-width _) _ _ _ (omega arith) (at-instruction-row .instruction-row .ensures) (c .if1 .taken) (at-instructions-begin .instructions-begin .ensures .0) ∙ sym (at-loop .loop .inv .0)
 
 add-instruction : tie.Need-add-instruction Inv-loop μ-loop
 add-instruction c = omega arith
@@ -56,10 +56,10 @@ unfolding instructionWord
 loop-again c =
     let at-instruction-row = c .before in
     let at-loop = at-instruction-row .before .before in
-    (at-loop .loop .inv .0 ∙ rows-on _ _ 6 (instruction-width _) _ _ _ (omega arith) (at-instruction-row .instruction-row .ensures) (c .if1 .left), omega arith)
+    (at-loop .loop .inv .0 ∙ rows-on _ _ 7 (instruction-width _) _ _ _ (omega arith) (at-instruction-row .instruction-row .ensures) (c .if1 .left), omega arith)
 
 returns-2 : tie.Need-returns-2 Inv-loop μ-loop
-returns-2 c = sym (c .before .loop .inv .0 ∙ rows-last _ _ 6 (instruction-width _) _ _ _ (omega arith))
+returns-2 c = sym (c .before .loop .inv .0 ∙ rows-last _ _ 7 (instruction-width _) _ _ _ (omega arith))
 
 pub check-instructions-spec : {M : Type 1} → statement M
 check-instructions-spec =

@@ -16,7 +16,7 @@ record Run (file : List ℕ) (start : ℕ) (last : Bool) (value at : ℕ) : Type
   begun : start + 1 ≤ at
   near : at ≤ length file
   small : value < 2 ^ 32
-  here : (words : List ℕ) (next : ℕ → Form) → Reached file start words (field last next) → Reached file at words (digits value last next)
+  here : (root : Form) (words : List ℕ) (next : ℕ → Form) → Reached root file start words (field last next) → Reached root file at words (digits value last next)
 
 abbrev Inv-loop : tie.InvT-loop
 Inv-loop file start last value₀ end at₀ value at = Run file start last value at
@@ -30,7 +30,7 @@ number-refused-requires c κs = search needs
 returns : tie.Need-returns Inv-loop μ-loop
 returns c =
     let at-if1 = c .before in
-    number-refused (c .number-refused .ensures) (omega (arith, at-if1 .if1 .taken)) (λ words next h. first-missing _ _ words _ next h (at-if1 .if1 .taken))
+    number-refused (c .number-refused .ensures) (omega (arith, at-if1 .if1 .taken)) (λ root words next h. first-missing _ _ words _ next h (at-if1 .if1 .taken))
 
 shared-slice-read-digit-value : tie.Need-shared-slice-read-digit-value Inv-loop μ-loop
 shared-slice-read-digit-value c = omega arith
@@ -50,7 +50,7 @@ returns-2 c =
     let D = at-digit-value .digit-value in
     let full = at-if2 .if2 .taken in
     number-refused (c .number-refused2 .ensures) (at-entry .pre)
-    (λ words next h. first-other _ _ words _ next h (omega (arith, at-entry .pre, at-if1 .if1 .left)) (λ d p e. omega (arith, D .ensures .only d p e, full)))
+    (λ root words next h. first-other _ _ words _ next h (omega (arith, at-entry .pre, at-if1 .if1 .left)) (λ d p e. omega (arith, D .ensures .only d p e, full)))
 
 ending-byte-requires : tie.Need-ending-byte-requires Inv-loop μ-loop
 ending-byte-requires c κs = search needs
@@ -71,7 +71,7 @@ loop-holds c =
       begun = omega arith;
       near = omega arith;
       small = omega arith;
-      here = λ words next h. first-taken _ _ words _ next h (D .result) inside small (D .ensures .digit small);
+      here = λ root words next h. first-taken _ _ words _ next h (D .result) inside small (D .ensures .digit small);
     }
 
 shared-slice-read-byte : tie.Need-shared-slice-read-byte Inv-loop μ-loop
@@ -89,8 +89,8 @@ returns-3 c =
     record {
       within = omega (arith, at-loop-test .loop-test .taken);
       long = λ e. omega (arith, I .begun);
-      stopped = λ words next h e. absurd (false-true e);
-      reached = λ words next h e. end-taken _ _ words _ _ next (I .here words next h) (at-loop-test .loop-test .taken) (c .if3 .taken ∙ at-ending-byte .ending-byte .ensures);
+      stopped = λ root words next h e. absurd (false-true e);
+      reached = λ root words next h e. end-taken _ _ words _ _ next (I .here root words next h) (at-loop-test .loop-test .taken) (c .if3 .taken ∙ at-ending-byte .ending-byte .ensures);
     }
 
 extended-requires : tie.Need-extended-requires Inv-loop μ-loop
@@ -110,7 +110,7 @@ returns-4 c =
     let I = at-loop .loop .inv in
     let E = at-extended .extended in
     let full = at-if4 .if4 .taken in
-    number-refused (c .number-refused3 .ensures) (I .near) (λ words next h. digit-other _ _ words _ _ next (I .here words next h) (at-loop-test .loop-test .taken)
+    number-refused (c .number-refused3 .ensures) (I .near) (λ root words next h. digit-other _ _ words _ _ next (I .here root words next h) (at-loop-test .loop-test .taken)
     (λ e. at-if3 .if3 .left (e ∙ sym (at-ending-byte .ending-byte .ensures)))
     (λ d p e q r. E .ensures .none full d (record { small = p; shown = e; led = q; fits = r })))
 
@@ -136,7 +136,7 @@ loop-again c =
       begun = omega (arith, I .begun);
       near = omega (arith, at-loop-test .loop-test .taken);
       small = fits;
-      here = λ words next h. rw (M .1) (digit-taken _ _ words _ _ next (I .here words next h) (M .0) (at-loop-test .loop-test .taken) (M .2 .small) (M .2 .shown) (M .2 .led) (M .2 .fits));
+      here = λ root words next h. rw (M .1) (digit-taken _ _ words _ _ next (I .here root words next h) (M .0) (at-loop-test .loop-test .taken) (M .2 .small) (M .2 .shown) (M .2 .led) (M .2 .fits));
     }
 
 number-refused-requires-4 : tie.Need-number-refused-requires-4 Inv-loop μ-loop
@@ -148,7 +148,7 @@ returns-5 c =
     let at-loop = at-loop-test .before in
     let I = at-loop .loop .inv in
     number-refused (c .number-refused4 .ensures) (I .near)
-    (λ words next h. digit-missing _ _ words _ _ next (I .here words next h) (omega (arith, I .near, at-loop-test .loop-test .left)))
+    (λ root words next h. digit-missing _ _ words _ _ next (I .here root words next h) (omega (arith, I .near, at-loop-test .loop-test .left)))
 
 pub read-number-spec : {M : Type 1} → statement M
 read-number-spec =

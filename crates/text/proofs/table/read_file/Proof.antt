@@ -16,9 +16,10 @@ read-head-requires c κs = search needs
 
 returns : tie.Need-returns
 returns c =
-    let at-read-head = c .before .before in
-    let H = at-read-head .read-head .ensures in
-    record { near = H .near; stopped = H .stopped; reached = λ g. absurd (true-false (sym (c .if1 .taken) ∙ g)) }
+    let head : tie.After-read-head = search in
+    let start : tie.Start = search in
+    let H = head .read-head .ensures in
+    record { near = H .near; stopped = H .stopped (start .args .version); reached = λ g. absurd (true-false (sym (c .if1 .taken) ∙ g)) }
 
 slice-aggregate-put-words : tie.Need-slice-aggregate-put-words
 slice-aggregate-put-words c = search needs
@@ -37,14 +38,14 @@ same-length c = search needs
 
 returns-2 : tie.Need-returns-2
 returns-2 c =
-    let at-read-tables = c .before .before .before in
-    let at-put-words = at-read-tables .before .before .before .before .before in
-    let at-if1 = at-put-words .before .before .before in
-    let at-read-head = at-if1 .before .before in
-    let H = at-read-head .read-head .ensures in
-    let S = stored-too _ (H .reached (at-if1 .if1 .left)) (at-put-words .put-words .ensures) in
-    let T = at-read-tables .read-tables .ensures in
-    record { near = T .near; stopped = T .stopped _ finished S; reached = λ g. absurd (true-false (sym (c .if2 .taken) ∙ g)) }
+    let read : tie.After-read-tables = search in
+    let stored : tie.After-put-words = search in
+    let headed : tie.Else1 = search in
+    let head : tie.After-read-head = search in
+    let start : tie.Start = search in
+    let S = stored-too _ (head .read-head .ensures .reached (start .args .version) (headed .if1 .left)) (stored .put-words .ensures) in
+    let T = read .read-tables .ensures in
+    record { near = T .near; stopped = T .stopped _ _ finished S; reached = λ g. absurd (true-false (sym (c .if2 .taken) ∙ g)) }
 
 cursor-refused-requires : tie.Need-cursor-refused-requires
 cursor-refused-requires c κs = search needs
@@ -54,19 +55,19 @@ same-length-2 c = search needs
 
 returns-3 : tie.Need-returns-3
 returns-3 c =
-    let at-if3 = c .before in
-    let at-if2 = at-if3 .before .before in
-    let at-read-tables = at-if2 .before .before .before in
-    let at-put-words = at-read-tables .before .before .before .before .before in
-    let at-if1 = at-put-words .before .before .before in
-    let at-read-head = at-if1 .before .before in
-    let H = at-read-head .read-head .ensures in
-    let S = stored-too _ (H .reached (at-if1 .if1 .left)) (at-put-words .put-words .ensures) in
-    let T = at-read-tables .read-tables .ensures in
-    let F = T .reached _ finished S (at-if2 .if2 .left) in
+    let longer : tie.Then3 = search in
+    let tabled : tie.Else2 = search in
+    let read : tie.After-read-tables = search in
+    let stored : tie.After-put-words = search in
+    let headed : tie.Else1 = search in
+    let head : tie.After-read-head = search in
+    let start : tie.Start = search in
+    let S = stored-too _ (head .read-head .ensures .reached (start .args .version) (headed .if1 .left)) (stored .put-words .ensures) in
+    let T = read .read-tables .ensures in
+    let F = T .reached _ _ finished S (tabled .if2 .left) in
     rw (c .cursor-refused .ensures) (record {
       near = record { within = T .near .within; few = omega arith };
-      stopped = λ g. finished-more _ _ _ (F .1 .reached) (at-if3 .if3 .taken);
+      stopped = λ g. finished-more _ _ _ (F .1 .reached) (longer .if3 .taken);
       reached = λ g. absurd (true-false g);
     })
 
@@ -75,18 +76,18 @@ same-length-3 c = search needs
 
 returns-4 : tie.Need-returns-4
 returns-4 c =
-    let at-if2 = c .before .before in
-    let at-read-tables = at-if2 .before .before .before in
-    let at-put-words = at-read-tables .before .before .before .before .before in
-    let at-if1 = at-put-words .before .before .before in
-    let at-read-head = at-if1 .before .before in
-    let H = at-read-head .read-head .ensures in
-    let S = stored-too _ (H .reached (at-if1 .if1 .left)) (at-put-words .put-words .ensures) in
-    let T = at-read-tables .read-tables .ensures in
-    let F = T .reached _ finished S (at-if2 .if2 .left) in
+    let tabled : tie.Else2 = search in
+    let read : tie.After-read-tables = search in
+    let stored : tie.After-put-words = search in
+    let headed : tie.Else1 = search in
+    let head : tie.After-read-head = search in
+    let start : tie.Start = search in
+    let S = stored-too _ (head .read-head .ensures .reached (start .args .version) (headed .if1 .left)) (stored .put-words .ensures) in
+    let T = read .read-tables .ensures in
+    let F = T .reached _ _ finished S (tabled .if2 .left) in
     record {
       near = T .near;
-      stopped = λ g. absurd (true-false (sym g ∙ at-if2 .if2 .left));
+      stopped = λ g. absurd (true-false (sym g ∙ tabled .if2 .left));
       reached = λ g. (_, finished-good _ _ _ (F .1 .reached) (omega (arith, T .near .within, c .if3 .left)), F .1 .holds);
     }
 

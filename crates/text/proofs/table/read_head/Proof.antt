@@ -13,12 +13,14 @@ slice-aggregate-read-names : tie.Need-slice-aggregate-read-names
 slice-aggregate-read-names c = search needs
 
 read-names-requires : tie.Need-read-names-requires
-read-names-requires c κs = rw (c .before .cursor-at .ensures) (record { within = omega arith; few = omega arith })
+read-names-requires c κs =
+    let at-cursor-at : tie.After-cursor-at = search in
+    rw (at-cursor-at .cursor-at .ensures) (record { within = omega arith; few = omega arith })
 
 returns : tie.Need-returns
 returns c =
-    let at-read-names = c .before in
-    let at-cursor-at = at-read-names .before .before in
+    let at-read-names : tie.After-read-names = search in
+    let at-cursor-at : tie.After-cursor-at = search in
     head-names (rw (at-cursor-at .cursor-at .ensures) at (at-read-names .read-names .ensures)) _ (c .if1 .taken)
 
 read-row-requires : tie.Need-read-row-requires
@@ -29,11 +31,11 @@ same-length c = search needs
 
 returns-2 : tie.Need-returns-2
 returns-2 c =
-    let at-read-row = c .before .before in
-    let at-if1 = at-read-row .before .before in
-    let at-read-names = at-if1 .before in
-    let at-cursor-at = at-read-names .before .before in
-    let at-entry = at-cursor-at .before .before .before in
+    let at-read-row : tie.After-read-row = search in
+    let at-if1 : tie.Else1 = search in
+    let at-read-names : tie.After-read-names = search in
+    let at-cursor-at : tie.After-cursor-at = search in
+    let at-entry : tie.Start = search in
     head-row (rw (at-cursor-at .cursor-at .ensures) at (at-read-names .read-names .ensures)) (at-if1 .if1 .left) (at-read-row .read-row .kept .1 .1 .1 .0 ∙ at-entry .pre) (at-read-row .read-row .ensures)
 
 pub read-head-spec : {M : Type 1} → statement M

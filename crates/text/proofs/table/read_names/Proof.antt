@@ -15,7 +15,7 @@ use Rattle.text.proofs.table.read_names.Tie as tie
 record Run (file names : List ℕ) (start i : ℕ) : Type 0 where
   most : i ≤ length names
   near : start + i ≤ length file
-  here : (words : List ℕ) (next : Form) → Reached file start words (literal names next) → Reached file (start + i) words (literal (drop i names) next)
+  here : (root : Form) (words : List ℕ) (next : Form) → Reached root file start words (literal names next) → Reached root file (start + i) words (literal (drop i names) next)
 
 abbrev Inv-loop : tie.InvT-loop
 Inv-loop file names start count i₀ i = Run file names start i
@@ -27,7 +27,7 @@ loop-holds : tie.Need-loop-holds Inv-loop μ-loop
 loop-holds c =
     let at-entry = c .before .before in
     let a = at-entry .args in
-    record { most = omega arith; near = omega (arith, at-entry .pre .within); here = λ words next h. rw (add-zero (a .from .at)) h }
+    record { most = omega arith; near = omega (arith, at-entry .pre .within); here = λ root words next h. rw (add-zero (a .from .at)) h }
 
 add-at : tie.Need-add-at Inv-loop μ-loop
 add-at c = omega (arith, c .before .loop .inv .near)
@@ -42,7 +42,7 @@ returns c =
     let at-loop = at-loop-test .before in
     let I = at-loop .loop .inv in
     names-refused (c .cursor-refused .ensures) (I .near)
-    (λ words next h. name-missing _ _ words _ _ next (at-loop-test .loop-test .taken) (I .here words next h) (omega (arith, I .near, at-if1 .if1 .taken)))
+    (λ root words next h. name-missing _ _ words _ _ next (at-loop-test .loop-test .taken) (I .here root words next h) (omega (arith, I .near, at-if1 .if1 .taken)))
 
 shared-slice-read-if2 : tie.Need-shared-slice-read-if2 Inv-loop μ-loop
 shared-slice-read-if2 c = search needs
@@ -61,7 +61,7 @@ returns-2 c =
     let at-loop = at-loop-test .before in
     let I = at-loop .loop .inv in
     names-refused (c .cursor-refused2 .ensures) (I .near)
-    (λ words next h. name-other _ _ words _ _ next (at-loop-test .loop-test .taken) (I .here words next h) (at-if1 .if1 .left) (at-if2 .if2 .taken))
+    (λ root words next h. name-other _ _ words _ _ next (at-loop-test .loop-test .taken) (I .here root words next h) (at-if1 .if1 .left) (at-if2 .if2 .taken))
 
 add-i : tie.Need-add-i Inv-loop μ-loop
 add-i c = search needs
@@ -80,7 +80,7 @@ loop-again c =
     record {
       most = omega (arith, at-loop-test .loop-test .taken);
       near = omega (arith, at-if1 .if1 .left);
-      here = λ words next h. rw (sym (add-assoc (a .from .at) (at-loop .loop .i) 1)) (name-taken _ _ words _ _ next (at-loop-test .loop-test .taken) (I .here words next h) (at-if1 .if1 .left) (c .if2 .left));
+      here = λ root words next h. rw (sym (add-assoc (a .from .at) (at-loop .loop .i) 1)) (name-taken _ _ words _ _ next (at-loop-test .loop-test .taken) (I .here root words next h) (at-if1 .if1 .left) (c .if2 .left));
     }
 
 add-cursor-at : tie.Need-add-cursor-at Inv-loop μ-loop
@@ -96,7 +96,7 @@ returns-3 c =
     let at-entry = at-loop .before .before .before in
     let I = at-loop .loop .inv in
     names-at (c .cursor-at .ensures) (I .near) (omega (arith, at-entry .pre .few))
-    (λ words next h. rw (names-done _ (at-loop .loop .i) next (at-loop-test .loop-test .left)) at (I .here words next h))
+    (λ root words next h. rw (names-done _ (at-loop .loop .i) next (at-loop-test .loop-test .left)) at (I .here root words next h))
 
 pub read-names-spec : {M : Type 1} → statement M
 read-names-spec =

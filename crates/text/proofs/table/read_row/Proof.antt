@@ -21,7 +21,7 @@ record Run (file : List ℕ) (width : ℕ) (words₀ : List ℕ) (at₀ count₀
   long : length words ≡ length words₀
   numbers : List ℕ
   many : length numbers ≡ i
-  here : (before : List ℕ) (next : List ℕ → Form) → At file words₀ at₀ count₀ before (row width [] next) → At file words at count (before ++ numbers) (row (width - i) numbers next)
+  here : (root : Form) (before : List ℕ) (next : List ℕ → Form) → At root file words₀ at₀ count₀ before (row width [] next) → At root file words at count (before ++ numbers) (row (width - i) numbers next)
 
 abbrev Inv-loop : tie.InvT-loop
 Inv-loop file width words₀ at₀ count₀ i₀ words at count i = Run file width words₀ at₀ count₀ words at count i
@@ -39,7 +39,7 @@ loop-holds c =
       long = refl;
       numbers = [];
       many = refl;
-      here = λ before next h. rw (append-nil before, sub-zero (at-entry .args .width)) h;
+      here = λ root before next h. rw (append-nil before, sub-zero (at-entry .args .width)) h;
     }
 
 add-read-number : tie.Need-add-read-number Inv-loop μ-loop
@@ -62,7 +62,7 @@ returns c =
     let at-loop = at-loop-test .before in
     let I = at-loop .loop .inv in
     let N = at-read-number .read-number .ensures in
-    row-refused (c .cursor-refused .ensures) (N .within) (λ before next h. N .stopped _ _ (rw (row-open _ _ _ next (at-loop-test .loop-test .taken)) at (I .here before next h .reached)) (at-if1 .if1 .taken))
+    row-refused (c .cursor-refused .ensures) (N .within) (λ root before next h. N .stopped root _ _ (rw (row-open _ _ _ next (at-loop-test .loop-test .taken)) at (I .here root before next h .reached)) (at-if1 .if1 .taken))
 
 put-word-requires : tie.Need-put-word-requires Inv-loop μ-loop
 put-word-requires c κs = search needs
@@ -93,10 +93,10 @@ loop-again c =
       long = rw (at-put-word .put-word .ensures) (simp length-set (I .long));
       numbers = I .numbers ++ (n ∷ []);
       many = length-append (I .numbers) (n ∷ []) ∙ ap (λ (k : ℕ). k + 1) (I .many);
-      here = λ before next h.
-          let a = I .here before next h in
+      here = λ root before next h.
+          let a = I .here root before next h in
           rw (sym (append-assoc before (I .numbers) (n ∷ []))) (record {
-            reached = N .reached _ _ (rw (row-open _ _ _ next (at-loop-test .loop-test .taken)) at (a .reached)) (at-if1 .if1 .left);
+            reached = N .reached root _ _ (rw (row-open _ _ _ next (at-loop-test .loop-test .taken)) at (a .reached)) (at-if1 .if1 .left);
             holds = rw (at-put-word .put-word .ensures) (holds-put _ _ _ _ (a .holds));
           });
     }
@@ -112,8 +112,8 @@ returns-2 c =
     let at-loop-test = c .before in
     let at-loop = at-loop-test .before in
     let I = at-loop .loop .inv in
-    row-at (c .cursor-at .ensures) (I .near) (I .few) (λ before next h.
-    let a = I .here before next h in
+    row-at (c .cursor-at .ensures) (I .near) (I .few) (λ root before next h.
+    let a = I .here root before next h in
     record {
       numbers = I .numbers;
       long = omega (arith, I .many, I .most, at-loop-test .loop-test .left);

@@ -17,8 +17,8 @@ record Run (file : List ℕ) (width lines : ℕ) (words₀ : List ℕ) (at₀ co
   most : i ≤ lines
   near : Near file (cursorAt at count)
   long : length words ≡ length words₀
-  here : (before : List ℕ) (next : Form) → At file words₀ at₀ count₀ before (rows width lines next)
-      → (new : List ℕ) × At file words at count (before ++ new) (rows width (lines - i) next)
+  here : (root : Form) (before : List ℕ) (next : Form) → At root file words₀ at₀ count₀ before (rows width lines next)
+      → (new : List ℕ) × At root file words at count (before ++ new) (rows width (lines - i) next)
 
 abbrev Inv-loop : tie.InvT-loop
 Inv-loop file width lines words₀ at₀ count₀ i₀ words at count i = Run file width lines words₀ at₀ count₀ words at count i
@@ -33,7 +33,7 @@ loop-holds c =
       most = omega arith;
       near = record { within = at-entry .pre .within; few = at-entry .pre .few };
       long = refl;
-      here = λ before next h. ([], rw (append-nil before, sub-zero (at-entry .args .lines)) h);
+      here = λ root before next h. ([], rw (append-nil before, sub-zero (at-entry .args .lines)) h);
     }
 
 cursor-at-requires : tie.Need-cursor-at-requires Inv-loop μ-loop
@@ -61,10 +61,10 @@ returns c =
     let R = rw (at-cursor-at .cursor-at .ensures) at (at-read-row .read-row .ensures) in
     record {
       near = R .near;
-      stopped = λ before next h g.
-          let (new, a) = I .here before next h in
-          R .stopped (before ++ new) _ (rw (rows-open _ _ (at-loop .loop .i) next (at-loop-test .loop-test .taken)) at a) g;
-      reached = λ before next h g. absurd (true-false (sym (c .if1 .taken) ∙ g));
+      stopped = λ root before next h g.
+          let (new, a) = I .here root before next h in
+          R .stopped root (before ++ new) _ (rw (rows-open _ _ (at-loop .loop .i) next (at-loop-test .loop-test .taken)) at a) g;
+      reached = λ root before next h g. absurd (true-false (sym (c .if1 .taken) ∙ g));
     }
 
 add-i : tie.Need-add-i Inv-loop μ-loop
@@ -85,9 +85,9 @@ loop-again c =
       most = omega (arith, at-loop-test .loop-test .taken);
       near = record { within = R .near .within; few = R .near .few };
       long = at-read-row .read-row .kept .1 .1 .1 .0 ∙ I .long;
-      here = λ before next h.
-          let (new, a) = I .here before next h in
-          let e = R .reached (before ++ new) _ (rw (rows-open _ _ (at-loop .loop .i) next (at-loop-test .loop-test .taken)) at a) (c .if1 .left) in
+      here = λ root before next h.
+          let (new, a) = I .here root before next h in
+          let e = R .reached root (before ++ new) _ (rw (rows-open _ _ (at-loop .loop .i) next (at-loop-test .loop-test .taken)) at a) (c .if1 .left) in
           (new ++ e .numbers, rw (append-assoc before new (e .numbers)) at (e .at));
     }
 
@@ -103,7 +103,7 @@ returns-2 c =
     let at-loop = at-loop-test .before in
     let I = at-loop .loop .inv in
     part-at (c .cursor-at2 .ensures) (I .near .within) (I .near .few)
-    (λ before next h. rw (rows-done _ _ (at-loop .loop .i) next (at-loop-test .loop-test .left)) at (I .here before next h))
+    (λ root before next h. rw (rows-done _ _ (at-loop .loop .i) next (at-loop-test .loop-test .left)) at (I .here root before next h))
 
 pub read-rows-spec : {M : Type 1} → statement M
 read-rows-spec =

@@ -206,6 +206,7 @@ module _ (t : ℕ) where
       let instr : at lts.After-put-instr = search in
       let at-test : at lts.After-test = search in
       let tested : at lts.After-visit-test-block = search in
+      let head : at lts.After-block-at = search in
       let at-slice-known : at lts.After-slice-known = search in
       let start : at lts.Start = search in
       let fit = start .pre .1 .0 in

@@ -117,7 +117,7 @@ module _ (t : ℕ) where
   returns-3 : at lts.Need-returns-3
   unfolding visitTestBlock unlessNone
   returns-3 c =
-      let head = c in
+      let head : at lts.After-block-at = search in
       let read : at lts.After-branch-at = search in
       let found : at lts.Else1 = search in
       let visited : at lts.After-visit-value-block = search in
