@@ -1,12 +1,13 @@
-use Prim.Native.Nat.{ℕ}
 use native.Mathlib.Omega.{arith}
 use mathlib.Core.Path.{sym}
-use lib.ListN.{length-replicate}
 use lib.Seq.{length-take-le}
 use Rattle.treefile.proofs.FileLaws.{words-within, tree-built, refusal-built, never-short}
 use borrow.Author.Needs.{needs}
 use Rattle.treefile.proofs.build_file.Statement.{statement}
 use Rattle.treefile.proofs.build_file.Tie as tie
+
+lent-words-requires : tie.Need-lent-words-requires
+lent-words-requires c κs = search needs
 
 slice-aggregate-read : tie.Need-slice-aggregate-read
 slice-aggregate-read c = search needs
@@ -69,12 +70,14 @@ returns-2 c =
 returns-3 : tie.Need-returns-3
 returns-3 c =
     let at-read : tie.After-read = search in
-    never-short _ _ _ _ _ _ (omega (arith, length-replicate {A = ℕ} 16384 0)) (rw (c .enum-told .given .1) at (at-read .read .ensures))
+    let at-words : tie.After-lent-words = search in
+    never-short _ _ _ _ _ _ (omega (arith, at-words .lent-words .ensures)) (rw (c .enum-told .given .1) at (at-read .read .ensures))
 
 pub build-file-spec : {M : Type 1} → statement M
 build-file-spec =
     tie.close
     (tie.spec
+    lent-words-requires
     slice-aggregate-read
     read-requires
     enum-known-answer

@@ -4,13 +4,16 @@ use mathlib.Core.Path.{sym, ap, _∙_}
 use Prim.Native.Nat.{ℕ, _*_, _≤_}
 use mathlib.Core.List.{List}
 use Rattle.text.specs.declared.write.Written.the-variants.{Bytes}
-use lib.ListN.{length, length-replicate}
+use lib.ListN.{length}
 use Rattle.text.specs.Printed.{writtenOf, lentOf}
 use Rattle.treefile.specs.Prints.{lentWords}
 use lib.Seq.{length-take-le}
 use Rattle.treefile.proofs.OutcomeLaws.{built-within, refusal-lines, built-printed}
 use Rattle.treefile.proofs.build_words.Statement.{statement}
 use Rattle.treefile.proofs.build_words.Tie as tie
+
+lent-rows-requires : tie.Need-lent-rows-requires
+lent-rows-requires c κs = search needs
 
 slice-aggregate-build-reactive-function : tie.Need-slice-aggregate-build-reactive-function
 slice-aggregate-build-reactive-function c = search needs
@@ -33,11 +36,12 @@ returns c =
     let then1 : tie.Then1 = search in
     let at-tree2 : tie.After-tree2 = search in
     let at-build-reactive-function : tie.After-build-reactive-function = search in
+    let at-rows : tie.After-lent-rows = search in
     let start : tie.Start = search in
     let b = at-build-reactive-function .build-reactive-function in
     let h = b .ensures in
     let w = at-write-result .write-result .ensures in
-    let e = refusal-lines _ _ _ _ _ _ (then1 .if1 .taken) ∙ built-printed (start .args .words .now) lentWords (b .result) (b .last .1 .0) (length-replicate {A = ℕ} 12288 0) h in
+    let e = refusal-lines _ _ _ _ _ _ (then1 .if1 .taken) ∙ built-printed (start .args .words .now) lentWords (b .result) (b .last .1 .0) (sym (at-rows .lent-rows .ensures)) h in
     (w .0 ∙ ap (writtenOf _) e, (w .1 .0 ∙ ap (lentOf _) e, λ p. w .1 .1 (omega (arith, at-tree2 .tree2 .given)) p ∙ ap (λ (text : List ℕ). Bytes (length text)) e))
 
 cast-end : tie.Need-cast-end
@@ -72,18 +76,20 @@ returns-2 c =
     let else1 : tie.Else1 = search in
     let at-tree2 : tie.After-tree2 = search in
     let at-build-reactive-function : tie.After-build-reactive-function = search in
+    let at-rows : tie.After-lent-rows = search in
     let start : tie.Start = search in
     let b = at-build-reactive-function .build-reactive-function in
     let h = b .ensures in
     let fits : b .result .rows * 6 ≤ length (b .last .1 .0) = omega (arith, built-within _ _ _ _ h (else1 .if1 .left), b .kept .1 .0) in
     let w = at-write-result2 .write-result2 .ensures in
-    let e = built-printed (start .args .words .now) lentWords (b .result) (b .last .1 .0) (length-replicate {A = ℕ} 12288 0) h in
+    let e = built-printed (start .args .words .now) lentWords (b .result) (b .last .1 .0) (sym (at-rows .lent-rows .ensures)) h in
     (w .0 ∙ ap (writtenOf _) e, (w .1 .0 ∙ ap (lentOf _) e, λ p. w .1 .1 (omega (arith, length-take-le (b .result .rows * 6) (b .last .1 .0) fits, fits, at-tree2 .tree2 .given)) p ∙ ap (λ (text : List ℕ). Bytes (length text)) e))
 
 pub build-words-spec : {M : Type 1} → statement M
 build-words-spec =
     tie.close
     (tie.spec
+    lent-rows-requires
     slice-aggregate-build-reactive-function
     build-reactive-function-requires
     slice-aggregate-write-result
