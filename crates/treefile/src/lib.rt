@@ -12,6 +12,22 @@ use text::read::read;
 use text::write::Written;
 use text::write::write;
 
+// Arrays by functions that tell their length alone: a proof that has the zeros in sight counts them.
+
+// "It lends 2,048 rows."
+fn lent_rows() -> [u32; 12288]
+    ensures { λ r. ⌜ 12288 ≡ length r ⌝ }
+{
+    [0; 12288]
+}
+
+// Enough for the words of any good file.
+fn lent_words() -> [u32; 16384]
+    ensures { λ r. ⌜ 16384 ≡ length r ⌝ }
+{
+    [0; 16384]
+}
+
 // Writes a result of at most 2,048 rows: 135,245 bytes are always enough.
 fn write_result(out: &mut [u8], code: u32, at: u32, rows: u32, visits: u32, tree: &[u32]) -> Written
     ensures { λ r. ⌜ r ≡ writtenOf (length (now (out .entry))) (printed code at rows visits (now (tree .entry))) ⌝ }
@@ -27,7 +43,7 @@ fn build_words(words: &[u32], out: &mut [u8]) -> Written
     ensures { λ _. ⌜ now (out .exit) ≡ lentOf (length (now (out .entry))) (printedOutcome (built (now (words .entry)) lentWords)) ⌝ }
     ensures { λ r. ⌜ (135245 ≤ length (now (out .entry)) → r ≡ Bytes (length (printedOutcome (built (now (words .entry)) lentWords)))) ⌝ }
 {
-    let mut tree = [0u32; 12288];
+    let mut tree = lent_rows();
     let built = build_reactive_function(words, &mut tree);
     if built.code != 0 {
         return write_result(out, built.code, built.at, built.rows, built.visits, &tree);
@@ -47,7 +63,7 @@ fn build_words(words: &[u32], out: &mut [u8]) -> Written
 pub fn build_file(file: &[u8], out: &mut [u8]) -> Written
     ensures { λ r. ⌜ FileBuilt (now (file .entry)) (length (now (out .entry))) r (now (out .exit)) ⌝ }
 {
-    let mut words = [0u32; 16384];
+    let mut words = lent_words();
     let answer = read(file, &mut words);
     match answer {
         Answer::Words(count) => build_words(&words[..count], out),

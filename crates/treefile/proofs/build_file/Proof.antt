@@ -1,12 +1,13 @@
-use Prim.Native.Nat.{ℕ}
 use native.Mathlib.Omega.{arith}
 use mathlib.Core.Path.{sym}
-use lib.ListN.{length-replicate}
 use lib.Seq.{length-take-le}
 use Rattle.treefile.proofs.FileLaws.{words-within, tree-built, refusal-built, never-short}
 use borrow.Author.Needs.{needs}
 use Rattle.treefile.proofs.build_file.Statement.{statement}
 use Rattle.treefile.proofs.build_file.Tie as tie
+
+lent-words-requires : tie.Need-lent-words-requires
+lent-words-requires c κs = search needs
 
 slice-aggregate-read : tie.Need-slice-aggregate-read
 slice-aggregate-read c = search needs
@@ -18,10 +19,16 @@ enum-known-answer : tie.Need-enum-known-answer
 enum-known-answer c = search needs
 
 array-share-prefix-words : tie.Need-array-share-prefix-words
-array-share-prefix-words c = words-within _ _ _ _ (rw (c .before .answer .given .1) at (c .before .before .before .before .read .ensures))
+array-share-prefix-words c =
+    let at-answer : tie.After-answer = search in
+    let at-read : tie.After-read = search in
+    words-within _ _ _ _ (rw (at-answer .answer .given .1) at (at-read .read .ensures))
 
 slice-aggregate-build-words : tie.Need-slice-aggregate-build-words
-slice-aggregate-build-words c = sym (length-take-le _ _ (words-within _ _ _ _ (rw (c .before .before .answer .given .1) at (c .before .before .before .before .before .read .ensures))))
+slice-aggregate-build-words c =
+    let at-answer : tie.After-answer = search in
+    let at-read : tie.After-read = search in
+    sym (length-take-le _ _ (words-within _ _ _ _ (rw (at-answer .answer .given .1) at (at-read .read .ensures))))
 
 build-words-requires : tie.Need-build-words-requires
 build-words-requires c κs = search needs
@@ -43,26 +50,34 @@ same-length c = search needs
 
 returns : tie.Need-returns
 returns c =
-    let w = c .before .before .build-words .ensures in
-    tree-built _ _ _ _ _ _ _ (rw (c .before .before .before .before .before .before .answer .given .1) at
-    (c .before .before .before .before .before .before .before .before .before .read .ensures)) (w .0) (w .1 .0) (w .1 .1)
+    let at-build-words : tie.After-build-words = search in
+    let at-answer : tie.After-answer = search in
+    let at-read : tie.After-read = search in
+    let w = at-build-words .build-words .ensures in
+    tree-built _ _ _ _ _ _ _ (rw (at-answer .answer .given .1) at (at-read .read .ensures)) (w .0) (w .1 .0) (w .1 .1)
 
 same-length-2 : tie.Need-same-length-2
 same-length-2 c = search needs
 
 returns-2 : tie.Need-returns-2
 returns-2 c =
-    let w = c .before .before .write-result .ensures in
-    refusal-built _ _ _ _ _ _ _ ((rw (c .before .before .before .before .before .before .answer2 .given .1) at
-    (c .before .before .before .before .before .before .before .before .before .read .ensures)) .0) (w .0) (w .1 .0) (w .1 .1 (omega arith))
+    let at-write-result : tie.After-write-result = search in
+    let at-answer2 : tie.After-answer2 = search in
+    let at-read : tie.After-read = search in
+    let w = at-write-result .write-result .ensures in
+    refusal-built _ _ _ _ _ _ _ ((rw (at-answer2 .answer2 .given .1) at (at-read .read .ensures)) .0) (w .0) (w .1 .0) (w .1 .1 (omega arith))
 
 returns-3 : tie.Need-returns-3
-returns-3 c = never-short _ _ _ _ _ _ (omega (arith, length-replicate {A = ℕ} 16384 0)) (rw (c .enum-told .given .1) at (c .before .before .before .read .ensures))
+returns-3 c =
+    let at-read : tie.After-read = search in
+    let at-words : tie.After-lent-words = search in
+    never-short _ _ _ _ _ _ (omega (arith, at-words .lent-words .ensures)) (rw (c .enum-told .given .1) at (at-read .read .ensures))
 
 pub build-file-spec : {M : Type 1} → statement M
 build-file-spec =
     tie.close
     (tie.spec
+    lent-words-requires
     slice-aggregate-read
     read-requires
     enum-known-answer

@@ -4,13 +4,16 @@ use mathlib.Core.Path.{sym, ap, _∙_}
 use Prim.Native.Nat.{ℕ, _*_, _≤_}
 use mathlib.Core.List.{List}
 use Rattle.text.specs.declared.write.Written.the-variants.{Bytes}
-use lib.ListN.{length, length-replicate}
+use lib.ListN.{length}
 use Rattle.text.specs.Printed.{writtenOf, lentOf}
 use Rattle.treefile.specs.Prints.{lentWords}
 use lib.Seq.{length-take-le}
 use Rattle.treefile.proofs.OutcomeLaws.{built-within, refusal-lines, built-printed}
 use Rattle.treefile.proofs.build_words.Statement.{statement}
 use Rattle.treefile.proofs.build_words.Tie as tie
+
+lent-rows-requires : tie.Need-lent-rows-requires
+lent-rows-requires c κs = search needs
 
 slice-aggregate-build-reactive-function : tie.Need-slice-aggregate-build-reactive-function
 slice-aggregate-build-reactive-function c = search needs
@@ -29,18 +32,17 @@ same-length c = search needs
 
 returns : tie.Need-returns
 returns c =
-    let b = c .before .before .before .before .before .before .before .before .build-reactive-function in
+    let at-write-result : tie.After-write-result = search in
+    let then1 : tie.Then1 = search in
+    let at-tree2 : tie.After-tree2 = search in
+    let at-build-reactive-function : tie.After-build-reactive-function = search in
+    let at-rows : tie.After-lent-rows = search in
+    let start : tie.Start = search in
+    let b = at-build-reactive-function .build-reactive-function in
     let h = b .ensures in
-    let w = c .before .before .write-result .ensures in
-    let e = refusal-lines _ _ _ _ _ _ (c .before .before .before .before .before .if1 .taken) ∙ built-printed
-    (c .before .before .before .before .before .before .before .before .before .before .before .before .args .words .now) lentWords (b .result) (b .last .1 .0)
-    (length-replicate {A = ℕ} 12288 0) h in (
-      w .0 ∙ ap (writtenOf _) e,
-      (
-        w .1 .0 ∙ ap (lentOf _) e,
-        λ p. w .1 .1 (omega (arith, c .before .before .before .before .before .before .before .tree2 .given)) p ∙ ap (λ (text : List ℕ). Bytes (length text)) e,
-      ),
-    )
+    let w = at-write-result .write-result .ensures in
+    let e = refusal-lines _ _ _ _ _ _ (then1 .if1 .taken) ∙ built-printed (start .args .words .now) lentWords (b .result) (b .last .1 .0) (sym (at-rows .lent-rows .ensures)) h in
+    (w .0 ∙ ap (writtenOf _) e, (w .1 .0 ∙ ap (lentOf _) e, λ p. w .1 .1 (omega (arith, at-tree2 .tree2 .given)) p ∙ ap (λ (text : List ℕ). Bytes (length text)) e))
 
 cast-end : tie.Need-cast-end
 cast-end c = search needs
@@ -50,13 +52,17 @@ mul-end c = search needs
 
 array-share-prefix-tree : tie.Need-array-share-prefix-tree
 array-share-prefix-tree c =
-    let b = c .before .before .before .before .before .build-reactive-function in
-    omega (arith, built-within _ _ _ _ (b .ensures) (c .before .before .if1 .left), b .kept .1 .0)
+    let else1 : tie.Else1 = search in
+    let at-build-reactive-function : tie.After-build-reactive-function = search in
+    let b = at-build-reactive-function .build-reactive-function in
+    omega (arith, built-within _ _ _ _ (b .ensures) (else1 .if1 .left), b .kept .1 .0)
 
 slice-aggregate-write-result-2 : tie.Need-slice-aggregate-write-result-2
 slice-aggregate-write-result-2 c =
-    let b = c .before .before .before .before .before .before .build-reactive-function in
-    sym (length-take-le _ _ (omega (arith, built-within _ _ _ _ (b .ensures) (c .before .before .before .if1 .left), b .kept .1 .0)))
+    let else1 : tie.Else1 = search in
+    let at-build-reactive-function : tie.After-build-reactive-function = search in
+    let b = at-build-reactive-function .build-reactive-function in
+    sym (length-take-le _ _ (omega (arith, built-within _ _ _ _ (b .ensures) (else1 .if1 .left), b .kept .1 .0)))
 
 write-result-requires-2 : tie.Need-write-result-requires-2
 write-result-requires-2 c κs = search needs
@@ -66,21 +72,22 @@ same-length-2 c = search needs
 
 returns-2 : tie.Need-returns-2
 returns-2 c =
-    let b = c .before .before .before .before .before .before .before .before .before .build-reactive-function in
+    let at-write-result2 : tie.After-write-result2 = search in
+    let else1 : tie.Else1 = search in
+    let at-tree2 : tie.After-tree2 = search in
+    let at-build-reactive-function : tie.After-build-reactive-function = search in
+    let at-rows : tie.After-lent-rows = search in
+    let start : tie.Start = search in
+    let b = at-build-reactive-function .build-reactive-function in
     let h = b .ensures in
-    let fits : b .result .rows * 6 ≤ length (b .last .1 .0) = omega (arith, built-within _ _ _ _ h (c .before .before .before .before .before .before .if1 .left), b .kept .1 .0) in
-    let w = c .before .before .write-result2 .ensures in
-    let e = built-printed (c .before .before .before .before .before .before .before .before .before .before .before .before .before .args .words .now)
-    lentWords (b .result) (b .last .1 .0) (length-replicate {A = ℕ} 12288 0) h in (
+    let fits : b .result .rows * 6 ≤ length (b .last .1 .0) = omega (arith, built-within _ _ _ _ h (else1 .if1 .left), b .kept .1 .0) in
+    let w = at-write-result2 .write-result2 .ensures in
+    let e = built-printed (start .args .words .now) lentWords (b .result) (b .last .1 .0) (sym (at-rows .lent-rows .ensures)) h in (
       w .0 ∙ ap (writtenOf _) e,
       (
         w .1 .0 ∙ ap (lentOf _) e,
-        λ p. w .1 .1 (omega (
-          arith,
-          length-take-le (b .result .rows * 6) (b .last .1 .0) fits,
-          fits,
-          c .before .before .before .before .before .before .before .before .tree2 .given,
-        )) p ∙ ap (λ (text : List ℕ). Bytes (length text)) e,
+        λ p. w .1 .1 (omega (arith, length-take-le (b .result .rows * 6) (b .last .1 .0) fits, fits, at-tree2 .tree2 .given)) p ∙ ap
+            (λ (text : List ℕ). Bytes (length text)) e,
       ),
     )
 
@@ -88,6 +95,7 @@ pub build-words-spec : {M : Type 1} → statement M
 build-words-spec =
     tie.close
     (tie.spec
+    lent-rows-requires
     slice-aggregate-build-reactive-function
     build-reactive-function-requires
     slice-aggregate-write-result

@@ -17,10 +17,13 @@ same-length c = search needs
 
 returns : tie.Need-returns
 returns c =
-    let w = c .before .before .write .ensures in
-    let a = c .before .before .before .before .before .before .args in
-    let f = c .before .before .before .before .before .before .fits in
-    let narrow : Narrow (a .tree .now) = λ i. omega (arith, c .before .before .before .before .shared-slice-known .given i) in
+    let at-write : tie.After-write = search in
+    let at-shared-slice-known : tie.After-shared-slice-known = search in
+    let start : tie.Start = search in
+    let w = at-write .write .ensures in
+    let a = start .args in
+    let f = start .fits in
+    let narrow : Narrow (a .tree .now) = λ i. omega (arith, at-shared-slice-known .shared-slice-known .given i) in
     let fits : length (a .tree .now) ≤ 12288 → 135245 ≤ length (a .out .now)
     → writtenOf (length (a .out .now)) (printed (a .code) (a .at) (a .rows) (a .visits) (a .tree .now)) ≡ Bytes
     (length (printed (a .code) (a .at) (a .rows) (a .visits) (a .tree .now))) = λ p q. written-fits (length (a .out .now)) (a .code) (a .at) (a .rows)
