@@ -89,10 +89,10 @@ fn visits() {
 fn nested_labels(labels: u32) -> Vec<u32> {
     let mut words = vec![0, labels + 2, 0, 0, 1, 1];
     for label in 0..labels {
-        words.extend([0, 0, 16, label + 1, labels + 1, 0, 0, 0, 0, 0]);
+        words.extend([0, 0, 16, label + 1, labels + 1, 0, 0, 0, 0, 0, 0]);
     }
-    words.extend([0, 0, 3, 0, 0, 0, 0, 0, 0, 0]);
-    words.extend([0, 0, 1, 0, 0, 0, 0, 0, 0, 0]);
+    words.extend([0, 0, 3, 0, 0, 0, 0, 0, 0, 0, 0]);
+    words.extend([0, 0, 1, 0, 0, 0, 0, 0, 0, 0, 0]);
     words.extend([0, 1]);
     words
 }
