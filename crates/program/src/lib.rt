@@ -65,8 +65,8 @@ pub fn read_all(program: &[u8], bytes: &mut [u8]) -> Input
     input
 }
 
-// Writes all of the bytes to standard output; where that fails it says so. Whether they were written.
-pub fn write_all(program: &[u8], bytes: &[u8]) -> bool {
+// Writes all of the bytes to standard output; where that fails it says so. No definition gives whether they were written, so it has no result.
+pub fn write_all(program: &[u8], bytes: &[u8]) {
     let written = io::write_all(STDOUT_FILENO, bytes);
     if !written {
         say(
@@ -74,5 +74,4 @@ pub fn write_all(program: &[u8], bytes: &[u8]) -> bool {
             b": standard output cannot be written: what is printed is not whole\n",
         );
     }
-    written
 }
