@@ -16,46 +16,38 @@ use Rattle.definition.specs.Tree.{no-instructions, instruction, Statemen
 use Rattle.definition.specs.Tree.{RETURN, THROW, BREAK, CONTINUE, Statements, done, _▸_, Cases, no-cases, CASE, Row, row, orNone, kindNumber, valueRows}
 use Rattle.definition.specs.Tree.{instructionsRows, countInstructions, countStatements, countCases, statementRows, statementsRows, blockRows, casesRows}
 use Rattle.definition.specs.Tree.{rows, undefRow, instrRow, forOfRow, forInRow}
-use Rattle.definition.specs.Reading.{BelowNone, EmptyUnless, WellFormedStatement, WellFormed, WellFormedCases, ReadAs}
+use Rattle.definition.specs.Reading.{BelowNone, EmptyUnless, WellFormedStatement, WellFormed, WellFormedCases, Part, value, statement, block, case}
+use Rattle.definition.specs.Reading.{partRows, Forest, forestRows, WellFormedPart, WellFormedForest, ReadAsForest, ReadAs}
 use Rattle.definition.specs.Value.{appended}
 
 -- ---- the reader
 
 -- what has been read and is not yet part of anything, the latest first
-data Item : Type 0 where
-  value : Value → Item
-  statement : Statement → Item
-  block : Statements → Item
-  case : (test : ℕ) → Statements → Item
+abbrev pub Step : Type 0
+Step = Forest → Option Forest
 
-abbrev Stack : Type 0
-Stack = List Item
-
-abbrev Step : Type 0
-Step = Stack → Option Stack
-
-unfoldable takeValue : (Value → Step) → Step
+unfoldable pub takeValue : (Value → Step) → Step
 takeValue then [] = none
 takeValue then (value v ∷ S) = then v S
 takeValue then (statement s ∷ S) = none
 takeValue then (block b ∷ S) = none
 takeValue then (case n b ∷ S) = none
 
-unfoldable takeStatement : (Statement → Step) → Step
+unfoldable pub takeStatement : (Statement → Step) → Step
 takeStatement then [] = none
 takeStatement then (value v ∷ S) = none
 takeStatement then (statement s ∷ S) = then s S
 takeStatement then (block b ∷ S) = none
 takeStatement then (case n b ∷ S) = none
 
-unfoldable takeBlock : (Statements → Step) → Step
+unfoldable pub takeBlock : (Statements → Step) → Step
 takeBlock then [] = none
 takeBlock then (value v ∷ S) = none
 takeBlock then (statement s ∷ S) = none
 takeBlock then (block b ∷ S) = then b S
 takeBlock then (case n b ∷ S) = none
 
-unfoldable takeCase : (ℕ → Statements → Step) → Step
+unfoldable pub takeCase : (ℕ → Statements → Step) → Step
 takeCase then [] = none
 takeCase then (value v ∷ S) = none
 takeCase then (statement s ∷ S) = none
@@ -63,7 +55,7 @@ takeCase then (block b ∷ S) = none
 takeCase then (case n b ∷ S) = then n b S
 
 -- an INSTR as one of a SEQ's instructions
-unfoldable asInstruction : (Instructions → Step) → Instructions → Statement → Step
+unfoldable pub asInstruction : (Instructions → Step) → Instructions → Statement → Step
 asInstruction then more (INSTR i l s v) S = then (instruction i l s v more) S
 asInstruction then more (IF t i l c p a) S = none
 asInstruction then more (SWITCH t i l cs) S = none
@@ -81,36 +73,36 @@ asInstruction then more (BREAK t i k n) S = none
 asInstruction then more (CONTINUE t i k n) S = none
 
 -- so many of them, the last first, before those that are taken already
-unfoldable takeInstructions : ℕ → Instructions → (Instructions → Step) → Step
+unfoldable pub takeInstructions : ℕ → Instructions → (Instructions → Step) → Step
 takeInstructions zero more then S = then more S
 takeInstructions (suc n) more then S = takeStatement (asInstruction (λ is. takeInstructions n is then) more) S
 
-unfoldable takeStatements : ℕ → Statements → (Statements → Step) → Step
+unfoldable pub takeStatements : ℕ → Statements → (Statements → Step) → Step
 takeStatements zero more then S = then more S
 takeStatements (suc n) more then S = takeStatement (λ s. takeStatements n (s ▸ more) then) S
 
-unfoldable takeCases : ℕ → Cases → (Cases → Step) → Step
+unfoldable pub takeCases : ℕ → Cases → (Cases → Step) → Step
 takeCases zero more then S = then more S
 takeCases (suc n) more then S = takeCase (λ t b. takeCases n (CASE t b more) then) S
 
-unfoldable pushes : Item → Step
+unfoldable pub pushes : Part → Step
 pushes item S = some (item ∷ S)
 
-unfoldable kindOf : ℕ → Kind
+unfoldable pub kindOf : ℕ → Kind
 kindOf zero = implicit
 kindOf (suc zero) = labeled
 kindOf (suc (suc n)) = unlabeled
 
-unfoldable closeIf : (present : ℕ) → (test id : ℕ) → Option ℕ → Step
+unfoldable pub closeIf : (present : ℕ) → (test id : ℕ) → Option ℕ → Step
 closeIf zero test id label = takeBlock (λ c. pushes (statement (IF test id label c false done)))
 closeIf (suc n) test id label = takeBlock (λ a. takeBlock (λ c. pushes (statement (IF test id label c true a))))
 
-unfoldable closeFor : (present : ℕ) → (id : ℕ) → Option ℕ → Statements → Step
+unfoldable pub closeFor : (present : ℕ) → (id : ℕ) → Option ℕ → Statements → Step
 closeFor zero id label body = takeValue (λ t. takeValue (λ n. pushes (statement (FOR id label n t none body))))
 closeFor (suc m) id label body = takeValue (λ u. takeValue (λ t. takeValue (λ n. pushes (statement (FOR id label n t (some u) body)))))
 
 -- what each closing row does: its place in the list is its op
-unfoldable closings : (a b c d e : ℕ) → List Step
+unfoldable pub closings : (a b c d e : ℕ) → List Step
 closings a b c d e =
     (λ S. none)
     ∷ pushes (value (PLAIN a))
@@ -140,24 +132,24 @@ closings a b c d e =
     ∷ pushes (statement (CONTINUE a b (kindOf c) d))
     ∷ []
 
-unfoldable close : Row → Step
+unfoldable pub close : Row → Step
 close (row op a b c d e) = getD (closings a b c d e) op (λ S. none)
 
-unfoldable read : List Row → Step
+unfoldable pub read : List Row → Step
 read [] S = some S
 read (r ∷ rs) S = elim (close r S) [ none ↦ none | some S′ ↦ read rs S′ ]
 
 -- ---- many of a kind
 
-unfoldable pushInstructions : Instructions → Stack → Stack
+unfoldable pushInstructions : Instructions → Forest → Forest
 pushInstructions no-instructions S = S
 pushInstructions (instruction i l s v r) S = pushInstructions r (statement (INSTR i l s v) ∷ S)
 
-unfoldable pushStatements : Statements → Stack → Stack
+unfoldable pushStatements : Statements → Forest → Forest
 pushStatements done S = S
 pushStatements (s ▸ r) S = pushStatements r (statement s ∷ S)
 
-unfoldable pushCases : Cases → Stack → Stack
+unfoldable pushCases : Cases → Forest → Forest
 pushCases no-cases S = S
 pushCases (CASE t b r) S = pushCases r (case t b ∷ S)
 
@@ -187,7 +179,7 @@ appended-no-cases (CASE t b r) = ap (λ (z : Cases). CASE t b z) (appended-no-ca
 next : (n m : ℕ) → suc n + m ≡ n + suc m
 next n m = omega arith
 
-instructions-taken : (is : Instructions) (m : ℕ) (more : Instructions) (then : Instructions → Step) (S : Stack)
+instructions-taken : (is : Instructions) (m : ℕ) (more : Instructions) (then : Instructions → Step) (S : Forest)
     → takeInstructions (countInstructions is + m) more then (pushInstructions is S) ≡ takeInstructions m (appended is more) then S
 unfolding takeInstructions pushInstructions appended takeStatement asInstruction
 instructions-taken no-instructions m more then S = ap (λ (n : ℕ). takeInstructions n more then S) (zero-add m)
@@ -195,7 +187,7 @@ instructions-taken (instruction i l s v r) m more then S =
     ap (λ (n : ℕ). takeInstructions n more then (pushInstructions r (statement (INSTR i l s v) ∷ S))) (next (countInstructions r) m)
     ∙ instructions-taken r (suc m) more then (statement (INSTR i l s v) ∷ S)
 
-statements-taken : (ss : Statements) (m : ℕ) (more : Statements) (then : Statements → Step) (S : Stack)
+statements-taken : (ss : Statements) (m : ℕ) (more : Statements) (then : Statements → Step) (S : Forest)
     → takeStatements (countStatements ss + m) more then (pushStatements ss S) ≡ takeStatements m (appendedStatements ss more) then S
 unfolding takeStatements pushStatements appendedStatements takeStatement
 statements-taken done m more then S = ap (λ (n : ℕ). takeStatements n more then S) (zero-add m)
@@ -203,7 +195,7 @@ statements-taken (s ▸ r) m more then S =
     ap (λ (n : ℕ). takeStatements n more then (pushStatements r (statement s ∷ S))) (next (countStatements r) m)
     ∙ statements-taken r (suc m) more then (statement s ∷ S)
 
-cases-taken : (cs : Cases) (m : ℕ) (more : Cases) (then : Cases → Step) (S : Stack)
+cases-taken : (cs : Cases) (m : ℕ) (more : Cases) (then : Cases → Step) (S : Forest)
     → takeCases (countCases cs + m) more then (pushCases cs S) ≡ takeCases m (appendedCases cs more) then S
 unfolding takeCases pushCases appendedCases takeCase
 cases-taken no-cases m more then S = ap (λ (n : ℕ). takeCases n more then S) (zero-add m)
@@ -212,35 +204,35 @@ cases-taken (CASE t b r) m more then S =
     ∙ cases-taken r (suc m) more then (case t b ∷ S)
 
 -- all that were pushed
-all-instructions : (is : Instructions) (then : Instructions → Step) (S : Stack) → takeInstructions (countInstructions is) no-instructions then (pushInstructions is S) ≡ then is S
+all-instructions : (is : Instructions) (then : Instructions → Step) (S : Forest) → takeInstructions (countInstructions is) no-instructions then (pushInstructions is S) ≡ then is S
 unfolding takeInstructions
 all-instructions is then S =
     ap (λ (n : ℕ). takeInstructions n no-instructions then (pushInstructions is S)) (sym (add-zero (countInstructions is)))
     ∙ instructions-taken is 0 no-instructions then S ∙ ap (λ (z : Instructions). then z S) (appended-none is)
 
-all-statements : (ss : Statements) (then : Statements → Step) (S : Stack) → takeStatements (countStatements ss) done then (pushStatements ss S) ≡ then ss S
+all-statements : (ss : Statements) (then : Statements → Step) (S : Forest) → takeStatements (countStatements ss) done then (pushStatements ss S) ≡ then ss S
 unfolding takeStatements
 all-statements ss then S =
     ap (λ (n : ℕ). takeStatements n done then (pushStatements ss S)) (sym (add-zero (countStatements ss)))
     ∙ statements-taken ss 0 done then S ∙ ap (λ (z : Statements). then z S) (appended-done ss)
 
-all-cases : (cs : Cases) (then : Cases → Step) (S : Stack) → takeCases (countCases cs) no-cases then (pushCases cs S) ≡ then cs S
+all-cases : (cs : Cases) (then : Cases → Step) (S : Forest) → takeCases (countCases cs) no-cases then (pushCases cs S) ≡ then cs S
 unfolding takeCases
 all-cases cs then S =
     ap (λ (n : ℕ). takeCases n no-cases then (pushCases cs S)) (sym (add-zero (countCases cs)))
     ∙ cases-taken cs 0 no-cases then S ∙ ap (λ (z : Cases). then z S) (appended-no-cases cs)
 
 -- a row that closes
-closed : (r : Row) (after : List Row) (S S′ : Stack) → close r S ≡ some S′ → read (r ∷ after) S ≡ read after S′
+closed : (r : Row) (after : List Row) (S S′ : Forest) → close r S ≡ some S′ → read (r ∷ after) S ≡ read after S′
 unfolding read
-closed r after S S′ e = ap (λ (o : Option Stack). elim o [ none ↦ none | some Z ↦ read after Z ]) e
+closed r after S S′ e = ap (λ (o : Option Forest). elim o [ none ↦ none | some Z ↦ read after Z ]) e
 
 -- ---- values
 
 mutual
   unfolding close closings pushes takeValue pushInstructions
 
-  value-read : (v : Value) (after : List Row) (S : Stack) → read (valueRows v after) S ≡ read after (value v ∷ S)
+  value-read : (v : Value) (after : List Row) (S : Forest) → read (valueRows v after) S ≡ read after (value v ∷ S)
   value-read (PLAIN r) after S = closed (row 1 r 0 0 0 0) after S (value (PLAIN r) ∷ S) refl
   value-read (LOAD p) after S = closed (row 2 p 0 0 0 0) after S (value (LOAD p) ∷ S) refl
   value-read (UNDEF s) after S = closed (undefRow s) after S (value (UNDEF s) ∷ S) refl
@@ -261,7 +253,7 @@ mutual
   value-read (OPTIONAL f v) after S =
       value-read v (row 8 f 0 0 0 0 ∷ after) S ∙ closed (row 8 f 0 0 0 0) after (value v ∷ S) (value (OPTIONAL f v) ∷ S) refl
 
-  instructions-read : (is : Instructions) (after : List Row) (S : Stack) → read (instructionsRows is after) S ≡ read after (pushInstructions is S)
+  instructions-read : (is : Instructions) (after : List Row) (S : Forest) → read (instructionsRows is after) S ≡ read after (pushInstructions is S)
   instructions-read no-instructions after S = refl
   instructions-read (instruction i l s v r) after S =
       value-read v (instrRow i l s ∷ instructionsRows r after) S
@@ -286,13 +278,13 @@ is-done done h = refl
 is-done (s ▸ r) h = absurd h
 
 -- a closing row that gives one item, up to its label
-gives : (r : Row) (after : List Row) (S S′ : Stack) (made item : Item) → close r S ≡ some (made ∷ S′) → made ≡ item → read (r ∷ after) S ≡ read after (item ∷ S′)
-gives r after S S′ made item e q = closed r after S (item ∷ S′) (e ∙ ap (λ (z : Item). some (z ∷ S′)) q)
+gives : (r : Row) (after : List Row) (S S′ : Forest) (made item : Part) → close r S ≡ some (made ∷ S′) → made ≡ item → read (r ∷ after) S ≡ read after (item ∷ S′)
+gives r after S S′ made item e q = closed r after S (item ∷ S′) (e ∙ ap (λ (z : Part). some (z ∷ S′)) q)
 
 mutual
   unfolding close closings pushes takeValue takeBlock closeIf closeFor WellFormed pushStatements pushCases
 
-  statement-read : (s : Statement) → WellFormedStatement s → (after : List Row) (S : Stack) → read (statementRows s after) S ≡ read after (statement s ∷ S)
+  statement-read : (s : Statement) → WellFormedStatement s → (after : List Row) (S : Forest) → read (statementRows s after) S ≡ read after (statement s ∷ S)
   statement-read (INSTR i l s v) w after S =
       value-read v (instrRow i l s ∷ after) S ∙ closed (instrRow i l s) after (value v ∷ S) (statement (INSTR i l s v) ∷ S) refl
   statement-read (IF t i l c true a) w after S =
@@ -364,18 +356,18 @@ mutual
       gives (row 25 t i (kindNumber k) n 0) after S S (statement (CONTINUE t i (kindOf (kindNumber k)) n)) (statement (CONTINUE t i k n)) refl
       (ap (λ (z : Kind). statement (CONTINUE t i z n)) (kind-read k))
 
-  statements-read : (ss : Statements) → WellFormed ss → (after : List Row) (S : Stack) → read (statementsRows ss after) S ≡ read after (pushStatements ss S)
+  statements-read : (ss : Statements) → WellFormed ss → (after : List Row) (S : Forest) → read (statementsRows ss after) S ≡ read after (pushStatements ss S)
   statements-read done w after S = refl
   statements-read (s ▸ r) w after S = statement-read s (w .0) (statementsRows r after) S ∙ statements-read r (w .1) after (statement s ∷ S)
 
-  block-read : (ss : Statements) → WellFormed ss → (after : List Row) (S : Stack) → read (blockRows ss after) S ≡ read after (block ss ∷ S)
+  block-read : (ss : Statements) → WellFormed ss → (after : List Row) (S : Forest) → read (blockRows ss after) S ≡ read after (block ss ∷ S)
   block-read done w after S = closed (row 9 0 0 0 0 0) after S (block done ∷ S) (all-statements done (λ z. pushes (block z)) S)
   block-read (s ▸ r) w after S =
       statement-read s (w .0) (statementsRows r (row 9 (suc (countStatements r)) 0 0 0 0 ∷ after)) S
       ∙ statements-read r (w .1) (row 9 (suc (countStatements r)) 0 0 0 0 ∷ after) (statement s ∷ S)
       ∙ closed (row 9 (suc (countStatements r)) 0 0 0 0) after (pushStatements (s ▸ r) S) (block (s ▸ r) ∷ S) (all-statements (s ▸ r) (λ z. pushes (block z)) S)
 
-  cases-read : (cs : Cases) → WellFormedCases cs → (after : List Row) (S : Stack) → read (casesRows cs after) S ≡ read after (pushCases cs S)
+  cases-read : (cs : Cases) → WellFormedCases cs → (after : List Row) (S : Forest) → read (casesRows cs after) S ≡ read after (pushCases cs S)
   cases-read no-cases w after S = refl
   cases-read (CASE t b r) w after S =
       block-read b (w .0) (row 11 t 0 0 0 0 ∷ casesRows r after) S
@@ -383,6 +375,27 @@ mutual
       ∙ cases-read r (w .1) after (case t b ∷ S)
 
 -- ---- one reading
+
+part-read : (p : Part) → WellFormedPart p → (after : List Row) (S : Forest) → read (partRows p after) S ≡ read after (p ∷ S)
+unfolding close closings pushes takeBlock
+part-read (value v) w after S = value-read v after S
+part-read (statement s) w after S = statement-read s w after S
+part-read (block b) w after S = block-read b w after S
+part-read (case t b) w after S = block-read b w (row 11 t 0 0 0 0 ∷ after) S ∙ closed (row 11 t 0 0 0 0) after (block b ∷ S) (case t b ∷ S) refl
+
+-- the reader gives parts back from their rows
+pub forest-read : (S : Forest) → WellFormedForest S → (after : List Row) → read (forestRows S after) [] ≡ read after S
+forest-read [] w after = refl
+forest-read (p ∷ S) w after = forest-read S (w .1) (partRows p after) ∙ part-read p (w .0) after S
+
+some-forest : {S S′ : Forest} → some S ≡ some S′ → S ≡ S′
+some-forest e = cc
+
+-- one list of rows is read as one forest
+pub one-forest : (list : List Row) (S S′ : Forest) → ReadAsForest list S → ReadAsForest list S′ → S ≡ S′
+unfolding read
+one-forest list S S′ p q =
+    some-forest (sym (forest-read S (p .well-formed) []) ∙ (ap (λ (z : List Row). read z []) (p .same-rows ∙ sym (q .same-rows)) ∙ forest-read S′ (q .well-formed) []))
 
 rows-read : (root : Statements) → WellFormed root → read (rows root) [] ≡ some (block root ∷ [])
 unfolding read

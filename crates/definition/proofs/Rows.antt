@@ -19,7 +19,7 @@ use Rattle.definition.specs.Tree.{casesRows, countStatements, countInstr
 -- ---- the rows of a part and then others
 
 mutual
-  value-append : (v : Value) (k l : List Row) → valueRows v (k ++ l) ≡ valueRows v k ++ l
+  pub value-append : (v : Value) (k l : List Row) → valueRows v (k ++ l) ≡ valueRows v k ++ l
   value-append (PLAIN r) k l = refl
   value-append (LOAD p) k l = refl
   value-append (UNDEF s) k l = refl
@@ -42,7 +42,7 @@ update-append none k l = refl
 update-append (some v) k l = value-append v k l
 
 mutual
-  statement-append : (s : Statement) (k l : List Row) → statementRows s (k ++ l) ≡ statementRows s k ++ l
+  pub statement-append : (s : Statement) (k l : List Row) → statementRows s (k ++ l) ≡ statementRows s k ++ l
   statement-append (INSTR i p s v) k l = value-append v (instrRow i p s ∷ k) l
   statement-append (IF x i g c true a) k l =
       ap (blockRows c) (block-append a (row 10 x 1 i (orNone g) 0 ∷ k) l) ∙ block-append c (blockRows a (row 10 x 1 i (orNone g) 0 ∷ k)) l
@@ -77,7 +77,7 @@ mutual
   statements-append done k l = refl
   statements-append (s ▸ r) k l = ap (statementRows s) (statements-append r k l) ∙ statement-append s (statementsRows r k) l
 
-  block-append : (s : Statements) (k l : List Row) → blockRows s (k ++ l) ≡ blockRows s k ++ l
+  pub block-append : (s : Statements) (k l : List Row) → blockRows s (k ++ l) ≡ blockRows s k ++ l
   block-append done k l = refl
   block-append (s ▸ r) k l =
       ap (statementRows s) (statements-append r (row 9 (suc (countStatements r)) 0 0 0 0 ∷ k) l) ∙ statement-append s (statementsRows r (row 9 (suc (countStatements r)) 0 0 0 0 ∷ k)) l

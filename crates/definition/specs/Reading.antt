@@ -8,7 +8,8 @@ use mathlib.Core.Bool.{Bool, true, false, _||_}
 use lib.Dec.{eqb}
 use lib.ListN.{length, take}
 use Rattle.table.specs.Words.{largest}
-use Rattle.definition.specs.Tree.{Statement, INSTR, IF, SWITCH, DOWHILE, WHILE, FOR, FOROF, FORIN, LABEL, TRY, SCOPE, RETURN, THROW, BREAK, CONTINUE, Statements, done, _▸_, Cases, no-cases, CASE, Row, row, rows}
+use Rattle.definition.specs.Tree.{Value, valueRows, statementRows, blockRows, Statement, INSTR, IF, SWITCH, DOWHILE, WHILE, FOR, FOROF, FORIN, LABEL, TRY}
+use Rattle.definition.specs.Tree.{SCOPE, RETURN, THROW, BREAK, CONTINUE, Statements, done, _▸_, Cases, no-cases, CASE, Row, row, rows}
 use Rattle.definition.specs.Build.{Outcome, wordsOf}
 
 -- "Label 65,535 is none", so that no label is 65,535; and no binding
@@ -55,6 +56,43 @@ JumpWithin (row op a b c d e) = elim (eqb op 24 || eqb op 25) [ true ↦ d ≤ 1
 abbrev pub JumpsWithin : List Row → Type 0
 JumpsWithin [] = Unit {0}
 JumpsWithin (first ∷ rest) = JumpWithin first × JumpsWithin rest
+
+-- ---- parts: what a closing row takes, and what it leaves
+
+pub data Part : Type 0 where
+  value : Value → Part
+  statement : Statement → Part
+  block : Statements → Part
+  case : (test : ℕ) → Statements → Part
+
+abbrev pub partRows : Part → List Row → List Row
+partRows (value v) after = valueRows v after
+partRows (statement s) after = statementRows s after
+partRows (block b) after = blockRows b after
+partRows (case test b) after = blockRows b (row 11 test 0 0 0 0 ∷ after)
+
+abbrev pub WellFormedPart : Part → Type 0
+WellFormedPart (value v) = Unit {0}
+WellFormedPart (statement s) = WellFormedStatement s
+WellFormedPart (block b) = WellFormed b
+WellFormedPart (case test b) = WellFormed b
+
+-- parts that stand side by side, the latest first
+abbrev pub Forest : Type 0
+Forest = List Part
+
+abbrev pub forestRows : Forest → List Row → List Row
+forestRows [] after = after
+forestRows (part ∷ before) after = forestRows before (partRows part after)
+
+abbrev pub WellFormedForest : Forest → Type 0
+WellFormedForest [] = Unit {0}
+WellFormedForest (part ∷ before) = WellFormedPart part × WellFormedForest before
+
+-- rows that are read as these parts
+pub record ReadAsForest (list : List Row) (forest : Forest) : Type 0 where
+  pub well-formed : WellFormedForest forest
+  pub same-rows : forestRows forest [] ≡ list
 
 -- rows that are read as this tree
 pub record ReadAs (list : List Row) (root : Statements) : Type 0 where

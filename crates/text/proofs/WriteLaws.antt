@@ -1,21 +1,22 @@
 -- Laws of writing text into a lent buffer.
 use mathlib.Core.Path.{_≡_, refl, sym, ap, _∙_}
-use mathlib.Core.Bool.{Bool}
+use mathlib.Core.Bool.{Bool, true, false}
 use mathlib.Core.List.{List, [], _∷_, _++_, append-nil, append-assoc}
 use Prim.Native.Nat.{ℕ, zero, suc, _+_, _-_, _*_, _/_, _^_, _≤_, _<_}
 use native.Mathlib.Omega.{arith}
 use native.Mathlib.Nat.{add-zero}
 use native.Mathlib.Numerals.{add-one}
-use lib.Dec.{eqb}
-use borrow.Author.Tests.{le-leb, lt-leb}
+use lib.Dec.{eqb, leb}
+use borrow.Author.Tests.{le-leb, lt-leb, leb-true}
 use lib.ListN.{length, take, drop, getD, set, replicate, length-append, length-take, length-drop, drop-of-length-le}
 use lib.Seq.{drop-cons, drop-drop, getD-drop, take-nil}
-use Rattle.text.specs.Decimal.{decimal}
+use Rattle.text.specs.Decimal.{choose, decimal}
 use Rattle.text.specs.Line.{after, line, lines}
 use Rattle.text.specs.Form.{ending}
 use Rattle.text.specs.Lent.{Holds}
 use Rattle.text.specs.Printed.{resultNames, treeNames, rowsOf, treeLines, printed, writtenOf, lentOf, Wrote, Held, WroteSome}
 use Rattle.text.specs.File.{Words}
+use Rattle.text.specs.declared.write.Written.{Written}
 use Rattle.text.specs.declared.write.Written.the-variants.{Bytes, NoRoom}
 use Rattle.text.proofs.LentLaws.{holds-put, cleared-zeros, cleared-padded}
 use Rattle.text.proofs.DecimalLaws.{decimal-ten}
@@ -192,3 +193,16 @@ pub written-fits : (room code at rows visits : ℕ) (tree : List ℕ) → Words 
     → writtenOf room (printed code at rows visits tree) ≡ Bytes (length (printed code at rows visits tree))
 unfolding writtenOf
 written-fits room code at rows visits tree p q r = rw (le-leb (length (printed code at rows visits tree)) room (omega (arith, printed-most code at rows visits tree p q)))
+
+-- what was written lies within the lent bytes
+pub bytes-within : (room end : ℕ) (text : List ℕ) (r : Written) → r ≡ writtenOf room text → r ≡ Bytes end → end ≤ room
+unfolding writtenOf
+bytes-within room end text r e f = by-room (leb (length text) room) refl (sym e ∙ f)
+  where
+    count : Written → ℕ
+    count (Bytes n) = n
+    count NoRoom = 0
+
+    by-room : (b : Bool) → leb (length text) room ≡ b → choose b (λ _. Bytes (length text)) (λ _. NoRoom) ≡ Bytes end → end ≤ room
+    by-room true p g = omega (arith, leb-true (length text) room p, ap count g)
+    by-room false p g = omega (arith, ap count g)

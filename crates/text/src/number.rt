@@ -13,7 +13,7 @@ pub struct Number {
 }
 
 // The value of a digit; 10 for any other byte.
-fn digit_value(byte: u8) -> u32
+pub fn digit_value(byte: u8) -> u32
     ensures { λ r. ⌜ Digit byte r ⌝ }
 {
     if byte < 48 {
@@ -26,7 +26,7 @@ fn digit_value(byte: u8) -> u32
 }
 
 // The value with one more digit; 2^32 where the byte may not follow: it is no digit, it follows a zero, or the number passes 32 bits.
-fn extended(value: u32, byte: u8) -> u64
+pub fn extended(value: u32, byte: u8) -> u64
     ensures { λ r. ⌜ Extended value byte r ⌝ }
 {
     let digit = digit_value(byte);

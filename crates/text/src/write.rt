@@ -31,7 +31,7 @@ fn write_number(out: &mut [u8], start: usize, n: u32) -> usize
 }
 
 // Writes a line of numbers.
-fn write_line(out: &mut [u8], start: usize, numbers: &[u32]) -> usize
+pub fn write_line(out: &mut [u8], start: usize, numbers: &[u32]) -> usize
     requires { ⌜ start + length (now numbers) * 11 < 2 ^ 64 ⌝ }
     ensures { λ r. ⌜ Wrote (now (out .entry)) start (line (now (numbers .entry))) (now (out .exit)) r ⌝ }
 {
@@ -47,7 +47,7 @@ fn write_line(out: &mut [u8], start: usize, numbers: &[u32]) -> usize
 }
 
 // Writes a line of names.
-fn write_names(out: &mut [u8], start: usize, names: &[u8]) -> usize
+pub fn write_names(out: &mut [u8], start: usize, names: &[u8]) -> usize
     requires { ⌜ start + length (now names) < 2 ^ 64 ⌝ }
     ensures { λ r. ⌜ Wrote (now (out .entry)) start (now (names .entry)) (now (out .exit)) r ⌝ }
 {

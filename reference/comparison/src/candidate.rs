@@ -1,10 +1,10 @@
 //! The seams for the proved libraries. With the feature `candidate` the comparison and the vectors
 //! run the build, with `candidate-check` the comparison runs the check, on every table, and hold
-//! their answers against the reference or the model; with `candidate-dot` its own comparison runs the
-//! drawing.
+//! their answers against the reference or the model; with `candidate-dot` and `candidate-tree-check`
+//! their own comparisons run the drawing and the check of trees.
 //!
-//! The archives `libbuild.a`, `libtable.a` and `libdot.a` are looked for in the folder that the
-//! variable CANDIDATE_DIR names. Build and drawing are called through the safe wrappers of ffi/rust.
+//! The archives `libbuild.a`, `libtable.a`, `libdot.a` and `libtreerows.a` are looked for in the folder
+//! that the variable CANDIDATE_DIR names. All but the check are called through the safe wrappers of ffi/rust.
 
 use crate::model::Outcome;
 use crate::model::dot::Drawn;
@@ -56,4 +56,16 @@ pub const CANDIDATE_DOT: Option<CandidateDot> = Some(draw);
 fn draw(words: &[u32], text: &mut [u8]) -> Drawn {
     let reactive_build::dot::Drawn { code, at, length } = reactive_build::dot::draw(words, text);
     Drawn { code, at, length }
+}
+
+#[cfg(not(feature = "candidate-tree-check"))]
+pub const CANDIDATE_TREE_CHECK: Option<CandidateCheck> = None;
+
+#[cfg(feature = "candidate-tree-check")]
+pub const CANDIDATE_TREE_CHECK: Option<CandidateCheck> = Some(check_tree);
+
+#[cfg(feature = "candidate-tree-check")]
+fn check_tree(tree: &[u32]) -> (u32, u32) {
+    let reactive_build::tree_check::Checked { code, at } = reactive_build::tree_check::check(tree);
+    (code, at)
 }

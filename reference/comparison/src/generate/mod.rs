@@ -9,6 +9,7 @@ pub mod long;
 pub mod mutate;
 pub mod plain;
 pub mod program;
+pub mod rows;
 pub mod samples;
 pub mod shared;
 pub mod small;

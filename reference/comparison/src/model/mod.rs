@@ -8,6 +8,7 @@ pub mod dot;
 mod statements;
 pub mod table;
 pub mod text;
+pub mod tree_check;
 mod values;
 
 use table::{Span, Table};

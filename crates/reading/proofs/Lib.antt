@@ -1,0 +1,9 @@
+pub mod Upto
+pub mod Sound
+pub mod Sorts
+pub mod Answers
+pub mod Trees
+pub mod Built
+pub mod BuiltReads
+pub mod Words
+pub mod Samples

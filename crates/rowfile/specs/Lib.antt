@@ -1,0 +1,4 @@
+pub mod Scan
+pub mod Prints
+pub mod Read
+pub mod Samples

@@ -1,0 +1,40 @@
+-- The contracts of the functions below `check_file`.
+use Prim.Native.Nat.{ℕ, _+_, _≤_}
+use mathlib.Core.Path.{_≡_}
+use mathlib.Core.List.{List, [], _∷_, _++_}
+use mathlib.Core.Bool.{Bool, true, false, cond}
+use lib.ListN.{length}
+use lib.Dec.{eqb}
+use Rattle.text.specs.Lent.{Holds}
+use Rattle.reading.specs.Needs.{treeVerdict, codeOf, atOf}
+use Rattle.treerows.specs.declared.TreeChecked.{TreeChecked}
+use Rattle.rowfile.specs.declared.Rows.{Rows}
+use Rattle.rowfile.specs.declared.scan.Scan.{Scan}
+use Rattle.rowfile.specs.Scan.{stopped, words, alike, fileWords}
+
+-- how many bytes of some names the file begins with
+pub record NamesEnd (names file : List ℕ) (r : ℕ) : Type 0 where
+  pub is : r ≡ alike names file
+  pub within : r ≤ length file
+
+-- a word more, if one has ended
+pub record Kept (lent : List ℕ) (count : ℕ) (ended : Bool) (value : ℕ) (lent′ : List ℕ) (r : ℕ) : Type 0 where
+  pub holds : (items : List ℕ) → Holds lent count items → Holds lent′ r (items ++ cond ended (value ∷ []) [])
+  pub most : r ≤ count + 1
+  pub long : length lent′ ≡ length lent
+
+abbrev pub rowsRefused : (at : ℕ) → Rows
+rowsRefused at = record { refused = true; at = at; count = 0 }
+
+-- a file ends after a line
+abbrev pub scanEnd : Scan → (at count : ℕ) → Rows
+scanEnd scan at count = cond (scan .begun) (rowsRefused at) (cond (eqb (scan .column) 0) (record { refused = false; at = at; count = count }) (rowsRefused at))
+
+-- what reading a file gives: its words are in the buffer, as far as there are places for them
+pub record RowsRead (file lent : List ℕ) (r : Rows) : Type 0 where
+  pub within : r .at ≤ length file
+  pub stop : r .refused ≡ true → fileWords file ≡ stopped (r .at)
+  pub read : r .refused ≡ false → (list : List ℕ) × (fileWords file ≡ words list) × Holds lent (r .count) list
+
+abbrev pub checkedAs : List ℕ → TreeChecked → Type 0
+checkedAs list r = r ≡ record { code = codeOf (treeVerdict list); at = atOf (treeVerdict list) }

@@ -1,0 +1,158 @@
+// The program treecheck as a function: a file's bytes in, the bytes that are printed of it out.
+use crate::scan::Scan;
+use crate::scan::start_scan;
+use crate::scan::step;
+use text::lent::clear_bytes;
+use text::lent::put_word;
+use text::write::Written;
+use text::write::write_line;
+use text::write::write_names;
+use treerows::TreeChecked;
+use treerows::check_tree;
+ghost use mathlib.Core.Path.{_≡_};
+ghost use mathlib.Core.List.{List};
+ghost use Prim.Native.Nat.{ℕ, _+_, _≤_, _<_};
+ghost use lib.ListN.{length};
+ghost use Rattle.text.specs.Lent.{Holds};
+ghost use Rattle.rowfile.specs.Prints.{fileChecked, WrittenCheck};
+ghost use Rattle.rowfile.specs.Read.{NamesEnd, Kept, rowsRefused, scanEnd, RowsRead, checkedAs};
+
+mod scan;
+
+// What reading a file gives: the number of its words; or the byte that it is refused at.
+pub struct Rows {
+    pub refused: bool,
+    pub at: usize,
+    pub count: usize,
+}
+
+// How many bytes of these names the file begins with.
+fn names_end(file: &[u8], names: &[u8]) -> usize
+    ensures { λ r. ⌜ NamesEnd (now (names .entry)) (now (file .entry)) r ⌝ }
+{
+    let mut i = 0;
+    while i < names.len() {
+        if file.len() <= i {
+            return i;
+        }
+        if file[i] != names[i] {
+            return i;
+        }
+        i += 1;
+    }
+    i
+}
+
+// Stores the word that has ended, if one has and there is a place for it.
+fn keep(words: &mut [u32], count: usize, ended: bool, value: u32) -> usize
+    requires { ⌜ count < 262144 ⌝ }
+    ensures { λ r. ⌜ Kept (now (words .entry)) count ended value (now (words .exit)) r ⌝ }
+{
+    if ended {
+        put_word(words, count, value);
+        return count + 1;
+    }
+    count
+}
+
+fn rows_refused(at: usize) -> Rows
+    ensures { λ r. ⌜ r ≡ rowsRefused at ⌝ }
+{
+    Rows {
+        refused: true,
+        at,
+        count: 0,
+    }
+}
+
+// The file's end, which must be that of a line.
+fn scan_end(scan: Scan, at: usize, count: usize) -> Rows
+    ensures { λ r. ⌜ r ≡ scanEnd scan at count ⌝ }
+{
+    if scan.begun {
+        return rows_refused(at);
+    }
+    if scan.column != 0 {
+        return rows_refused(at);
+    }
+    Rows {
+        refused: false,
+        at,
+        count,
+    }
+}
+
+// Reads a file's words into the lent ones.
+fn read_rows(file: &[u8], words: &mut [u32]) -> Rows
+    requires { ⌜ length (now file) ≤ 262144 ⌝ }
+    ensures { λ r. ⌜ RowsRead (now (file .entry)) (now (words .exit)) r ⌝ }
+{
+    let start = names_end(file, b"op a b c d e\n");
+    if start != 13 {
+        return rows_refused(start);
+    }
+    let mut scan = start_scan();
+    let mut count = 0;
+    let mut at = start;
+    while at < file.len() {
+        let next = step(scan, file[at]);
+        if next.refused {
+            return rows_refused(at);
+        }
+        count = keep(words, count, next.ended, next.value);
+        scan = next;
+        at += 1;
+    }
+    scan_end(scan, at, count)
+}
+
+// The check of so many words: those past the places lent make the list too long.
+fn check_words(words: &[u32], count: usize) -> TreeChecked
+    requires { ⌜ length (now words) ≡ 12288 ⌝ }
+    ensures { λ r. ⌜ ((list : List ℕ) → Holds (now (words .entry)) count list → checkedAs list r) ⌝ }
+{
+    if count > words.len() {
+        return TreeChecked { code: 62, at: 0 };
+    }
+    check_tree(&words[..count])
+}
+
+// Code and place of a file: 51, 50, or those of its rows.
+fn check_rows(file: &[u8]) -> TreeChecked
+    ensures { λ r. ⌜ r ≡ fileChecked (now (file .entry)) ⌝ }
+{
+    if file.len() > 262144 {
+        return TreeChecked { code: 51, at: 0 };
+    }
+    let mut words = [0u32; 12288];
+    let rows = read_rows(file, &mut words);
+    if rows.refused {
+        return TreeChecked {
+            code: 50,
+            at: rows.at as u32,
+        };
+    }
+    check_words(&words, rows.count)
+}
+
+fn write_check(out: &mut [u8], code: u32, at: u32) -> Written
+    ensures { λ r. ⌜ WrittenCheck (record { code = code; at = at }) (length (now (out .entry))) r (now (out .exit)) ⌝ }
+{
+    let names = write_names(out, 0, b"code at\n");
+    let numbers = [code, at];
+    let end = write_line(out, names, &numbers);
+    if out.len() < end {
+        clear_bytes(out, 0);
+        return Written::NoRoom;
+    }
+    clear_bytes(out, end);
+    Written::Bytes(end)
+}
+
+// Reads a file of rows, checks them and writes the answer; 30 bytes are enough.
+pub fn check_file(file: &[u8], out: &mut [u8]) -> Written
+    ensures { λ r. ⌜ WrittenCheck (fileChecked (now (file .entry))) (length (now (out .entry))) r (now (out .exit)) ⌝ }
+{
+    let checked = check_rows(file);
+    write_check(out, checked.code, checked.at)
+}
