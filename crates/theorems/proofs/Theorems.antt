@@ -65,7 +65,7 @@ use Rattle.build.proofs.reactive_build.Statement as export-stated
 use Rattle.build.proofs.reactive_build.Met as export-proved
 use Rattle.build.proofs.reactive_build.Reads as export
 use Rattle.treefile.specs.Prints.{Prints, FileBuilt}
-use Rattle.treefile.proofs.OneText.{file-built-one}
+use Rattle.text.proofs.PrintsLaws.{file-printed-one}
 use Rattle.treefile.proofs.Sample.{sample-prints}
 use Rattle.treefile.proofs.build_file.Statement as file-stated
 use Rattle.treefile.proofs.build_file.Met as file-proved
@@ -261,7 +261,7 @@ build-file-prints-the-definition κs before after answer learnt = learnt
 
 -- and that fixes the answer and every lent byte
 pub a-file-has-one-answer : (file : List ℕ) (room : ℕ) (r s : Written) (l m : List ℕ) → FileBuilt file room r l → FileBuilt file room s m → (r ≡ s) × (l ≡ m)
-a-file-has-one-answer = file-built-one
+a-file-has-one-answer = file-printed-one _ _ _
 
 -- ---- the machine, which the code follows turn by turn, gives what the definition gives
 
