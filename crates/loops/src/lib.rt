@@ -17,6 +17,7 @@ use plan::refuse;
 use plan::traverse_block;
 use rows::INSTR;
 use rows::put;
+use table::columns::code_at;
 use table::columns::span_at;
 use table::terminals::do_while_at;
 use table::terminals::for_at;
@@ -33,7 +34,7 @@ ghost use mathlib.Core.Path.{_≡_};
 ghost use mathlib.Core.Option.{some};
 ghost use Prim.Native.Nat.{_-_, _≤_, _<_};
 ghost use lib.Dec.{eqb};
-ghost use Rattle.table.specs.Words.{blockCount, blockWord};
+ghost use Rattle.table.specs.Words.{blockCount, blockWord, codeAt};
 ghost use Rattle.table.specs.Table.{tableOf, terminalAt, unlessNone};
 ghost use Rattle.definition.specs.Value.{visitValueBlock};
 ghost use Rattle.control.specs.Contract.{continueScheduled};
@@ -227,7 +228,7 @@ pub fn visit_do_while<'a>(
     p: Position,
 ) -> Plan
     requires { ⌜ Entered (now words) p ⌝ }
-    requires { ⌜ blockWord (now words) (p .block) 2 ≡ 8 ⌝ }
+    requires { ⌜ codeAt (now words) (p .block) ≡ 8 ⌝ }
     ensures { λ r. ⌜ PlannedBare (now (words .entry)) (now (scheduled .entry)) (now («catch_handlers» .entry)) p r ⌝ }
 {
     let terminal = do_while_at(words, p.block);
@@ -257,11 +258,11 @@ pub fn visit_while<'a>(
     p: Position,
 ) -> Plan
     requires { ⌜ Entered (now words) p ⌝ }
-    requires { ⌜ blockWord (now words) (p .block) 2 ≡ 9 ⌝ }
+    requires { ⌜ codeAt (now words) (p .block) ≡ 9 ⌝ }
     ensures { λ r. ⌜ PlannedRows (now (words .entry)) (now (scheduled .entry)) (now («catch_handlers» .entry)) p (now (tree .entry)) r (now (tree .exit)) ⌝ }
 {
     let terminal = while_at(words, p.block);
-    if block_word(words, terminal.fallthrough, 2) == 0 {
+    if code_at(words, terminal.fallthrough) == 0 {
         return refuse(p, 10, terminal.fallthrough);
     }
     if continues_scheduled(
@@ -332,7 +333,7 @@ pub fn visit_for<'a>(
     p: Position,
 ) -> Plan
     requires { ⌜ Entered (now words) p ⌝ }
-    requires { ⌜ blockWord (now words) (p .block) 2 ≡ 10 ⌝ }
+    requires { ⌜ codeAt (now words) (p .block) ≡ 10 ⌝ }
     ensures { λ r. ⌜ PlannedRows (now (words .entry)) (now (scheduled .entry)) (now («catch_handlers» .entry)) p (now (tree .entry)) r (now (tree .exit)) ⌝ }
 {
     let terminal = for_at(words, p.block);
@@ -381,7 +382,7 @@ pub fn visit_for_of<'a>(
     p: Position,
 ) -> Plan
     requires { ⌜ Entered (now words) p ⌝ }
-    requires { ⌜ blockWord (now words) (p .block) 2 ≡ 11 ⌝ }
+    requires { ⌜ codeAt (now words) (p .block) ≡ 11 ⌝ }
     ensures { λ r. ⌜ PlannedRows (now (words .entry)) (now (scheduled .entry)) (now («catch_handlers» .entry)) p (now (tree .entry)) r (now (tree .exit)) ⌝ }
 {
     let terminal = for_of_at(words, p.block);
@@ -412,7 +413,7 @@ pub fn visit_for_in<'a>(
     p: Position,
 ) -> Plan
     requires { ⌜ Entered (now words) p ⌝ }
-    requires { ⌜ blockWord (now words) (p .block) 2 ≡ 12 ⌝ }
+    requires { ⌜ codeAt (now words) (p .block) ≡ 12 ⌝ }
     ensures { λ r. ⌜ PlannedRows (now (words .entry)) (now (scheduled .entry)) (now («catch_handlers» .entry)) p (now (tree .entry)) r (now (tree .exit)) ⌝ }
 {
     let terminal = for_in_at(words, p.block);

@@ -8,11 +8,11 @@ use crate::refuse;
 use crate::traverse_block;
 use control::ControlFlowTarget;
 use control::is_scheduled;
-use table::words::block_word;
+use table::columns::code_at;
 ghost use mathlib.Core.Path.{_≡_};
 ghost use Prim.Native.Nat.{_+_, _≤_, _<_};
 ghost use lib.Dec.{eqb};
-ghost use Rattle.table.specs.Words.{blockCount, blockWord};
+ghost use Rattle.table.specs.Words.{blockCount, codeAt};
 ghost use Rattle.table.specs.Promise.{Promise};
 ghost use mathlib.Core.Bool.{_||_};
 ghost use Rattle.definition.specs.Context.{has};
@@ -79,9 +79,9 @@ pub fn unless_unreachable<'a>(
 ) -> u32
     requires { ⌜ Promise (now words) ⌝ }
     requires { ⌜ fallthrough < blockCount (now words) ⌝ }
-    ensures { λ r. ⌜ r ≡ unlessTaken (eqb (blockWord (now (words .entry)) fallthrough 2) 1 || (has (now (scheduled .entry)) fallthrough || has (now («catch_handlers» .entry)) fallthrough)) fallthrough ⌝ }
+    ensures { λ r. ⌜ r ≡ unlessTaken (eqb (codeAt (now (words .entry)) fallthrough) 1 || (has (now (scheduled .entry)) fallthrough || has (now («catch_handlers» .entry)) fallthrough)) fallthrough ⌝ }
 {
-    let unreachable = block_word(words, fallthrough, 2) == 1;
+    let unreachable = code_at(words, fallthrough) == 1;
     let taken = scheduled_at(scheduled, catch_handlers, fallthrough);
     unless_taken(either(unreachable, taken), fallthrough)
 }

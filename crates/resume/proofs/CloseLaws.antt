@@ -7,19 +7,19 @@ use mathlib.Core.List.{List, [], _∷_, _++_, append-nil}
 use mathlib.Core.Option.{Option, none, some}
 use lib.Dec.{eqb}
 use lib.ListN.{length}
-use borrow.Author.Tests.{eqb-true, eqb-false}
-use Rattle.table.specs.Words.{blockCount, blockWord, largest}
-use Rattle.table.specs.Promise.{Promise}
+use borrow.Author.Tests.{eqb-true}
+use Rattle.table.specs.Words.{blockCount, codeAt, largest}
+use Rattle.table.specs.declared.columns.Span.{Span}
+use Rattle.table.specs.Promise.{Promise, Ends, Heads}
 use Rattle.table.specs.Table.{Table, Block, Terminal, absent, unreachable, throw, return, goto, if, branch, switch, do-while, while, for, for-of, for-in}
-use Rattle.table.specs.Table.{logical, ternary, optional, label, sequence, maybe-throw, try, scope, codeOf, tableOf, terminalOf, blockOf, terminalAt, blockAt}
+use Rattle.table.specs.Table.{logical, ternary, optional, label, sequence, maybe-throw, try, scope, codeOf, tableOf, terminalOf, terminalAt}
 use Rattle.table.specs.Table.{unlessNone}
-use Rattle.table.proofs.TableLaws.{block-at}
 use Rattle.table.proofs.BlockLaws.{no-number, end-by, code-at}
 use Rattle.definition.specs.Context as definition
 use Rattle.definition.specs.Machine.{popping, going, turn, unscheduled, complete, closeBy, close, closingRowOf, withEntries}
 use Rattle.definition.specs.Machine as machine
 use Rattle.definition.specs.Result.{ok}
-use Rattle.definition.specs.Tree.{Row, row, orNone, flagOf}
+use Rattle.definition.specs.Tree.{Row, row, orNone, flagOf, updatePresent}
 use Rattle.rows.specs.Rows.{Written}
 use Rattle.rows.specs.Stack as stack
 use Rattle.rows.proofs.RowLaws.{written-held}
@@ -29,7 +29,8 @@ use Rattle.plan.specs.declared.Frame.{Frame}
 use Rattle.plan.specs.declared.Plan.{Plan}
 use Rattle.plan.specs.Plans.{frameOf, changed, applied, leaving, poppingNext}
 use Rattle.plan.specs.Planned.{NamedChange}
-use Rattle.resume.specs.Resume.{entriesLess, closingRowAt, unscheduleIf, Closing, closeStep, PlannedClose}
+use Rattle.resume.specs.declared.ClosingRow.{ClosingRow}
+use Rattle.resume.specs.Resume.{entriesLess, rowOf, closingRowAt, unscheduleIf, Closing, closeStep, PlannedClose}
 use Rattle.plan.proofs.PlanLaws.{within-rest, visits-same, leave-applied, leave-nested, pop-applied}
 use Rattle.plan.proofs.StepLaws.{turn-ok}
 
@@ -43,41 +44,72 @@ or-none n = at (eqb n largest) refl
     at true e = sym (eqb-true n largest e)
     at false e = refl
 
-module _ (w : List ℕ) (frame : Frame) (h : frame .block < blockCount w) where
-  abbrev rowBy : (code : ℕ) → Row
-  rowBy code =
-      closingRowOf (terminalOf code (blockWord w (frame .block) 3) (blockWord w (frame .block) 4) (blockWord w (frame .block) 5) (blockWord w (frame .block) 6)
-      (blockWord w (frame .block) 7)) (blockOf w (frame .block))
-      (frame .second) (unlessNone (frame .label)) (frame .built)
+-- what the code of each terminal returns, by what its readers say
+module _ {w : List ℕ} (frame : Frame) {r : ClosingRow} {first count id : ℕ} {span : Span} (heads : Heads w (frame .block) first count id span) where
+  module _ {test alternate : ℕ} (later : alternate ≡ flagOf (frame .second)) (is : rowOf r ≡ row 10 test alternate id (frame .label) 0) where
+    pub if-closes : {c a f : ℕ} → Ends w (frame .block) (if test c a f) → rowOf r ≡ closingRowAt w frame
+    unfolding closingRowOf
+    if-closes ends = rw (ends .is, heads .is-id, or-none (frame .label)) (rw later at is)
 
-  -- the row of a block with this code
-  pub closing-by : (code : ℕ) → blockWord w (frame .block) 2 ≡ code → closingRowAt w frame ≡ rowBy code
-  closing-by code e =
-      ap (λ (z : Terminal). closingRowOf z (blockAt (tableOf w) (frame .block)) (frame .second) (unlessNone (frame .label)) (frame .built)) (end-by w (frame .block) h code e)
-      ∙ ap (λ (b : Block). closingRowOf (terminalOf code (blockWord w (frame .block) 3) (blockWord w (frame .block) 4) (blockWord w (frame .block) 5)
-      (blockWord w (frame .block) 6) (blockWord w (frame .block) 7)) b (frame .second) (unlessNone (frame .label)) (frame .built))
-      (block-at w (frame .block) h)
+    pub branch-closes : {c a : ℕ} → Ends w (frame .block) (branch test c a) → rowOf r ≡ closingRowAt w frame
+    unfolding closingRowOf
+    branch-closes ends = rw (ends .is, heads .is-id, or-none (frame .label)) (rw later at is)
 
--- an If and a Branch close alike
-pub closing-if : (w : List ℕ) (frame : Frame) → frame .block < blockCount w → 5 ≤ blockWord w (frame .block) 2 → blockWord w (frame .block) 2 < 7
-    → closingRowAt w frame ≡ row 10 (blockWord w (frame .block) 3) (flagOf (frame .second)) (blockWord w (frame .block) 8) (frame .label) 0
-unfolding terminalOf closingRowOf blockOf
-closing-if w frame h least most = at (eqb code 5) refl
-  where
-    code : ℕ
-    code = blockWord w (frame .block) 2
+  pub switch-closes : {test i m f : ℕ} → Ends w (frame .block) (switch test i m f) → rowOf r ≡ row 12 test (frame .built) id (frame .label) 0 → rowOf r ≡ closingRowAt w frame
+  unfolding closingRowOf
+  switch-closes ends is = rw (ends .is, heads .is-id, or-none (frame .label)) is
 
-    closed : ℕ → Row
-    closed n = row 10 (blockWord w (frame .block) 3) (flagOf (frame .second)) (blockWord w (frame .block) 8) n 0
+  pub for-closes : {init test present loop f : ℕ} {update : Option ℕ} → Ends w (frame .block) (for init test update loop f) → present ≡ updatePresent update
+      → rowOf r ≡ row 15 id (frame .label) present 0 0 → rowOf r ≡ closingRowAt w frame
+  unfolding closingRowOf
+  for-closes ends there is = rw (ends .is, heads .is-id, or-none (frame .label)) (rw there at is)
 
-    at : (y : Bool) → eqb code 5 ≡ y → closingRowAt w frame ≡ closed (frame .label)
-    at true e = closing-by w frame h 5 (eqb-true code 5 e) ∙ ap closed (or-none (frame .label))
-    at false e = closing-by w frame h 6 (let ne = eqb-false code 5 e in omega (arith, ne, least, most)) ∙ ap closed (or-none (frame .label))
+  pub try-closes : {x y f binding : ℕ} → Ends w (frame .block) (try x y f (unlessNone binding)) → rowOf r ≡ row 19 id (frame .label) binding 0 0 → rowOf r ≡ closingRowAt w frame
+  unfolding closingRowOf
+  try-closes {binding = binding} ends is = rw (ends .is, heads .is-id, or-none (frame .label), or-none binding) is
+
+  -- those of which no column is read
+  module _ {code : ℕ} (below : frame .block < blockCount w) (coded : code ≡ codeAt w (frame .block)) where
+    pub do-while-closes : code ≡ 8 → rowOf r ≡ row 13 id (frame .label) 0 0 0 → rowOf r ≡ closingRowAt w frame
+    unfolding terminalOf closingRowOf
+    do-while-closes e is = rw (end-by w (frame .block) below 8 (sym coded ∙ e), heads .is-id, or-none (frame .label)) is
+
+    pub while-closes : code ≡ 9 → rowOf r ≡ row 14 id (frame .label) 0 0 0 → rowOf r ≡ closingRowAt w frame
+    unfolding terminalOf closingRowOf
+    while-closes e is = rw (end-by w (frame .block) below 9 (sym coded ∙ e), heads .is-id, or-none (frame .label)) is
+
+    pub for-of-closes : code ≡ 11 → rowOf r ≡ row 16 id (frame .label) (span .from) (span .to) 0 → rowOf r ≡ closingRowAt w frame
+    unfolding terminalOf closingRowOf
+    for-of-closes e is = rw (end-by w (frame .block) below 11 (sym coded ∙ e), heads .is-id, heads .is-span, or-none (frame .label)) is
+
+    pub for-in-closes : code ≡ 12 → rowOf r ≡ row 17 id (frame .label) (span .from) (span .to) 0 → rowOf r ≡ closingRowAt w frame
+    unfolding terminalOf closingRowOf
+    for-in-closes e is = rw (end-by w (frame .block) below 12 (sym coded ∙ e), heads .is-id, heads .is-span, or-none (frame .label)) is
+
+    pub label-closes : code ≡ 16 → rowOf r ≡ row 18 id (frame .label) 0 0 0 → rowOf r ≡ closingRowAt w frame
+    unfolding terminalOf closingRowOf
+    label-closes e is = rw (end-by w (frame .block) below 16 (sym coded ∙ e), heads .is-id, or-none (frame .label)) is
+
+-- a scope's code says whether it is pruned
+module _ {w : List ℕ} (frame : Frame) {code : ℕ} (pr : Promise w) (below : frame .block < blockCount w) (coded : code ≡ codeAt w (frame .block)) where
+  coded-so : {e : Terminal} → Ends w (frame .block) e → code ≡ codeOf e
+  coded-so ends = coded ∙ sym (code-at w (frame .block) pr below) ∙ ap codeOf (ends .is)
+
+  module _ {r : ClosingRow} {x f number : ℕ} where
+    pub scope-closes : {pruned : Bool} → Ends w (frame .block) (scope pruned x f number) → code ≡ 20 → rowOf r ≡ row 20 number 0 0 0 0 → rowOf r ≡ closingRowAt w frame
+    unfolding closingRowOf
+    scope-closes {pruned = false} ends e is = rw (ends .is) is
+    scope-closes {pruned = true} ends e is = absurd (let o = coded-so ends in omega (arith, o, e))
+
+    pub pruned-closes : {pruned : Bool} → Ends w (frame .block) (scope pruned x f number) → code ≡ 21 → rowOf r ≡ row 21 number 0 0 0 0 → rowOf r ≡ closingRowAt w frame
+    unfolding closingRowOf
+    pruned-closes {pruned = true} ends e is = rw (ends .is) is
+    pruned-closes {pruned = false} ends e is = absurd (let o = coded-so ends in omega (arith, o, e))
 
 -- a statement without nested lists has no closing row
 abbrev pub Closes : ℕ → Type 0
 Closes code =
-    ((5 ≤ code → code < 7 → ⊥) × (code ≡ 7 → ⊥) × (code ≡ 8 → ⊥) × (code ≡ 9 → ⊥) × (code ≡ 10 → ⊥)) ×
+    ((code ≡ 5 → ⊥) × (code ≡ 6 → ⊥) × (code ≡ 7 → ⊥) × (code ≡ 8 → ⊥) × (code ≡ 9 → ⊥) × (code ≡ 10 → ⊥)) ×
     ((code ≡ 11 → ⊥) × (code ≡ 12 → ⊥) × (code ≡ 16 → ⊥) × (code ≡ 19 → ⊥) × (code ≡ 20 → ⊥) × (code ≡ 21 → ⊥))
 
 none-closes : (e : Terminal) (b : Block) (s : Bool) (l : Option ℕ) (n : ℕ) → Closes (codeOf e) → closingRowOf e b s l n ≡ row 0 0 0 0 0 0
@@ -87,12 +119,12 @@ none-closes unreachable b s l n h = refl
 none-closes (throw x) b s l n h = refl
 none-closes (return x) b s l n h = refl
 none-closes (goto x y) b s l n h = refl
-none-closes (if x y z u) b s l n h = absurd (h .0 .0 (omega arith) (omega arith))
-none-closes (branch x y z) b s l n h = absurd (h .0 .0 (omega arith) (omega arith))
-none-closes (switch x y z u) b s l n h = absurd (h .0 .1 refl)
-none-closes (do-while x y z) b s l n h = absurd (h .0 .2 refl)
-none-closes (while x y z) b s l n h = absurd (h .0 .3 refl)
-none-closes (for x y z u v) b s l n h = absurd (h .0 .4 refl)
+none-closes (if x y z u) b s l n h = absurd (h .0 .0 refl)
+none-closes (branch x y z) b s l n h = absurd (h .0 .1 refl)
+none-closes (switch x y z u) b s l n h = absurd (h .0 .2 refl)
+none-closes (do-while x y z) b s l n h = absurd (h .0 .3 refl)
+none-closes (while x y z) b s l n h = absurd (h .0 .4 refl)
+none-closes (for x y z u v) b s l n h = absurd (h .0 .5 refl)
 none-closes (for-of x y z u) b s l n h = absurd (h .1 .0 refl)
 none-closes (for-in x y z) b s l n h = absurd (h .1 .1 refl)
 none-closes (logical x y z) b s l n h = refl
@@ -105,7 +137,7 @@ none-closes (try x y z u) b s l n h = absurd (h .1 .3 refl)
 none-closes (scope false x y z) b s l n h = absurd (h .1 .4 refl)
 none-closes (scope true x y z) b s l n h = absurd (h .1 .5 refl)
 
-pub closing-none : (w : List ℕ) (frame : Frame) → Promise w → frame .block < blockCount w → Closes (blockWord w (frame .block) 2) → closingRowAt w frame ≡ row 0 0 0 0 0 0
+pub closing-none : (w : List ℕ) (frame : Frame) → Promise w → frame .block < blockCount w → Closes (codeAt w (frame .block)) → closingRowAt w frame ≡ row 0 0 0 0 0 0
 closing-none w frame pr h k = none-closes (terminalAt (tableOf w) (frame .block)) _ _ _ _ (subst Closes (sym (code-at w (frame .block) pr h)) k)
 
 -- ---- the plan

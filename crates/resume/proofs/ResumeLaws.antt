@@ -4,21 +4,22 @@ use native.Mathlib.Omega.{arith}
 use mathlib.Core.Path.{_≡_, refl, sym, ap, _∙_, subst}
 use mathlib.Core.Bool.{Bool, true, false, not, _||_}
 use mathlib.Core.List.{List, [], _∷_, _++_, append-nil}
+use mathlib.Core.Option.{Option}
 use lib.Dec.{eqb}
 use lib.ListN.{length}
 use borrow.Author.Tests.{eq-eqb, ne-eqb}
-use Rattle.table.specs.Words.{blockCount, caseCount, blockWord, caseWord}
+use Rattle.table.specs.Words.{blockCount, caseCount, codeAt}
+use Rattle.table.specs.Promise.{Ends, Chooses}
 use Rattle.table.specs.Table.{Table, Block, Case, Terminal, absent, unreachable, throw, return, goto, if, branch, switch, do-while, while, for, for-of, for-in}
-use Rattle.table.specs.Table.{logical, ternary, optional, label, sequence, maybe-throw, try, scope, codeOf, tableOf, terminalOf, caseOf, terminalAt, blockAt}
+use Rattle.table.specs.Table.{logical, ternary, optional, label, sequence, maybe-throw, try, scope, codeOf, tableOf, terminalAt, blockAt}
 use Rattle.table.specs.Table.{unlessNone}
-use Rattle.table.proofs.TableLaws.{case-at, length-blocks, length-cases}
-use Rattle.table.proofs.RangeLaws.{case-block}
-use Rattle.table.proofs.BlockLaws.{no-number, end-by, code-at}
+use Rattle.table.proofs.TableLaws.{length-blocks, length-cases}
+use Rattle.table.proofs.BlockLaws.{no-number, code-at}
 use Rattle.definition.specs.Build.{rejected, accepted}
 use Rattle.definition.specs.Context.{Flags, has, isScheduled, target-case, schedule, withVisits}
 use Rattle.definition.specs.Context as definition
 use Rattle.definition.specs.Machine.{State, visiting, ended, choosing, halt, turn, into, secondPart, caseBuilt, withLeft, close, noCase, caseAt}
-use Rattle.definition.specs.Machine.{chooseCase, switchColumns, resumeAt, blockRow, valueOut, step}
+use Rattle.definition.specs.Machine.{chooseCase, SwitchColumns, switchColumns, resumeAt, blockRow, valueOut, step}
 use Rattle.definition.specs.Machine as machine
 use Rattle.definition.specs.Result.{Result, ok, refused, _>>=_, refuseIf}
 use Rattle.definition.specs.Tree.{Row, row}
@@ -45,7 +46,7 @@ use Rattle.plan.specs.Turn.{inHand, FrameFits, StageFits, Ready, emitting, Plan
 use Rattle.resume.specs.Resume.{oneBuilt, leftLess, alternating, Closing, Resuming, Choosing, Begun, closeStep, resumeStep, chooseStep, PlannedClose, PlannedOn, PlannedResume, PlannedChoice}
 use Rattle.plan.proofs.PlanLaws.{within-rest, visits-same, refuse-applied, nest-applied, choose-asked, choose-applied, accept-applied}
 use Rattle.plan.proofs.StepLaws.{seen-scheduled, turn-ok, turn-refused, into-busy, into-free}
-use Rattle.plan.proofs.PlannedLaws.{planned-as, planned-after, applied-visits, few-blocks, ranges}
+use Rattle.plan.proofs.PlannedLaws.{planned-as, planned-after, applied-visits}
 
 visits-set : (v : ℕ) (C : definition.Context) → withVisits v C .visits ≡ v
 unfolding withVisits
@@ -61,9 +62,6 @@ turn-asked (refused code at visits) to = refl
 module _ (w : List ℕ) (p : Position) (frame : Frame) where
   abbrev t : Table
   t = tableOf w
-
-  abbrev col : ℕ → ℕ
-  col k = blockWord w (frame .block) k
 
   abbrev visit : VisitValueBlock
   visit = visitValueBlock (tableOf w) (128 - p .depth)
@@ -114,147 +112,121 @@ module _ (w : List ℕ) (p : Position) (frame : Frame) where
 
     -- ---- If
 
-    module _ (code : col 2 ≡ 5) where
-      if-at : terminalAt t (frame .block) ≡ if (col 3) (col 4) (col 5) (col 6)
-      unfolding terminalOf
-      if-at = end-by w (frame .block) (re .block) 5 code
-
-      pub if-alternate-below : col 5 < 1024
-      if-alternate-below = few-blocks w (re .promise) (col 5) (ranges w (re .promise) (frame .block) (re .block) _ if-at .2)
+    module _ {x c a f : ℕ} (ends : Ends w (frame .block) (if x c a f)) where
+      pub if-alternate-below : a < 1024
+      if-alternate-below = omega (arith, ends .named .2, ends .few)
 
       abbrev ifResumed : (later same : Bool) → List machine.Frame → List Row → definition.Context → Result State
       ifResumed later same F R C =
           elim later [
             | true ↦ ok (close t (frameOf frame) F R C)
-            | false ↦ elim same [ true ↦ ok (close t (frameOf frame) F R C) | false ↦ into (col 5) 13 (col 5) (secondPart (frameOf frame)) F R C ]
+            | false ↦ elim same [ true ↦ ok (close t (frameOf frame) F R C) | false ↦ into a 13 a (secondPart (frameOf frame)) F R C ]
           ]
 
-      if-step : (later same : Bool) (F : List machine.Frame) (R : List Row) (C : definition.Context) → frame .second ≡ later → eqb (col 5) (col 6) ≡ same
+      if-step : (later same : Bool) (F : List machine.Frame) (R : List Row) (C : definition.Context) → frame .second ≡ later → eqb a f ≡ same
           → resumeStep w p frame F R C ≡ ifResumed later same F R C
       unfolding resumeAt
-      if-step later same F R C s e = resume-at _ F R C if-at ∙ ap (λ (y : Bool). ifResumed (frame .second) y F R C) e ∙ ap (λ (x : Bool). ifResumed x same F R C) s
+      if-step later same F R C s e = resume-at _ F R C (ends .is) ∙ ap (λ (y : Bool). ifResumed (frame .second) y F R C) e ∙ ap (λ (x : Bool). ifResumed x same F R C) s
 
       pub if-second : frame .second ≡ true → Closed
-      if-second s F R C = if-step true (eqb (col 5) (col 6)) F R C s refl
+      if-second s F R C = if-step true (eqb a f) F R C s refl
 
-      pub if-without : frame .second ≡ false → col 5 ≡ col 6 → Closed
-      if-without s e F R C = if-step false true F R C s (eq-eqb (col 5) (col 6) e)
+      pub if-without : frame .second ≡ false → a ≡ f → Closed
+      if-without s e F R C = if-step false true F R C s (eq-eqb a f e)
 
-      pub if-alternate : frame .second ≡ false → (col 5 ≡ col 6 → ⊥) → (F : List machine.Frame) (R : List Row) (C : definition.Context)
-          → resumeStep w p frame F R C ≡ into (col 5) 13 (col 5) (secondPart (frameOf frame)) F R C
-      if-alternate s e F R C = if-step false false F R C s (ne-eqb (col 5) (col 6) e)
+      pub if-alternate : frame .second ≡ false → (a ≡ f → ⊥) → (F : List machine.Frame) (R : List Row) (C : definition.Context)
+          → resumeStep w p frame F R C ≡ into a 13 a (secondPart (frameOf frame)) F R C
+      if-alternate s e F R C = if-step false false F R C s (ne-eqb a f e)
 
     -- ---- Branch
 
-    module _ (code : col 2 ≡ 6) where
-      branch-at : terminalAt t (frame .block) ≡ branch (col 3) (col 4) (col 5)
-      unfolding terminalOf
-      branch-at = end-by w (frame .block) (re .block) 6 code
-
-      pub branch-alternate-below : col 5 < 1024
-      branch-alternate-below = few-blocks w (re .promise) (col 5) (ranges w (re .promise) (frame .block) (re .block) _ branch-at .2)
+    module _ {x c a : ℕ} (ends : Ends w (frame .block) (branch x c a)) where
+      pub branch-alternate-below : a < 1024
+      branch-alternate-below = omega (arith, ends .named .2, ends .few)
 
       pub branch-second : frame .second ≡ true → Closed
       unfolding resumeAt
-      branch-second s F R C = resume-at _ F R C branch-at ∙ rw s
+      branch-second s F R C = resume-at _ F R C (ends .is) ∙ rw s
 
       pub branch-alternate : frame .second ≡ false → (F : List machine.Frame) (R : List Row) (C : definition.Context)
-          → resumeStep w p frame F R C ≡ into (col 5) 19 (frame .block) (secondPart (frameOf frame)) F R C
+          → resumeStep w p frame F R C ≡ into a 19 (frame .block) (secondPart (frameOf frame)) F R C
       unfolding resumeAt
-      branch-alternate s F R C = resume-at _ F R C branch-at ∙ rw s
+      branch-alternate s F R C = resume-at _ F R C (ends .is) ∙ rw s
 
     -- ---- Try
 
-    module _ (code : col 2 ≡ 19) where
-      try-at : terminalAt t (frame .block) ≡ try (col 3) (col 4) (col 5) (unlessNone (col 6))
-      unfolding terminalOf
-      try-at = end-by w (frame .block) (re .block) 19 code
-
+    module _ {x y f : ℕ} {binding : Option ℕ} (ends : Ends w (frame .block) (try x y f binding)) where
       pub try-second : frame .second ≡ true → Closed
       unfolding resumeAt
-      try-second s F R C = resume-at _ F R C try-at ∙ rw s
+      try-second s F R C = resume-at _ F R C (ends .is) ∙ rw s
 
-      try-goes-on : frame .second ≡ false → (F : List machine.Frame) (R : List Row) (C : definition.Context) → resumeStep w p frame F R C ≡ ok (visiting (col 4) (secondPart (frameOf frame) ∷ F) R 0 C)
+      try-goes-on : frame .second ≡ false → (F : List machine.Frame) (R : List Row) (C : definition.Context) → resumeStep w p frame F R C ≡ ok (visiting y (secondPart (frameOf frame) ∷ F) R 0 C)
       unfolding resumeAt
-      try-goes-on s F R C = resume-at _ F R C try-at ∙ rw s
+      try-goes-on s F R C = resume-at _ F R C (ends .is) ∙ rw s
 
       pub try-handler : (plan : Plan) (buffer : List ℕ) → frame .second ≡ false
-          → plan ≡ nesting (col 4) (second frame) (p .depth) (p .rows) (p .visits) 65535 65535 Nothing → PlannedOn w p frame buffer plan buffer
-      try-handler plan buffer s q = subst (λ (y : Plan). PlannedOn w p frame buffer y buffer) (sym q) (record {
+          → plan ≡ nesting y (second frame) (p .depth) (p .rows) (p .visits) 65535 65535 Nothing → PlannedOn w p frame buffer plan buffer
+      try-handler plan buffer s q = subst (λ (q : Plan). PlannedOn w p frame buffer q buffer) (sym q) (record {
         out = [];
         held = λ _ before h. rw (append-nil before) h;
         same = λ F R C d on. rw (append-nil R) (ap turn (try-goes-on s F R C) ∙ turn-ok _
-            ∙ sym (nest-applied (col 4) (second frame) (p .depth) (p .rows) (p .visits) 65535 65535 Nothing (frameOf frame ∷ F) R C _ refl ∙ rw
+            ∙ sym (nest-applied y (second frame) (p .depth) (p .rows) (p .visits) 65535 65535 Nothing (frameOf frame ∷ F) R C _ refl ∙ rw
             (no-number, visits-same (p .visits) C on, within-rest (p .depth) (frameOf frame) F d)));
         fitting = λ _. record { change = tt; handler = rw no-number tt; scope = rw no-number tt; deep = λ _. re .depth; next = omega arith; nested = tt };
       })
 
     -- ---- Switch
 
-    module _ (code : col 2 ≡ 7) where
-      switch-at : terminalAt t (frame .block) ≡ switch (col 3) (col 4) (col 5) (col 6)
-      unfolding terminalOf
-      switch-at = end-by w (frame .block) (re .block) 7 code
+    module _ {x i m f : ℕ} (ends : Ends w (frame .block) (switch x i m f)) where
+      pub case-there : i + frame .left < caseCount w
+      case-there = rw (ends .is) at (re .case (ap isSwitch (ends .is)))
 
-      abbrev number : ℕ
-      number = col 4 + frame .left
+      module _ {test block : ℕ} (chooses : Chooses w (i + frame .left) test block) where
+        pub case-below : block < 1024
+        case-below = omega (arith, chooses .there, chooses .few)
 
-      case-is : caseAt t number ≡ caseOf w number
-      case-is = case-at w number noCase (re .case code)
+        abbrev caseRow : Row
+        caseRow = row 11 test 0 0 0 0
 
-      pub case-below : caseWord w number 1 < 1024
-      case-below = few-blocks w (re .promise) (caseWord w number 1) (case-block w (re .promise) number (re .case code))
+        case-goes-on : (F : List machine.Frame) (R : List Row) (C : definition.Context) → resumeStep w p frame F R C
+            ≡ schedule (target-case block) C >>= λ inside. ok (choosing (caseBuilt (frameOf frame)) F (R ++ (caseRow ∷ [])) inside)
+        unfolding resumeAt
+        case-goes-on F R C = resume-at _ F R C (ends .is)
+            ∙ ap (λ (k : Case). schedule (target-case (k .block)) C >>= λ inside. ok (choosing (caseBuilt (frameOf frame)) F (R ++ (row 11 (k .test) 0 0 0 0 ∷ [])) inside)) (chooses .is noCase)
 
-      abbrev caseRow : Row
-      caseRow = row 11 (caseWord w number 0) 0 0 0 0
+        abbrev casePlan : (rows target : ℕ) → Plan
+        casePlan rows target = choosingNext (oneBuilt frame) (p .depth) rows (p .visits) (Schedule (CaseTarget target))
 
-      case-goes-on : (F : List machine.Frame) (R : List Row) (C : definition.Context) → resumeStep w p frame F R C
-          ≡ schedule (target-case (caseWord w number 1)) C >>= λ inside. ok (choosing (caseBuilt (frameOf frame)) F (R ++ (caseRow ∷ [])) inside)
-      unfolding resumeAt caseOf
-      case-goes-on F R C = resume-at _ F R C switch-at
-          ∙ ap (λ (k : Case). schedule (target-case (k .block)) C >>= λ inside. ok (choosing (caseBuilt (frameOf frame)) F (R ++ (row 11 (k .test) 0 0 0 0 ∷ [])) inside)) case-is
-
-      abbrev casePlan : (rows block : ℕ) → Plan
-      casePlan rows block = choosingNext (oneBuilt frame) (p .depth) rows (p .visits) (Schedule (CaseTarget block))
-
-      pub case-built : (plan : Plan) (buffer buffer′ : List ℕ) (test block rows : ℕ) → test ≡ caseWord w number 0 → block ≡ caseWord w number 1
-          → Written buffer (p .rows) (row 11 test 0 0 0 0) buffer′ rows
-          → plan ≡ casePlan rows block → PlannedOn w p frame buffer plan buffer′
-      case-built plan buffer buffer′ test block rows e u put q = subst (λ (y : Plan). PlannedOn w p frame buffer y buffer′) (sym (q ∙ ap (casePlan rows) u)) (record {
-        out = caseRow ∷ [];
-        held = λ _ before h. rw (← e, ← (push-row-after (row 11 test 0 0 0 0) before)) (written-held put (stack.pushed before []) h);
-        same =
-            λ F R C d on. ap turn (case-goes-on F R C) ∙ turn-asked _ _ ∙ sym
-            (choose-asked (oneBuilt frame) (p .depth) rows (p .visits) (Schedule (CaseTarget (caseWord w number 1))) (frameOf frame ∷ F) (R ++ (caseRow ∷ [])) C
-            ∙ rw (visits-same (p .visits) C on, within-rest (p .depth) (frameOf frame) F d, more (frame .entries), more (frame .built)));
-        fitting = λ _. record { change = case-below; handler = rw no-number tt; scope = rw no-number tt; deep = λ _. re .depth; next = omega arith; nested = refl };
-      })
-        where
-          more : (n : ℕ) → n + 1 ≡ suc n
-          more n = omega arith
+        pub case-built : (plan : Plan) (buffer buffer′ : List ℕ) (target rows : ℕ) → target ≡ block → Written buffer (p .rows) (row 11 test 0 0 0 0) buffer′ rows
+            → plan ≡ casePlan rows target → PlannedOn w p frame buffer plan buffer′
+        case-built plan buffer buffer′ target rows u put q = subst (λ (y : Plan). PlannedOn w p frame buffer y buffer′) (sym (q ∙ ap (casePlan rows) u)) (record {
+          out = caseRow ∷ [];
+          held = λ _ before h. rw (← (push-row-after caseRow before)) (written-held put (stack.pushed before []) h);
+          same =
+              λ F R C d on. ap turn (case-goes-on F R C) ∙ turn-asked _ _ ∙ sym
+              (choose-asked (oneBuilt frame) (p .depth) rows (p .visits) (Schedule (CaseTarget block)) (frameOf frame ∷ F) (R ++ (caseRow ∷ [])) C
+              ∙ rw (visits-same (p .visits) C on, within-rest (p .depth) (frameOf frame) F d, more (frame .entries), more (frame .built)));
+          fitting = λ _. record { change = case-below; handler = rw no-number tt; scope = rw no-number tt; deep = λ _. re .depth; next = omega arith; nested = refl };
+        })
+          where
+            more : (n : ℕ) → n + 1 ≡ suc n
+            more n = omega arith
 
     -- ---- DoWhile
 
-    module _ (code : col 2 ≡ 8) where
-      do-while-at : terminalAt t (frame .block) ≡ do-while (col 3) (col 4) (col 5)
-      unfolding terminalOf
-      do-while-at = end-by w (frame .block) (re .block) 8 code
-
-      pub test-below : col 4 < blockCount w
-      test-below = ranges w (re .promise) (frame .block) (re .block) _ do-while-at .1
-
+    module _ {l x f : ℕ} (ends : Ends w (frame .block) (do-while l x f)) where
       abbrev tests : ℕ → Result ValueBlockResult
-      tests visits = visitValueBlock (tableOf w) (128 - p .depth) (col 4) (unlessNone 65535) (blockAt t (frame .block) .span) visits
+      tests visits = visitValueBlock (tableOf w) (128 - p .depth) x (unlessNone 65535) (blockAt t (frame .block) .span) visits
 
       abbrev closes : List machine.Frame → List Row → definition.Context → ValueBlockResult → Result State
       closes F R C tested = ok (close t (frameOf frame) F (R ++ valueOut (tested .value)) (withVisits (tested .visits) C))
 
       test-step : (F : List machine.Frame) (R : List Row) (C : definition.Context) → C .visits ≡ p .visits → resumeStep w p frame F R C ≡ (tests (p .visits) >>= closes F R C)
       unfolding resumeAt
-      test-step F R C on = resume-at _ F R C do-while-at ∙ rw (no-number, on)
+      test-step F R C on = resume-at _ F R C (ends .is) ∙ rw (no-number, on)
 
       module _ (start : Tally) (buffer buffer₁ : List ℕ) (r : ValueResult)
-          (m : Met w blockResult (visitValueBlock (tableOf w) (128 - p .depth) (col 4) (unlessNone 65535) (blockAt t (frame .block) .span) (p .visits)) start 0
+          (m : Met w blockResult (visitValueBlock (tableOf w) (128 - p .depth) x (unlessNone 65535) (blockAt t (frame .block) .span) (p .visits)) start 0
           buffer r buffer₁) where
         pub test-refused : (after : Position) (plan : Plan) → after .visits ≡ r .tally .visits → (r .code ≡ 0 → ⊥) → plan ≡ refusing after (r .code) (r .at) → PlannedOn w p frame buffer plan buffer₁
         test-refused after plan e nz q = subst (λ (y : Plan). PlannedOn w p frame buffer y buffer₁) (sym q) (record {
@@ -304,111 +276,96 @@ module _ (w : List ℕ) (p : Position) (frame : Frame) where
     other-closes (try x y z u) b h F R C = absurd (h .4 refl)
     other-closes (scope x y z u) b h F R C = refl
 
-    pub other-closed : Other (col 2) → Closed
+    pub other-closed : Other (codeAt w (frame .block)) → Closed
     other-closed h F R C = other-closes (terminalAt t (frame .block)) (blockAt t (frame .block)) (subst Other (sym (code-at w (frame .block) (re .promise) (re .block))) h) F R C
 
 -- ---- a Switch chooses
 
 module _ (w : List ℕ) (p : Position) (frame : Frame) (ch : Choosing w p frame) where
-  abbrev column : ℕ → ℕ
-  column k = blockWord w (frame .block) k
-
-  at-switch : terminalAt (tableOf w) (frame .block) ≡ switch (column 3) (column 4) (column 5) (column 6)
-  unfolding terminalOf
-  at-switch = end-by w (frame .block) (ch .closing .block) 7 (ch .code)
-
-  abbrev choice : ℕ → List machine.Frame → List Row → definition.Context → Result State
-  choice left F R C = chooseCase (tableOf w) (column 4) (column 6) left (frameOf frame) F R C
-
-  choose-by : (F : List machine.Frame) (R : List Row) (C : definition.Context) → chooseStep w frame F R C ≡ choice (frame .left) F R C
-  choose-by F R C = ap (λ (e : Terminal). chooseCase (tableOf w) (switchColumns e .first) (switchColumns e .fallthrough) (frame .left) (frameOf frame) F R C) at-switch
-
   -- none is left
   pub choice-closes : {S H : Flags} {buffer buffer′ : List ℕ} {plan : Plan} → frame .left ≡ 0 → PlannedClose w p frame buffer plan buffer′ → PlannedChoice w S H p frame buffer plan buffer′
   unfolding chooseCase
-  choice-closes e m = planned-as (λ F R C. choose-by F R C ∙ ap (λ (n : ℕ). choice n F R C) e) (λ C o. o .visits) m
+  choice-closes e m = planned-as (λ F R C. ap (λ (n : ℕ). chooseCase (tableOf w) (columns .first) (columns .fallthrough) n (frameOf frame) F R C) e) (λ C o. o .visits) m
+    where
+      columns : SwitchColumns
+      columns = switchColumns (terminalAt (tableOf w) (frame .block))
 
-  module _ (S H : Flags) (some-left : frame .left ≡ 0 → ⊥) where
-    abbrev last : ℕ
-    last = column 4 + (frame .left - 1)
+  module _ {x i m f : ℕ} (ends : Ends w (frame .block) (switch x i m f)) where
+    abbrev choice : ℕ → List machine.Frame → List Row → definition.Context → Result State
+    choice left F R C = chooseCase (tableOf w) i f left (frameOf frame) F R C
 
-    pub last-below : last < caseCount w
-    last-below = let nz : frame .left ≡ 0 → ⊥ = some-left in omega (arith, ch .case)
+    choose-by : (F : List machine.Frame) (R : List Row) (C : definition.Context) → chooseStep w frame F R C ≡ choice (frame .left) F R C
+    choose-by F R C = ap (λ (e : Terminal). chooseCase (tableOf w) (switchColumns e .first) (switchColumns e .fallthrough) (frame .left) (frameOf frame) F R C) (ends .is)
 
-    pub last-block-below : caseWord w last 1 < 1024
-    last-block-below = few-blocks w (ch .closing .promise) (caseWord w last 1) (case-block w (ch .closing .promise) last last-below)
+    pub last-below : (frame .left ≡ 0 → ⊥) → i + (frame .left - 1) < caseCount w
+    last-below some-left = let most : frame .left ≤ caseCount w - i = rw (ends .is) at (ch .case) in let nz : frame .left ≡ 0 → ⊥ = some-left in omega (arith, most)
 
-    abbrev chosen : (busy : Bool) → (block left : ℕ) → List machine.Frame → List Row → definition.Context → Result State
-    chosen busy block left F R C =
-        elim busy [
-          | true ↦ refuseIf (not (eqb block (column 6))) 14 (frame .block) (C .visits) >>= λ _. ok (choosing (withLeft left (frameOf frame)) F R C)
-          | false ↦ ok (visiting block (withLeft left (frameOf frame) ∷ F) R 0 C)
-        ]
+    module _ {test block : ℕ} (chooses : Chooses w (i + (frame .left - 1)) test block) (S H : Flags) (some-left : frame .left ≡ 0 → ⊥) where
+      abbrev chosen : (busy : Bool) → (to left : ℕ) → List machine.Frame → List Row → definition.Context → Result State
+      chosen busy to left F R C =
+          elim busy [
+            | true ↦ refuseIf (not (eqb to f)) 14 (frame .block) (C .visits) >>= λ _. ok (choosing (withLeft left (frameOf frame)) F R C)
+            | false ↦ ok (visiting to (withLeft left (frameOf frame) ∷ F) R 0 C)
+          ]
 
-    more : (n : ℕ) (F : List machine.Frame) (R : List Row) (C : definition.Context) → (n ≡ 0 → ⊥)
-        → choice n F R C ≡ chosen (isScheduled C (caseAt (tableOf w) (column 4 + (n - 1)) .block)) (caseAt (tableOf w) (column 4 + (n - 1)) .block) (n - 1) F R C
-    unfolding chooseCase
-    more zero F R C h = absurd (h refl)
-    more (suc n) F R C h =
-        let e : n ≡ suc n - 1 = omega arith in
-        ap (λ (k : ℕ). chosen (isScheduled C (caseAt (tableOf w) (column 4 + k) .block)) (caseAt (tableOf w) (column 4 + k) .block) k F R C) e
+      more : (n : ℕ) (F : List machine.Frame) (R : List Row) (C : definition.Context) → (n ≡ 0 → ⊥)
+          → choice n F R C ≡ chosen (isScheduled C (caseAt (tableOf w) (i + (n - 1)) .block)) (caseAt (tableOf w) (i + (n - 1)) .block) (n - 1) F R C
+      unfolding chooseCase
+      more zero F R C h = absurd (h refl)
+      more (suc n) F R C h =
+          let e : n ≡ suc n - 1 = omega arith in
+          ap (λ (k : ℕ). chosen (isScheduled C (caseAt (tableOf w) (i + k) .block)) (caseAt (tableOf w) (i + k) .block) k F R C) e
 
-    case-chosen : (busy : Bool) (F : List machine.Frame) (R : List Row) (C : definition.Context) → Seen S H (p .visits) C → has S (caseWord w last 1) || has H (caseWord w last 1) ≡ busy
-        → chooseStep w frame F R C ≡ chosen busy (caseWord w last 1) (frame .left - 1) F R C
-    unfolding caseOf
-    case-chosen busy F R C seen e = choose-by F R C ∙ more (frame .left) F R C some-left
-        ∙ ap (λ (k : Case). chosen (isScheduled C (k .block)) (k .block) (frame .left - 1) F R C) (case-at w last noCase last-below)
-        ∙ ap (λ (y : Bool). chosen y (caseWord w last 1) (frame .left - 1) F R C) (seen-scheduled S H (p .visits) C seen (caseWord w last 1) ∙ e)
+      case-chosen : (busy : Bool) (F : List machine.Frame) (R : List Row) (C : definition.Context) → Seen S H (p .visits) C → has S block || has H block ≡ busy
+          → chooseStep w frame F R C ≡ chosen busy block (frame .left - 1) F R C
+      case-chosen busy F R C seen e = choose-by F R C ∙ more (frame .left) F R C some-left
+          ∙ ap (λ (k : Case). chosen (isScheduled C (k .block)) (k .block) (frame .left - 1) F R C) (chooses .is noCase)
+          ∙ ap (λ (y : Bool). chosen y block (frame .left - 1) F R C) (seen-scheduled S H (p .visits) C seen block ∙ e)
 
-    fits : Fitting (frameOf frame ∷ []) (p .depth) (choosingNext (leftLess frame) (p .depth) (p .rows) (p .visits) Nothing)
-    fits = record { change = tt; handler = rw no-number tt; scope = rw no-number tt; deep = λ _. ch .closing .depth; next = omega arith; nested = refl }
+      fits : Fitting (frameOf frame ∷ []) (p .depth) (choosingNext (leftLess frame) (p .depth) (p .rows) (p .visits) Nothing)
+      fits = record { change = tt; handler = rw no-number tt; scope = rw no-number tt; deep = λ _. ch .closing .depth; next = omega arith; nested = refl }
 
-    pub choice-visits : (block : ℕ) (plan : Plan) (buffer : List ℕ) → block ≡ caseWord w last 1 → has S block || has H block ≡ false
-        → plan ≡ nesting block (leftLess frame) (p .depth) (p .rows) (p .visits) 65535 65535 Nothing → PlannedChoice w S H p frame buffer plan buffer
-    choice-visits block plan buffer u e q = subst (λ (y : Plan). PlannedChoice w S H p frame buffer y buffer) (sym q) (record {
-      out = [];
-      held = λ _ before h. rw (append-nil before) h;
-      same =
-          λ F R C d seen. rw (append-nil R) (ap turn
-          (case-chosen false F R C seen (ap (λ (k : ℕ). has S k || has H k) (sym u) ∙ e) ∙ ap (λ (k : ℕ). chosen false k (frame .left - 1) F R C) (sym u)) ∙
-          turn-ok _
-          ∙ sym (nest-applied block (leftLess frame) (p .depth) (p .rows) (p .visits) 65535 65535 Nothing (frameOf frame ∷ F) R C _ refl ∙ rw
-          (no-number, visits-same (p .visits) C (seen .visits), within-rest (p .depth) (frameOf frame) F d)));
-      fitting = λ _. record { change = tt; handler = rw no-number tt; scope = rw no-number tt; deep = λ _. ch .closing .depth; next = omega arith; nested = tt };
-    })
+      pub choice-visits : (plan : Plan) (buffer : List ℕ) → has S block || has H block ≡ false
+          → plan ≡ nesting block (leftLess frame) (p .depth) (p .rows) (p .visits) 65535 65535 Nothing → PlannedChoice w S H p frame buffer plan buffer
+      choice-visits plan buffer e q = subst (λ (y : Plan). PlannedChoice w S H p frame buffer y buffer) (sym q) (record {
+        out = [];
+        held = λ _ before h. rw (append-nil before) h;
+        same =
+            λ F R C d seen. rw (append-nil R) (ap turn (case-chosen false F R C seen e) ∙ turn-ok _
+            ∙ sym (nest-applied block (leftLess frame) (p .depth) (p .rows) (p .visits) 65535 65535 Nothing (frameOf frame ∷ F) R C _ refl ∙ rw
+            (no-number, visits-same (p .visits) C (seen .visits), within-rest (p .depth) (frameOf frame) F d)));
+        fitting = λ _. record { change = tt; handler = rw no-number tt; scope = rw no-number tt; deep = λ _. ch .closing .depth; next = omega arith; nested = tt };
+      })
 
-    abbrev refusal : (same : Bool) → List machine.Frame → List Row → definition.Context → Result State
-    refusal same F R C = refuseIf (not same) 14 (frame .block) (C .visits) >>= λ _. ok (choosing (withLeft (frame .left - 1) (frameOf frame)) F R C)
+      abbrev refusal : (same : Bool) → List machine.Frame → List Row → definition.Context → Result State
+      refusal same F R C = refuseIf (not same) 14 (frame .block) (C .visits) >>= λ _. ok (choosing (withLeft (frame .left - 1) (frameOf frame)) F R C)
 
-    case-busy : (block : ℕ) (same : Bool) (F : List machine.Frame) (R : List Row) (C : definition.Context) → Seen S H (p .visits) C → block ≡ caseWord w last 1
-        → has S block || has H block ≡ true → eqb block (column 6) ≡ same
-        → chooseStep w frame F R C ≡ refusal same F R C
-    case-busy block same F R C seen u e z =
-        case-chosen true F R C seen (ap (λ (k : ℕ). has S k || has H k) (sym u) ∙ e)
-        ∙ ap (λ (k : ℕ). refusal (eqb k (column 6)) F R C) (sym u) ∙ ap (λ (y : Bool). refusal y F R C) z
+      case-busy : (same : Bool) (F : List machine.Frame) (R : List Row) (C : definition.Context) → Seen S H (p .visits) C → has S block || has H block ≡ true → eqb block f ≡ same
+          → chooseStep w frame F R C ≡ refusal same F R C
+      case-busy same F R C seen e z = case-chosen true F R C seen e ∙ ap (λ (y : Bool). refusal y F R C) z
 
-    pub choice-refused : (block : ℕ) (plan : Plan) (buffer : List ℕ) → block ≡ caseWord w last 1 → has S block || has H block ≡ true → (block ≡ column 6 → ⊥)
-        → plan ≡ refusing p 14 (frame .block) → PlannedChoice w S H p frame buffer plan buffer
-    unfolding _>>=_ refuseIf
-    choice-refused block plan buffer u e z q = subst (λ (y : Plan). PlannedChoice w S H p frame buffer y buffer) (sym q) (record {
-      out = [];
-      held = λ y. absurd (let o : _≡_ {A = ℕ} 14 0 = y in omega arith);
-      same = λ F R C d seen. rw (append-nil R) (ap turn (case-busy block false F R C seen u e (ne-eqb block (column 6) z)) ∙ turn-refused 14 (frame .block) (C .visits)
-          ∙ ap (λ (v : ℕ). halt (rejected 14 (frame .block) v)) (seen .visits) ∙ sym (refuse-applied p 14 (frame .block) (frameOf frame ∷ F) R C (λ y. omega arith)));
-      fitting = λ y. absurd (let o : _≡_ {A = ℕ} 14 0 = y in omega arith);
-    })
+      pub choice-refused : (plan : Plan) (buffer : List ℕ) → has S block || has H block ≡ true → (block ≡ f → ⊥) → plan ≡ refusing p 14 (frame .block)
+          → PlannedChoice w S H p frame buffer plan buffer
+      unfolding _>>=_ refuseIf
+      choice-refused plan buffer e z q = subst (λ (y : Plan). PlannedChoice w S H p frame buffer y buffer) (sym q) (record {
+        out = [];
+        held = λ y. absurd (let o : _≡_ {A = ℕ} 14 0 = y in omega arith);
+        same = λ F R C d seen. rw (append-nil R) (ap turn (case-busy false F R C seen e (ne-eqb block f z)) ∙ turn-refused 14 (frame .block) (C .visits)
+            ∙ ap (λ (v : ℕ). halt (rejected 14 (frame .block) v)) (seen .visits) ∙ sym (refuse-applied p 14 (frame .block) (frameOf frame ∷ F) R C (λ y. omega arith)));
+        fitting = λ y. absurd (let o : _≡_ {A = ℕ} 14 0 = y in omega arith);
+      })
 
-    pub choice-skips : (block : ℕ) (plan : Plan) (buffer : List ℕ) → block ≡ caseWord w last 1 → has S block || has H block ≡ true → block ≡ column 6
-        → plan ≡ choosingNext (leftLess frame) (p .depth) (p .rows) (p .visits) Nothing → PlannedChoice w S H p frame buffer plan buffer
-    unfolding _>>=_ refuseIf
-    choice-skips block plan buffer u e z q = subst (λ (y : Plan). PlannedChoice w S H p frame buffer y buffer) (sym q) (record {
-      out = [];
-      held = λ _ before h. rw (append-nil before) h;
-      same = λ F R C d seen. rw (append-nil R) (ap turn (case-busy block true F R C seen u e (eq-eqb block (column 6) z)) ∙ turn-ok _
-          ∙ sym (choose-applied (leftLess frame) (p .depth) (p .rows) (p .visits) Nothing (frameOf frame ∷ F) R C _ refl ∙ rw
-          (visits-same (p .visits) C (seen .visits), within-rest (p .depth) (frameOf frame) F d)));
-      fitting = λ _. fits;
-    })
+      pub choice-skips : (plan : Plan) (buffer : List ℕ) → has S block || has H block ≡ true → block ≡ f → plan ≡ choosingNext (leftLess frame) (p .depth) (p .rows) (p .visits) Nothing
+          → PlannedChoice w S H p frame buffer plan buffer
+      unfolding _>>=_ refuseIf
+      choice-skips plan buffer e z q = subst (λ (y : Plan). PlannedChoice w S H p frame buffer y buffer) (sym q) (record {
+        out = [];
+        held = λ _ before h. rw (append-nil before) h;
+        same = λ F R C d seen. rw (append-nil R) (ap turn (case-busy true F R C seen e (eq-eqb block f z)) ∙ turn-ok _
+            ∙ sym (choose-applied (leftLess frame) (p .depth) (p .rows) (p .visits) Nothing (frameOf frame ∷ F) R C _ refl ∙ rw
+            (visits-same (p .visits) C (seen .visits), within-rest (p .depth) (frameOf frame) F d)));
+        fitting = λ _. fits;
+      })
 
 -- ---- whole turns
 
@@ -460,7 +417,6 @@ module _ (w : List ℕ) (p : Position) (frame : Frame) where
   ended-fits ready e = let here : StageFits w Ended p frame = subst (λ (s : Stage). StageFits w s p frame) e (ready .stage) in here .1
 
   pub resuming : (after : Position) → Ready w p frame → p .stage ≡ Ended → 1 ≤ p .depth → after .depth ≡ p .depth → after .visits ≡ p .visits → after .rows ≡ p .rows + 1 → Resuming w after frame
-  unfolding terminalOf
   resuming after ready e deep d v r =
       let fits : FrameFits w 0 (p .rows) frame = ended-fits ready e deep in
       let below : frame .block < blockCount w = rw (length-blocks w) at (fits .framed .block) in
@@ -474,7 +430,7 @@ module _ (w : List ℕ) (p : Position) (frame : Frame) where
         count = omega (arith, r, fits .count);
         entries = omega (arith, fits .framed .entries, fits .built);
         built = fits .built;
-        case = λ code. let at = end-by w (frame .block) below 7 code in omega (arith, length-cases w, rw at at (fits .framed .case (ap isSwitch at)));
+        case = λ is-switch. omega (arith, length-cases w, fits .framed .case is-switch);
       }
 
   -- the root
@@ -544,16 +500,14 @@ module _ (w : List ℕ) (p : Position) (frame : Frame) where
   switch-code (scope x y z u) h = cc
 
   pub choosing-fits : Ready w p frame → p .stage ≡ Choose → Choosing w p frame
-  unfolding terminalOf
   choosing-fits ready e =
       let here : StageFits w Choose p frame = subst (λ (s : Stage). StageFits w s p frame) e (ready .stage) in
       let below : frame .block < blockCount w = rw (length-blocks w) at (here .2 .framed .block) in
-      let code : blockWord w (frame .block) 2 ≡ 7 = sym (code-at w (frame .block) (ready .promise) below) ∙ switch-code (terminalAt (tableOf w) (frame .block)) (here .1) in
-      let at = end-by w (frame .block) below 7 code in
+      let code : codeAt w (frame .block) ≡ 7 = sym (code-at w (frame .block) (ready .promise) below) ∙ switch-code (terminalAt (tableOf w) (frame .block)) (here .1) in
       record {
         code = code;
         closing = record { promise = ready .promise; block = below; depth = here .0; rows = omega (arith, ready .rows); count = here .2 .count };
-        case = omega (arith, length-cases w, rw at at (here .2 .framed .case (here .1)));
+        case = omega (arith, length-cases w, here .2 .framed .case (here .1));
       }
 
   pub chosen-turn : {S H : Flags} {buffer buffer′ : List ℕ} {plan : Plan} → Ready w p frame → p .stage ≡ Choose

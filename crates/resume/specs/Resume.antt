@@ -3,7 +3,7 @@ use Prim.Native.Nat.{ℕ, _+_, _-_, _≤_, _<_}
 use mathlib.Core.Path.{_≡_}
 use mathlib.Core.Bool.{Bool, true, false}
 use mathlib.Core.List.{List, [], _∷_}
-use Rattle.table.specs.Words.{blockCount, caseCount, blockWord}
+use Rattle.table.specs.Words.{blockCount, caseCount, codeAt}
 use Rattle.table.specs.Promise.{Promise}
 use Rattle.table.specs.Table.{tableOf, terminalAt, blockAt, unlessNone}
 use Rattle.definition.specs.Context.{Flags}
@@ -13,6 +13,7 @@ use Rattle.definition.specs.Machine as machine
 use Rattle.definition.specs.Result.{Result, ok}
 use Rattle.definition.specs.Tree.{Row, row}
 use Rattle.definition.specs.Value.{visitValueBlock}
+use Rattle.definition.specs.Framed.{isSwitch}
 use Rattle.plan.specs.declared.Position.{Position}
 use Rattle.plan.specs.declared.Frame.{Frame}
 use Rattle.plan.specs.declared.Change.{Change}
@@ -71,13 +72,13 @@ pub record Resuming (words : List ℕ) (p : Position) (frame : Frame) : Type 0 w
   pub count : frame .count ≤ p .rows
   pub entries : frame .entries ≤ 1025
   pub built : frame .built ≤ 1024
-  pub case : blockWord words (frame .block) 2 ≡ 7 → blockWord words (frame .block) 4 + frame .left < caseCount words
+  pub case : isSwitch (terminalAt (tableOf words) (frame .block)) ≡ true → switchColumns (terminalAt (tableOf words) (frame .block)) .first + frame .left < caseCount words
 
 -- what a Switch's choice asks
 pub record Choosing (words : List ℕ) (p : Position) (frame : Frame) : Type 0 where
-  pub code : blockWord words (frame .block) 2 ≡ 7
+  pub code : codeAt words (frame .block) ≡ 7
   pub closing : Closing words p frame
-  pub case : frame .left ≤ caseCount words - blockWord words (frame .block) 4
+  pub case : frame .left ≤ caseCount words - switchColumns (terminalAt (tableOf words) (frame .block)) .first
 
 -- a plan for the frame in hand
 abbrev pub PlannedFor : (step : List machine.Frame → List Row → definition.Context → Result State) → (On : definition.Context → Type 0) → Position → Frame → List ℕ → Plan → List ℕ → Type 0

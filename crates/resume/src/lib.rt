@@ -31,15 +31,23 @@ use rows::SWITCH;
 use rows::TRY;
 use rows::WHILE;
 use rows::put;
+use table::columns::block_at;
+use table::columns::case_at;
+use table::columns::code_at;
 use table::columns::span_at;
-use table::words::block_word;
-use table::words::case_word;
+use table::terminals::branch_at;
+use table::terminals::do_while_at;
+use table::terminals::for_at;
+use table::terminals::if_at;
+use table::terminals::scope_at;
+use table::terminals::switch_at;
+use table::terminals::try_at;
 use value::result::Tally;
 use value::walk::visit_value_block;
 ghost use mathlib.Core.Path.{_≡_};
 ghost use Prim.Native.Nat.{_+_, _<_};
 ghost use lib.Dec.{eqb};
-ghost use Rattle.table.specs.Words.{blockCount, blockWord};
+ghost use Rattle.table.specs.Words.{blockCount, codeAt};
 ghost use Rattle.table.specs.Promise.{Promise};
 ghost use Rattle.table.specs.Table.{unlessNone};
 ghost use mathlib.Core.Bool.{_||_};
@@ -95,25 +103,42 @@ fn closing_row(words: &[u32], frame: Frame) -> ClosingRow
     requires { ⌜ frame .block < blockCount (now words) ⌝ }
     ensures { λ r. ⌜ rowOf r ≡ closingRowAt (now (words .entry)) frame ⌝ }
 {
-    let test = block_word(words, frame.block, 3);
-    let third = block_word(words, frame.block, 5);
-    let binding = block_word(words, frame.block, 6);
-    let id = block_word(words, frame.block, 8);
-    let span = span_at(words, frame.block);
-    let alternate = flag(frame.second);
-    let update = has_update(third);
-    match block_word(words, frame.block, 2) {
-        5 | 6 => row(IF, test, alternate, id, frame.label),
-        7 => row(SWITCH, test, frame.built, id, frame.label),
-        8 => row(DOWHILE, id, frame.label, 0, 0),
-        9 => row(WHILE, id, frame.label, 0, 0),
-        10 => row(FOR, id, frame.label, update, 0),
-        11 => row(FOROF, id, frame.label, span.from, span.to),
-        12 => row(FORIN, id, frame.label, span.from, span.to),
-        16 => row(LABEL, id, frame.label, 0, 0),
-        19 => row(TRY, id, frame.label, binding, 0),
-        20 => row(SCOPE, third, 0, 0, 0),
-        21 => row(PRUNED, third, 0, 0, 0),
+    let head = block_at(words, frame.block);
+    let span = head.span;
+    match code_at(words, frame.block) {
+        5 => {
+            let terminal = if_at(words, frame.block);
+            row(IF, terminal.test, flag(frame.second), head.id, frame.label)
+        }
+        6 => {
+            let terminal = branch_at(words, frame.block);
+            row(IF, terminal.test, flag(frame.second), head.id, frame.label)
+        }
+        7 => {
+            let terminal = switch_at(words, frame.block);
+            row(SWITCH, terminal.test, frame.built, head.id, frame.label)
+        }
+        8 => row(DOWHILE, head.id, frame.label, 0, 0),
+        9 => row(WHILE, head.id, frame.label, 0, 0),
+        10 => {
+            let terminal = for_at(words, frame.block);
+            row(FOR, head.id, frame.label, has_update(terminal.update), 0)
+        }
+        11 => row(FOROF, head.id, frame.label, span.from, span.to),
+        12 => row(FORIN, head.id, frame.label, span.from, span.to),
+        16 => row(LABEL, head.id, frame.label, 0, 0),
+        19 => {
+            let terminal = try_at(words, frame.block);
+            row(TRY, head.id, frame.label, terminal.binding, 0)
+        }
+        20 => {
+            let terminal = scope_at(words, frame.block);
+            row(SCOPE, terminal.scope, 0, 0, 0)
+        }
+        21 => {
+            let terminal = scope_at(words, frame.block);
+            row(PRUNED, terminal.scope, 0, 0, 0)
+        }
         _ => row(0, 0, 0, 0, 0),
     }
 }
@@ -183,14 +208,15 @@ fn resume_if<'a>(
     frame: Frame,
 ) -> Plan
     requires { ⌜ Resuming (now words) p frame ⌝ }
-    requires { ⌜ blockWord (now words) (frame .block) 2 ≡ 5 ⌝ }
+    requires { ⌜ codeAt (now words) (frame .block) ≡ 5 ⌝ }
     ensures { λ r. ⌜ PlannedResume (now (words .entry)) (now (scheduled .entry)) (now («catch_handlers» .entry)) p frame (now (tree .entry)) r (now (tree .exit)) ⌝ }
 {
+    let terminal = if_at(words, frame.block);
     if frame.second {
         return close_statement(words, tree, p, frame);
     }
-    let block = block_word(words, frame.block, 5);
-    if block == block_word(words, frame.block, 6) {
+    let block = terminal.alternate;
+    if block == terminal.fallthrough {
         return close_statement(words, tree, p, frame);
     }
     alternate(scheduled, catch_handlers, p, frame, block, 13, block)
@@ -205,27 +231,35 @@ fn resume_branch<'a>(
     frame: Frame,
 ) -> Plan
     requires { ⌜ Resuming (now words) p frame ⌝ }
-    requires { ⌜ blockWord (now words) (frame .block) 2 ≡ 6 ⌝ }
+    requires { ⌜ codeAt (now words) (frame .block) ≡ 6 ⌝ }
     ensures { λ r. ⌜ PlannedResume (now (words .entry)) (now (scheduled .entry)) (now («catch_handlers» .entry)) p frame (now (tree .entry)) r (now (tree .exit)) ⌝ }
 {
+    let terminal = branch_at(words, frame.block);
     if frame.second {
         return close_statement(words, tree, p, frame);
     }
-    let block = block_word(words, frame.block, 5);
-    alternate(scheduled, catch_handlers, p, frame, block, 19, frame.block)
+    alternate(
+        scheduled,
+        catch_handlers,
+        p,
+        frame,
+        terminal.alternate,
+        19,
+        frame.block,
+    )
 }
 
 fn resume_try(words: &[u32], tree: &mut [u32], p: Position, frame: Frame) -> Plan
     requires { ⌜ Resuming (now words) p frame ⌝ }
-    requires { ⌜ blockWord (now words) (frame .block) 2 ≡ 19 ⌝ }
+    requires { ⌜ codeAt (now words) (frame .block) ≡ 19 ⌝ }
     ensures { λ r. ⌜ PlannedOn (now (words .entry)) p frame (now (tree .entry)) r (now (tree .exit)) ⌝ }
 {
+    let terminal = try_at(words, frame.block);
     if frame.second {
         return close_statement(words, tree, p, frame);
     }
-    let handler = block_word(words, frame.block, 4);
     traverse_block(
-        handler,
+        terminal.handler,
         second_part(frame),
         p.depth,
         p.rows,
@@ -237,13 +271,14 @@ fn resume_try(words: &[u32], tree: &mut [u32], p: Position, frame: Frame) -> Pla
 // A case is built: its CASE row, and its entry.
 fn resume_switch(words: &[u32], tree: &mut [u32], p: Position, frame: Frame) -> Plan
     requires { ⌜ Resuming (now words) p frame ⌝ }
-    requires { ⌜ blockWord (now words) (frame .block) 2 ≡ 7 ⌝ }
+    requires { ⌜ codeAt (now words) (frame .block) ≡ 7 ⌝ }
     ensures { λ r. ⌜ PlannedOn (now (words .entry)) p frame (now (tree .entry)) r (now (tree .exit)) ⌝ }
 {
-    let case = block_word(words, frame.block, 4) + frame.left;
-    let rows = put(tree, p.rows, CASE, case_word(words, case, 0), 0, 0, 0, 0);
+    let terminal = switch_at(words, frame.block);
+    let case = case_at(words, terminal.first + frame.left);
+    let rows = put(tree, p.rows, CASE, case.test, 0, 0, 0, 0);
     let target = ControlFlowTarget::Case {
-        block: narrow(case_word(words, case, 1)),
+        block: narrow(case.block),
     };
     let built = with_counts(frame, frame.entries + 1, frame.left, frame.built + 1);
     choose(built, p.depth, rows, p.visits, Change::Schedule(target))
@@ -251,16 +286,16 @@ fn resume_switch(words: &[u32], tree: &mut [u32], p: Position, frame: Frame) -> 
 
 fn resume_do_while(words: &[u32], tree: &mut [u32], p: Position, frame: Frame) -> Plan
     requires { ⌜ Resuming (now words) p frame ⌝ }
-    requires { ⌜ blockWord (now words) (frame .block) 2 ≡ 8 ⌝ }
+    requires { ⌜ codeAt (now words) (frame .block) ≡ 8 ⌝ }
     ensures { λ r. ⌜ PlannedOn (now (words .entry)) p frame (now (tree .entry)) r (now (tree .exit)) ⌝ }
 {
-    let test = block_word(words, frame.block, 4);
+    let terminal = do_while_at(words, frame.block);
     let span = span_at(words, frame.block);
     let tally = Tally {
         rows: p.rows,
         visits: p.visits,
     };
-    let tested = visit_value_block(words, tree, tally, 128 - p.depth, test, NONE, span);
+    let tested = visit_value_block(words, tree, tally, 128 - p.depth, terminal.test, NONE, span);
     let then = tested.tally;
     let after = advance(p, p.count, then.rows, then.visits, Stage::Ended);
     if tested.code != 0 {
@@ -281,7 +316,7 @@ fn resume_statement<'a>(
     requires { ⌜ Resuming (now words) p frame ⌝ }
     ensures { λ r. ⌜ PlannedResume (now (words .entry)) (now (scheduled .entry)) (now («catch_handlers» .entry)) p frame (now (tree .entry)) r (now (tree .exit)) ⌝ }
 {
-    match block_word(words, frame.block, 2) {
+    match code_at(words, frame.block) {
         5 => resume_if(words, tree, scheduled, catch_handlers, p, frame),
         6 => resume_branch(words, tree, scheduled, catch_handlers, p, frame),
         7 => resume_switch(words, tree, p, frame),
@@ -329,10 +364,12 @@ pub fn choose_case<'a>(
         return close_statement(words, tree, p, frame);
     }
     let left = frame.left - 1;
-    let block = case_word(words, block_word(words, frame.block, 4) + left, 1);
+    let terminal = switch_at(words, frame.block);
+    let case = case_at(words, terminal.first + left);
+    let block = case.block;
     let rest = with_counts(frame, frame.entries, left, frame.built);
     if scheduled_at(scheduled, catch_handlers, block) {
-        if block != block_word(words, frame.block, 6) {
+        if block != terminal.fallthrough {
             return refuse(p, 14, frame.block);
         }
         return choose(rest, p.depth, p.rows, p.visits, Change::Nothing);

@@ -6,8 +6,8 @@ use Rattle.loops.proofs.visit_while.Tie as tie
 while-at-requires : tie.Need-while-at-requires
 while-at-requires c κs = search needs
 
-block-word-requires : tie.Need-block-word-requires
-block-word-requires c κs = search needs
+code-at-requires : tie.Need-code-at-requires
+code-at-requires c κs = search needs
 
 refuse-requires : tie.Need-refuse-requires
 refuse-requires c κs = search needs
@@ -50,10 +50,10 @@ returns-3 c =
     let left : tie.Else2 = search in
     let asked : tie.After-continues-scheduled = search in
     let there : tie.Else1 = search in
-    let reached : tie.After-block-word = search in
+    let reached : tie.After-code-at = search in
     let read : tie.After-while-at = search in
     let start : tie.Start = search in
-    while-entered (start .pre .0) (read .while-at .ensures) (reached .block-word .ensures) (there .if1 .left) (asked .continues-scheduled .ensures) (left .if2 .left)
+    while-entered (start .pre .0) (read .while-at .ensures) (reached .code-at .ensures) (there .if1 .left) (asked .continues-scheduled .ensures) (left .if2 .left)
     (named .unless-unreachable .ensures) (none .no-values .ensures) (made .plain-value .ensures) (c .enter-loop .ensures)
 
 pub visit-while-spec : {M : Type 1} → statement M
@@ -61,7 +61,7 @@ visit-while-spec =
     tie.close
     (tie.spec
     while-at-requires
-    block-word-requires
+    code-at-requires
     refuse-requires
     returns
     continues-scheduled-requires

@@ -1,12 +1,12 @@
 use mathlib.Core.Path.{refl}
 use native.Mathlib.Omega.{arith}
-use Rattle.resume.proofs.ResumeLaws.{test-below, test-refused, test-closed}
+use Rattle.resume.proofs.ResumeLaws.{test-refused, test-closed}
 use borrow.Author.Needs.{needs}
 use Rattle.resume.proofs.resume_do_while.Statement.{statement}
 use Rattle.resume.proofs.resume_do_while.Tie as tie
 
-block-word-requires : tie.Need-block-word-requires
-block-word-requires c κs = search needs
+do-while-at-requires : tie.Need-do-while-at-requires
+do-while-at-requires c κs = search needs
 
 span-at-requires : tie.Need-span-at-requires
 span-at-requires c κs = search needs
@@ -16,12 +16,11 @@ sub-visit-value-block c = search needs
 
 visit-value-block-requires : tie.Need-visit-value-block-requires
 visit-value-block-requires c κs =
-    let at-block-word : tie.After-block-word = search in
+    let read : tie.After-do-while-at = search in
     let at-entry : tie.Start = search in
     record {
       promise = at-entry .pre .0 .promise;
-      at = rw (at-block-word .block-word .ensures)
-          (test-below (at-entry .args .words .now) (at-entry .args .p) (at-entry .args .frame) (at-entry .pre .0) (at-entry .pre .1));
+      at = read .do-while-at .ensures .named .1;
       visits =
           at-entry .pre .0 .visits;
       room = omega (arith, at-entry .pre .0 .rows);
@@ -42,12 +41,12 @@ returns c =
     let at-advance : tie.After-advance = search in
     let at-visit-value-block : tie.After-visit-value-block = search in
     let at-span : tie.After-span-at = search in
-    let at-block-word : tie.After-block-word = search in
+    let read : tie.After-do-while-at = search in
     let at-entry : tie.Start = search in
-    test-refused (at-entry .args .words .now) (at-entry .args .p) (at-entry .args .frame) (at-entry .pre .0) (at-entry .pre .1)
+    test-refused (at-entry .args .words .now) (at-entry .args .p) (at-entry .args .frame) (at-entry .pre .0) (read .do-while-at .ensures)
     (record { rows = at-entry .args .p .rows; visits = at-entry .args .p .visits }) (at-entry .args .tree .now) _
     (at-visit-value-block .visit-value-block .result)
-    (rw (at-block-word .block-word .ensures, at-span .span-at .ensures) at (at-visit-value-block .visit-value-block .ensures)) _ _ refl (at-if1 .if1 .taken)
+    (rw (at-span .span-at .ensures) at (at-visit-value-block .visit-value-block .ensures)) _ _ refl (at-if1 .if1 .taken)
     (rw (at-advance .advance .ensures) at (c .refuse .ensures))
 
 close-statement-requires : tie.Need-close-statement-requires
@@ -76,19 +75,19 @@ returns-2 c =
     let at-advance : tie.After-advance = search in
     let at-visit-value-block : tie.After-visit-value-block = search in
     let at-span : tie.After-span-at = search in
-    let at-block-word : tie.After-block-word = search in
+    let read : tie.After-do-while-at = search in
     let at-entry : tie.Start = search in
-    test-closed (at-entry .args .words .now) (at-entry .args .p) (at-entry .args .frame) (at-entry .pre .0) (at-entry .pre .1)
+    test-closed (at-entry .args .words .now) (at-entry .args .p) (at-entry .args .frame) (at-entry .pre .0) (read .do-while-at .ensures)
     (record { rows = at-entry .args .p .rows; visits = at-entry .args .p .visits }) (at-entry .args .tree .now) _
     (at-visit-value-block .visit-value-block .result)
-    (rw (at-block-word .block-word .ensures, at-span .span-at .ensures) at (at-visit-value-block .visit-value-block .ensures)) _ _ refl (at-if1 .if1 .left)
+    (rw (at-span .span-at .ensures) at (at-visit-value-block .visit-value-block .ensures)) _ _ refl (at-if1 .if1 .left)
     (rw (at-advance .advance .ensures) at (at-close-statement .close-statement .ensures))
 
 pub resume-do-while-spec : {M : Type 1} → statement M
 resume-do-while-spec =
     tie.close
     (tie.spec
-    block-word-requires
+    do-while-at-requires
     span-at-requires
     sub-visit-value-block
     visit-value-block-requires

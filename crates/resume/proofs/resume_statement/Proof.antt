@@ -4,8 +4,8 @@ use borrow.Author.Needs.{needs}
 use Rattle.resume.proofs.resume_statement.Statement.{statement}
 use Rattle.resume.proofs.resume_statement.Tie as tie
 
-block-word-requires : tie.Need-block-word-requires
-block-word-requires c κs = search needs
+code-at-requires : tie.Need-code-at-requires
+code-at-requires c κs = search needs
 
 resume-if-requires : tie.Need-resume-if-requires
 resume-if-requires c κs = search needs
@@ -73,12 +73,12 @@ returns-6 : tie.Need-returns-6
 returns-6 c =
     let at-close-statement : tie.After-close-statement = search in
     let at-match-rest : tie.At-match-rest = search in
-    let at-block-word : tie.After-block-word = search in
+    let at-code-at : tie.After-code-at = search in
     let start : tie.Start = search in
     resumed-seen (start .args .words .now) (start .args .p) (start .args .frame)
     (resumed-closed (start .args .words .now) (start .args .p) (start .args .frame)
     (other-closed (start .args .words .now) (start .args .p) (start .args .frame) (start .pre)
-    (subst (Other (start .args .words .now) (start .args .p) (start .args .frame) (start .pre)) (at-block-word .block-word .ensures) (
+    (subst (Other (start .args .words .now) (start .args .p) (start .args .frame) (start .pre)) (at-code-at .code-at .ensures) (
       at-match-rest .match .rest .0 .0 .0 .0 .1,
       at-match-rest .match .rest .0 .0 .0 .1,
       at-match-rest .match .rest .0 .0 .1,
@@ -90,7 +90,7 @@ pub resume-statement-spec : {M : Type 1} → statement M
 resume-statement-spec =
     tie.close
     (tie.spec
-    block-word-requires
+    code-at-requires
     resume-if-requires
     resume-branch-requires
     resume-switch-requires

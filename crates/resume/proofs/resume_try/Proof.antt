@@ -3,6 +3,9 @@ use borrow.Author.Needs.{needs}
 use Rattle.resume.proofs.resume_try.Statement.{statement}
 use Rattle.resume.proofs.resume_try.Tie as tie
 
+try-at-requires : tie.Need-try-at-requires
+try-at-requires c κs = search needs
+
 close-statement-requires : tie.Need-close-statement-requires
 close-statement-requires c κs =
     let start : tie.Start = search in
@@ -13,15 +16,13 @@ same-length c = search needs
 
 returns : tie.Need-returns
 returns c =
-    let at-close-statement : tie.After-close-statement = search in
+    let closed : tie.After-close-statement = search in
     let then1 : tie.Then1 = search in
+    let read : tie.After-try-at = search in
     let start : tie.Start = search in
     resumed-closed (start .args .words .now) (start .args .p) (start .args .frame)
-    (try-second (start .args .words .now) (start .args .p) (start .args .frame) (start .pre .0) (start .pre .1) (then1 .if1 .taken))
-    (at-close-statement .close-statement .ensures)
-
-block-word-requires : tie.Need-block-word-requires
-block-word-requires c κs = search needs
+    (try-second (start .args .words .now) (start .args .p) (start .args .frame) (start .pre .0) (read .try-at .ensures) (then1 .if1 .taken))
+    (closed .close-statement .ensures)
 
 second-part-requires : tie.Need-second-part-requires
 second-part-requires c κs = search needs
@@ -31,21 +32,21 @@ traverse-block-requires c κs = search needs
 
 returns-2 : tie.Need-returns-2
 returns-2 c =
-    let at-second-part : tie.After-second-part = search in
-    let at-block-word : tie.After-block-word = search in
+    let part : tie.After-second-part = search in
     let else1 : tie.Else1 = search in
+    let read : tie.After-try-at = search in
     let start : tie.Start = search in
-    try-handler (start .args .words .now) (start .args .p) (start .args .frame) (start .pre .0) (start .pre .1) _ (start .args .tree .now) (else1 .if1 .left)
-    (rw (← (at-block-word .block-word .ensures), ← (at-second-part .second-part .ensures)) (c .traverse-block .ensures))
+    try-handler (start .args .words .now) (start .args .p) (start .args .frame) (start .pre .0) (read .try-at .ensures) _ (start .args .tree .now) (else1 .if1 .left)
+    (rw (← (part .second-part .ensures)) (c .traverse-block .ensures))
 
 pub resume-try-spec : {M : Type 1} → statement M
 resume-try-spec =
     tie.close
     (tie.spec
+    try-at-requires
     close-statement-requires
     same-length
     returns
-    block-word-requires
     second-part-requires
     traverse-block-requires
     returns-2)
