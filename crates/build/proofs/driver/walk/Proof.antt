@@ -8,9 +8,9 @@ use mathlib.Core.Logic.{⊎-elim}
 use borrow.Author.Needs.{needs}
 use Rattle.control.specs.Abstraction.{contextOf, resolvedOf, settled}
 use Rattle.control.specs.Contract.{Last}
-use Rattle.planner.specs.declared.plan.Plan.{Plan}
-use Rattle.planner.specs.declared.plan.Change.{Change}
-use Rattle.planner.specs.declared.plan.Change.the-variants.{Schedule, ScheduleBriefly, Unschedule}
+use Rattle.plan.specs.declared.Plan.{Plan}
+use Rattle.plan.specs.declared.Change.{Change}
+use Rattle.plan.specs.declared.Change.the-variants.{Schedule, ScheduleBriefly, Unschedule}
 use Rattle.table.specs.Table.{tableOf}
 use Rattle.definition.specs.Build.{report}
 use Rattle.build.specs.Driver.{foundBy, visitedBlock, planEnds, blockedBy, Reported}
@@ -18,8 +18,8 @@ use Rattle.build.proofs.ApplyLaws.{withMarks, Whole, Changeable, Change
 use Rattle.build.proofs.ApplyLaws.{schedule-blocked, unschedule-changed, briefly-changed, briefly-blocked, last-scheduled, changeable-marked}
 use Rattle.build.proofs.ApplyLaws.{whole-marked, plan-applied, last-entry}
 use Rattle.control.specs.declared.Context.{Context}
-use Rattle.planner.specs.declared.plan.Position.{Position}
-use Rattle.planner.specs.declared.plan.Frame.{Frame}
+use Rattle.plan.specs.declared.Position.{Position}
+use Rattle.plan.specs.declared.Frame.{Frame}
 use Rattle.build.proofs.DriverLaws.{Walking, turnsLeft, walking-start, frame-read, found-jump, found-below, ready, shallow, visit-below, AtTurn}
 use Rattle.build.proofs.DriverLaws.{turn-ends, turn-applicable, turn-slot, turn-blocked, turn-again, turn-lower}
 use denote.Ref.{now}
@@ -33,11 +33,11 @@ record Inv (words buffer₀ buffer : List ℕ) (cx : Context) (frames : List Fra
   long : length buffer ≡ length buffer₀
 
 abbrev Inv-loop2 : tie.InvT-loop2
-Inv-loop2 words tree cx frames p frame jump at₀ top₀ loops₀ at top loops =
-    Searching jump cx at top loops
+Inv-loop2 words tree cx frames p frame jump at₀ loops₀ at loops =
+    Searching jump cx at loops
 
 abbrev μ-loop2 : tie.MeasureT-loop2
-μ-loop2 words tree cx frames p frame jump at₀ top₀ loops₀ at top loops =
+μ-loop2 words tree cx frames p frame jump at₀ loops₀ at loops =
     at
 
 abbrev Inv-loop : tie.InvT-loop
@@ -130,7 +130,7 @@ loop2-again c =
     let at-meets : tie.After-meets Inv-loop2 μ-loop2 Inv-loop μ-loop = search in
     let else1 : tie.Else1 Inv-loop2 μ-loop2 Inv-loop μ-loop = search in
     let at-loop2 : tie.At-loop2 Inv-loop2 μ-loop2 Inv-loop μ-loop = search in
-    search-on _ _ _ _ _ (at-loop2 .loop2 .inv) (else1 .if1 .left) (sym (at-meets .meets .ensures) ∙ else2 .if2 .left) (c .count-loop .ensures)
+    search-on _ _ _ _ (at-loop2 .loop2 .inv) (else1 .if1 .left) (sym (at-meets .meets .ensures) ∙ else2 .if2 .left) (c .count-loop .ensures)
 
 -- where the search has ended
 module _ (c : tie.Joined1 Inv-loop2 μ-loop2 Inv-loop μ-loop) where
@@ -144,8 +144,8 @@ module _ (c : tie.Joined1 Inv-loop2 μ-loop2 Inv-loop μ-loop) where
 
   found : (visits : ℕ) → resolvedOf (c .if1 .resolved) ≡ foundBy (asked-jump .jump-at .result) (contextOf visits (head .loop .cx))
   found visits =
-      ⊎-elim (λ w. ap resolvedOf (w .2) ∙ search-none _ _ _ _ _ (c .before .loop2 .inv) (w .0 .taken) visits)
-      (λ w. ap resolvedOf (w .6) ∙ w .4 .ensures ∙ search-found _ _ _ _ _ (c .before .loop2 .inv) (w .0 .left) (sym (w .2 .ensures) ∙ w .3 .taken) visits)
+      ⊎-elim (λ w. ap resolvedOf (w .2) ∙ search-none _ _ _ _ (c .before .loop2 .inv) (w .0 .taken) visits)
+      (λ w. ap resolvedOf (w .6) ∙ w .4 .ensures ∙ search-found _ _ _ _ (c .before .loop2 .inv) (w .0 .left) (sym (w .2 .ensures) ∙ w .3 .taken) visits)
       (c .if1 .came)
 
 -- where the turn is planned
