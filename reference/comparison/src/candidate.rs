@@ -1,10 +1,10 @@
 //! The seams for the proved libraries. With the feature `candidate` the comparison and the vectors
 //! run the build, with `candidate-check` the comparison runs the check, on every table, and hold
-//! their answers against the reference or the model; with `candidate-dot` and `candidate-tree-check`
-//! their own comparisons run the drawing and the check of trees.
+//! their answers against the reference or the model; with `candidate-dot`, `candidate-tree-check` and
+//! `candidate-lookup` their own comparisons run the drawing, the check of trees and the lookup.
 //!
-//! The archives `libbuild.a`, `libtable.a`, `libdot.a` and `libtreerows.a` are looked for in the folder
-//! that the variable CANDIDATE_DIR names. All but the check are called through the safe wrappers of ffi/rust.
+//! The archives `libbuild.a`, `libtable.a`, `libdot.a`, `libtreerows.a` and `liblookup.a` are looked for in the
+//! folder that the variable CANDIDATE_DIR names. All but the check are called through the safe wrappers of ffi/rust.
 
 use crate::model::Outcome;
 use crate::model::dot::Drawn;
@@ -68,4 +68,30 @@ pub const CANDIDATE_TREE_CHECK: Option<CandidateCheck> = Some(check_tree);
 fn check_tree(tree: &[u32]) -> (u32, u32) {
     let reactive_build::tree_check::Checked { code, at } = reactive_build::tree_check::check(tree);
     (code, at)
+}
+
+/// What a lookup gives: the numbers, and the part of the caller's tree.
+#[derive(Debug, PartialEq, Eq)]
+pub struct Looked<'a> {
+    pub code: u32,
+    pub at: u32,
+    pub begin: usize,
+    pub end: usize,
+    pub part: &'a [u32],
+}
+
+pub type CandidateLookup = for<'a> fn(&[u32], u32, u32, &'a [u32]) -> Looked<'a>;
+
+#[cfg(not(feature = "candidate-lookup"))]
+pub const CANDIDATE_LOOKUP: Option<CandidateLookup> = None;
+
+#[cfg(feature = "candidate-lookup")]
+pub const CANDIDATE_LOOKUP: Option<CandidateLookup> = Some(look_up);
+
+#[cfg(feature = "candidate-lookup")]
+fn look_up<'a>(index: &[u32], lines: u32, label: u32, tree: &'a [u32]) -> Looked<'a> {
+    use reactive_build::tree_lookup::{Found, find, lookup};
+    let Found { code, at, begin, end } = find(index, lines, label, tree);
+    let part = lookup(index, lines, label, tree).unwrap_or_default();
+    Looked { code, at, begin, end, part }
 }

@@ -1,0 +1,4 @@
+pub mod Searches
+pub mod Answers
+pub mod LoopLaws
+pub mod Samples
