@@ -1,6 +1,6 @@
-//! `treebuild_cases FOLDER`: writes `data/00` and on, files for the program treebuild, and `stdout`,
-//! what it prints of them. Where the words pass the check the answer is the reference's, else that
-//! of the model of paper 01.
+//! `files make FOLDER`: writes `00` and on, files for the program treebuild, and `printed`, what it prints of them, one after the other. Where
+//! the words pass the check the answer is the reference's, else that of the model of paper 01. `files check FOLDER`: makes them again and
+//! compares.
 
 use std::fs;
 use std::path::Path;
@@ -16,21 +16,29 @@ const FILES: usize = 60;
 
 fn main() {
     reference::install_panic_hook();
-    let folder = std::env::args().nth(1).expect("a folder");
-    reference::on_large_stack(move || write(Path::new(&folder)));
+    let mut words = std::env::args().skip(1);
+    let (task, folder) = (words.next().expect("make or check"), words.next().expect("a folder"));
+    reference::on_large_stack(move || match task.as_str() {
+        "make" => made().iter().for_each(|(name, bytes)| {
+            fs::write(Path::new(&folder).join(name), bytes).expect("written");
+        }),
+        "check" => made().iter().for_each(|(name, bytes)| {
+            let stored = fs::read(Path::new(&folder).join(name)).expect("read");
+            assert!(stored == *bytes, "{folder}/{name} is not what is made");
+        }),
+        _ => panic!("make or check"),
+    });
+    println!("{FILES} files");
 }
 
-fn write(folder: &Path) {
+/// Each file's name and bytes, then what is printed of all.
+fn made() -> Vec<(String, Vec<u8>)> {
     let mut files = broken();
     files.extend(built(FILES - files.len()));
     assert_eq!(files.len(), FILES);
-    let mut out = String::new();
-    for (number, file) in files.iter().enumerate() {
-        fs::write(folder.join(format!("data/{number:02}")), file).expect("written");
-        out += &printed(file);
-    }
-    fs::write(folder.join("stdout"), out).expect("written");
-    println!("{FILES} files");
+    let printed: String = files.iter().map(|file| printed(file)).collect();
+    let named = files.into_iter().enumerate().map(|(number, file)| (format!("{number:02}"), file));
+    named.chain([("printed".to_string(), printed.into_bytes())]).collect()
 }
 
 /// Paper 01's sample, then files that are not in the form, or too long, or whose words are refused.
