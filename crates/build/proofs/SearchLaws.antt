@@ -21,7 +21,7 @@ use Rattle.control.proofs.SearchLaws.{lastTarget, break-none, break-found, brea
 use Rattle.build.specs.declared.search.Jump.{Jump}
 use Rattle.build.specs.declared.search.Jump.the-variants.{Nothing}
 use Rattle.build.specs.declared.search.Jump.the-variants as jump
-use Rattle.planner.specs.Turn.{Resolves}
+use Rattle.plan.specs.Turn.{Resolves}
 use Rattle.build.specs.Driver.{foundBy, searchedFrom, isMet, resolvedAt, Searches}
 
 -- a terminal that is no jump

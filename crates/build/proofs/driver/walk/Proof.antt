@@ -8,9 +8,9 @@ use mathlib.Core.Logic.{⊎-elim}
 use borrow.Author.Needs.{needs}
 use Rattle.control.specs.Abstraction.{contextOf, resolvedOf, settled}
 use Rattle.control.specs.Contract.{Last}
-use Rattle.planner.specs.declared.plan.Plan.{Plan}
-use Rattle.planner.specs.declared.plan.Change.{Change}
-use Rattle.planner.specs.declared.plan.Change.the-variants.{Schedule, ScheduleBriefly, Unschedule}
+use Rattle.plan.specs.declared.Plan.{Plan}
+use Rattle.plan.specs.declared.Change.{Change}
+use Rattle.plan.specs.declared.Change.the-variants.{Schedule, ScheduleBriefly, Unschedule}
 use Rattle.table.specs.Table.{tableOf}
 use Rattle.definition.specs.Build.{report}
 use Rattle.build.specs.Driver.{foundBy, visitedBlock, planEnds, blockedBy, Reported}
@@ -18,8 +18,8 @@ use Rattle.build.proofs.ApplyLaws.{withMarks, Whole, Changeable, Change
 use Rattle.build.proofs.ApplyLaws.{schedule-blocked, unschedule-changed, briefly-changed, briefly-blocked, last-scheduled, changeable-marked}
 use Rattle.build.proofs.ApplyLaws.{whole-marked, plan-applied, last-entry}
 use Rattle.control.specs.declared.Context.{Context}
-use Rattle.planner.specs.declared.plan.Position.{Position}
-use Rattle.planner.specs.declared.plan.Frame.{Frame}
+use Rattle.plan.specs.declared.Position.{Position}
+use Rattle.plan.specs.declared.Frame.{Frame}
 use Rattle.build.proofs.DriverLaws.{Walking, turnsLeft, walking-start, frame-read, found-jump, found-below, ready, shallow, visit-below, AtTurn}
 use Rattle.build.proofs.DriverLaws.{turn-ends, turn-applicable, turn-slot, turn-blocked, turn-again, turn-lower}
 use denote.Ref.{now}
