@@ -2,7 +2,6 @@
 use crate::jump::Jumped;
 use crate::jump::visit_break;
 use crate::jump::visit_continue;
-use control::Resolved;
 use plan::Change;
 use plan::NONE;
 use plan::Plan;
@@ -15,6 +14,7 @@ use plan::second_part;
 use plan::traverse_block;
 use rows::BLOCK;
 use rows::put;
+use survey::Aim;
 use table::words::block_word;
 ghost use mathlib.Core.Path.{_≡_};
 ghost use mathlib.Core.List.{[]};
@@ -22,8 +22,10 @@ ghost use mathlib.Core.Bool.{true, _||_};
 ghost use Prim.Native.Nat.{_+_, _≤_, _<_};
 ghost use Rattle.table.specs.Words.{blockWord};
 ghost use Rattle.definition.specs.Context.{has};
-ghost use Rattle.planner.specs.Jumps.{FoundBelow, afterJump, GotoSeen, BranchSeen};
-ghost use Rattle.plan.specs.Planned.{Entered, Planned, terminalStep};
+ghost use Rattle.definition.specs.Around.{Around};
+ghost use Rattle.survey.specs.Abstraction.{AimBelow};
+ghost use Rattle.planner.specs.Jumps.{afterJump, GotoSeen, BranchSeen};
+ghost use Rattle.plan.specs.Planned.{Entered, Planned, terminalStepIn};
 
 fn after_jump(p: Position, jump: Jumped) -> Plan
     requires { ⌜ p .count ≤ 1000000000 ⌝ }
@@ -48,22 +50,22 @@ pub fn visit_goto(
     tree: &mut [u32],
     scopes: &[bool; 1024],
     p: Position,
-    resolved: Resolved,
+    aim: Aim,
 ) -> Plan
     requires { ⌜ Entered (now words) p ⌝ }
     requires { ⌜ blockWord (now words) (p .block) 2 ≡ 4 ⌝ }
-    requires { ⌜ FoundBelow resolved ⌝ }
-    ensures { λ r. ⌜ Planned (terminalStep (now (words .entry)) p) (GotoSeen (now (words .entry)) p (now (scopes .entry)) resolved) [] (p .depth) (p .rows) (now (tree .entry)) r (now (tree .exit)) ⌝ }
+    requires { ⌜ AimBelow aim ⌝ }
+    ensures { λ r. ⌜ ((around : Around) → Planned (terminalStepIn around (now (words .entry)) p) (GotoSeen (now (words .entry)) p (now (scopes .entry)) aim around) [] (p .depth) (p .rows) (now (tree .entry)) r (now (tree .exit))) ⌝ }
 {
     let target = block_word(words, p.block, 3);
     let variant = block_word(words, p.block, 4);
     let id = block_word(words, p.block, 8);
     if variant == 0 {
-        let jump = visit_break(tree, scopes, p, target, id, resolved);
+        let jump = visit_break(tree, scopes, p, target, id, aim);
         return after_jump(p, jump);
     }
     if variant == 1 {
-        let jump = visit_continue(tree, p.rows, target, id, resolved);
+        let jump = visit_continue(tree, p, target, id, aim);
         return after_jump(p, jump);
     }
     leave(NONE, p.depth, p.count, p.rows, p.visits, Change::Nothing) // Goto Try gives no row
@@ -77,18 +79,18 @@ fn branch_break<'a>(
     catch_handlers: &'a [bool; 1024],
     scopes: &[bool; 1024],
     p: Position,
-    resolved: Resolved,
+    aim: Aim,
 ) -> Plan
     requires { ⌜ Entered (now words) p ⌝ }
     requires { ⌜ blockWord (now words) (p .block) 2 ≡ 6 ⌝ }
-    requires { ⌜ FoundBelow resolved ⌝ }
+    requires { ⌜ AimBelow aim ⌝ }
     requires { ⌜ has (now scheduled) (blockWord (now words) (p .block) 4) || has (now «catch_handlers») (blockWord (now words) (p .block) 4) ≡ true ⌝ }
-    ensures { λ r. ⌜ Planned (terminalStep (now (words .entry)) p) (BranchSeen (now (words .entry)) p (now (scheduled .entry)) (now («catch_handlers» .entry)) (now (scopes .entry)) resolved) [] (p .depth) (p .rows) (now (tree .entry)) r (now (tree .exit)) ⌝ }
+    ensures { λ r. ⌜ ((around : Around) → Planned (terminalStepIn around (now (words .entry)) p) (BranchSeen (now (words .entry)) p (now (scheduled .entry)) (now («catch_handlers» .entry)) (now (scopes .entry)) aim around) [] (p .depth) (p .rows) (now (tree .entry)) r (now (tree .exit))) ⌝ }
 {
     let consequent = block_word(words, p.block, 4);
     let alternate = block_word(words, p.block, 5);
     let id = block_word(words, p.block, 8);
-    let jump = visit_break(tree, scopes, p, consequent, id, resolved);
+    let jump = visit_break(tree, scopes, p, consequent, id, aim);
     if jump.code != 0 {
         return refuse(p, jump.code, jump.at);
     }
@@ -117,17 +119,17 @@ pub fn visit_branch<'a>(
     catch_handlers: &'a [bool; 1024],
     scopes: &[bool; 1024],
     p: Position,
-    resolved: Resolved,
+    aim: Aim,
 ) -> Plan
     requires { ⌜ Entered (now words) p ⌝ }
     requires { ⌜ blockWord (now words) (p .block) 2 ≡ 6 ⌝ }
-    requires { ⌜ FoundBelow resolved ⌝ }
-    ensures { λ r. ⌜ Planned (terminalStep (now (words .entry)) p) (BranchSeen (now (words .entry)) p (now (scheduled .entry)) (now («catch_handlers» .entry)) (now (scopes .entry)) resolved) [] (p .depth) (p .rows) (now (tree .entry)) r (now (tree .exit)) ⌝ }
+    requires { ⌜ AimBelow aim ⌝ }
+    ensures { λ r. ⌜ ((around : Around) → Planned (terminalStepIn around (now (words .entry)) p) (BranchSeen (now (words .entry)) p (now (scheduled .entry)) (now («catch_handlers» .entry)) (now (scopes .entry)) aim around) [] (p .depth) (p .rows) (now (tree .entry)) r (now (tree .exit))) ⌝ }
 {
     let consequent = block_word(words, p.block, 4);
     let busy = scheduled_at(scheduled, catch_handlers, consequent);
     if busy {
-        return branch_break(words, tree, scheduled, catch_handlers, scopes, p, resolved);
+        return branch_break(words, tree, scheduled, catch_handlers, scopes, p, aim);
     }
     let frame = frame_of(p, NONE, 0);
     traverse_block(

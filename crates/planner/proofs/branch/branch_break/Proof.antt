@@ -29,15 +29,15 @@ same-length : tie.Need-same-length
 same-length c = search needs
 
 returns : tie.Need-returns
-returns c =
+returns c around =
     let then1 : tie.Then1 = search in
     let at-visit-break : tie.After-visit-break = search in
     let at-block-word3 : tie.After-block-word3 = search in
     let at-block-word2 : tie.After-block-word2 = search in
     let at-block-word : tie.After-block-word = search in
     let start : tie.Start = search in
-    branch-refused (start .args .words .now) (start .args .p) (start .pre .0) (start .pre .1 .0) (start .args .scheduled .now)
-    (start .args .catch-handlers .now) (start .args .scopes .now) (start .args .resolved) (at-block-word .block-word .result)
+    branch-refused (start .args .words .now) (start .args .p) (start .pre .0) (start .pre .1 .0) around (start .args .scheduled .now)
+    (start .args .catch-handlers .now) (start .args .scopes .now) (start .args .aim) (at-block-word .block-word .result)
     (at-block-word2 .block-word2 .result) (at-block-word3 .block-word3 .result) _ (at-visit-break .visit-break .result) _ (at-block-word .block-word .ensures)
     (at-block-word2 .block-word2 .ensures) (at-block-word3 .block-word3 .ensures) (start .pre .1 .1 .1) (at-visit-break .visit-break .ensures) _ _
     (then1 .if1 .taken) (c .refuse .ensures)
@@ -60,7 +60,7 @@ same-length-2 : tie.Need-same-length-2
 same-length-2 c = search needs
 
 returns-2 : tie.Need-returns-2
-returns-2 c =
+returns-2 c around =
     let then2 : tie.Then2 = search in
     let at-scheduled-at : tie.After-scheduled-at = search in
     let else1 : tie.Else1 = search in
@@ -69,8 +69,8 @@ returns-2 c =
     let at-block-word2 : tie.After-block-word2 = search in
     let at-block-word : tie.After-block-word = search in
     let start : tie.Start = search in
-    branch-taken (start .args .words .now) (start .args .p) (start .pre .0) (start .pre .1 .0) (start .args .scheduled .now) (start .args .catch-handlers .now)
-    (start .args .scopes .now) (start .args .resolved) (at-block-word .block-word .result) (at-block-word2 .block-word2 .result)
+    branch-taken (start .args .words .now) (start .args .p) (start .pre .0) (start .pre .1 .0) around (start .args .scheduled .now) (start .args .catch-handlers .now)
+    (start .args .scopes .now) (start .args .aim) (at-block-word .block-word .result) (at-block-word2 .block-word2 .result)
     (at-block-word3 .block-word3 .result) _ (at-visit-break .visit-break .result) _ (at-block-word .block-word .ensures) (at-block-word2 .block-word2 .ensures)
     (at-block-word3 .block-word3 .ensures) (start .pre .1 .1 .1) (at-visit-break .visit-break .ensures) _ _ (else1 .if1 .left)
     (sym (at-scheduled-at .scheduled-at .ensures) ∙ then2 .if2 .taken) (c .refuse2 .ensures)
@@ -100,7 +100,7 @@ same-length-3 c =
     omega (arith, at-put .put .kept .0, at-visit-break .visit-break .kept .0)
 
 returns-3 : tie.Need-returns-3
-returns-3 c =
+returns-3 c around =
     let at-second-part : tie.After-second-part = search in
     let at-frame-of : tie.After-frame-of = search in
     let else2 : tie.Else2 = search in
@@ -112,8 +112,8 @@ returns-3 c =
     let at-block-word2 : tie.After-block-word2 = search in
     let at-block-word : tie.After-block-word = search in
     let start : tie.Start = search in
-    branch-other (start .args .words .now) (start .args .p) (start .pre .0) (start .pre .1 .0) (start .args .scheduled .now) (start .args .catch-handlers .now)
-    (start .args .scopes .now) (start .args .resolved) (at-block-word .block-word .result) (at-block-word2 .block-word2 .result)
+    branch-other (start .args .words .now) (start .args .p) (start .pre .0) (start .pre .1 .0) around (start .args .scheduled .now) (start .args .catch-handlers .now)
+    (start .args .scopes .now) (start .args .aim) (at-block-word .block-word .result) (at-block-word2 .block-word2 .result)
     (at-block-word3 .block-word3 .result) _ (at-visit-break .visit-break .result) _ (at-block-word .block-word .ensures) (at-block-word2 .block-word2 .ensures)
     (at-block-word3 .block-word3 .ensures) (start .pre .1 .1 .1) (at-visit-break .visit-break .ensures) 9 (at-visit-break .visit-break .result .count)
     (at-put .put .result) _ _ (else1 .if1 .left) refl refl (at-put .put .ensures) (sym (at-scheduled-at .scheduled-at .ensures) ∙ else2 .if2 .left)

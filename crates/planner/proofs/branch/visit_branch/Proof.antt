@@ -38,7 +38,9 @@ same-length : tie.Need-same-length
 same-length c = search needs
 
 returns : tie.Need-returns
-returns c = search needs
+returns c around =
+    let at-branch-break : tie.After-branch-break = search in
+    at-branch-break .branch-break .ensures around
 
 frame-of-requires : tie.Need-frame-of-requires
 frame-of-requires c κs = search needs
@@ -50,14 +52,14 @@ traverse-block-requires : tie.Need-traverse-block-requires
 traverse-block-requires c κs = search needs
 
 returns-2 : tie.Need-returns-2
-returns-2 c =
+returns-2 c around =
     let at-frame-of : tie.After-frame-of = search in
     let else1 : tie.Else1 = search in
     let at-scheduled-at : tie.After-scheduled-at = search in
     let at-block-word : tie.After-block-word = search in
     let start : tie.Start = search in
-    branch-nested (start .args .words .now) (start .args .p) (start .pre .0) (start .pre .1 .0) (start .args .scheduled .now) (start .args .catch-handlers .now)
-    (start .args .scopes .now) (start .args .resolved) (at-block-word .block-word .result) _ _ (at-block-word .block-word .ensures)
+    branch-nested (start .args .words .now) (start .args .p) (start .pre .0) (start .pre .1 .0) around (start .args .scheduled .now) (start .args .catch-handlers .now)
+    (start .args .scopes .now) (start .args .aim) (at-block-word .block-word .result) _ _ (at-block-word .block-word .ensures)
     (sym (at-scheduled-at .scheduled-at .ensures) ∙ else1 .if1 .left) (rw (← (at-frame-of .frame-of .ensures)) (c .traverse-block .ensures))
 
 pub visit-branch-spec : {M : Type 1} → statement M

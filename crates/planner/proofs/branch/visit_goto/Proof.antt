@@ -28,14 +28,14 @@ same-length : tie.Need-same-length
 same-length c = search needs
 
 returns : tie.Need-returns
-returns c =
+returns c around =
     let at-visit-break : tie.After-visit-break = search in
     let then1 : tie.Then1 = search in
     let at-block-word3 : tie.After-block-word3 = search in
     let at-block-word2 : tie.After-block-word2 = search in
     let at-block-word : tie.After-block-word = search in
     let start : tie.Start = search in
-    goto-break (start .args .words .now) (start .args .p) (start .pre .0) (start .pre .1 .0) (start .args .scopes .now) (start .args .resolved)
+    goto-break (start .args .words .now) (start .args .p) (start .pre .0) (start .pre .1 .0) (start .args .scopes .now) (start .args .aim) around
     (at-block-word .block-word .result) (at-block-word3 .block-word3 .result) _ (at-visit-break .visit-break .result) _ _
     (sym (at-block-word2 .block-word2 .ensures) ∙ then1 .if1 .taken) (at-block-word .block-word .ensures) (at-block-word3 .block-word3 .ensures)
     (at-visit-break .visit-break .ensures) (c .after-jump .ensures)
@@ -54,14 +54,14 @@ same-length-2 : tie.Need-same-length-2
 same-length-2 c = search needs
 
 returns-2 : tie.Need-returns-2
-returns-2 c =
+returns-2 c around =
     let at-visit-continue : tie.After-visit-continue = search in
     let then2 : tie.Then2 = search in
     let at-block-word3 : tie.After-block-word3 = search in
     let at-block-word2 : tie.After-block-word2 = search in
     let at-block-word : tie.After-block-word = search in
     let start : tie.Start = search in
-    goto-continue (start .args .words .now) (start .args .p) (start .pre .0) (start .pre .1 .0) (start .args .scopes .now) (start .args .resolved)
+    goto-continue (start .args .words .now) (start .args .p) (start .pre .0) (start .pre .1 .0) (start .args .scopes .now) (start .args .aim) around
     (at-block-word .block-word .result) (at-block-word3 .block-word3 .result) _ (at-visit-continue .visit-continue .result) _ _
     (sym (at-block-word2 .block-word2 .ensures) ∙ then2 .if2 .taken) (at-block-word .block-word .ensures) (at-block-word3 .block-word3 .ensures)
     (at-visit-continue .visit-continue .ensures (start .args .p .visits) (start .args .scopes .now)) (c .after-jump2 .ensures)
@@ -70,12 +70,12 @@ leave-requires : tie.Need-leave-requires
 leave-requires c κs = search needs
 
 returns-3 : tie.Need-returns-3
-returns-3 c =
+returns-3 c around =
     let else2 : tie.Else2 = search in
     let else1 : tie.Else1 = search in
     let at-block-word2 : tie.After-block-word2 = search in
     let start : tie.Start = search in
-    goto-try (start .args .words .now) (start .args .p) (start .pre .0) (start .pre .1 .0) (start .args .scopes .now) (start .args .resolved) _ _
+    goto-try (start .args .words .now) (start .args .p) (start .pre .0) (start .pre .1 .0) (start .args .scopes .now) (start .args .aim) around _ _
     (λ z. else1 .if1 .left (at-block-word2 .block-word2 .ensures ∙ z)) (λ z. else2 .if2 .left (at-block-word2 .block-word2 .ensures ∙ z)) (c .leave .ensures)
 
 pub visit-goto-spec : {M : Type 1} → statement M

@@ -11,20 +11,20 @@ refuse-requires : tie.Need-refuse-requires
 refuse-requires c κs = search needs
 
 returns : tie.Need-returns
-returns c frame =
+returns c frame around =
     let at-if1 : tie.Then1 = search in
     let at-entry : tie.Start = search in
-    deep-planned _ _ _ _ _ _ _ (at-entry .pre .0) frame _ _ (at-if1 .if1 .taken) (c .refuse .ensures)
+    deep-planned _ _ _ _ _ _ _ around (at-entry .pre .0) frame _ _ (at-if1 .if1 .taken) (c .refuse .ensures)
 
 refuse-requires-2 : tie.Need-refuse-requires-2
 refuse-requires-2 c κs = search needs
 
 returns-2 : tie.Need-returns-2
-returns-2 c frame =
+returns-2 c frame around =
     let at-if2 : tie.Then2 = search in
     let at-if1 : tie.Else1 = search in
     let at-entry : tie.Start = search in
-    visits-planned _ _ _ _ _ _ _ (at-entry .pre .0) frame (at-if1 .if1 .left) _ _ (at-if2 .if2 .taken) (c .refuse2 .ensures)
+    visits-planned _ _ _ _ _ _ _ around (at-entry .pre .0) frame (at-if1 .if1 .left) _ _ (at-if2 .if2 .taken) (c .refuse2 .ensures)
 
 add-visits : tie.Need-add-visits
 add-visits c = search needs
@@ -39,14 +39,14 @@ refuse-requires-3 : tie.Need-refuse-requires-3
 refuse-requires-3 c κs = search needs
 
 returns-3 : tie.Need-returns-3
-returns-3 c frame =
+returns-3 c frame around =
     let at-if3 : tie.Then3 = search in
     let at-block-word : tie.After-block-word = search in
     let at-advance : tie.After-advance = search in
     let at-if2 : tie.Else2 = search in
     let at-if1 : tie.Else1 = search in
     let at-entry : tie.Start = search in
-    absent-planned _ _ _ _ _ _ _ (at-entry .pre .0) frame (at-if1 .if1 .left) (at-if2 .if2 .left) _ _ _ refl
+    absent-planned _ _ _ _ _ _ _ around (at-entry .pre .0) frame (at-if1 .if1 .left) (at-if2 .if2 .left) _ _ _ refl
     (sym (at-block-word .block-word .ensures) ∙ at-if3 .if3 .taken) (rw (at-advance .advance .ensures) at (c .refuse3 .ensures))
 
 cast-if4 : tie.Need-cast-if4
@@ -60,7 +60,7 @@ refuse-requires-4 c κs = search needs
 
 returns-4 : tie.Need-returns-4
 unfolding has
-returns-4 c frame =
+returns-4 c frame around =
     let at-if4 : tie.Then4 = search in
     let at-if3 : tie.Else3 = search in
     let at-block-word : tie.After-block-word = search in
@@ -68,7 +68,7 @@ returns-4 c frame =
     let at-if2 : tie.Else2 = search in
     let at-if1 : tie.Else1 = search in
     let at-entry : tie.Start = search in
-    emitted-planned _ _ _ _ _ _ _ (at-entry .pre .0) frame (at-if1 .if1 .left) (at-if2 .if2 .left)
+    emitted-planned _ _ _ _ _ _ _ around (at-entry .pre .0) frame (at-if1 .if1 .left) (at-if2 .if2 .left)
     (λ e. at-if3 .if3 .left (at-block-word .block-word .ensures ∙ e)) _ _ _ refl (at-if4 .if4 .taken)
     (rw (at-advance .advance .ensures) at (c .refuse4 .ensures))
 
@@ -149,7 +149,7 @@ same-length c = search needs
 
 returns-5 : tie.Need-returns-5
 unfolding has
-returns-5 c frame =
+returns-5 c frame around =
     let at-visit-terminal : tie.After-visit-terminal = search in
     let at-advance2 : tie.After-advance2 = search in
     let at-put-instructions : tie.After-put-instructions = search in
@@ -161,11 +161,11 @@ returns-5 c frame =
     let at-if2 : tie.Else2 = search in
     let at-if1 : tie.Else1 = search in
     let at-entry : tie.Start = search in
-    entered-planned _ _ _ _ _ _ _ (at-entry .pre .0) frame (at-if1 .if1 .left) (at-if2 .if2 .left)
+    entered-planned _ _ _ _ _ _ _ around (at-entry .pre .0) frame (at-if1 .if1 .left) (at-if2 .if2 .left)
     (λ e. at-if3 .if3 .left (at-block-word .block-word .ensures ∙ e)) _ _ _ _ _ (at-if4 .if4 .left) refl refl
     (omega (arith, at-block-word2 .block-word2 .ensures)) refl
     (rw (at-block-word2 .block-word2 .ensures, at-block-word3 .block-word3 .ensures) at (at-put-instructions .put-instructions .ensures))
-    (rw (at-advance2 .advance2 .ensures) at (at-visit-terminal .visit-terminal .ensures))
+    (rw (at-advance2 .advance2 .ensures) at (at-visit-terminal .visit-terminal .ensures around))
 
 pub visit-block-spec : {M : Type 1} → statement M
 visit-block-spec =
