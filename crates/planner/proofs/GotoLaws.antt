@@ -7,14 +7,15 @@ use mathlib.Core.List.{List, [], _++_, append-nil}
 use mathlib.Core.Option.{Option, none, some}
 use lib.Dec.{eqb}
 use borrow.Author.Tests.{eq-eqb, eqb-true}
-use Rattle.table.specs.Words.{blockWord}
-use Rattle.table.specs.Table.{Terminal, tableOf, terminalOf, terminalAt, goto, Variant, Break, Continue, Try, variantOf}
-use Rattle.table.proofs.BlockLaws.{no-number, end-by, id-at, try-variant}
+use Rattle.table.specs.declared.columns.Span.{Span}
+use Rattle.table.specs.Promise.{Ends, Heads}
+use Rattle.table.specs.Table.{Terminal, tableOf, terminalAt, goto, Variant, Break, Continue, Try, variantOf}
+use Rattle.table.proofs.BlockLaws.{no-number, try-variant}
 use Rattle.definition.specs.Context.{Flags, getBreakTarget, getContinueTarget}
 use Rattle.definition.specs.Context as definition
 use Rattle.definition.specs.Machine.{State, ended, turn, leave, jumpOut, added, terminalTurn}
 use Rattle.definition.specs.Around.{Around}
-use Rattle.definition.specs.Goal.{Goal, breakGoal, continueGoal, goals, breakTo, continueTo}
+use Rattle.definition.specs.Goal.{Goal, breakTo, continueTo}
 use Rattle.definition.proofs.Goals.{break-goal, continue-goal}
 use Rattle.definition.specs.Machine as machine
 use Rattle.definition.specs.Result.{Result, ok, refused, _>>=_}
@@ -28,7 +29,8 @@ use Rattle.plan.specs.declared.Change.the-variants.{Nothing}
 use Rattle.plan.specs.declared.Plan.{Plan}
 use Rattle.plan.specs.Plans.{leaving}
 use Rattle.planner.specs.Jumps.{JumpSeen, JumpMet, jumpedTo, breakOutcome, continueOutcome, afterJumpBy, afterJump, GotoSeen}
-use Rattle.plan.specs.Planned.{Planned, Entered, terminalStepIn}
+use Rattle.plan.specs.Planned.{Planned, terminalStepIn}
+use Rattle.plan.specs.Turn.{Resolves}
 use Rattle.plan.proofs.PlanLaws.{within-all, visits-same, refuse-applied, leave-applied}
 use Rattle.plan.proofs.StepLaws.{turn-refused, turn-ok}
 use Rattle.plan.proofs.PlannedLaws.{step-in}
@@ -88,26 +90,27 @@ jump-count outcome O v n b jump b′ met z = rw (met .count z) (low (met .statem
 
 -- ---- the three variants
 
-module _ (w : List ℕ) (p : Position) (en : Entered w p) (code : blockWord w (p .block) 2 ≡ 4) (O : Flags) (aim : Aim) (around : Around) where
+module _ {w : List ℕ} (p : Position) (variant : ℕ) {to first count id : ℕ} {span : Span} (ends : Ends w (p .block) (goto to (variantOf variant)))
+    (heads : Heads w (p .block) first count id span) (O : Flags) (aim : Aim) (around : Around) where
   abbrev here : Terminal → Type 0
   here e = terminalAt (tableOf w) (p .block) ≡ e
 
-  goto-at : here (goto (blockWord w (p .block) 3) (variantOf (blockWord w (p .block) 4)))
-  unfolding terminalOf
-  goto-at = end-by w (p .block) (en .block) 4 code
+  variant-is : (v : Variant) (n : ℕ) → variant ≡ n → variantOf n ≡ v → here (goto to v)
+  variant-is v n e q = ends .is ∙ ap (λ (z : Variant). goto to z) (ap variantOf e ∙ q)
 
-  variant-is : (v : Variant) (n : ℕ) → blockWord w (p .block) 4 ≡ n → variantOf n ≡ v → here (goto (blockWord w (p .block) 3) v)
-  variant-is v n e q = goto-at ∙ ap (λ (z : Variant). goto (blockWord w (p .block) 3) z) (ap variantOf e ∙ q)
+  -- the goal of such a jump
+  found : (v : Variant) (n : ℕ) → variant ≡ n → variantOf n ≡ v → (C : definition.Context) → GotoSeen w p O aim around C → Resolves (goto to v) around C (aimOf aim)
+  found v n e q C o = subst (λ (z : Terminal). Resolves z around C (aimOf aim)) (variant-is v n e q) (o .jump)
 
-  pub goto-break : (target id : ℕ) (b : List ℕ) (jump : Jumped) (b′ : List ℕ) (plan : Plan) → blockWord w (p .block) 4 ≡ 0 → target ≡ blockWord w (p .block) 3 → id ≡ blockWord w (p .block) 8
-      → JumpMet (breakOutcome (p .block) target id aim) O (p .visits) (p .rows) b jump b′ → plan ≡ afterJump p jump
+  pub goto-break : (b : List ℕ) (jump : Jumped) (b′ : List ℕ) (plan : Plan) → variant ≡ 0
+      → JumpMet (breakOutcome (p .block) to id aim) O (p .visits) (p .rows) b jump b′ → plan ≡ afterJump p jump
       → Planned (terminalStepIn around w p) (GotoSeen w p O aim around) [] (p .depth) (p .rows) b plan b′
   unfolding terminalTurn visitGoto visitBreak variantOf _>>=_
-  goto-break target id b jump b′ plan v t i met e = jump-planned around w p (GotoSeen w p O aim around) (breakOutcome (p .block) target id aim) O b jump b′ plan
-      (λ F R C o. step-in around w p _ F R C (variant-is Break 0 v refl) ∙ rw (id-at w (p .block) (en .block), sym i, sym t)
-      (ap (after F R C) (break-goal around (p .block) target id C (getBreakTarget C target))
-      ∙ ap (λ (z : Option Goal). after F R C (breakTo (p .block) target id C z)) (sym (o .breaks v ∙ ap (λ (k : ℕ). goals (breakGoal around) (getBreakTarget C k)) (sym t)))
-      ∙ moved F R C (breakOutcome (p .block) target id aim C))) (λ C o. o .seen) met e
+  goto-break b jump b′ plan v met e = jump-planned around w p (GotoSeen w p O aim around) (breakOutcome (p .block) to id aim) O b jump b′ plan
+      (λ F R C o. step-in around w p _ F R C (variant-is Break 0 v refl) ∙ rw (heads .is-id)
+      (ap (after F R C) (break-goal around (p .block) to id C (getBreakTarget C to))
+      ∙ ap (λ (z : Option Goal). after F R C (breakTo (p .block) to id C z)) (sym (found Break 0 v refl C o))
+      ∙ moved F R C (breakOutcome (p .block) to id aim C))) (λ C o. o .seen) met e
     where
       after : List machine.Frame → List Row → definition.Context → Result (Option Statement) → Result State
       after F R C m =
@@ -118,16 +121,15 @@ module _ (w : List ℕ) (p : Position) (en : Entered w p) (code : blockWord w (p
       moved F R C (ok s) = refl
       moved F R C (refused a c v) = refl
 
-  pub goto-continue : (target id : ℕ) (b : List ℕ) (jump : Jumped) (b′ : List ℕ) (plan : Plan) → blockWord w (p .block) 4 ≡ 1 → target ≡ blockWord w (p .block) 3 → id ≡ blockWord w (p .block) 8
-      → JumpMet (continueOutcome (p .block) target id aim) O (p .visits) (p .rows) b jump b′ → plan ≡ afterJump p jump
+  pub goto-continue : (b : List ℕ) (jump : Jumped) (b′ : List ℕ) (plan : Plan) → variant ≡ 1
+      → JumpMet (continueOutcome (p .block) to id aim) O (p .visits) (p .rows) b jump b′ → plan ≡ afterJump p jump
       → Planned (terminalStepIn around w p) (GotoSeen w p O aim around) [] (p .depth) (p .rows) b plan b′
   unfolding terminalTurn visitGoto visitContinue variantOf _>>=_
-  goto-continue target id b jump b′ plan v t i met e = jump-planned around w p (GotoSeen w p O aim around) (continueOutcome (p .block) target id aim) O b jump b′ plan
-      (λ F R C o. step-in around w p _ F R C (variant-is Continue 1 v refl) ∙ rw (id-at w (p .block) (en .block), sym i, sym t)
-      (ap (after F R C) (continue-goal around (p .block) target id C (getContinueTarget C target))
-      ∙ ap (λ (z : Option Goal). after F R C (continueTo (p .block) target id C z))
-      (sym (o .continues v ∙ ap (λ (k : ℕ). goals (continueGoal around) (getContinueTarget C k)) (sym t)))
-      ∙ moved F R C (continueTo (p .block) target id C (aimOf aim)))) (λ C o. o .seen) met e
+  goto-continue b jump b′ plan v met e = jump-planned around w p (GotoSeen w p O aim around) (continueOutcome (p .block) to id aim) O b jump b′ plan
+      (λ F R C o. step-in around w p _ F R C (variant-is Continue 1 v refl) ∙ rw (heads .is-id)
+      (ap (after F R C) (continue-goal around (p .block) to id C (getContinueTarget C to))
+      ∙ ap (λ (z : Option Goal). after F R C (continueTo (p .block) to id C z)) (sym (found Continue 1 v refl C o))
+      ∙ moved F R C (continueTo (p .block) to id C (aimOf aim)))) (λ C o. o .seen) met e
     where
       after : List machine.Frame → List Row → definition.Context → Result Statement → Result State
       after F R C m =
@@ -139,13 +141,13 @@ module _ (w : List ℕ) (p : Position) (en : Entered w p) (code : blockWord w (p
       moved F R C (ok s) = refl
       moved F R C (refused a c v) = refl
 
-  pub goto-try : (b : List ℕ) (plan : Plan) → (blockWord w (p .block) 4 ≡ 0 → ⊥) → (blockWord w (p .block) 4 ≡ 1 → ⊥) → plan ≡ leaving 65535 (p .depth) (p .count) (p .rows) (p .visits) Nothing
+  pub goto-try : (b : List ℕ) (plan : Plan) → (variant ≡ 0 → ⊥) → (variant ≡ 1 → ⊥) → plan ≡ leaving 65535 (p .depth) (p .count) (p .rows) (p .visits) Nothing
       → Planned (terminalStepIn around w p) (GotoSeen w p O aim around) [] (p .depth) (p .rows) b plan b
   unfolding terminalTurn visitGoto variantOf _>>=_
   goto-try b plan n₀ n₁ e = subst (λ (z : Plan). Planned (terminalStepIn around w p) (GotoSeen w p O aim around) [] (p .depth) (p .rows) b z b) (sym e) (record {
     out = [];
     held = λ _ before h. rw (append-nil before) h;
-    same = λ F R C d o. ap turn (step-in around w p _ F R C (variant-is Try (blockWord w (p .block) 4) refl (try-variant (blockWord w (p .block) 4) n₀ n₁))) ∙ turn-ok _
+    same = λ F R C d o. ap turn (step-in around w p _ F R C (variant-is Try variant refl (try-variant variant n₀ n₁))) ∙ turn-ok _
         ∙ sym (leave-applied 65535 (p .depth) (p .count) (p .rows) (p .visits) Nothing F (R ++ []) C _ refl ∙ rw (no-number, visits-same (p .visits) C (o .seen .visits), within-all (p .depth) F d));
     fitting = λ _. record { change = tt; handler = rw no-number tt; scope = rw no-number tt; deep = λ z. absurd (let o : _≡_ {A = ℕ} 0 1 = cc in omega arith); next = omega arith; nested = tt };
   })

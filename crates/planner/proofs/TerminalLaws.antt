@@ -4,17 +4,17 @@ use native.Mathlib.Omega.{arith}
 use mathlib.Core.Path.{_≡_, refl, sym, ap, _∙_, subst}
 use mathlib.Core.Bool.{true, false, _||_}
 use mathlib.Core.List.{List, [], _++_, append-assoc}
-use mathlib.Core.Option.{Option, some}
+use mathlib.Core.Option.{Option}
 use lib.Dec.{eqb}
 use lib.ListN.{length}
 use borrow.Author.Tests.{eq-eqb, ne-eqb, le-leb, lt-leb}
-use Rattle.table.specs.Words.{blockCount, blockWord}
-use Rattle.table.specs.Promise.{Promise}
-use Rattle.table.specs.Table.{Table, Block, Terminal, absent, unreachable, throw, return, goto, if, branch, switch, do-while, while, for, for-of, for-in}
-use Rattle.table.specs.Table.{logical, ternary, optional, label, sequence, maybe-throw, try, scope, Break, Continue, Try, codeOf, tableOf, blockOf, terminalOf}
-use Rattle.table.specs.Table.{terminalAt, blockAt, rowsFrom, instructionRowsAt, variantOf}
-use Rattle.table.proofs.TableLaws.{block-at}
-use Rattle.table.proofs.BlockLaws.{end-by, code-at, goto-at, branch-at, length-rows}
+use Rattle.table.specs.declared.columns.Span.{Span}
+use Rattle.table.specs.Words.{codeAt}
+use Rattle.table.specs.Promise.{Heads}
+use Rattle.table.specs.Table.{Table, Terminal, absent, unreachable, throw, return, goto, if, branch, switch, do-while, while, for, for-of, for-in}
+use Rattle.table.specs.Table.{logical, ternary, optional, label, sequence, maybe-throw, try, scope, Break, Continue, Try, codeOf, tableOf}
+use Rattle.table.specs.Table.{terminalAt, blockAt, rowsFrom, instructionRowsAt}
+use Rattle.table.proofs.BlockLaws.{code-at, length-rows}
 use Rattle.definition.specs.Context.{Flags, has, emit, withVisits, isScheduled, getBreakTarget, getContinueTarget}
 use Rattle.definition.specs.Context as definition
 use Rattle.definition.specs.Machine.{State, enclosings, aroundOf, turn, step, visitTurn, terminalTurn, instructionsOut, depthLeft}
@@ -40,7 +40,6 @@ use Rattle.plan.specs.declared.Plan.{Plan}
 use Rattle.plan.specs.Plans.{stateAt, applied, refusing}
 use Rattle.plan.specs.Planned.{Seen, Fitting, Planned, Entered, terminalStepIn, terminalStep}
 use Rattle.planner.specs.Jumps.{JumpSeen, GotoSeen, BranchSeen}
-use Rattle.loops.specs.Loops.{valueFallthrough}
 use Rattle.plan.specs.Turn.{Resolves, Shown, AtTerminal, Visits, inHand, StageFits, Ready, emitting, PlannedTurn}
 use Rattle.plan.proofs.PlanLaws.{refuse-applied}
 use Rattle.plan.proofs.StepLaws.{turn-refused}
@@ -48,25 +47,19 @@ use Rattle.plan.proofs.PlannedLaws.{planned-as, around-unread, applied-visits}
 
 -- ---- what the planners of jumps see
 
-module _ (w : List ℕ) (S H Z : Flags) (p : Position) (aim : Aim) (around : Around) (pr : Promise w) (below : p .block < blockCount w) (C : definition.Context)
-    (A : AtTerminal w S H Z p aim around C) where
+module _ {w : List ℕ} {S H Z : Flags} {p : Position} {aim : Aim} {around : Around} {C : definition.Context} (A : AtTerminal w S H Z p aim around C) where
   jump-seen : JumpSeen Z (p .visits) C
   jump-seen = record { scopeFallthroughs = A .scopes; visits = A .seen .visits }
 
-  pub goto-seen : blockWord w (p .block) 2 ≡ 4 → GotoSeen w p Z aim around C
-  unfolding variantOf
-  goto-seen code = record {
-    seen = jump-seen;
-    breaks = λ e. subst (λ (z : Terminal). Resolves z around C (aimOf aim)) (goto-at w (p .block) below code Break (ap variantOf e)) (A .jump);
-    continues = λ e. subst (λ (z : Terminal). Resolves z around C (aimOf aim)) (goto-at w (p .block) below code Continue (ap variantOf e)) (A .jump);
-  }
+  pub goto-seen : GotoSeen w p Z aim around C
+  goto-seen = record { seen = jump-seen; jump = A .jump }
 
-  pub branch-seen : blockWord w (p .block) 2 ≡ 6 → BranchSeen w p S H Z aim around C
-  branch-seen code = record { seen = jump-seen; sets = A .seen; breaks = subst (λ (z : Terminal). Resolves z around C (aimOf aim)) (branch-at w (p .block) below code) (A .jump) }
+  pub branch-seen : BranchSeen w p S H Z aim around C
+  branch-seen = record { seen = jump-seen; sets = A .seen; jump = A .jump }
 
 -- a terminal that is no jump, by its code, with anything around
 pub elsewhere : (around : Around) {w : List ℕ} {p : Position} {On On′ : definition.Context → Type 0} {buffer buffer′ : List ℕ} {plan : Plan} {read n : ℕ} → Entered w p
-    → read ≡ blockWord w (p .block) 2 → read ≡ n → eqb n 4 || eqb n 6 ≡ false → ((C : definition.Context) → On′ C → On C)
+    → read ≡ codeAt w (p .block) → read ≡ n → eqb n 4 || eqb n 6 ≡ false → ((C : definition.Context) → On′ C → On C)
     → Planned (terminalStep w p) On [] (p .depth) (p .rows) buffer plan buffer′ → Planned (terminalStepIn around w p) On′ [] (p .depth) (p .rows) buffer plan buffer′
 elsewhere around {w} {p} {n = n} en q k other on m =
     planned-as (λ F R C. around-unread around (tableOf w) _ (terminalAt (tableOf w) (p .block)) (p .block) _ F R (p .count) C
@@ -77,14 +70,6 @@ elsewhere around {w} {p} {n = n} en q k other on m =
 
     apart : eqb n 4 || eqb n 6 ≡ true → ⊥
     apart e = true-false (sym e ∙ other)
-
--- ---- the fallthrough of a value terminal
-
--- the column that has it, by the block's code
-pub fallthrough-by : (w : List ℕ) (b : ℕ) → b < blockCount w → (code column : ℕ) → blockWord w b 2 ≡ code
-    → valueFallthrough (terminalOf code (blockWord w b 3) (blockWord w b 4) (blockWord w b 5) (blockWord w b 6) (blockWord w b 7)) ≡ some (blockWord w b column)
-    → valueFallthrough (terminalAt (tableOf w) b) ≡ some (blockWord w b column)
-fallthrough-by w b below code column e by = ap valueFallthrough (end-by w b below code e) ∙ by
 
 -- ---- before the terminal
 
@@ -154,11 +139,6 @@ module _ (rule : Rule) (t : Table) (b : ℕ) (F : List machine.Frame) (R : List 
   unfolding inside _>>=_
   inside-ok D = refl
 
--- a block's instructions, by its words
-rows-at : (w : List ℕ) (b : ℕ) → b < blockCount w → instructionRowsAt (tableOf w) b ≡ rowsFrom (blockWord w b 0) (blockWord w b 1)
-unfolding blockOf
-rows-at w b h = ap (λ (k : Block). rowsFrom (k .first) (k .count)) (block-at w b h)
-
 emit-visits : (b v : ℕ) (C : definition.Context) → emit b (withVisits v C) ≡ withVisits v (emit b C)
 unfolding emit withVisits
 emit-visits b v C = refl
@@ -222,36 +202,39 @@ module _ (w : List ℕ) (E S H Z : Flags) (p : Position) (aim : Aim) (around : A
       next-visit : (C : definition.Context) (q : Position) → On C → q .visits ≡ p .visits + 1 → suc (C .visits) ≡ q .visits
       next-visit C q o s = omega (arith, o .visits, s)
 
-      pub absent-planned : (buffer : List ℕ) (q : Position) (plan : Plan) → q .visits ≡ p .visits + 1 → blockWord w b 2 ≡ 0 → plan ≡ refusing q 10 b → PlannedTurn w around On p frame buffer plan buffer
+      pub absent-planned : (buffer : List ℕ) (q : Position) (plan : Plan) → q .visits ≡ p .visits + 1 → codeAt w b ≡ 0 → plan ≡ refusing q 10 b → PlannedTurn w around On p frame buffer plan buffer
       absent-planned buffer q plan s z e = refused-turn buffer q 10 b plan (λ y. omega arith) e (λ F R C l o. entering-turn F R C 10 b (q .visits) l
           (no-block (around .rule) (tableOf w) b F R (p .count) C (omega (arith, o .visits, few))
-          (ap (λ (k : ℕ). eqb k 0) (code-at w b (here .promise) (here .block)) ∙ eq-eqb (blockWord w b 2) 0 z) ∙ ap (refused 10 b) (next-visit C q o s)))
+          (ap (λ (k : ℕ). eqb k 0) (code-at w b (here .promise) (here .block)) ∙ eq-eqb (codeAt w b) 0 z) ∙ ap (refused 10 b) (next-visit C q o s)))
 
-      module _ (there : blockWord w b 2 ≡ 0 → ⊥) where
+      module _ (there : codeAt w b ≡ 0 → ⊥) where
         present : eqb (codeOf (terminalAt (tableOf w) b)) 0 ≡ false
-        present = ap (λ (k : ℕ). eqb k 0) (code-at w b (here .promise) (here .block)) ∙ ne-eqb (blockWord w b 2) 0 there
+        present = ap (λ (k : ℕ). eqb k 0) (code-at w b (here .promise) (here .block)) ∙ ne-eqb (codeAt w b) 0 there
 
         pub emitted-planned : (buffer : List ℕ) (q : Position) (plan : Plan) → q .visits ≡ p .visits + 1 → has E b ≡ true → plan ≡ refusing q 11 b → PlannedTurn w around On p frame buffer plan buffer
         emitted-planned buffer q plan s z e = refused-turn buffer q 11 b plan (λ y. omega arith) e (λ F R C l o. entering-turn F R C 11 b (q .visits) l
             (emitted-twice (around .rule) (tableOf w) b F R (p .count) C (omega (arith, o .visits, few)) present (ap (λ (k : Flags). has k b) (o .emitted) ∙ z) ∙ ap (refused 11 b) (next-visit C q o s)))
 
         -- the terminal's planner goes on from the instructions
-        pub entered-planned : (buffer buffer₁ buffer′ : List ℕ) (q : Position) (plan : Plan) → has E b ≡ false → q .block ≡ b → q .depth ≡ p .depth
-            → q .count ≡ p .count + blockWord w b 1 → q .visits ≡ p .visits + 1
-            → InstructionsPut w (blockWord w b 0) (blockWord w b 1) buffer (p .rows) buffer₁ (q .rows)
+        pub entered-planned : {first count id : ℕ} {span : Span} → Heads w b first count id span → (buffer buffer₁ buffer′ : List ℕ) (q : Position) (plan : Plan) → has E b ≡ false → q .block ≡ b → q .depth ≡ p .depth
+            → q .count ≡ p .count + count → q .visits ≡ p .visits + 1
+            → InstructionsPut w first count buffer (p .rows) buffer₁ (q .rows)
             → Planned (terminalStepIn around w q) (AtTerminal w S H Z q aim around) [] (q .depth) (q .rows) buffer₁ plan buffer′ → PlannedTurn w around On p frame buffer plan buffer′
-        entered-planned buffer buffer₁ buffer′ q plan z eb ed ec ev put m = planned plan (lines ++ m .out)
+        entered-planned {first} {count} heads buffer buffer₁ buffer′ q plan z eb ed ec ev put m = planned plan (lines ++ m .out)
             (λ y before h. subst (λ (R : List Row). Holds buffer′ (plan .position .rows) (pushed R [])) (append-assoc before lines (m .out)) (m .held y (before ++ lines) (written before h)))
             (λ F R C l n o. ap turn (goes F R C l n o) ∙ m .same F (R ++ lines) (emit b (withVisits (suc (C .visits)) C)) (l ∙ sym ed) (sees C o)
             ∙ entered-applied plan b (suc (C .visits)) F ((R ++ lines) ++ m .out) C ∙ ap (λ (X : List Row). applied plan F X (emit b C)) (append-assoc R lines (m .out)))
             (λ y. subst (λ (d : ℕ). Fitting [] d plan) ed (m .fitting y))
           where
+            rows-are : instructionRowsAt (tableOf w) b ≡ rowsFrom first count
+            rows-are = rw (heads .is-first, heads .is-count)
+
             lines : List Row
             lines = instructionsOut (tableOf w) (instructionRowsAt (tableOf w) b)
 
             written : (before : List Row) → Holds buffer (p .rows) (pushed before []) → Holds buffer₁ (q .rows) (pushed (before ++ lines) [])
             written before h = subst (λ (X : List Row). Holds buffer₁ (q .rows) X)
-                (ap (λ (is : List ℕ). pushInstructionRows (tableOf w) is (pushed before [])) (sym (rows-at w b (here .block))) ∙ push-instruction-rows-after
+                (ap (λ (is : List ℕ). pushInstructionRows (tableOf w) is (pushed before [])) (sym rows-are) ∙ push-instruction-rows-after
                 (tableOf w) (instructionRowsAt (tableOf w) b) before) (put .kept (pushed before []) h)
 
             goes : (F : List machine.Frame) (R : List Row) (C : definition.Context) → length F ≡ p .depth → enclosings (tableOf w) F ≡ around .statements → On C
@@ -259,7 +242,7 @@ module _ (w : List ℕ) (E S H Z : Flags) (p : Position) (aim : Aim) (around : A
             goes F R C l n o = not-deep (around .rule) (tableOf w) b F R (p .count) C (omega (arith, l))
                 ∙ ap (inside (around .rule) (tableOf w) b F R (p .count) C) (enters (around .rule) (tableOf w) b F R (p .count) C (omega (arith, o .visits, few)) present (ap (λ (k : Flags). has k b) (o .emitted) ∙ z))
                 ∙ inside-ok (around .rule) (tableOf w) b F R (p .count) C (emit b (withVisits (suc (C .visits)) C))
-                ∙ rw (eb, ed, ec, l, ← n, ap length (rows-at w b (here .block)) ∙ length-rows (blockWord w b 0) (blockWord w b 1)) refl
+                ∙ rw (eb, ed, ec, l, ← n, ap length rows-are ∙ length-rows first count) refl
 
             sees : (C : definition.Context) → On C → AtTerminal w S H Z q aim around (emit b (withVisits (suc (C .visits)) C))
             sees C o = entered-sees q C o (next-visit C q o ev) eb

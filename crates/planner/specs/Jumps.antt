@@ -1,28 +1,29 @@
 -- Jumps: what is looked for on the stack, and what a jump comes to.
-use Prim.Native.Nat.{ℕ, _+_, _≤_, _<_}
+use Prim.Native.Nat.{ℕ, _+_, _≤_}
 use mathlib.Core.Path.{_≡_}
 use mathlib.Core.Bool.{Bool, true, false}
 use mathlib.Core.List.{List, [], _++_}
 use mathlib.Core.Option.{Option, some}
 use lib.Dec.{eqb}
-use Rattle.definition.specs.Context.{Flags, isScheduled, getBreakTarget, getContinueTarget}
+use Rattle.definition.specs.Context.{Flags}
 use Rattle.definition.specs.Context as definition
 use Rattle.definition.specs.Machine.{jumpOut, added}
 use Rattle.definition.specs.Result.{Result, ok, refused, _>>=_}
 use Rattle.definition.specs.Around.{Around}
-use Rattle.definition.specs.Goal.{breakGoal, continueGoal, goals, breakTo, continueTo}
+use Rattle.definition.specs.Goal.{breakTo, continueTo}
 use Rattle.definition.specs.Tree.{Row, Statement}
 use Rattle.survey.specs.declared.Aim.{Aim}
 use Rattle.survey.specs.Abstraction.{aimOf}
 use Rattle.rows.specs.Rows.{Holds}
 use Rattle.rows.specs.Stack.{pushed}
-use Rattle.table.specs.Words.{blockWord}
+use Rattle.table.specs.Table.{tableOf, terminalAt}
 use Rattle.planner.specs.declared.jump.Jumped.{Jumped}
 use Rattle.plan.specs.declared.Position.{Position}
 use Rattle.plan.specs.declared.Plan.{Plan}
 use Rattle.plan.specs.declared.Change.the-variants as plan
 use Rattle.plan.specs.Plans.{leaving, refusing}
 use Rattle.plan.specs.Planned.{Seen}
+use Rattle.plan.specs.Turn.{Resolves}
 
 abbrev pub jumpedTo : Bool → Jumped → Option Statement → (visits : ℕ) → Result (Option Statement)
 jumpedTo true jump statement visits = ok statement
@@ -63,11 +64,10 @@ afterJump p jump = afterJumpBy (eqb (jump .code) 0) p jump
 -- what a Goto sees: its goal is what the stack has, by what is around
 pub record GotoSeen (words : List ℕ) (p : Position) (scopes : Flags) (aim : Aim) (around : Around) (cx : definition.Context) : Type 0 where
   pub seen : JumpSeen scopes (p .visits) cx
-  pub breaks : blockWord words (p .block) 4 ≡ 0 → aimOf aim ≡ goals (breakGoal around) (getBreakTarget cx (blockWord words (p .block) 3))
-  pub continues : blockWord words (p .block) 4 ≡ 1 → aimOf aim ≡ goals (continueGoal around) (getContinueTarget cx (blockWord words (p .block) 3))
+  pub jump : Resolves (terminalAt (tableOf words) (p .block)) around cx (aimOf aim)
 
--- what a Branch sees: where its consequent is scheduled, its goal is what the stack has
+-- what a Branch sees: the same, where its consequent is scheduled
 pub record BranchSeen (words : List ℕ) (p : Position) (scheduledSet handlerSet scopes : Flags) (aim : Aim) (around : Around) (cx : definition.Context) : Type 0 where
   pub seen : JumpSeen scopes (p .visits) cx
   pub sets : Seen scheduledSet handlerSet (p .visits) cx
-  pub breaks : isScheduled cx (blockWord words (p .block) 4) ≡ true → aimOf aim ≡ goals (breakGoal around) (getBreakTarget cx (blockWord words (p .block) 4))
+  pub jump : Resolves (terminalAt (tableOf words) (p .block)) around cx (aimOf aim)

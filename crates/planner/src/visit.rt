@@ -24,8 +24,12 @@ use plan::advance;
 use plan::leave;
 use plan::refuse;
 use survey::Aim;
+use table::columns::block_at;
 use table::columns::code_at;
-use table::words::block_word;
+use table::terminals::logical_at;
+use table::terminals::optional_at;
+use table::terminals::sequence_at;
+use table::terminals::ternary_at;
 use value::instructions::put_instructions;
 ghost use mathlib.Core.Path.{_≡_};
 ghost use mathlib.Core.List.{[]};
@@ -64,11 +68,51 @@ fn visit_terminal<'a>(
         10 => visit_for(words, tree, scheduled, catch_handlers, p),
         11 => visit_for_of(words, tree, scheduled, catch_handlers, p),
         12 => visit_for_in(words, tree, scheduled, catch_handlers, p),
-        13 => visit_value(words, tree, scheduled, catch_handlers, p, 5), // Logical
-        14 => visit_value(words, tree, scheduled, catch_handlers, p, 4), // Ternary
-        15 => visit_value(words, tree, scheduled, catch_handlers, p, 5), // Optional
+        13 => {
+            let terminal = logical_at(words, p.block);
+            visit_value(
+                words,
+                tree,
+                scheduled,
+                catch_handlers,
+                p,
+                terminal.fallthrough,
+            )
+        }
+        14 => {
+            let terminal = ternary_at(words, p.block);
+            visit_value(
+                words,
+                tree,
+                scheduled,
+                catch_handlers,
+                p,
+                terminal.fallthrough,
+            )
+        }
+        15 => {
+            let terminal = optional_at(words, p.block);
+            visit_value(
+                words,
+                tree,
+                scheduled,
+                catch_handlers,
+                p,
+                terminal.fallthrough,
+            )
+        }
         16 => visit_label(words, scheduled, catch_handlers, p),
-        17 => visit_value(words, tree, scheduled, catch_handlers, p, 4), // Sequence
+        17 => {
+            let terminal = sequence_at(words, p.block);
+            visit_value(
+                words,
+                tree,
+                scheduled,
+                catch_handlers,
+                p,
+                terminal.fallthrough,
+            )
+        }
         18 => visit_maybe_throw(words, scheduled, catch_handlers, p),
         19 => visit_try(words, scheduled, catch_handlers, p),
         20 => visit_scope(words, scheduled, catch_handlers, p), // Scope
@@ -101,14 +145,14 @@ pub fn visit_block<'a>(
     }
     let visits = p.visits + 1;
     let begun = advance(p, p.count, p.rows, visits, Stage::Visit);
-    if block_word(words, block, 2) == 0 {
+    if code_at(words, block) == 0 {
         return refuse(begun, 10, block);
     }
     if emitted[block as usize] {
         return refuse(begun, 11, block);
     }
-    let count = block_word(words, block, 1);
-    let rows = put_instructions(words, tree, p.rows, block_word(words, block, 0), count);
-    let p = advance(p, p.count + count, rows, visits, Stage::Visit);
+    let head = block_at(words, block);
+    let rows = put_instructions(words, tree, p.rows, head.first, head.count);
+    let p = advance(p, p.count + head.count, rows, visits, Stage::Visit);
     visit_terminal(words, tree, scheduled, catch_handlers, scopes, p, aim)
 }

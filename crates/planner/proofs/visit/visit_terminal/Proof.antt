@@ -1,9 +1,9 @@
-use mathlib.Core.Path.{refl, sym, _∙_}
+use mathlib.Core.Path.{refl, sym, ap, _∙_}
 use native.Mathlib.Omega.{arith}
-use Rattle.table.specs.Table.{terminalOf}
+use Rattle.loops.specs.Loops.{valueFallthrough}
 use Rattle.planner.proofs.VisitLaws.{unreachable-left}
 use Rattle.plan.proofs.PlannedLaws.{planned-as}
-use Rattle.planner.proofs.TerminalLaws.{goto-seen, branch-seen, elsewhere, fallthrough-by, missed-past}
+use Rattle.planner.proofs.TerminalLaws.{goto-seen, branch-seen, elsewhere, missed-past}
 use Rattle.table.proofs.RangeLaws.{code-known}
 use borrow.Author.Needs.{needs}
 use Rattle.planner.proofs.visit.visit_terminal.Statement.{statement}
@@ -51,40 +51,44 @@ visit-for-of-requires c κs = search needs
 visit-for-in-requires : tie.Need-visit-for-in-requires
 visit-for-in-requires c κs = search needs
 
+logical-at-requires : tie.Need-logical-at-requires
+logical-at-requires c κs = search needs
+
 visit-value-requires : tie.Need-visit-value-requires
-unfolding terminalOf
 visit-value-requires c κs =
-    let at-match : tie.At-match-keys14 = search in
-    let at-code-at : tie.After-code-at = search in
-    let at-entry : tie.Start = search in
-    (at-entry .pre .0, (omega arith, fallthrough-by _ _ (at-entry .pre .0 .block) 13 5 (sym (at-code-at .code-at .ensures) ∙ at-match .match .keys14) refl))
+    let read : tie.After-logical-at = search in
+    let start : tie.Start = search in
+    (start .pre .0, ap valueFallthrough (read .logical-at .ensures .is))
+
+ternary-at-requires : tie.Need-ternary-at-requires
+ternary-at-requires c κs = search needs
 
 visit-value-requires-2 : tie.Need-visit-value-requires-2
-unfolding terminalOf
 visit-value-requires-2 c κs =
-    let at-match : tie.At-match-keys15 = search in
-    let at-code-at : tie.After-code-at = search in
-    let at-entry : tie.Start = search in
-    (at-entry .pre .0, (omega arith, fallthrough-by _ _ (at-entry .pre .0 .block) 14 4 (sym (at-code-at .code-at .ensures) ∙ at-match .match .keys15) refl))
+    let read : tie.After-ternary-at = search in
+    let start : tie.Start = search in
+    (start .pre .0, ap valueFallthrough (read .ternary-at .ensures .is))
+
+optional-at-requires : tie.Need-optional-at-requires
+optional-at-requires c κs = search needs
 
 visit-value-requires-3 : tie.Need-visit-value-requires-3
-unfolding terminalOf
 visit-value-requires-3 c κs =
-    let at-match : tie.At-match-keys16 = search in
-    let at-code-at : tie.After-code-at = search in
-    let at-entry : tie.Start = search in
-    (at-entry .pre .0, (omega arith, fallthrough-by _ _ (at-entry .pre .0 .block) 15 5 (sym (at-code-at .code-at .ensures) ∙ at-match .match .keys16) refl))
+    let read : tie.After-optional-at = search in
+    let start : tie.Start = search in
+    (start .pre .0, ap valueFallthrough (read .optional-at .ensures .is))
 
 visit-label-requires : tie.Need-visit-label-requires
 visit-label-requires c κs = search needs
 
+sequence-at-requires : tie.Need-sequence-at-requires
+sequence-at-requires c κs = search needs
+
 visit-value-requires-4 : tie.Need-visit-value-requires-4
-unfolding terminalOf
 visit-value-requires-4 c κs =
-    let at-match : tie.At-match-keys18 = search in
-    let at-code-at : tie.After-code-at = search in
-    let at-entry : tie.Start = search in
-    (at-entry .pre .0, (omega arith, fallthrough-by _ _ (at-entry .pre .0 .block) 17 4 (sym (at-code-at .code-at .ensures) ∙ at-match .match .keys18) refl))
+    let read : tie.After-sequence-at = search in
+    let start : tie.Start = search in
+    (start .pre .0, ap valueFallthrough (read .sequence-at .ensures .is))
 
 visit-maybe-throw-requires : tie.Need-visit-maybe-throw-requires
 visit-maybe-throw-requires c κs = search needs
@@ -113,7 +117,8 @@ returns-2 c around =
     let at-match : tie.At-match-keys2 = search in
     let at-code-at : tie.After-code-at = search in
     let at-entry : tie.Start = search in
-    elsewhere around (at-entry .pre .0) (at-code-at .code-at .ensures) (at-match .match .keys2) refl (λ C o. o .seen) (unreachable-left (at-entry .pre .0) (sym (at-code-at .code-at .ensures) ∙ at-match .match .keys2) (c .leave .ensures) _)
+    elsewhere around (at-entry .pre .0) (at-code-at .code-at .ensures) (at-match .match .keys2) refl (λ C o. o .seen)
+    (unreachable-left (at-entry .pre .0) (sym (at-code-at .code-at .ensures) ∙ at-match .match .keys2) (c .leave .ensures) _)
 
 same-length : tie.Need-same-length
 same-length c = search needs
@@ -143,11 +148,7 @@ same-length-3 c = search needs
 returns-5 : tie.Need-returns-5
 returns-5 c around =
     let at-visit-goto : tie.After-visit-goto = search in
-    let at-match : tie.At-match-keys5 = search in
-    let at-code-at : tie.After-code-at = search in
-    let at-entry : tie.Start = search in
-    planned-as (λ F R C. refl) (λ C o. goto-seen _ _ _ _ _ _ around (at-entry .pre .0 .promise) (at-entry .pre .0 .block) C o
-    (sym (at-code-at .code-at .ensures) ∙ at-match .match .keys5)) (at-visit-goto .visit-goto .ensures around)
+    planned-as (λ F R C. refl) (λ C o. goto-seen o) (at-visit-goto .visit-goto .ensures around)
 
 returns-6 : tie.Need-returns-6
 returns-6 c around =
@@ -162,11 +163,7 @@ same-length-4 c = search needs
 returns-7 : tie.Need-returns-7
 returns-7 c around =
     let at-visit-branch : tie.After-visit-branch = search in
-    let at-match : tie.At-match-keys7 = search in
-    let at-code-at : tie.After-code-at = search in
-    let at-entry : tie.Start = search in
-    planned-as (λ F R C. refl) (λ C o. branch-seen _ _ _ _ _ _ around (at-entry .pre .0 .promise) (at-entry .pre .0 .block) C o
-    (sym (at-code-at .code-at .ensures) ∙ at-match .match .keys7)) (at-visit-branch .visit-branch .ensures around)
+    planned-as (λ F R C. refl) (λ C o. branch-seen o) (at-visit-branch .visit-branch .ensures around)
 
 returns-8 : tie.Need-returns-8
 returns-8 c around =
@@ -330,10 +327,14 @@ visit-terminal-spec =
     visit-for-requires
     visit-for-of-requires
     visit-for-in-requires
+    logical-at-requires
     visit-value-requires
+    ternary-at-requires
     visit-value-requires-2
+    optional-at-requires
     visit-value-requires-3
     visit-label-requires
+    sequence-at-requires
     visit-value-requires-4
     visit-maybe-throw-requires
     visit-try-requires
