@@ -22,56 +22,56 @@ pub fn block_count(words: &[u32]) -> u32
     words[1]
 }
 
-pub(crate) fn instruction_count(words: &[u32]) -> u32
+pub fn instruction_count(words: &[u32]) -> u32
     requires { ⌜ 6 ≤ length (now words) ⌝ }
     ensures { λ r. ⌜ r ≡ instructionCount (now (words .entry)) ⌝ }
 {
     words[2]
 }
 
-pub(crate) fn case_count(words: &[u32]) -> u32
+pub fn case_count(words: &[u32]) -> u32
     requires { ⌜ 6 ≤ length (now words) ⌝ }
     ensures { λ r. ⌜ r ≡ caseCount (now (words .entry)) ⌝ }
 {
     words[3]
 }
 
-pub(crate) fn place_count(words: &[u32]) -> u32
+pub fn place_count(words: &[u32]) -> u32
     requires { ⌜ 6 ≤ length (now words) ⌝ }
     ensures { λ r. ⌜ r ≡ placeCount (now (words .entry)) ⌝ }
 {
     words[4]
 }
 
-pub(crate) fn identifier_count(words: &[u32]) -> u32
+pub fn identifier_count(words: &[u32]) -> u32
     requires { ⌜ 6 ≤ length (now words) ⌝ }
     ensures { λ r. ⌜ r ≡ identifierCount (now (words .entry)) ⌝ }
 {
     words[5]
 }
 
-pub(crate) fn instructions_begin(words: &[u32]) -> u32
+pub fn instructions_begin(words: &[u32]) -> u32
     requires { ⌜ Limited (now words) ⌝ }
     ensures { λ r. ⌜ (r ≡ instructionsBegin (now (words .entry))) × (r ≤ 11270) ⌝ }
 {
     6 + block_count(words) * 11
 }
 
-pub(crate) fn cases_begin(words: &[u32]) -> u32
+pub fn cases_begin(words: &[u32]) -> u32
     requires { ⌜ Limited (now words) ⌝ }
     ensures { λ r. ⌜ (r ≡ casesBegin (now (words .entry))) × (r ≤ 39942) ⌝ }
 {
     instructions_begin(words) + instruction_count(words) * 7
 }
 
-pub(crate) fn places_begin(words: &[u32]) -> u32
+pub fn places_begin(words: &[u32]) -> u32
     requires { ⌜ Limited (now words) ⌝ }
     ensures { λ r. ⌜ (r ≡ placesBegin (now (words .entry))) × (r ≤ 41990) ⌝ }
 {
     cases_begin(words) + case_count(words) * 2
 }
 
-pub(crate) fn identifiers_begin(words: &[u32]) -> u32
+pub fn identifiers_begin(words: &[u32]) -> u32
     requires { ⌜ Limited (now words) ⌝ }
     ensures { λ r. ⌜ (r ≡ identifiersBegin (now (words .entry))) × (r ≤ 46086) ⌝ }
 {
