@@ -155,12 +155,12 @@ pub fn walk(words: &[u32], tree: &mut [u32]) -> Walked
         let frame = frames[innermost(p.depth)];
         let jump = jump_at(words, &cx.scheduled, &cx.catch_handlers, p);
         let mut at = search_from(jump, cx.len);
-        let mut top = true;
         let mut loops: u32 = 0;
         let resolved = loop {
             if at == 0 {
                 break Resolved::Nothing;
             }
+            let top = at == cx.len;
             at -= 1;
             let entry = cx.stack[at];
             let target = entry.target;
@@ -168,7 +168,6 @@ pub fn walk(words: &[u32], tree: &mut [u32]) -> Walked
                 break resolve(jump, entry, top, loops);
             }
             loops = count_loop(loops, target);
-            top = false;
         };
         let plan = plan_turn(
             words,
