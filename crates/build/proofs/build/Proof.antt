@@ -2,8 +2,8 @@ use mathlib.Core.Path.{sym, _∙_}
 use Rattle.table.proofs.PromiseLaws.{promised}
 use Rattle.build.proofs.EntryLaws.{unchecked-built, checked-built, accepted-checked}
 use borrow.Author.Needs.{needs}
-use Rattle.build.proofs.build_reactive_function.Statement.{statement}
-use Rattle.build.proofs.build_reactive_function.Tie as tie
+use Rattle.build.proofs.build.Statement.{statement}
+use Rattle.build.proofs.build.Tie as tie
 
 check-requires : tie.Need-check-requires
 check-requires c κs = search needs
@@ -31,7 +31,7 @@ returns c =
     let at-if1 : tie.Then1 = search in
     let at-is-accepted : tie.After-is-accepted = search in
     let at-check : tie.After-check = search in
-    checked-built _ _ _ _ _ (at-check .check .ensures) (sym (at-is-accepted .is-accepted .ensures) ∙ at-if1 .if1 .taken) (at-walk .walk .kept .1 .0)
+    checked-built _ _ _ _ _ _ (at-check .check .ensures) (sym (at-is-accepted .is-accepted .ensures) ∙ at-if1 .if1 .taken) (at-walk .walk .kept .1 .1 .0)
     (at-finish .finish .ensures _ (at-walk .walk .ensures))
 
 code-requires : tie.Need-code-requires
@@ -54,11 +54,11 @@ returns-2 c =
     let at-if1 : tie.Else1 = search in
     let at-is-accepted : tie.After-is-accepted = search in
     let at-check : tie.After-check = search in
-    unchecked-built _ _ _ _ (at-check .check .ensures) (sym (at-is-accepted .is-accepted .ensures) ∙ at-if1 .if1 .left)
+    unchecked-built _ _ _ _ _ (at-check .check .ensures) (sym (at-is-accepted .is-accepted .ensures) ∙ at-if1 .if1 .left)
     (rw (at-place .place .ensures, at-code .code .ensures) at (at-refuse .refuse .ensures))
 
-pub build-reactive-function-spec : {M : Type 1} → statement M
-build-reactive-function-spec =
+pub build-spec : {M : Type 1} → statement M
+build-spec =
     tie.close
     (tie.spec
     check-requires
