@@ -19,7 +19,7 @@ use Rattle.survey.specs.Abstraction.{ruleOf, surveyOf, aimOf, FoundBelow, AimBe
 use Rattle.plan.specs.Plans.{noFrame, framesOf}
 use Rattle.definition.specs.Build.{report}
 use Rattle.build.specs.Driver.{foundBy, goalBy, visitedBlock, planEnds, blockedBy, Reported}
-use Rattle.build.proofs.ApplyLaws.{withMarks, Whole, Changeable, Changed, Blocked, Applicable, Applied, nothing-changed, schedule-changed}
+use Rattle.build.proofs.ApplyLaws.{marks-as, withMarks, Whole, Changeable, Changed, Blocked, Applicable, Applied, nothing-changed, schedule-changed}
 use Rattle.build.proofs.ApplyLaws.{schedule-blocked, unschedule-changed, briefly-changed, briefly-blocked, last-scheduled, changeable-marked}
 use Rattle.build.proofs.ApplyLaws.{whole-marked, plan-applied, last-entry}
 use Rattle.control.specs.declared.Context.{Context}
@@ -206,20 +206,20 @@ module _ (c : tie.In-loop3 Inv-loop2 μ-loop2 Inv-loop3 μ-loop3 Inv-loop μ-loo
   abbrev top-of : tie.At-loop Inv-loop2 μ-loop2 Inv-loop3 μ-loop3 Inv-loop μ-loop
   top-of = head resolved-at
 
-  abbrev begun : tie.Start Inv-loop2 μ-loop2 Inv-loop3 μ-loop3 Inv-loop μ-loop
-  begun = started resolved-at
+  abbrev entered : tie.Start Inv-loop2 μ-loop2 Inv-loop3 μ-loop3 Inv-loop μ-loop
+  entered = started resolved-at
 
   in-use : passing .loop3 .left - 1 < top-of .loop .p .depth
   in-use = omega (arith, c .loop3-test .taken, passing .loop3 .inv .most)
 
   reads : getD (top-of .loop .frames) (passing .loop3 .left - 1) beyond ≡ getD (top-of .loop .frames) (passing .loop3 .left - 1) noFrame
-  reads = frame-at _ _ (begun .pre) (checked-table _ (begun .pre)) _ _ _ _ (top-of .loop .inv .walking) _ in-use
+  reads = frame-at _ _ (entered .pre) (checked-table _ (entered .pre)) _ _ _ _ (top-of .loop .inv .walking) _ in-use
 
-  in-table : getD (top-of .loop .frames) (passing .loop3 .left - 1) noFrame .block < blockCount (now (begun .args .words))
-  in-table = frame-block _ _ (begun .pre) (checked-table _ (begun .pre)) _ _ _ _ (top-of .loop .inv .walking) _ in-use
+  in-table : getD (top-of .loop .frames) (passing .loop3 .left - 1) noFrame .block < blockCount (now (entered .args .words))
+  in-table = frame-block _ _ (entered .pre) (checked-table _ (entered .pre)) _ _ _ _ (top-of .loop .inv .walking) _ in-use
 
   few : top-of .loop .p .depth ≤ 128
-  few = shallow _ _ (begun .pre) (checked-table _ (begun .pre)) _ _ _ _ (top-of .loop .inv .walking)
+  few = shallow _ _ (entered .pre) (checked-table _ (entered .pre)) _ _ _ _ (top-of .loop .inv .walking)
 
 mul-around : tie.Need-mul-around Inv-loop2 μ-loop2 Inv-loop3 μ-loop3 Inv-loop μ-loop
 mul-around c = omega (arith, in-use c, few c)
@@ -231,7 +231,7 @@ pass-requires : tie.Need-pass-requires Inv-loop2 μ-loop2 Inv-loop3 μ-loop3 Inv
 pass-requires c κs =
     let tested : tie.In-loop3 Inv-loop2 μ-loop2 Inv-loop3 μ-loop3 Inv-loop μ-loop = search in
     let sought : tie.After-target-of Inv-loop2 μ-loop2 Inv-loop3 μ-loop3 Inv-loop μ-loop = search in
-    (begun tested .pre, (rw (reads tested) (in-table tested), sought .target-of .ensures .1))
+    (entered tested .pre, (rw (reads tested) (in-table tested), sought .target-of .ensures .1))
 
 loop3-less : tie.Need-loop3-less Inv-loop2 μ-loop2 Inv-loop3 μ-loop3 Inv-loop μ-loop
 loop3-less c = search needs
@@ -250,11 +250,13 @@ module _ (c : tie.After-aim-at Inv-loop2 μ-loop2 Inv-loop3 μ-loop3 Inv-loop μ
   abbrev searched : tie.Joined1 Inv-loop2 μ-loop2 Inv-loop3 μ-loop3 Inv-loop μ-loop
   searched = search
 
-  abbrev surveyed : tie.At-loop3 Inv-loop2 μ-loop2 Inv-loop3 μ-loop3 Inv-loop μ-loop
-  surveyed = search
-
-  abbrev tested : tie.Out-loop3 Inv-loop2 μ-loop2 Inv-loop3 μ-loop3 Inv-loop μ-loop
+  abbrev tested : tie.After-loop3 Inv-loop2 μ-loop2 Inv-loop3 μ-loop3 Inv-loop μ-loop
   tested = search
+
+  abbrev surveyed : tie.At-loop3 Inv-loop2 μ-loop2 Inv-loop3 μ-loop3 Inv-loop μ-loop
+  surveyed =
+      let after : tie.After-loop3 Inv-loop2 μ-loop2 Inv-loop3 μ-loop3 Inv-loop μ-loop = tested in
+      search
 
   aimed : (visits : ℕ) → aimOf (c .aim-at .result) ≡ goalBy (asked-jump searched .jump-at .result)
       (aroundOf (ruleOf (started searched .args .rule))
@@ -423,7 +425,9 @@ module _ (c : tie.After-frame-slot Inv-loop2 μ-loop2 Inv-loop3 μ-loop3 Inv-loo
   goes-on = sym (ended .ends .ensures) ∙ left-at .if3 .left
 
   marks-made : with-marks ≡ withMarks visited (plan .handler) (plan .scope) cx
-  marks-made = rw (← (marked3 .mark3 .ensures), ← (marked2 .mark2 .ensures), ← (visited-at .visited-block .ensures), ← (marked .mark .ensures)) refl
+  marks-made =
+      marks-as visited (plan .handler) (plan .scope) (visited-at .visited-block .result) cx _ _ _ (visited-at .visited-block .ensures) (marked .mark .ensures)
+      (marked2 .mark2 .ensures) (marked3 .mark3 .ensures)
 
   applicable : Applicable visited plan cx
   applicable = turn-applicable (turn planned) goes-on
