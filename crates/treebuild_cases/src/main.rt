@@ -2,6 +2,7 @@
 ghost use mathlib.Core.Path.{_≡_};
 ghost use lib.ListN.{length};
 use libc::STDOUT_FILENO;
+use survey::Rule;
 use text::write::Written;
 use treefile::build_file;
 
@@ -21,7 +22,7 @@ fn printed_bytes() -> [u8; 135245]
 
 fn run(file: &[u8]) {
     let mut out = printed_bytes();
-    let written = build_file(file, &mut out);
+    let written = build_file(Rule::Rust, file, &mut out);
     match written {
         Written::Bytes(count) => send(&out, count),
         Written::NoRoom => send(b"no room\n", 8),

@@ -19,6 +19,7 @@ use Rattle.text.specs.declared.write.Written.the-variants.{Bytes, NoRoom}
 use Rattle.text.specs.Decimal.{choose}
 use Rattle.text.specs.declared.write.Written.{Written}
 use Rattle.text.proofs.AnswerLaws.{room-enough}
+use Rattle.definition.specs.Around.{Rule}
 use Rattle.definition.specs.Build.{built}
 use Rattle.treefile.specs.Prints.{lentWords, printedOutcome, FileBuilt}
 use Rattle.treefile.proofs.OutcomeLaws.{refusal-lines}
@@ -31,15 +32,15 @@ words-within file lent room count h =
 words-read : (file lent : List ℕ) (room count : ℕ) (h : Answered (layout New) file room lent (Words count)) → take count lent ≡ h .0
 words-read file lent room count h = rw (h .4) (take-at (h .0) _ count (h .2))
 
-module _ (file out : List ℕ) (space : ℕ) (r : Written) where
+module _ (rule : Rule) (file out : List ℕ) (space : ℕ) (r : Written) where
   pub tree-built : (lent : List ℕ) (room count : ℕ) → Answered (layout New) file room lent (Words count)
-      → r ≡ writtenOf space (printedOutcome (built (take count lent) lentWords))
-      → out ≡ lentOf space (printedOutcome (built (take count lent) lentWords))
-      → (135245 ≤ space → r ≡ Bytes (length (printedOutcome (built (take count lent) lentWords))))
-      → FileBuilt file space r out
+      → r ≡ writtenOf space (printedOutcome (built rule (take count lent) lentWords))
+      → out ≡ lentOf space (printedOutcome (built rule (take count lent) lentWords))
+      → (135245 ≤ space → r ≡ Bytes (length (printedOutcome (built rule (take count lent) lentWords))))
+      → FileBuilt rule file space r out
   tree-built lent room count h answer bytes enough = record {
-    text = printedOutcome (built (take count lent) lentWords);
-    prints = inl (record { words = h .0; accepted = h .1; lines = ap (λ (words : List ℕ). printedOutcome (built words lentWords)) (words-read file lent room count h) });
+    text = printedOutcome (built rule (take count lent) lentWords);
+    prints = inl (record { words = h .0; accepted = h .1; lines = ap (λ (words : List ℕ). printedOutcome (built rule words lentWords)) (words-read file lent room count h) });
     answer = answer;
     bytes = bytes;
     enough = enough;
@@ -49,7 +50,7 @@ module _ (file out : List ℕ) (space : ℕ) (r : Written) where
       → r ≡ writtenOf space (printed code at 0 0 tree)
       → out ≡ lentOf space (printed code at 0 0 tree)
       → (135245 ≤ space → r ≡ Bytes (length (printed code at 0 0 tree)))
-      → FileBuilt file space r out
+      → FileBuilt rule file space r out
   refusal-built code at tree h answer bytes enough = record {
     text = printed code at 0 0 tree;
     prints = inr (record { code = code; at = at; refusal = h; lines = refusal-lines code at 0 0 tree [] (not-zero h) });
@@ -61,7 +62,7 @@ module _ (file out : List ℕ) (space : ℕ) (r : Written) where
       not-zero : Refusal (layout New) file code at → code ≡ 0 → ⊥
       not-zero d e = ⊎-elim (λ w. omega (arith, w .0, e)) (λ w. omega (arith, w .0, e)) d
 
-  pub never-short : (lent : List ℕ) (room : ℕ) → 16384 ≤ room → Answered (layout New) file room lent read.NoRoom → FileBuilt file space r out
+  pub never-short : (lent : List ℕ) (room : ℕ) → 16384 ≤ room → Answered (layout New) file room lent read.NoRoom → FileBuilt rule file space r out
   never-short lent room p h = absurd (room-enough _ file lent room p h)
 
 -- what was written lies within the lent bytes

@@ -54,7 +54,7 @@ returns c =
     let at-answer : tie.After-answer = search in
     let at-read : tie.After-read = search in
     let w = at-build-words .build-words .ensures in
-    tree-built _ _ _ _ _ _ _ (rw (at-answer .answer .given .1) at (at-read .read .ensures)) (w .0) (w .1 .0) (w .1 .1)
+    tree-built _ _ _ _ _ _ _ _ (rw (at-answer .answer .given .1) at (at-read .read .ensures)) (w .0) (w .1 .0) (w .1 .1)
 
 same-length-2 : tie.Need-same-length-2
 same-length-2 c = search needs
@@ -65,13 +65,13 @@ returns-2 c =
     let at-answer2 : tie.After-answer2 = search in
     let at-read : tie.After-read = search in
     let w = at-write-result .write-result .ensures in
-    refusal-built _ _ _ _ _ _ _ ((rw (at-answer2 .answer2 .given .1) at (at-read .read .ensures)) .0) (w .0) (w .1 .0) (w .1 .1 (omega arith))
+    refusal-built _ _ _ _ _ _ _ _ ((rw (at-answer2 .answer2 .given .1) at (at-read .read .ensures)) .0) (w .0) (w .1 .0) (w .1 .1 (omega arith))
 
 returns-3 : tie.Need-returns-3
 returns-3 c =
     let at-read : tie.After-read = search in
     let at-words : tie.After-lent-words = search in
-    never-short _ _ _ _ _ _ (omega (arith, at-words .lent-words .ensures)) (rw (c .enum-told .given .1) at (at-read .read .ensures))
+    never-short _ _ _ _ _ _ _ (omega (arith, at-words .lent-words .ensures)) (rw (c .enum-told .given .1) at (at-read .read .ensures))
 
 pub build-file-spec : {M : Type 1} → statement M
 build-file-spec =
