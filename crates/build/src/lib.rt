@@ -56,7 +56,8 @@ fn finish(tree: &mut [u32], walked: Walked) -> Outcome
     }
 }
 
-fn build(rule: Rule, words: &[u32], tree: &mut [u32]) -> Outcome
+// By either entry's rule.
+pub fn build(rule: Rule, words: &[u32], tree: &mut [u32]) -> Outcome
     ensures { λ r. ⌜ outcome r (now (tree .exit)) ≡ built (ruleOf rule) (now (words .entry)) (length (now (tree .entry))) ⌝ }
 {
     let checked = check(words);

@@ -7,7 +7,7 @@ use std::sync::atomic::{AtomicU64, Ordering};
 use std::thread;
 use std::time::Instant;
 
-use comparison::candidate::{CANDIDATE, CANDIDATE_CHECK, Candidate};
+use comparison::candidate::{CANDIDATE, CANDIDATE_CHECK, CANDIDATE_LANGUAGE, Candidate};
 use comparison::coverage::Coverage;
 use comparison::generate::{Generated, generate};
 use comparison::language::read_off;
@@ -118,6 +118,11 @@ fn compare(seed: u64, number: u64, coverage: &mut Coverage) {
     coverage.answer(family, expected.0, &expected.1);
     if let Some(candidate) = CANDIDATE {
         compare_with("candidate", candidate, number, &words, &expected, coverage);
+    }
+    if let Some(candidate) = CANDIDATE_LANGUAGE {
+        let mut buffer = vec![STALE; expected.1.len()];
+        let expected = (model::build_language(&words, &mut buffer), buffer);
+        compare_with("language candidate", candidate, number, &words, &expected, coverage);
     }
 }
 

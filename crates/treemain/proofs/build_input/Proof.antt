@@ -3,8 +3,8 @@ use mathlib.Core.Path.{sym}
 use lib.Seq.{length-take-le}
 use Rattle.text.proofs.WriteLaws.{bytes-within}
 use borrow.Author.Needs.{needs}
-use Rattle.treebuild.proofs.main.Statement.{statement}
-use Rattle.treebuild.proofs.main.Tie as tie
+use Rattle.treemain.proofs.build_input.Statement.{statement}
+use Rattle.treemain.proofs.build_input.Tie as tie
 
 file-bytes-requires : tie.Need-file-bytes-requires
 file-bytes-requires c κs = search needs
@@ -46,13 +46,13 @@ array-share-prefix-out : tie.Need-array-share-prefix-out
 array-share-prefix-out c =
     let at-build : tie.After-build-file = search in
     let at-bytes : tie.After-written = search in
-    omega (arith, bytes-within _ _ _ _ (at-build .build-file .ensures .written .answer) (at-bytes .written .given .1), at-build .build-file .kept .1 .0)
+    omega (arith, bytes-within _ _ _ _ (at-build .build-file .ensures .written .answer) (at-bytes .written .given .1), at-build .build-file .kept .1 .1 .0)
 
 slice-aggregate-write-all-2 : tie.Need-slice-aggregate-write-all-2
 slice-aggregate-write-all-2 c =
     let at-build : tie.After-build-file = search in
     let at-bytes : tie.After-written = search in
-    sym (length-take-le _ _ (omega (arith, bytes-within _ _ _ _ (at-build .build-file .ensures .written .answer) (at-bytes .written .given .1), at-build .build-file .kept .1 .0)))
+    sym (length-take-le _ _ (omega (arith, bytes-within _ _ _ _ (at-build .build-file .ensures .written .answer) (at-bytes .written .given .1), at-build .build-file .kept .1 .1 .0)))
 
 write-all-requires : tie.Need-write-all-requires
 write-all-requires c κs = search needs
@@ -66,8 +66,8 @@ returns-2 c = search needs
 returns-3 : tie.Need-returns-3
 returns-3 c = search needs
 
-pub main-spec : {M : Type 1} → statement M
-main-spec =
+pub build-input-spec : {M : Type 1} → statement M
+build-input-spec =
     tie.close
     (tie.spec
     file-bytes-requires
