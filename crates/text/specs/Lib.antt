@@ -9,5 +9,6 @@ pub mod Lent
 pub mod Form
 pub mod Steps
 pub mod Answer
+pub mod Placed
 pub mod Printed
 pub mod Samples
