@@ -95,7 +95,7 @@ length-flat width [] h = omega arith
 length-flat width (row ∷ rows) h = simp length-append (omega (arith, h .0 .long, length-flat width rows (h .1)))
 
 -- what stands behind the first part of the words from `n` on
-behind : (words p q : List ℕ) (n m : ℕ) → drop n words ≡ p ++ q → length p ≡ m → drop (n + m) words ≡ q
+pub behind : (words p q : List ℕ) (n m : ℕ) → drop n words ≡ p ++ q → length p ≡ m → drop (n + m) words ≡ q
 behind words p q n m e l = sym (drop-drop m n words) ∙ rw e (drop-at p q m l)
 
 module _ (f : Layout) (t : Tables) (six : f .head .width ≡ 6) (formed : Formed f t) where

@@ -1,0 +1,4 @@
+pub mod SpanLaws
+pub mod WidenLaws
+pub mod ConvertLaws
+pub mod OldCheckLaws
