@@ -50,7 +50,7 @@ returns c =
     let lent : tie.After-lent-wide = search in
     let start : tie.Start = search in
     let wide = wide-taken _ _ _ (start .pre .0) (start .pre .1) (widened .widen .ensures) (widened .widen .kept .1 .0 ∙ sym (lent .lent-wide .ensures)) in
-    rw (wide .is, wide-converted _ (start .pre .0)) at (wrote .write-wide .ensures)
+    rw (wide .is, wide-converted _ (start .pre .0) _) at (wrote .write-wide .ensures)
 
 pub convert-old-spec : {M : Type 1} → statement M
 convert-old-spec =
