@@ -2,3 +2,4 @@ pub mod SpanLaws
 pub mod WidenLaws
 pub mod ConvertLaws
 pub mod OldCheckLaws
+pub mod RoundTrip

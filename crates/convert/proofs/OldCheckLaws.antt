@@ -248,11 +248,11 @@ module _ (old : List ℕ) (shaped : Shaped (layout Old) old) where
   unfolding word
   head-same k p = wide-head old shaped k p
 
-  blocks-same : blockCount new ≡ blockCount old
+  pub blocks-same : blockCount new ≡ blockCount old
   unfolding blockCount
   blocks-same = head-same 1 (omega arith)
 
-  instructions-same : instructionCount new ≡ instructionCount old
+  pub instructions-same : instructionCount new ≡ instructionCount old
   unfolding instructionCount
   instructions-same = head-same 2 (omega arith)
 
@@ -301,11 +301,11 @@ module _ (old : List ℕ) (shaped : Shaped (layout Old) old) where
   -- ---- the blocks
 
   module _ (b : ℕ) (p : b < blockCount old) where
-    block-same : (k : ℕ) → k < 10 → word new (6 + b * 11 + k) ≡ word old (6 + b * 10 + k)
+    pub block-same : (k : ℕ) → k < 10 → word new (6 + b * 11 + k) ≡ word old (6 + b * 10 + k)
     unfolding blockCount word
     block-same k q = same-word old new _ 10 (getD old 1 0) 6 6 (omega arith) (blocks-fit old shaped) (wide-blocks old shaped) b p k q
 
-    block-last : word new (6 + b * 11 + 10) ≡ word old (6 + b * 10 + 9)
+    pub block-last : word new (6 + b * 11 + 10) ≡ word old (6 + b * 10 + 9)
     unfolding blockCount word
     block-last = last-word old new _ 10 (getD old 1 0) 6 6 (omega arith) (blocks-fit old shaped) (wide-blocks old shaped) b p
 
@@ -334,7 +334,7 @@ module _ (old : List ℕ) (shaped : Shaped (layout Old) old) where
 
   -- ---- the instructions
 
-  begin : instructionsBegin new ≡ 6 + blockCount old * 11
+  pub begin : instructionsBegin new ≡ 6 + blockCount old * 11
   unfolding instructionsBegin blocksBegin
   begin = rw blocks-same
 
@@ -345,12 +345,12 @@ module _ (old : List ℕ) (shaped : Shaped (layout Old) old) where
     abbrev from-old : ℕ
     from-old = instructionsAt (layout Old) old
 
-    instruction-same : (k : ℕ) → k < 6 → word new (from + i * 7 + k) ≡ word old (from-old + i * 6 + k)
+    pub instruction-same : (k : ℕ) → k < 6 → word new (from + i * 7 + k) ≡ word old (from-old + i * 6 + k)
     unfolding blockCount instructionCount word
     instruction-same k q =
         same-word old new _ 6 (getD old 2 0) from-old from (omega arith) (instructions-fit old shaped) (wide-instructions old shaped) i p k q
 
-    instruction-last : word new (from + i * 7 + 6) ≡ word old (from-old + i * 6 + 5)
+    pub instruction-last : word new (from + i * 7 + 6) ≡ word old (from-old + i * 6 + 5)
     unfolding blockCount instructionCount word
     instruction-last = last-word old new _ 6 (getD old 2 0) from-old from (omega arith) (instructions-fit old shaped) (wide-instructions old shaped) i p
 

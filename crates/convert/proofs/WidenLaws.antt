@@ -127,6 +127,10 @@ module _ (old : List ℕ) (shaped : Shaped (layout Old) old) where
   unfolding widened
   wide-head k p = List·getD-append (take 6 old) _ 0 k (omega (arith, head-long)) ∙ getD-take 6 old k 0 p
 
+  pub wide-six : take 6 wide ≡ take 6 old
+  unfolding widened
+  wide-six = take-at (take 6 old) _ 6 head-long
+
   abbrev from-instructions : List ℕ
   from-instructions = doubledRows 6 instructions (drop (instructionsAt (layout Old) old) old) ++ drop (casesAt (layout Old) old) old
 

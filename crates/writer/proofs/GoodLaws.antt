@@ -129,7 +129,7 @@ module _ (f : Layout) (t : Tables) (six : f .head .width ≡ 6) (formed : Formed
   unfolding instructionsAt tail
   from-instructions = behind all (flat (t .blocks)) _ 6 _ from-blocks (long 1 (f .blocks .width) (t .blocks) (omega arith) (formed .blocks))
 
-  from-cases : drop (casesAt f all) all ≡ flat (t .cases) ++ (flat (t .places) ++ (flat (t .identifiers) ++ []))
+  pub from-cases : drop (casesAt f all) all ≡ flat (t .cases) ++ (flat (t .places) ++ (flat (t .identifiers) ++ []))
   unfolding casesAt
   from-cases = behind all (flat (t .instructions)) _ (instructionsAt f all) _ from-instructions (long 2 (f .instructions .width) (t .instructions) (omega arith) (formed .instructions))
 
@@ -174,3 +174,33 @@ good-shaped version file words g = rw (g .word) (tables-shaped (layout version) 
 pub good-is-text : (version : Version) (file words : List ℕ) → Good (layout version) file words → file ≡ textIn (layout version) (layout version) words
 unfolding textIn
 good-is-text version file words g = g .text ∙ ap (textOf (layout version)) (sym (tables-cut (layout version) (g .tables) refl (g .formed)) ∙ ap (tablesIn (layout version) (layout version)) (sym (g .word)))
+
+-- ---- the words of a good file have 32 bits
+
+words-append : (a b : List ℕ) → Words a → Words b → Words (a ++ b)
+words-append [] b p q = q
+words-append (n ∷ a) b p q = (p .0, words-append a b (p .1) q)
+
+words-flat : (width : ℕ) (rows : List (List ℕ)) → Rows width rows → Words (flat rows)
+unfolding flat
+words-flat width [] h = tt
+words-flat width (row ∷ rows) h = words-append row (flat rows) (h .0 .words) (words-flat width rows (h .1))
+
+pub words-narrow : (words : List ℕ) → Words words → Narrow words
+words-narrow [] p i = omega arith
+words-narrow (n ∷ words) p zero = p .0
+words-narrow (n ∷ words) p (suc i) = words-narrow words (p .1) i
+
+pub narrow-append : (a b : List ℕ) → Narrow a → Narrow b → Narrow (a ++ b)
+narrow-append a b p q = words-narrow (a ++ b) (words-append a b (narrow-words a p) (narrow-words b q))
+
+pub good-narrow : (f : Layout) (file words : List ℕ) → Good f file words → Narrow words
+good-narrow f file words g =
+    let t = g .tables in
+    let h = g .formed in
+    let b = words-append (t .head) (flat (t .blocks)) (h .head .words) (words-flat (f .blocks .width) (t .blocks) (h .blocks .each)) in
+    let i = words-append (t .head ++ flat (t .blocks)) (flat (t .instructions)) b (words-flat (f .instructions .width) (t .instructions) (h .instructions .each)) in
+    let c = words-append (t .head ++ flat (t .blocks) ++ flat (t .instructions)) (flat (t .cases)) i (words-flat (f .cases .width) (t .cases) (h .cases .each)) in
+    let p = words-append (t .head ++ flat (t .blocks) ++ flat (t .instructions) ++ flat (t .cases)) (flat (t .places)) c (words-flat (f .places .width) (t .places) (h .places .each)) in
+    let d = words-append (t .head ++ flat (t .blocks) ++ flat (t .instructions) ++ flat (t .cases) ++ flat (t .places)) (flat (t .identifiers)) p (words-flat (f .identifiers .width) (t .identifiers) (h .identifiers .each)) in
+    rw (g .word) (words-narrow (wordsOf t) d)
