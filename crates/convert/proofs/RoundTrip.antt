@@ -21,6 +21,7 @@ use Rattle.text.specs.Lent.{padded}
 use Rattle.text.specs.File.{Tables, Good, wordsOf, textOf}
 use Rattle.text.specs.Answer.{Accepted}
 use Rattle.text.specs.Placed.{Placing, placed}
+use Rattle.text.specs.declared.version.Version.{Version}
 use Rattle.text.specs.declared.version.Version.the-variants.{Old, New}
 use Rattle.text.proofs.AnswerLaws.{good-one, refusal-accepted}
 use Rattle.text.proofs.PlacedLaws.{placed-fits}
@@ -144,3 +145,155 @@ module _ (old : List ℕ) (shaped : Shaped (layout Old) old) where
   pub wide-text : oldText wide ≡ textIn (layout Old) (layout Old) old
   unfolding oldText textIn
   wide-text = ap (textOf (layout Old)) wide-tables
+
+-- 32 bits
+narrow-one : (n : ℕ) → n < 2 ^ 32 → Narrow (n ∷ [])
+narrow-one n p zero = p
+narrow-one n p (suc i) = omega arith
+
+narrow-doubled : (row : List ℕ) → Narrow row → Narrow (doubled row)
+unfolding doubled
+narrow-doubled row p = narrow-append row (getD row (length row - 1) 0 ∷ []) p (narrow-one (getD row (length row - 1) 0) (p (length row - 1)))
+
+narrow-rows : (width count : ℕ) (words : List ℕ) → Narrow words → Narrow (doubledRows width count words)
+narrow-rows width zero words p = rw (doubled-none width 0 words (omega arith)) (λ i. omega arith)
+narrow-rows width (suc count) words p =
+    rw (doubled-open width count words)
+    (narrow-append (doubled (take width words)) (doubledRows width count (drop width words)) (narrow-doubled (take width words) (narrow-take width words p)) (narrow-rows width count (drop width words) (narrow-drop width words p)))
+
+wide-narrow : (old : List ℕ) → Narrow old → Narrow (widened old)
+unfolding widened
+wide-narrow old p =
+    narrow-append (take 6 old) _ (narrow-take 6 old p)
+    (narrow-append (doubledRows 10 (getD old 1 0) (drop 6 old)) _ (narrow-rows 10 (getD old 1 0) (drop 6 old) (narrow-drop 6 old p))
+    (narrow-append (doubledRows 6 (getD old 2 0) (drop (instructionsAt (layout Old) old) old)) _ (narrow-rows 6 (getD old 2 0) _ (narrow-drop (instructionsAt (layout Old) old) old p)) (narrow-drop (casesAt (layout Old) old) old p)))
+
+-- ---- new words whose ends agree
+
+assembled : (a a′ d d′ : List ℕ) (b b′ c c′ : List (List ℕ)) → a ≡ a′ → b ≡ b′ → c ≡ c′ → d ≡ d′
+    → a ++ (flat (map doubled b) ++ (flat (map doubled c) ++ d)) ≡ a′ ++ (flat (map doubled b′) ++ (flat (map doubled c′) ++ d′))
+assembled a a′ d d′ b b′ c c′ e f g h = rw (e, f, g, h)
+
+regroup : (a b c d e f : List ℕ) → a ++ (b ++ (c ++ (d ++ (e ++ (f ++ []))))) ≡ a ++ b ++ c ++ d ++ e ++ f
+regroup a b c d e f = simp (append-assoc, append-nil)
+
+module _ (words : List ℕ) (sized : Sized words) (narrow : Narrow words) (agree : spansVerdict words ≡ accepted) where
+  abbrev tables : Tables
+  tables = tablesIn (layout New) (layout Old) words
+
+  -- the words of their old text
+  abbrev pub narrowed : List ℕ
+  narrowed = wordsOf tables
+
+  shaped : Shaped (layout New) words
+  shaped = sized-shaped words sized
+
+  pub narrowed-good : Good (layout Old) (oldText words) narrowed
+  unfolding oldText textIn
+  narrowed-good = record { tables = tables; formed = tables-formed (layout New) (layout Old) words old-narrower shaped narrow; text = refl; word = refl }
+
+  again : tablesIn (layout Old) (layout Old) narrowed ≡ tables
+  again = tables-cut (layout Old) tables refl (tables-formed (layout New) (layout Old) words old-narrower shaped narrow)
+
+  agrees : (endsAgree words 11 6 (getD words 1 0) ≡ accepted) × (endsAgree words 7 (instructionsAt (layout New) words) (getD words 2 0) ≡ accepted)
+  unfolding spansVerdict blocksBegin instructionsBegin blockCount instructionCount word instructionsAt
+  agrees = both _ _ agree
+
+  blocks-whole : flat (map doubled (cut 11 10 (getD words 1 0) (drop 6 words))) ≡ flat (cut 11 11 (getD words 1 0) (drop 6 words))
+  unfolding endAt identifiersAt placesAt casesAt instructionsAt
+  blocks-whole = agree-doubled words 10 6 (getD words 1 0) (omega arith) (omega (arith, shaped .long)) (agrees .0)
+
+  instructions-whole : flat (map doubled (cut 7 6 (getD words 2 0) (drop (instructionsAt (layout New) words) words))) ≡ flat (cut 7 7 (getD words 2 0) (drop (instructionsAt (layout New) words) words))
+  unfolding endAt identifiersAt placesAt casesAt
+  instructions-whole = agree-doubled words 6 (instructionsAt (layout New) words) (getD words 2 0) (omega arith) (omega (arith, shaped .long)) (agrees .1)
+
+  again-head : take 6 narrowed ≡ take 6 words
+  unfolding tablesIn
+  again-head = ap (λ (t : Tables). t .head) again
+
+  again-blocks : cut 10 10 (getD narrowed 1 0) (drop 6 narrowed) ≡ cut 11 10 (getD words 1 0) (drop 6 words)
+  unfolding tablesIn
+  again-blocks = ap (λ (t : Tables). t .blocks) again
+
+  again-instructions : cut 6 6 (getD narrowed 2 0) (drop (instructionsAt (layout Old) narrowed) narrowed) ≡ cut 7 6 (getD words 2 0) (drop (instructionsAt (layout New) words) words)
+  unfolding tablesIn
+  again-instructions = ap (λ (t : Tables). t .instructions) again
+
+  again-rest : drop (casesAt (layout Old) narrowed) narrowed ≡ flat (tables .cases) ++ (flat (tables .places) ++ (flat (tables .identifiers) ++ []))
+  again-rest = from-cases (layout Old) tables refl (tables-formed (layout New) (layout Old) words old-narrower shaped narrow)
+
+  -- both ends of each row, as they were
+  whole-again : take 6 words
+      ++ (flat (map doubled (cut 11 10 (getD words 1 0) (drop 6 words)))
+      ++ (flat (map doubled (cut 7 6 (getD words 2 0) (drop (instructionsAt (layout New) words) words)))
+      ++ (flat (tables .cases) ++ (flat (tables .places) ++ (flat (tables .identifiers) ++ [])))))
+      ≡ wordsOf (tablesIn (layout New) (layout New) words)
+  unfolding tablesIn
+  whole-again = rw (blocks-whole, instructions-whole) (regroup (take 6 words) _ _ _ _ _)
+
+  -- widened, they are the words again
+  pub widened-again : widened narrowed ≡ words
+  unfolding widened doubledRows
+  widened-again = assembled _ _ _ _ _ _ _ _ again-head again-blocks again-instructions again-rest ∙ whole-again ∙ words-cut (layout New) words shaped
+
+-- ---- the round trips
+
+-- a refused verdict stays refused
+moved-back : (back : ℕ → ℕ) (v : Verdict) → moved back v ≡ accepted → v ≡ accepted
+unfolding moved
+moved-back back accepted e = refl
+moved-back back (refused code at) e = absurd (let z : _≡_ {A = ℕ} 0 1 = cc in omega arith)
+
+-- a whole text in a buffer, accepted
+abbrev pub wholly : (lent : ℕ) → (text : List ℕ) → Placing
+wholly lent text = record { code = 0; at = 0; length = length text; buffer = padded lent text }
+
+-- the text of an answer
+abbrev pub textOfAnswer : Placing → List ℕ
+textOfAnswer answer = take (answer .length) (answer .buffer)
+
+wholly-text : (lent : ℕ) (text : List ℕ) → textOfAnswer (wholly lent text) ≡ text
+wholly-text lent text = take-at text _ (length text) refl
+
+-- old words that are not refused, with room for their text
+new-given : (words : List ℕ) (lent : ℕ) → oldChecked words ≡ accepted → length (tableText (widened words)) ≤ lent → newOfOld words lent ≡ wholly lent (tableText (widened words))
+unfolding newOfOld unlessRefused
+new-given words lent e p = rw e (placed-fits 53 lent (tableText (widened words)) p)
+
+old-given : (words : List ℕ) (lent : ℕ) → checked words ≡ accepted → spansVerdict words ≡ accepted → length (oldText words) ≤ lent → oldOfNew words lent ≡ wholly lent (oldText words)
+unfolding oldOfNew unlessRefused andThen
+old-given words lent e f p = rw (e, f) (placed-fits 53 lent (oldText words) p)
+
+-- an accepted file's answer is that of its words
+pub answer-of : {file words : List ℕ} {lent : ℕ} {answer : Placing} (version : Version) (of : List ℕ → ℕ → Placing) → Accepted (layout version) file words → Converted (layout version) of file lent answer → answer ≡ of words lent
+answer-of {file} {words} {lent} version of a c =
+    ⊎-elim
+    (λ w. w .is ∙ ap (λ (ws : List ℕ). of ws lent) (good-one (layout version) file (w .words) words (w .accepted .good) (a .good)))
+    (λ r. absurd (refusal-accepted (layout version) file words (r .code) (r .at) (r .refused) a))
+    c
+
+-- the words of an old file, widened: not refused, and their old text is the file
+module _ (file words : List ℕ) (a : Accepted (layout Old) file words) where
+  old-shaped : Shaped (layout Old) words
+  old-shaped = good-shaped Old file words (a .good)
+
+  wide-accepted : oldChecked words ≡ accepted → checked (widened words) ≡ accepted
+  wide-accepted e = moved-back _ (checked (widened words)) (sym (checked-moved words old-shaped) ∙ e)
+
+  wide-good : Good (layout New) (tableText (widened words)) (widened words)
+  wide-good = text-good New (widened words) (wide-shaped words old-shaped) (wide-narrow words (good-narrow (layout Old) file words (a .good)))
+
+  wide-file : oldText (widened words) ≡ file
+  wide-file = wide-text words old-shaped ∙ sym (good-is-text Old file words (a .good))
+
+  -- old to new to old: `lent` is enough for the new text, `lent′` for the old one
+  pub old-new-old : (lent lent′ : ℕ) (answer answer′ : Placing) → oldChecked words ≡ accepted → length (tableText (widened words)) ≤ 32768
+      → length (tableText (widened words)) ≤ lent → length file ≤ lent′ → OldToNew file lent answer → NewToOld (textOfAnswer answer) lent′ answer′
+      → (answer ≡ wholly lent (tableText (widened words))) × (answer′ ≡ wholly lent′ file)
+  old-new-old lent lent′ answer answer′ e short room room′ there back =
+      let first : answer ≡ wholly lent (tableText (widened words)) = answer-of Old newOfOld a there ∙ new-given words lent e room in
+      let text : textOfAnswer answer ≡ tableText (widened words) = rw first (wholly-text lent (tableText (widened words))) in
+      let back′ : NewToOld (tableText (widened words)) lent′ answer′ = rw text at back in
+      let good : Accepted (layout New) (tableText (widened words)) (widened words) = record { short = short; good = wide-good } in
+      let fits : length (oldText (widened words)) ≤ lent′ = rw wide-file room′ in
+      (first, answer-of New oldOfNew good back′ ∙ old-given (widened words) lent′ (wide-accepted e) (wide-agrees words old-shaped) fits ∙ ap (wholly lent′) wide-file)
