@@ -11,4 +11,5 @@ pub mod Steps
 pub mod Answer
 pub mod Placed
 pub mod Printed
+pub mod Prints
 pub mod Samples
