@@ -5,8 +5,7 @@ use mathlib.Core.Bool.{Bool, true, false, not}
 use mathlib.Core.Logic.{inl, inr}
 use mathlib.Core.List.{List}
 use native.Mathlib.Omega.{arith}
-use lib.ListN.{length, getD, take, length-append, length-replicate}
-use lib.Seq.{take-at}
+use lib.ListN.{length, getD, take}
 use borrow.Author.Tests.{not-true, not-false}
 use Rattle.table.specs.Words.{word, blockCount, instructionCount, caseCount, placeCount, identifierCount, blocksBegin, instructionsBegin, casesBegin, placesBegin, identifiersBegin, wordsNeeded}
 use Rattle.table.specs.Check.{Verdict, accepted, refused, andThen, checked}
@@ -19,6 +18,7 @@ use Rattle.text.specs.declared.read.Answer.the-variants.{Words}
 use Rattle.text.specs.declared.read.Answer.the-variants as read
 use Rattle.text.specs.declared.version.Version.the-variants.{Old, New}
 use Rattle.text.proofs.AnswerLaws.{room-enough, good-room}
+use Rattle.text.proofs.PrintsLaws.{words-read}
 use Rattle.writer.specs.Cut.{textIn, instructionsAt, casesAt, placesAt, identifiersAt, endAt, Shaped}
 use Rattle.writer.specs.Write.{tableText, unlessRefused}
 use Rattle.writer.proofs.TextLaws.{accepted-placed, refused-placed}
@@ -96,18 +96,12 @@ module _ (words : List ℕ) (verdict : Verdict) (is : verdict ≡ checked words)
 -- ---- what was read
 
 module _ (f : Layout) (file lent : List ℕ) (room count : ℕ) (h : Answered f file room lent (Words count)) where
-  pub words-within : count ≤ length lent
-  words-within = rw (h .4) (simp (length-append, length-replicate) (omega (arith, h .2, h .3)))
-
-  pub words-read : take count lent ≡ h .0
-  words-read = rw (h .4) (take-at (h .0) _ count (h .2))
-
   -- a file has at most 16,384 words
   pub words-few : length (h .0) ≤ 16384
   words-few = omega (arith, good-room f file (h .0) (h .1 .good), h .1 .short)
 
   pub of-words : (of : List ℕ → ℕ → Placing) (space : ℕ) (d : Placing) → d ≡ of (take count lent) space → Converted f of file space d
-  of-words of space d e = inl (record { words = h .0; accepted = h .1; is = e ∙ ap (λ (words : List ℕ). of words space) words-read })
+  of-words of space d e = inl (record { words = h .0; accepted = h .1; is = e ∙ ap (λ (words : List ℕ). of words space) (words-read f file lent room count h) })
 
 pub of-refusal : (f : Layout) (of : List ℕ → ℕ → Placing) (file : List ℕ) (space code at : ℕ) (d : Placing) → Refusal f file code at → d ≡ refusal code at space → Converted f of file space d
 of-refusal f of file space code at d r e = inr (record { code = code; at = at; refused = r; is = e })

@@ -2,4 +2,5 @@ pub mod SpanLaws
 pub mod WidenLaws
 pub mod ConvertLaws
 pub mod OldCheckLaws
+pub mod LengthLaws
 pub mod RoundTrip

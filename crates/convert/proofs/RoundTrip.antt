@@ -35,6 +35,7 @@ use Rattle.convert.specs.Widen.{doubled, doubledRows, widened}
 use Rattle.convert.specs.Convert.{endsAgree, spansVerdict, newOfOld, oldText, oldOfNew, Converted, OldToNew, NewToOld}
 use Rattle.convert.specs.Parts.{oldPlace, moved}
 use Rattle.convert.proofs.SpanLaws.{ends-more}
+use Rattle.convert.proofs.LengthLaws.{old-shorter}
 use Rattle.convert.proofs.WidenLaws.{doubled-open, doubled-none, cut-doubled, blocks-fit, instructions-fit, wide-six, wide-head, wide-blocks, wide-instructions, wide-rest, wide-shaped}
 use Rattle.convert.proofs.OldCheckLaws.{block-same, block-last, instruction-same, instruction-last, begin, blocks-same, instructions-same, checked-moved}
 
@@ -244,6 +245,10 @@ unfolding moved
 moved-back back accepted e = refl
 moved-back back (refused code at) e = absurd (let z : _≡_ {A = ℕ} 0 1 = cc in omega arith)
 
+accepted-moved : (back : ℕ → ℕ) → moved back accepted ≡ accepted
+unfolding moved
+accepted-moved back = refl
+
 -- a whole text in a buffer, accepted
 abbrev pub wholly : (lent : ℕ) → (text : List ℕ) → Placing
 wholly lent text = record { code = 0; at = 0; length = length text; buffer = padded lent text }
@@ -297,3 +302,37 @@ module _ (file words : List ℕ) (a : Accepted (layout Old) file words) where
       let good : Accepted (layout New) (tableText (widened words)) (widened words) = record { short = short; good = wide-good } in
       let fits : length (oldText (widened words)) ≤ lent′ = rw wide-file room′ in
       (first, answer-of New oldOfNew good back′ ∙ old-given (widened words) lent′ (wide-accepted e) (wide-agrees words old-shaped) fits ∙ ap (wholly lent′) wide-file)
+
+-- the words of a new file whose ends agree, narrowed: not refused, and their new text is the file
+module _ (file words : List ℕ) (a : Accepted (layout New) file words) (e : checked words ≡ accepted) (f : spansVerdict words ≡ accepted) where
+  fitting : Sized words
+  fitting = promised words e .sized
+
+  bits : Narrow words
+  bits = good-narrow (layout New) file words (a .good)
+
+  abbrev old-words : List ℕ
+  old-words = narrowed words fitting bits f
+
+  wide-is : widened old-words ≡ words
+  wide-is = widened-again words fitting bits f
+
+  narrowed-accepted : oldChecked old-words ≡ accepted
+  narrowed-accepted =
+      checked-moved old-words (good-shaped Old (oldText words) old-words (narrowed-good words fitting bits f))
+      ∙ rw (wide-is, e) (accepted-moved (oldPlace (blockCount old-words) (instructionCount old-words)))
+
+  new-file : tableText (widened old-words) ≡ file
+  new-file = rw wide-is (sym (good-is-text New file words (a .good)))
+
+  -- new to old to new: `lent` is enough for the old text, `lent′` for the new one
+  pub new-old-new : (lent lent′ : ℕ) (answer answer′ : Placing) → length (oldText words) ≤ lent → length file ≤ lent′ → NewToOld file lent answer → OldToNew (textOfAnswer answer) lent′ answer′
+      → (answer ≡ wholly lent (oldText words)) × (answer′ ≡ wholly lent′ file)
+  new-old-new lent lent′ answer answer′ room room′ there back =
+      let first : answer ≡ wholly lent (oldText words) = answer-of New oldOfNew a there ∙ old-given words lent e f room in
+      let text : textOfAnswer answer ≡ oldText words = rw first (wholly-text lent (oldText words)) in
+      let back′ : OldToNew (oldText words) lent′ answer′ = rw text at back in
+      let short : length (oldText words) ≤ 32768 = omega (arith, old-shorter words, ap (λ (l : List ℕ). length l) (good-is-text New file words (a .good)), a .short) in
+      let good : Accepted (layout Old) (oldText words) old-words = record { short = short; good = narrowed-good words fitting bits f } in
+      let fits : length (tableText (widened old-words)) ≤ lent′ = rw new-file room′ in
+      (first, answer-of Old newOfOld good back′ ∙ new-given old-words lent′ narrowed-accepted fits ∙ ap (wholly lent′) new-file)

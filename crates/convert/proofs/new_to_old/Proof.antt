@@ -2,8 +2,9 @@ use borrow.Author.Needs.{needs}
 use native.Mathlib.Omega.{arith}
 use mathlib.Core.Path.{sym}
 use lib.Seq.{length-take-le}
+use Rattle.text.proofs.PrintsLaws.{words-within}
 use Rattle.convert.specs.Convert.{oldOfNew}
-use Rattle.convert.proofs.ConvertLaws.{words-within, of-words, of-refusal, never-short}
+use Rattle.convert.proofs.ConvertLaws.{of-words, of-refusal, never-short}
 use Rattle.convert.proofs.new_to_old.Statement.{statement}
 use Rattle.convert.proofs.new_to_old.Tie as tie
 

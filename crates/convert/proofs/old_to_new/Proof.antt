@@ -2,10 +2,11 @@ use borrow.Author.Needs.{needs}
 use native.Mathlib.Omega.{arith}
 use mathlib.Core.Path.{sym}
 use lib.Seq.{length-take-le}
+use Rattle.text.proofs.PrintsLaws.{words-within, words-read}
 use Rattle.text.specs.declared.version.Version.the-variants.{Old}
 use Rattle.writer.proofs.GoodLaws.{good-shaped}
 use Rattle.convert.specs.Convert.{newOfOld}
-use Rattle.convert.proofs.ConvertLaws.{words-within, words-read, words-few, of-words, of-refusal, never-short}
+use Rattle.convert.proofs.ConvertLaws.{words-few, of-words, of-refusal, never-short}
 use Rattle.convert.proofs.old_to_new.Statement.{statement}
 use Rattle.convert.proofs.old_to_new.Tie as tie
 
