@@ -4,3 +4,5 @@ pub mod ConvertLaws
 pub mod OldCheckLaws
 pub mod LengthLaws
 pub mod RoundTrip
+pub mod CodeLaws
+pub mod OneAnswer

@@ -36,7 +36,7 @@ use Rattle.convert.specs.Convert.{endsAgree, spansVerdict, newOfOld, old
 use Rattle.convert.specs.Parts.{oldPlace, moved}
 use Rattle.convert.proofs.SpanLaws.{ends-more}
 use Rattle.convert.proofs.LengthLaws.{old-shorter}
-use Rattle.convert.proofs.WidenLaws.{doubled-open, doubled-none, cut-doubled, blocks-fit, instructions-fit, wide-six, wide-head, wide-blocks, wide-instructions, wide-rest, wide-shaped}
+use Rattle.convert.proofs.WidenLaws.{doubled-open, doubled-none, cut-doubled, blocks-fit, instructions-fit, wide-six, wide-head, wide-blocks, wide-shaped, at-instructions, at-cases, at-places, at-identifiers}
 use Rattle.convert.proofs.OldCheckLaws.{block-same, block-last, instruction-same, instruction-last, begin, blocks-same, instructions-same, checked-moved}
 
 -- ---- both ends agree
@@ -108,27 +108,6 @@ module _ (old : List ℕ) (shaped : Shaped (layout Old) old) where
   abbrev wide : List ℕ
   wide = widened old
 
-  at-instructions : drop (instructionsAt (layout New) wide) wide ≡ doubledRows 6 (getD old 2 0) (drop (instructionsAt (layout Old) old) old) ++ drop (casesAt (layout Old) old) old
-  unfolding instructionsAt
-  at-instructions = rw (wide-head old shaped 1 (omega arith)) (wide-instructions old shaped)
-
-  -- where the last tables begin
-  at-cases : drop (casesAt (layout New) wide) wide ≡ drop (casesAt (layout Old) old) old
-  unfolding casesAt instructionsAt
-  at-cases = rw (wide-head old shaped 1 (omega arith), wide-head old shaped 2 (omega arith)) (wide-rest old shaped)
-
-  at-places : drop (placesAt (layout New) wide) wide ≡ drop (placesAt (layout Old) old) old
-  unfolding placesAt
-  at-places =
-      sym (drop-drop (getD wide 3 0 * 2) (casesAt (layout New) wide) wide)
-      ∙ rw (at-cases, wide-head old shaped 3 (omega arith)) (drop-drop (getD old 3 0 * 2) (casesAt (layout Old) old) old)
-
-  at-identifiers : drop (identifiersAt (layout New) wide) wide ≡ drop (identifiersAt (layout Old) old) old
-  unfolding identifiersAt
-  at-identifiers =
-      sym (drop-drop (getD wide 4 0 * 1) (placesAt (layout New) wide) wide)
-      ∙ rw (at-places, wide-head old shaped 4 (omega arith)) (drop-drop (getD old 4 0 * 1) (placesAt (layout Old) old) old)
-
   wide-tables : tablesIn (layout New) (layout Old) wide ≡ tablesIn (layout Old) (layout Old) old
   unfolding tablesIn
   wide-tables =
@@ -136,10 +115,10 @@ module _ (old : List ℕ) (shaped : Shaped (layout Old) old) where
       let b : cut 11 10 (getD wide 1 0) (drop 6 wide) ≡ cut 10 10 (getD old 1 0) (drop 6 old) =
       rw (wide-head old shaped 1 (omega arith), wide-blocks old shaped) (cut-doubled 10 (omega arith) (getD old 1 0) (drop 6 old) _ (blocks-fit old shaped)) in
       let i : cut 7 6 (getD wide 2 0) (drop (instructionsAt (layout New) wide) wide) ≡ cut 6 6 (getD old 2 0) (drop (instructionsAt (layout Old) old) old) =
-      rw (at-instructions, wide-head old shaped 2 (omega arith)) (cut-doubled 6 (omega arith) (getD old 2 0) (drop (instructionsAt (layout Old) old) old) _ (instructions-fit old shaped)) in
-      let c : cut 2 2 (getD wide 3 0) (drop (casesAt (layout New) wide) wide) ≡ cut 2 2 (getD old 3 0) (drop (casesAt (layout Old) old) old) = rw (at-cases, wide-head old shaped 3 (omega arith)) in
-      let p : cut 1 1 (getD wide 4 0) (drop (placesAt (layout New) wide) wide) ≡ cut 1 1 (getD old 4 0) (drop (placesAt (layout Old) old) old) = rw (at-places, wide-head old shaped 4 (omega arith)) in
-      let d : cut 1 1 (getD wide 5 0) (drop (identifiersAt (layout New) wide) wide) ≡ cut 1 1 (getD old 5 0) (drop (identifiersAt (layout Old) old) old) = rw (at-identifiers, wide-head old shaped 5 (omega arith)) in
+      rw (at-instructions old shaped, wide-head old shaped 2 (omega arith)) (cut-doubled 6 (omega arith) (getD old 2 0) (drop (instructionsAt (layout Old) old) old) _ (instructions-fit old shaped)) in
+      let c : cut 2 2 (getD wide 3 0) (drop (casesAt (layout New) wide) wide) ≡ cut 2 2 (getD old 3 0) (drop (casesAt (layout Old) old) old) = rw (at-cases old shaped, wide-head old shaped 3 (omega arith)) in
+      let p : cut 1 1 (getD wide 4 0) (drop (placesAt (layout New) wide) wide) ≡ cut 1 1 (getD old 4 0) (drop (placesAt (layout Old) old) old) = rw (at-places old shaped, wide-head old shaped 4 (omega arith)) in
+      let d : cut 1 1 (getD wide 5 0) (drop (identifiersAt (layout New) wide) wide) ≡ cut 1 1 (getD old 5 0) (drop (identifiersAt (layout Old) old) old) = rw (at-identifiers old shaped, wide-head old shaped 5 (omega arith)) in
       rw (h, b, i, c, p, d)
 
   -- the old text of widened words is that of the old ones

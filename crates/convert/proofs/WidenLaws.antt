@@ -17,7 +17,7 @@ use Rattle.convert.specs.Widen.{doubled, doubledRows, widened}
 
 -- ---- one row
 
-length-doubled : (row : List ℕ) → length (doubled row) ≡ suc (length row)
+pub length-doubled : (row : List ℕ) → length (doubled row) ≡ suc (length row)
 unfolding doubled
 length-doubled row = simp length-append (omega arith)
 
@@ -145,6 +145,27 @@ module _ (old : List ℕ) (shaped : Shaped (layout Old) old) where
   wide-rest =
       behind wide (doubledRows 6 instructions (drop (instructionsAt (layout Old) old) old)) _ (6 + blocks * 11) (instructions * 7) wide-instructions
       (length-doubled-rows 6 (omega arith) instructions _ instructions-fit)
+
+  pub at-instructions : drop (instructionsAt (layout New) wide) wide ≡ doubledRows 6 (getD old 2 0) (drop (instructionsAt (layout Old) old) old) ++ drop (casesAt (layout Old) old) old
+  unfolding instructionsAt
+  at-instructions = rw (wide-head 1 (omega arith)) (wide-instructions)
+
+  -- where the last tables begin
+  pub at-cases : drop (casesAt (layout New) wide) wide ≡ drop (casesAt (layout Old) old) old
+  unfolding casesAt instructionsAt
+  at-cases = rw (wide-head 1 (omega arith), wide-head 2 (omega arith)) (wide-rest)
+
+  pub at-places : drop (placesAt (layout New) wide) wide ≡ drop (placesAt (layout Old) old) old
+  unfolding placesAt
+  at-places =
+      sym (drop-drop (getD wide 3 0 * 2) (casesAt (layout New) wide) wide)
+      ∙ rw (at-cases, wide-head 3 (omega arith)) (drop-drop (getD old 3 0 * 2) (casesAt (layout Old) old) old)
+
+  pub at-identifiers : drop (identifiersAt (layout New) wide) wide ≡ drop (identifiersAt (layout Old) old) old
+  unfolding identifiersAt
+  at-identifiers =
+      sym (drop-drop (getD wide 4 0 * 1) (placesAt (layout New) wide) wide)
+      ∙ rw (at-places, wide-head 4 (omega arith)) (drop-drop (getD old 4 0 * 1) (placesAt (layout Old) old) old)
 
   pub length-wide : length wide ≡ length old + blocks + instructions
   unfolding widened endAt identifiersAt placesAt casesAt instructionsAt

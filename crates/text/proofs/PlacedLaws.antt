@@ -3,11 +3,18 @@ use Prim.Native.Nat.{ℕ, _-_, _≤_, _<_}
 use native.Mathlib.Omega.{arith}
 use mathlib.Core.Path.{_≡_, refl, sym, ap, _∙_}
 use mathlib.Core.Bool.{Bool, true, false}
-use mathlib.Core.List.{List, _++_}
+use mathlib.Core.List.{List, [], _++_}
+use native.Mathlib.Nat.{sub-zero}
+use lib.Dec.{leb}
+use lib.Seq.{take-at}
 use lib.ListN.{length, take, replicate}
-use borrow.Author.Tests.{le-leb, lt-leb}
+use borrow.Author.Tests.{leb-true, le-leb, lt-leb, eq-eqb, ne-eqb}
 use Rattle.text.specs.Lent.{Holds, padded}
-use Rattle.text.specs.Placed.{Placing, refusal, placed}
+use Rattle.text.specs.Printed.{printed, writtenOf, lentOf}
+use Rattle.text.specs.Placed.{Placing, refusal, placed, printedPlacing, Holding}
+use Rattle.text.specs.Prints.{WrittenText}
+use Rattle.text.specs.declared.write.Written.{Written}
+use Rattle.text.specs.declared.write.Written.the-variants.{Bytes}
 use Rattle.text.proofs.LentLaws.{cleared-zeros, cleared-padded}
 
 abbrev made : (code at length : ℕ) → List ℕ → Placing
@@ -42,3 +49,29 @@ pub placed-fits : (short lent : ℕ) (text : List ℕ) → length text ≤ lent
     → placed short lent text ≡ record { code = 0; at = 0; length = length text; buffer = padded lent text }
 unfolding placed
 placed-fits short lent text p = rw (le-leb (length text) lent p, placed)
+
+-- ---- what is printed of an answer
+
+pub holding-refusal : (code at lent : ℕ) → Holding lent (refusal code at lent)
+unfolding refusal
+holding-refusal code at lent = record { text = []; long = refl; fits = omega arith; held = rw (sub-zero lent) refl }
+
+pub holding-placed : (short lent : ℕ) (text : List ℕ) → Holding lent (placed short lent text)
+unfolding placed
+holding-placed short lent text = by (leb (length text) lent) refl
+  where
+    by : (fits : Bool) → leb (length text) lent ≡ fits
+        → Holding lent (elim fits [ true ↦ record { code = 0; at = 0; length = length text; buffer = padded lent text } | false ↦ refusal short 0 lent ])
+    by true e = record { text = text; long = refl; fits = leb-true (length text) lent e; held = refl }
+    by false e = holding-refusal short 0 lent
+
+pub refusal-printing : (d : Placing) {lent : ℕ} {r : Written} {out : List ℕ} → (d .code ≡ 0 → ⊥) → WrittenText 77 (printed (d .code) (d .at) 0 0 []) lent r out → WrittenText 77 (printedPlacing d) lent r out
+unfolding printedPlacing
+refusal-printing d some h = rw (ne-eqb (d .code) 0 some) h
+
+pub text-printing : (lent : ℕ) (d : Placing) → d .code ≡ 0 → Holding lent d → WrittenText 77 (printedPlacing d) lent (Bytes (d .length)) (d .buffer)
+unfolding printedPlacing writtenOf lentOf
+text-printing lent d none h =
+    let text : take (d .length) (d .buffer) ≡ h .text = rw (h .held) (take-at (h .text) _ (d .length) (h .long)) in
+    let room = le-leb (length (h .text)) lent (h .fits) in
+    rw (eq-eqb (d .code) 0 none, text) (record { answer = rw room (ap Bytes (sym (h .long))); bytes = rw room (h .held); enough = λ _. ap Bytes (sym (h .long)) })
