@@ -1,12 +1,13 @@
 //! The seams for the proved libraries. With the feature `candidate` the comparison and the vectors
 //! run the build, with `candidate-check` the comparison runs the check, on every table, and hold
 //! their answers against the reference or the model; with `candidate-dot` and `candidate-tree-check`
-//! their own comparisons run the drawing and the check of trees.
+//! their own comparisons run the drawing and the check of trees, with `candidate-texts` the writer and the converters.
 //!
-//! The archives `libbuild.a`, `libtable.a`, `libdot.a` and `libtreerows.a` are looked for in the folder
+//! The archives `libbuild.a`, `libtable.a`, `libdot.a`, `libtreerows.a`, `libwriter.a` and `libconvert.a` are looked for in the folder
 //! that the variable CANDIDATE_DIR names. All but the check are called through the safe wrappers of ffi/rust.
 
 use crate::model::Outcome;
+use crate::model::convert::Placed;
 use crate::model::dot::Drawn;
 
 pub type Candidate = fn(&[u32], &mut [u32]) -> Outcome;
@@ -15,6 +16,14 @@ pub type Candidate = fn(&[u32], &mut [u32]) -> Outcome;
 pub type CandidateCheck = fn(&[u32]) -> (u32, u32);
 
 pub type CandidateDot = fn(&[u32], &mut [u8]) -> Drawn;
+
+/// The writer, and the two converters.
+#[derive(Clone, Copy)]
+pub struct CandidateTexts {
+    pub write: fn(&[u32], &mut [u8]) -> Placed,
+    pub old_to_new: fn(&[u8], &mut [u8]) -> Placed,
+    pub new_to_old: fn(&[u8], &mut [u8]) -> Placed,
+}
 
 #[cfg(not(feature = "candidate"))]
 pub const CANDIDATE: Option<Candidate> = None;
@@ -68,4 +77,20 @@ pub const CANDIDATE_TREE_CHECK: Option<CandidateCheck> = Some(check_tree);
 fn check_tree(tree: &[u32]) -> (u32, u32) {
     let reactive_build::tree_check::Checked { code, at } = reactive_build::tree_check::check(tree);
     (code, at)
+}
+
+#[cfg(not(feature = "candidate-texts"))]
+pub const CANDIDATE_TEXTS: Option<CandidateTexts> = None;
+
+#[cfg(feature = "candidate-texts")]
+pub const CANDIDATE_TEXTS: Option<CandidateTexts> = Some(CandidateTexts {
+    write: |words, text| placed(reactive_build::table_text::write(words, text)),
+    old_to_new: |file, text| placed(reactive_build::table_text::old_to_new(file, text)),
+    new_to_old: |file, text| placed(reactive_build::table_text::new_to_old(file, text)),
+});
+
+#[cfg(feature = "candidate-texts")]
+fn placed(placed: reactive_build::table_text::Placed) -> Placed {
+    let reactive_build::table_text::Placed { code, at, length } = placed;
+    Placed { code, at, length }
 }
