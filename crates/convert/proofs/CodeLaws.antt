@@ -107,7 +107,9 @@ new-by words lent o p = placed-other (oldChecked words) lent (tableText (widened
 
 old-by : (words : List ℕ) (lent : ℕ) → length (oldText words) ≤ lent → oldOfNew words lent .code < 53
 unfolding oldOfNew spansVerdict
-old-by words lent p = placed-other (andThen (checked words) (spansVerdict words)) lent (oldText words) (then-other _ _ (checked-other words) (then-other _ _ (ends-other words 11 _ _) (ends-other words 7 _ _))) p
+old-by words lent p =
+    placed-other (andThen (checked words) (spansVerdict words)) lent (oldText words)
+    (then-other _ _ (checked-other words) (then-other _ _ (ends-other words 11 _ _) (ends-other words 7 _ _))) p
 
 -- 65,542 bytes are enough for the new text of any old file
 pub new-fits : (file : List ℕ) (lent : ℕ) (answer : Placing) → 65542 ≤ lent → OldToNew file lent answer → answer .code < 53
@@ -138,7 +140,8 @@ unfolding unlessRefused
 unless-holding accepted lent text = holding-placed 53 lent text
 unless-holding (refused code at) lent text = holding-refusal code at lent
 
-converted-holding : (f : Layout) (of : List ℕ → ℕ → Placing) (file : List ℕ) (lent : ℕ) (answer : Placing) → ((words : List ℕ) → Holding lent (of words lent)) → Converted f of file lent answer → Holding lent answer
+converted-holding : (f : Layout) (of : List ℕ → ℕ → Placing) (file : List ℕ) (lent : ℕ) (answer : Placing) → ((words : List ℕ) → Holding lent (of words lent))
+    → Converted f of file lent answer → Holding lent answer
 converted-holding f of file lent answer holds h =
     ⊎-elim (λ (w : OfWords f of file lent answer). rw (w .is) (holds (w .words))) (λ (r : OfRefusal f file lent answer). rw (r .is) (holding-refusal (r .code) (r .at) lent)) h
 

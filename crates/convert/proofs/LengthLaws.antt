@@ -43,11 +43,13 @@ unfolding cut lines
 lines-narrower stride columns zero words = omega arith
 lines-narrower stride columns (suc count) words =
     let e : take (suc columns) words ≡ take columns words ++ take 1 (drop columns words) = rw (← (add-one columns)) (take-add columns 1 words) in
-    let l : length (line (take (suc columns) words)) ≡ length (line (take columns words)) + length (line (take 1 (drop columns words))) = rw e (line-append (take columns words) (take 1 (drop columns words))) in
+    let l : length (line (take (suc columns) words)) ≡ length (line (take columns words)) + length (line (take 1 (drop columns words))) = rw e
+    (line-append (take columns words) (take 1 (drop columns words))) in
     simp length-append (omega (arith, l, lines-narrower stride columns count (drop stride words)))
 
 -- the last word twice
-lines-doubled : (width count : ℕ) (words : List ℕ) → 1 ≤ width → count * width ≤ length words → length (lines (map doubled (cut width width count words))) ≤ 2 * length (lines (cut width width count words))
+lines-doubled : (width count : ℕ) (words : List ℕ) → 1 ≤ width → count * width ≤ length words
+    → length (lines (map doubled (cut width width count words))) ≤ 2 * length (lines (cut width width count words))
 unfolding cut lines
 lines-doubled width zero words p q = omega arith
 lines-doubled width (suc count) words p q =
@@ -75,7 +77,8 @@ old-shorter words =
 -- ---- the new text
 
 -- the rows of widened words, each with its last word twice
-doubled-cut : (width : ℕ) → 1 ≤ width → (count : ℕ) (words rest : List ℕ) → count * width ≤ length words → cut (suc width) (suc width) count (doubledRows width count words ++ rest) ≡ map doubled (cut width width count words)
+doubled-cut : (width : ℕ) → 1 ≤ width → (count : ℕ) (words rest : List ℕ) → count * width ≤ length words
+    → cut (suc width) (suc width) count (doubledRows width count words ++ rest) ≡ map doubled (cut width width count words)
 unfolding cut
 doubled-cut width some zero words rest p = refl
 doubled-cut width some (suc count) words rest p =
@@ -104,9 +107,12 @@ module _ (old : List ℕ) (shaped : Shaped (layout Old) old) where
   unfolding textIn tablesIn
   new-most =
       let h : line (take 6 wide) ≡ line (take 6 old) = rw (wide-six old shaped) in
-      let c : lines (cut 2 2 (getD wide 3 0) (drop (casesAt (layout New) wide) wide)) ≡ lines (cut 2 2 (getD old 3 0) (drop (casesAt (layout Old) old) old)) = rw (at-cases old shaped, wide-head old shaped 3 (omega arith)) in
-      let p : lines (cut 1 1 (getD wide 4 0) (drop (placesAt (layout New) wide) wide)) ≡ lines (cut 1 1 (getD old 4 0) (drop (placesAt (layout Old) old) old)) = rw (at-places old shaped, wide-head old shaped 4 (omega arith)) in
-      let d : lines (cut 1 1 (getD wide 5 0) (drop (identifiersAt (layout New) wide) wide)) ≡ lines (cut 1 1 (getD old 5 0) (drop (identifiersAt (layout Old) old) old)) = rw (at-identifiers old shaped, wide-head old shaped 5 (omega arith)) in
+      let c : lines (cut 2 2 (getD wide 3 0) (drop (casesAt (layout New) wide) wide)) ≡ lines (cut 2 2 (getD old 3 0) (drop (casesAt (layout Old) old) old)) =
+      rw (at-cases old shaped, wide-head old shaped 3 (omega arith)) in
+      let p : lines (cut 1 1 (getD wide 4 0) (drop (placesAt (layout New) wide) wide)) ≡ lines (cut 1 1 (getD old 4 0) (drop (placesAt (layout Old) old) old)) =
+      rw (at-places old shaped, wide-head old shaped 4 (omega arith)) in
+      let d : lines (cut 1 1 (getD wide 5 0) (drop (identifiersAt (layout New) wide) wide)) ≡ lines
+      (cut 1 1 (getD old 5 0) (drop (identifiersAt (layout Old) old) old)) = rw (at-identifiers old shaped, wide-head old shaped 5 (omega arith)) in
       omega (
         arith,
         length-text (layout New) (tablesIn (layout New) (layout New) wide),

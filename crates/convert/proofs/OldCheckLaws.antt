@@ -9,8 +9,11 @@ use lib.Dec.{eqb, ltb, leb}
 use lib.ListN.{length, getD, take, drop, length-append, length-drop}
 use lib.Seq.{length-take-le, getD-take, getD-drop}
 use borrow.Author.Tests.{lt-ltb, le-ltb, eq-eqb, ne-eqb, le-leb, eqb-true, leb-true}
-use Rattle.table.specs.Words.{word, entryWord, blockCount, instructionCount, caseCount, placeCount, identifierCount, blocksBegin, instructionsBegin, casesBegin, placesBegin, identifiersBegin, wordsNeeded, blockWord, instructionWord, largest}
-use Rattle.table.specs.Check.{Verdict, accepted, refused, Rule, unused, number, row, row-or-none, rows-from, end-of, fits, block, block-or-none, place, place-or-none, rulesByCode, terminalRules, operandsByCode, operandRules, blockRules, instructionRules, caseRules, placeRules, identifierRules, andThen, rowVerdict, rowsVerdict, wordsVerdict, limits, countsVerdict, checked}
+use Rattle.table.specs.Words.{word, entryWord, blockCount, instructionCount, caseCount, placeCount, identifierCount, blocksBegin, instructionsBegin, casesBegin}
+use Rattle.table.specs.Words.{placesBegin, identifiersBegin, wordsNeeded, blockWord, instructionWord, largest}
+use Rattle.table.specs.Check.{Verdict, accepted, refused, Rule, unused, number, row, row-or-none, rows-from, end-of, fits, block, block-or-none, place}
+use Rattle.table.specs.Check.{place-or-none, rulesByCode, terminalRules, operandsByCode, operandRules, blockRules, instructionRules, caseRules, placeRules}
+use Rattle.table.specs.Check.{identifierRules, andThen, rowVerdict, rowsVerdict, wordsVerdict, limits, countsVerdict, checked}
 use Rattle.table.proofs.RowLaws.{row-fits}
 use Rattle.table.proofs.RuleLaws.{block-width, instruction-width, case-width, place-width, identifier-width}
 use Rattle.text.specs.Layout.{layout}
@@ -159,7 +162,8 @@ oldRules false first count terminal =
     ∷ number largest
     ∷ []
 
-old-rules : (ws : List ℕ) (b : ℕ) → oldBlockRules ws b ≡ oldRules (eqb (oldBlockWord ws b 2) 0) (oldBlockWord ws b 0) (instructionCount ws) (terminalRules ws (oldBlockWord ws b 2) (oldBlockWord ws b 4))
+old-rules : (ws : List ℕ) (b : ℕ) → oldBlockRules ws b ≡ oldRules (eqb (oldBlockWord ws b 2) 0) (oldBlockWord ws b 0) (instructionCount ws)
+    (terminalRules ws (oldBlockWord ws b 2) (oldBlockWord ws b 4))
 unfolding oldBlockRules
 old-rules ws b = by (eqb (oldBlockWord ws b 2) 0)
   where
@@ -170,7 +174,8 @@ old-rules ws b = by (eqb (oldBlockWord ws b 2) 0)
 
 new-rules : (ws : List ℕ) (b : ℕ)
     → blockRules ws b
-    ≡ oldRules (eqb (blockWord ws b 2) 0) (blockWord ws b 0) (instructionCount ws) (terminalRules ws (blockWord ws b 2) (blockWord ws b 4)) ++ (lastRule (eqb (blockWord ws b 2) 0) (blockWord ws b 9) ∷ [])
+    ≡ oldRules (eqb (blockWord ws b 2) 0) (blockWord ws b 0) (instructionCount ws) (terminalRules ws (blockWord ws b 2) (blockWord ws b 4)) ++
+    (lastRule (eqb (blockWord ws b 2) 0) (blockWord ws b 9) ∷ [])
 unfolding blockRules
 new-rules ws b = by (eqb (blockWord ws b 2) 0)
   where
@@ -225,7 +230,8 @@ new-whole : (ws : List ℕ) → checked ws ≡ whole (ltb (length ws) 6) (counts
 unfolding checked whole
 new-whole ws = refl
 
-whole-moved : (back : ℕ → ℕ) (s s′ : Bool) (v v′ : Verdict) (x x′ b b′ : Bool) (w w′ : Verdict) → s ≡ false → s′ ≡ false → v ≡ moved back v′ → x ≡ true → x′ ≡ true → b′ ≡ b → w ≡ moved back w′ → 0 ≡ back 0
+whole-moved : (back : ℕ → ℕ) (s s′ : Bool) (v v′ : Verdict) (x x′ b b′ : Bool) (w w′ : Verdict) → s ≡ false → s′ ≡ false → v ≡ moved back v′ → x ≡ true
+    → x′ ≡ true → b′ ≡ b → w ≡ moved back w′ → 0 ≡ back 0
     → whole s v x b w ≡ moved back (whole s′ v′ x′ b′ w′)
 unfolding whole moved
 whole-moved back s s′ v v′ x x′ b b′ w w′ short short′ counts exact exact′ enters words here = rw (short, short′, counts, exact, exact′, enters, words) (by v′ b)
@@ -317,7 +323,15 @@ module _ (old : List ℕ) (shaped : Shaped (layout Old) old) where
     unfolding blockWord oldBlockWord blocksBegin
     block-rules =
         new-rules new b
-        ∙ rw (block-same 2 (omega arith), block-same 0 (omega arith), block-same 4 (omega arith), block-same 9 (omega arith), instructions-same, terminal-same (word old (6 + b * 10 + 2)) (word old (6 + b * 10 + 4)), old-rules old b)
+        ∙ rw (
+          block-same 2 (omega arith),
+          block-same 0 (omega arith),
+          block-same 4 (omega arith),
+          block-same 9 (omega arith),
+          instructions-same,
+          terminal-same (word old (6 + b * 10 + 2)) (word old (6 + b * 10 + 4)),
+          old-rules old b,
+        )
 
     block-fits : rowVerdict new (6 + b * 11) (oldBlockRules old b) ≡ accepted
         → fits (lastRule (eqb (oldBlockWord old b 2) 0) (oldBlockWord old b 9)) (word new (6 + b * 11 + length (oldBlockRules old b))) ≡ true
@@ -363,7 +377,8 @@ module _ (old : List ℕ) (shaped : Shaped (layout Old) old) where
     unfolding instructionRules instructionWord oldInstructionRules oldInstructionWord
     instruction-rules = rw (begin, instruction-same 2 (omega arith), instruction-same 5 (omega arith), operands-same (word old (from-old + i * 6 + 2)), place-is)
 
-    instruction-fits : rowVerdict new (from + i * 7) (oldInstructionRules old i) ≡ accepted → fits (end-of (oldInstructionWord old i 5)) (word new (from + i * 7 + length (oldInstructionRules old i))) ≡ true
+    instruction-fits : rowVerdict new (from + i * 7) (oldInstructionRules old i) ≡ accepted
+        → fits (end-of (oldInstructionWord old i 5)) (word new (from + i * 7 + length (oldInstructionRules old i))) ≡ true
     unfolding oldInstructionWord oldInstructionRules
     instruction-fits h =
         let first : fits (number largest) (word new (from + i * 7 + 5)) ≡ true = span-fits new (from + i * 7) 5 (oldInstructionRules old i) h (omega arith) in
@@ -371,7 +386,8 @@ module _ (old : List ℕ) (shaped : Shaped (layout Old) old) where
 
     instruction-moved : rowVerdict old (from-old + i * 6) (oldInstructionRules old i) ≡ moved back (rowVerdict new (from + i * 7) (instructionRules new i))
     instruction-moved =
-        row-moved old new back (from-old + i * 6) (from + i * 7) (oldInstructionRules old i) (λ k q. instruction-same k (rw (old-instruction-width old i) at q)) (λ k q. instruction-back k (rw (old-instruction-width old i) at q))
+        row-moved old new back (from-old + i * 6) (from + i * 7) (oldInstructionRules old i) (λ k q. instruction-same k (rw (old-instruction-width old i) at q))
+        (λ k q. instruction-back k (rw (old-instruction-width old i) at q))
         ∙ ap (moved back) (sym (row-more new (from + i * 7) (oldInstructionRules old i) _ instruction-fits) ∙ ap (rowVerdict new (from + i * 7)) (sym instruction-rules))
 
   -- ---- the other tables
@@ -453,12 +469,14 @@ module _ (old : List ℕ) (shaped : Shaped (layout Old) old) where
       ≡ moved back (rowsVerdict new (instructionRules new) (instructionsBegin new) 0 (instructionCount new))
   instructions-moved =
       rw (begin, instructions-same)
-      (rows-moved old new back (oldInstructionRules old) (instructionRules new) 6 7 (old-instruction-width old) (instruction-width new) (instructionsAt (layout Old) old) (6 + blockCount old * 11) 0 (instructionCount old)
+      (rows-moved old new back (oldInstructionRules old) (instructionRules new) 6 7 (old-instruction-width old) (instruction-width new)
+      (instructionsAt (layout Old) old) (6 + blockCount old * 11) 0 (instructionCount old)
       (λ i p. rw (zero-add i) (instruction-moved i p)))
 
   cases-moved : rowsVerdict old (caseRules old) (casesAt (layout Old) old) 0 (caseCount old) ≡ moved back (rowsVerdict new (caseRules new) (casesBegin new) 0 (caseCount new))
   cases-moved =
-      rw (cases-begin, cases-same) (ap (λ (at : ℕ). rowsVerdict old (caseRules old) at 0 (caseCount old)) old-cases ∙ rest-rows (caseRules old) (caseRules new) 2 0 (caseCount old) (case-width old) case-rules-same)
+      rw (cases-begin, cases-same) (ap (λ (at : ℕ). rowsVerdict old (caseRules old) at 0 (caseCount old)) old-cases ∙ rest-rows (caseRules old) (caseRules new)
+      2 0 (caseCount old) (case-width old) case-rules-same)
 
   places-moved : rowsVerdict old (placeRules old) (placesAt (layout Old) old) 0 (placeCount old) ≡ moved back (rowsVerdict new (placeRules new) (placesBegin new) 0 (placeCount new))
   places-moved = rw (places-begin, places-same, old-places) (rest-rows (placeRules old) (placeRules new) 1 (caseCount old * 2) (placeCount old) (place-width old) place-rules-same)
@@ -495,7 +513,8 @@ module _ (old : List ℕ) (shaped : Shaped (layout Old) old) where
   entry-same = head-same 0 (omega arith)
 
   new-long : length new ≡ wordsNeeded new
-  unfolding endAt identifiersAt placesAt casesAt instructionsAt wordsNeeded identifiersBegin placesBegin casesBegin instructionsBegin blocksBegin blockCount instructionCount caseCount placeCount identifierCount word
+  unfolding endAt identifiersAt placesAt casesAt instructionsAt wordsNeeded identifiersBegin placesBegin casesBegin instructionsBegin blocksBegin blockCount
+      instructionCount caseCount placeCount identifierCount word
   new-long = omega (arith, wide-shaped old shaped .long)
 
   pub checked-moved : oldChecked old ≡ moved back (checked new)

@@ -36,13 +36,16 @@ use Rattle.convert.specs.Convert.{endsAgree, spansVerdict, newOfOld, old
 use Rattle.convert.specs.Parts.{oldPlace, moved}
 use Rattle.convert.proofs.SpanLaws.{ends-more}
 use Rattle.convert.proofs.LengthLaws.{old-shorter}
-use Rattle.convert.proofs.WidenLaws.{doubled-open, doubled-none, cut-doubled, blocks-fit, instructions-fit, wide-six, wide-head, wide-blocks, wide-shaped, at-instructions, at-cases, at-places, at-identifiers}
+use Rattle.convert.proofs.WidenLaws.{doubled-open, doubled-none, cut-doubled, blocks-fit, instructions-fit, wide-six, wide-head, wide-blocks}
+use Rattle.convert.proofs.WidenLaws.{wide-shaped, at-instructions, at-cases, at-places, at-identifiers}
 use Rattle.convert.proofs.OldCheckLaws.{block-same, block-last, instruction-same, instruction-last, begin, blocks-same, instructions-same, checked-moved}
 
 -- ---- both ends agree
 
 -- rows whose ends agree
-all-agree : (words : List ℕ) (width at count : ℕ) → ((i : ℕ) → i < count → getD words (at + i * width + (width - 2)) 0 ≡ getD words (at + i * width + (width - 1)) 0) → endsAgree words width at count ≡ accepted
+all-agree : (words : List ℕ) (width at count : ℕ)
+    → ((i : ℕ) → i < count → getD words (at + i * width + (width - 2)) 0 ≡ getD words (at + i * width + (width - 1)) 0)
+    → endsAgree words width at count ≡ accepted
 unfolding endsAgree
 all-agree words width at zero h = refl
 all-agree words width at (suc count) h =
@@ -116,9 +119,12 @@ module _ (old : List ℕ) (shaped : Shaped (layout Old) old) where
       rw (wide-head old shaped 1 (omega arith), wide-blocks old shaped) (cut-doubled 10 (omega arith) (getD old 1 0) (drop 6 old) _ (blocks-fit old shaped)) in
       let i : cut 7 6 (getD wide 2 0) (drop (instructionsAt (layout New) wide) wide) ≡ cut 6 6 (getD old 2 0) (drop (instructionsAt (layout Old) old) old) =
       rw (at-instructions old shaped, wide-head old shaped 2 (omega arith)) (cut-doubled 6 (omega arith) (getD old 2 0) (drop (instructionsAt (layout Old) old) old) _ (instructions-fit old shaped)) in
-      let c : cut 2 2 (getD wide 3 0) (drop (casesAt (layout New) wide) wide) ≡ cut 2 2 (getD old 3 0) (drop (casesAt (layout Old) old) old) = rw (at-cases old shaped, wide-head old shaped 3 (omega arith)) in
-      let p : cut 1 1 (getD wide 4 0) (drop (placesAt (layout New) wide) wide) ≡ cut 1 1 (getD old 4 0) (drop (placesAt (layout Old) old) old) = rw (at-places old shaped, wide-head old shaped 4 (omega arith)) in
-      let d : cut 1 1 (getD wide 5 0) (drop (identifiersAt (layout New) wide) wide) ≡ cut 1 1 (getD old 5 0) (drop (identifiersAt (layout Old) old) old) = rw (at-identifiers old shaped, wide-head old shaped 5 (omega arith)) in
+      let c : cut 2 2 (getD wide 3 0) (drop (casesAt (layout New) wide) wide) ≡ cut 2 2 (getD old 3 0) (drop (casesAt (layout Old) old) old) = rw
+      (at-cases old shaped, wide-head old shaped 3 (omega arith)) in
+      let p : cut 1 1 (getD wide 4 0) (drop (placesAt (layout New) wide) wide) ≡ cut 1 1 (getD old 4 0) (drop (placesAt (layout Old) old) old) = rw
+      (at-places old shaped, wide-head old shaped 4 (omega arith)) in
+      let d : cut 1 1 (getD wide 5 0) (drop (identifiersAt (layout New) wide) wide) ≡ cut 1 1 (getD old 5 0) (drop (identifiersAt (layout Old) old) old) = rw
+      (at-identifiers old shaped, wide-head old shaped 5 (omega arith)) in
       rw (h, b, i, c, p, d)
 
   -- the old text of widened words is that of the old ones
@@ -139,14 +145,16 @@ narrow-rows : (width count : ℕ) (words : List ℕ) → Narrow words → Narrow
 narrow-rows width zero words p = rw (doubled-none width 0 words (omega arith)) (λ i. omega arith)
 narrow-rows width (suc count) words p =
     rw (doubled-open width count words)
-    (narrow-append (doubled (take width words)) (doubledRows width count (drop width words)) (narrow-doubled (take width words) (narrow-take width words p)) (narrow-rows width count (drop width words) (narrow-drop width words p)))
+    (narrow-append (doubled (take width words)) (doubledRows width count (drop width words)) (narrow-doubled (take width words) (narrow-take width words p))
+    (narrow-rows width count (drop width words) (narrow-drop width words p)))
 
 wide-narrow : (old : List ℕ) → Narrow old → Narrow (widened old)
 unfolding widened
 wide-narrow old p =
     narrow-append (take 6 old) _ (narrow-take 6 old p)
     (narrow-append (doubledRows 10 (getD old 1 0) (drop 6 old)) _ (narrow-rows 10 (getD old 1 0) (drop 6 old) (narrow-drop 6 old p))
-    (narrow-append (doubledRows 6 (getD old 2 0) (drop (instructionsAt (layout Old) old) old)) _ (narrow-rows 6 (getD old 2 0) _ (narrow-drop (instructionsAt (layout Old) old) old p)) (narrow-drop (casesAt (layout Old) old) old p)))
+    (narrow-append (doubledRows 6 (getD old 2 0) (drop (instructionsAt (layout Old) old) old)) _
+    (narrow-rows 6 (getD old 2 0) _ (narrow-drop (instructionsAt (layout Old) old) old p)) (narrow-drop (casesAt (layout Old) old) old p)))
 
 -- ---- new words whose ends agree
 
@@ -249,7 +257,8 @@ unfolding oldOfNew unlessRefused andThen
 old-given words lent e f p = rw (e, f) (placed-fits 53 lent (oldText words) p)
 
 -- an accepted file's answer is that of its words
-pub answer-of : {file words : List ℕ} {lent : ℕ} {answer : Placing} (version : Version) (of : List ℕ → ℕ → Placing) → Accepted (layout version) file words → Converted (layout version) of file lent answer → answer ≡ of words lent
+pub answer-of : {file words : List ℕ} {lent : ℕ} {answer : Placing} (version : Version) (of : List ℕ → ℕ → Placing) → Accepted (layout version) file words
+    → Converted (layout version) of file lent answer → answer ≡ of words lent
 answer-of {file} {words} {lent} version of a c =
     ⊎-elim
     (λ w. w .is ∙ ap (λ (ws : List ℕ). of ws lent) (good-one (layout version) file (w .words) words (w .accepted .good) (a .good)))

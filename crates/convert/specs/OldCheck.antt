@@ -6,7 +6,8 @@ use mathlib.Core.Bool.{true, false}
 use lib.ListN.{getD, length, replicate}
 use lib.Dec.{eqb, ltb}
 use Rattle.table.specs.Words.{word, entryWord, blockCount, instructionCount, caseCount, placeCount, identifierCount, largest}
-use Rattle.table.specs.Check.{Verdict, accepted, refused, Rule, unused, number, rows-from, place, terminalRules, operandRules, caseRules, placeRules, identifierRules, andThen, rowsVerdict, limits, countsVerdict}
+use Rattle.table.specs.Check.{Verdict, accepted, refused, Rule, unused, number, rows-from, place, terminalRules, operandRules, caseRules, placeRules}
+use Rattle.table.specs.Check.{identifierRules, andThen, rowsVerdict, limits, countsVerdict}
 use Rattle.text.specs.Layout.{layout}
 use Rattle.text.specs.declared.version.Version.the-variants.{Old}
 use Rattle.writer.specs.Cut.{instructionsAt, casesAt, placesAt, identifiersAt, endAt}

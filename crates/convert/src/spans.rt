@@ -60,5 +60,10 @@ pub fn first_apart(words: &[u32]) -> u32
     if apart != 0 {
         return apart;
     }
-    apart_in(words, instructions_begin(words), instruction_count(words), 7)
+    apart_in(
+        words,
+        instructions_begin(words),
+        instruction_count(words),
+        7,
+    )
 }

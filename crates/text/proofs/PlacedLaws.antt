@@ -65,7 +65,8 @@ holding-placed short lent text = by (leb (length text) lent) refl
     by true e = record { text = text; long = refl; fits = leb-true (length text) lent e; held = refl }
     by false e = holding-refusal short 0 lent
 
-pub refusal-printing : (d : Placing) {lent : ℕ} {r : Written} {out : List ℕ} → (d .code ≡ 0 → ⊥) → WrittenText 77 (printed (d .code) (d .at) 0 0 []) lent r out → WrittenText 77 (printedPlacing d) lent r out
+pub refusal-printing : (d : Placing) {lent : ℕ} {r : Written} {out : List ℕ} → (d .code ≡ 0 → ⊥) → WrittenText 77 (printed (d .code) (d .at) 0 0 []) lent r out
+    → WrittenText 77 (printedPlacing d) lent r out
 unfolding printedPlacing
 refusal-printing d some h = rw (ne-eqb (d .code) 0 some) h
 

@@ -60,9 +60,10 @@ pub cut-rows : (stride columns count : ℕ) (words : List ℕ) → columns ≤ s
 unfolding cut
 cut-rows stride columns zero words c p n = tt
 cut-rows stride columns (suc count) words c p n =
-    let e : suc count * stride ≡ stride + count * stride = omega arith in
-    ( record { long = length-take-le columns words (omega arith); words = narrow-words (take columns words) (narrow-take columns words n) }
-    , cut-rows stride columns count (drop stride words) c (rw (length-drop stride words) (omega arith)) (narrow-drop stride words n) )
+    let e : suc count * stride ≡ stride + count * stride = omega arith in (
+      record { long = length-take-le columns words (omega arith); words = narrow-words (take columns words) (narrow-take columns words n) },
+      cut-rows stride columns count (drop stride words) c (rw (length-drop stride words) (omega arith)) (narrow-drop stride words n),
+    )
 
 -- the rows that stand first in the words
 pub cut-flat : (width : ℕ) (rows : List (List ℕ)) (rest : List ℕ) → Rows width rows → cut width width (length rows) (flat rows ++ rest) ≡ rows

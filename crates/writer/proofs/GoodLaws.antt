@@ -37,7 +37,14 @@ module _ (f : Layout) (words : List ℕ) (shaped : Shaped f words) where
       let i = getD words 2 0 * f .instructions .width in
       let c = getD words 3 0 * f .cases .width in
       let p = getD words 4 0 * f .places .width in
-      rw (flat-cut (f .blocks .width) (getD words 1 0) (drop 6 words), flat-cut (f .instructions .width) (getD words 2 0) _, flat-cut (f .cases .width) (getD words 3 0) _, flat-cut (f .places .width) (getD words 4 0) _, flat-cut (f .identifiers .width) (getD words 5 0) _, last-words)
+      rw (
+        flat-cut (f .blocks .width) (getD words 1 0) (drop 6 words),
+        flat-cut (f .instructions .width) (getD words 2 0) _,
+        flat-cut (f .cases .width) (getD words 3 0) _,
+        flat-cut (f .places .width) (getD words 4 0) _,
+        flat-cut (f .identifiers .width) (getD words 5 0) _,
+        last-words,
+      )
       (rw (← (take-add 6 b words), ← (take-add (6 + b) i words), ← (take-add (6 + b + i) c words), ← (take-add (6 + b + i + c) p words)) (take-append-drop (6 + b + i + c + p) words))
 
 -- ---- the tables of words are formed
@@ -173,7 +180,9 @@ good-shaped version file words g = rw (g .word) (tables-shaped (layout version) 
 
 pub good-is-text : (version : Version) (file words : List ℕ) → Good (layout version) file words → file ≡ textIn (layout version) (layout version) words
 unfolding textIn
-good-is-text version file words g = g .text ∙ ap (textOf (layout version)) (sym (tables-cut (layout version) (g .tables) refl (g .formed)) ∙ ap (tablesIn (layout version) (layout version)) (sym (g .word)))
+good-is-text version file words g =
+    g .text ∙ ap (textOf (layout version)) (sym (tables-cut (layout version) (g .tables) refl (g .formed)) ∙ ap (tablesIn (layout version) (layout version))
+    (sym (g .word)))
 
 -- ---- the words of a good file have 32 bits
 
@@ -202,5 +211,6 @@ good-narrow f file words g =
     let i = words-append (t .head ++ flat (t .blocks)) (flat (t .instructions)) b (words-flat (f .instructions .width) (t .instructions) (h .instructions .each)) in
     let c = words-append (t .head ++ flat (t .blocks) ++ flat (t .instructions)) (flat (t .cases)) i (words-flat (f .cases .width) (t .cases) (h .cases .each)) in
     let p = words-append (t .head ++ flat (t .blocks) ++ flat (t .instructions) ++ flat (t .cases)) (flat (t .places)) c (words-flat (f .places .width) (t .places) (h .places .each)) in
-    let d = words-append (t .head ++ flat (t .blocks) ++ flat (t .instructions) ++ flat (t .cases) ++ flat (t .places)) (flat (t .identifiers)) p (words-flat (f .identifiers .width) (t .identifiers) (h .identifiers .each)) in
+    let d = words-append (t .head ++ flat (t .blocks) ++ flat (t .instructions) ++ flat (t .cases) ++ flat (t .places)) (flat (t .identifiers)) p
+    (words-flat (f .identifiers .width) (t .identifiers) (h .identifiers .each)) in
     rw (g .word) (words-narrow (wordsOf t) d)

@@ -43,7 +43,8 @@ sized-within words s = omega (arith, s .long, s .limited)
 
 -- today's words that are as many as their head says
 pub sized-shaped : (words : List ℕ) → Sized words → Shaped (layout New) words
-unfolding wordsNeeded identifiersBegin placesBegin casesBegin instructionsBegin blocksBegin blockCount instructionCount caseCount placeCount identifierCount word endAt identifiersAt placesAt casesAt instructionsAt
+unfolding wordsNeeded identifiersBegin placesBegin casesBegin instructionsBegin blocksBegin blockCount instructionCount caseCount placeCount identifierCount
+    word endAt identifiersAt placesAt casesAt instructionsAt
 sized-shaped words s = record { head = s .limited .head; long = omega (arith, s .long) }
 
 -- ---- the text
@@ -58,11 +59,13 @@ text-parts : (version : Version) (words : List ℕ)
     ++ (partText (instructionColumns New) (instructionColumns version) (instructionCount words) (instructionsBegin words) words
     ++ restText words))
     ≡ textIn (layout New) (layout version) words
-unfolding textIn tablesIn cut lines identifiersBegin placesBegin casesBegin instructionsBegin blocksBegin blockCount instructionCount caseCount placeCount identifierCount word identifiersAt placesAt casesAt instructionsAt
+unfolding textIn tablesIn cut lines identifiersBegin placesBegin casesBegin instructionsBegin blocksBegin blockCount instructionCount caseCount placeCount
+    identifierCount word identifiersAt placesAt casesAt instructionsAt
 text-parts version words =
     let one : getD words 4 0 * 1 ≡ getD words 4 0 = omega arith in
     rw one
-    (regroup (layout New .head .names) (line (take 6 words)) (blockColumns version .names) _ (instructionColumns version .names) _ (layout New .cases .names) _ (layout New .places .names) _ (layout New .identifiers .names) _)
+    (regroup (layout New .head .names) (line (take 6 words)) (blockColumns version .names) _ (instructionColumns version .names) _ (layout New .cases .names) _
+    (layout New .places .names) _ (layout New .identifiers .names) _)
 
 -- its parts, one after the other
 pub tables-wrote : {b b₁ b₂ b₃ b₄ : List ℕ} {n₁ n₂ n₃ n₄ : ℕ} (version : Version) (words : List ℕ)

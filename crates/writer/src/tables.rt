@@ -14,14 +14,13 @@ use text::write::write_names;
 ghost use mathlib.Core.List.{_++_};
 ghost use Prim.Native.Nat.{_+_, _*_, _^_, _<_, _≤_};
 ghost use lib.ListN.{length, drop};
-ghost use Rattle.table.specs.Words.{blockCount, instructionCount, instructionsBegin};
 ghost use Rattle.table.specs.Promise.{Sized};
-ghost use Rattle.text.specs.Layout.{layout, blockColumns, instructionColumns};
+ghost use Rattle.text.specs.Layout.{layout};
 ghost use Rattle.text.specs.Line.{lines};
 ghost use Rattle.text.specs.Printed.{Wrote};
 ghost use Rattle.text.specs.declared.version.Version.the-variants.{New};
 ghost use Rattle.writer.specs.Cut.{cut, textIn};
-ghost use Rattle.writer.specs.Parts.{partText, headText, restText};
+ghost use Rattle.writer.specs.Parts.{blockText, instructionText, headText, restText};
 
 // A line for each of `rows` rows of `stride` words from the word `first` on: the first `columns` words of each.
 fn write_rows(
@@ -81,7 +80,7 @@ fn write_part(
 fn write_blocks(words: &[u32], version: Version, text: &mut [u8], start: usize) -> usize
     requires { ⌜ Sized (now words) ⌝ }
     requires { ⌜ start + 495680 < 2 ^ 64 ⌝ }
-    ensures { λ r. ⌜ Wrote (now (text .entry)) start (partText (blockColumns New) (blockColumns version) (blockCount (now (words .entry))) 6 (now (words .entry))) (now (text .exit)) r ⌝ }
+    ensures { λ r. ⌜ Wrote (now (text .entry)) start (blockText version (now (words .entry))) (now (text .exit)) r ⌝ }
     ensures { λ r. ⌜ r ≤ start + 495680 ⌝ }
 {
     let rows = block_count(words);
@@ -113,7 +112,7 @@ fn write_blocks(words: &[u32], version: Version, text: &mut [u8], start: usize) 
 fn write_instructions(words: &[u32], version: Version, text: &mut [u8], start: usize) -> usize
     requires { ⌜ Sized (now words) ⌝ }
     requires { ⌜ start + 495680 < 2 ^ 64 ⌝ }
-    ensures { λ r. ⌜ Wrote (now (text .entry)) start (partText (instructionColumns New) (instructionColumns version) (instructionCount (now (words .entry))) (instructionsBegin (now (words .entry))) (now (words .entry))) (now (text .exit)) r ⌝ }
+    ensures { λ r. ⌜ Wrote (now (text .entry)) start (instructionText version (now (words .entry))) (now (text .exit)) r ⌝ }
     ensures { λ r. ⌜ r ≤ start + 495680 ⌝ }
 {
     let first = instructions_begin(words) as usize;

@@ -142,7 +142,9 @@ returns c =
     let start : tie.Start Inv-loop μ-loop = search in
     let I = turn .loop .inv in
     let step = rows-left (turn .loop .left) (start .args .width) (within .loop-test .taken) in
-    apart-some _ (omega (arith, start .pre)) ∙ sym (sym (I .rest) ∙ ends-apart (start .args .words .now) (start .args .width) (turn .loop .from) (turn .loop .left) (within .loop-test .taken) (apart .if1 .taken))
+    apart-some _ (omega (arith, start .pre)) ∙ sym
+    (sym (I .rest) ∙ ends-apart (start .args .words .now) (start .args .width) (turn .loop .from) (turn .loop .left) (within .loop-test .taken)
+    (apart .if1 .taken))
 
 add-from : tie.Need-add-from Inv-loop μ-loop
 add-from c =

@@ -110,7 +110,17 @@ copy-words-requires-2 c κs =
     let start : tie.Start = search in
     let within = old-within _ (start .pre .0) in
     let cases = 6 + getD (start .args .old .now) 1 0 * 10 + getD (start .args .old .now) 2 0 * 6 in
-    rw (rest-whole (start .args .old .now) cases) (omega (arith, within, start .pre .1, length-drop cases (start .args .old .now), instructions .widen-rows2 .ensures .1, blocks .widen-rows .ensures .1, head .copy-words .ensures .long, length-take-le 6 (start .args .old .now) (within .0)))
+    rw (rest-whole (start .args .old .now) cases)
+    (omega (
+      arith,
+      within,
+      start .pre .1,
+      length-drop cases (start .args .old .now),
+      instructions .widen-rows2 .ensures .1,
+      blocks .widen-rows .ensures .1,
+      head .copy-words .ensures .long,
+      length-take-le 6 (start .args .old .now) (within .0),
+    ))
 
 same-length : tie.Need-same-length
 same-length c = search needs

@@ -26,7 +26,8 @@ returns c =
     let blocks : tie.After-write-blocks = search in
     let head : tie.After-write-head = search in
     let start : tie.Start = search in
-    tables-wrote (start .args .version) (start .args .words .now) (head .write-head .ensures .0) (blocks .write-blocks .ensures .0) (instructions .write-instructions .ensures .0) (rest .write-rest .ensures)
+    tables-wrote (start .args .version) (start .args .words .now) (head .write-head .ensures .0) (blocks .write-blocks .ensures .0)
+    (instructions .write-instructions .ensures .0) (rest .write-rest .ensures)
 
 pub write-tables-spec : {M : Type 1} → statement M
 write-tables-spec =
