@@ -20,10 +20,7 @@ returns c =
     let start : tie.Start = search in
     let w = wrote .write .ensures in
     let f = start .fits in
-    refusal-printing _ (some .if1 .taken) (refusal-written (start .args .answer .code) (start .args .answer .at) _ (some .if1 .taken) (f .answer .code .fits) (f .answer .at .fits) (w .0) (w .1))
-
-same-length-2 : tie.Need-same-length-2
-same-length-2 c = search needs
+    refusal-printing _ (some .if1 .taken) (refusal-written (start .args .code) (start .args .at) _ (some .if1 .taken) (f .code .fits) (f .at .fits) (w .0) (w .1))
 
 returns-2 : tie.Need-returns-2
 returns-2 c =
@@ -32,4 +29,4 @@ returns-2 c =
     text-printing _ _ (none .if1 .left) (start .pre)
 
 pub print-spec : {M : Type 1} → statement M
-print-spec = tie.close (tie.spec slice-aggregate-write write-requires same-length returns same-length-2 returns-2)
+print-spec = tie.close (tie.spec slice-aggregate-write write-requires same-length returns returns-2)
