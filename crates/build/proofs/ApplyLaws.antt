@@ -49,6 +49,23 @@ withMarks visited handler fallthrough cx = record {
   stack = cx .stack;
 }
 
+-- the three sets as the calls of `mark` leave them
+pub marks-as : (visited handler fallthrough asked : ℕ) (cx : Context) (emitted handlers scopes : Flags) → asked ≡ visited → emitted ≡ marked (unlessNone asked) (cx .emitted)
+    → handlers ≡ marked (unlessNone handler) (cx .«catch_handlers») → scopes ≡ marked (unlessNone fallthrough) (cx .«scope_fallthroughs»)
+    → record {
+      emitted = emitted;
+      «catch_handlers» = handlers;
+      «scope_fallthroughs» = scopes;
+      len = cx .len;
+      scheduled = cx .scheduled;
+      pushed = cx .pushed;
+      pending = cx .pending;
+      refused = cx .refused;
+      «next_schedule_id» = cx .«next_schedule_id»;
+      stack = cx .stack;
+    } ≡ withMarks visited handler fallthrough cx
+marks-as visited handler fallthrough asked cx emitted handlers scopes v e h f = rw (e, h, f, v) refl
+
 -- what a change asks of the Context
 abbrev pub Changeable : Change → Context → Type 0
 Changeable Nothing cx = Unit {0}

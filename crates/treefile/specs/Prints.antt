@@ -1,8 +1,9 @@
--- What treebuild prints of a file (paper 01, "Samples"). A file has one text (`text`, `file-printed-one`), so that the answer and every lent byte are fixed.
+-- What treebuild prints of a file (paper 01, "Samples"), and treebuild_language by the other rule (M-102). A file has one text (`text`, `file-printed-one`), so that the answer and every lent byte are fixed.
 use Prim.Native.Nat.{ℕ, _*_}
 use mathlib.Core.List.{List}
 use lib.ListN.{take}
 use Rattle.text.specs.declared.write.Written.{Written}
+use Rattle.definition.specs.Around.{Rule}
 use Rattle.definition.specs.Build.{Outcome, built}
 use Rattle.text.specs.Layout.{layout}
 use Rattle.text.specs.declared.version.Version.the-variants.{New}
@@ -19,13 +20,13 @@ unfoldable pub printedOutcome : Outcome → List ℕ
 printedOutcome outcome = printed (outcome .code) (outcome .at) (outcome .rows) (outcome .visits) (take (outcome .rows * 6) (outcome .buffer))
 
 -- what a table's words print
-abbrev pub treeText : List ℕ → List ℕ
-treeText words = printedOutcome (built words lentWords)
+abbrev pub treeText : Rule → List ℕ → List ℕ
+treeText rule words = printedOutcome (built rule words lentWords)
 
 -- a file in the form prints what its table's words give; any other file prints its refusal
-abbrev pub Prints : (file text : List ℕ) → Type 0
-Prints file printed = text.Prints (layout New) treeText file printed
+abbrev pub Prints : Rule → (file text : List ℕ) → Type 0
+Prints rule file printed = text.Prints (layout New) (treeText rule) file printed
 
 -- the answer of writing that into `room` lent bytes, and what these hold then; 135,245 bytes are enough for any file
-abbrev pub FileBuilt : (file : List ℕ) → (room : ℕ) → (r : Written) → (lent : List ℕ) → Type 0
-FileBuilt file room r lent = FilePrinted (layout New) treeText 135245 file room r lent
+abbrev pub FileBuilt : Rule → (file : List ℕ) → (room : ℕ) → (r : Written) → (lent : List ℕ) → Type 0
+FileBuilt rule file room r lent = FilePrinted (layout New) (treeText rule) 135245 file room r lent
