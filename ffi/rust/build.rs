@@ -1,5 +1,6 @@
 //! Where the archives are: the folder that REACTIVE_BUILD_DIR names. libbuild.a is always linked, libdot.a with the feature `dot`, libtreerows.a
 //! with `tree-check`, liblookup.a with `tree-lookup`.
+//! with `tree-check`, libwriter.a and libconvert.a with `table-text`.
 
 use std::env;
 use std::path::{Path, PathBuf};
@@ -27,6 +28,10 @@ fn main() {
     }
     if env::var_os("CARGO_FEATURE_TREE_LOOKUP").is_some() {
         link(&folder, "lookup");
+    }
+    if env::var_os("CARGO_FEATURE_TABLE_TEXT").is_some() {
+        link(&folder, "writer");
+        link(&folder, "convert");
     }
 }
 

@@ -1,6 +1,7 @@
 -- The laws that the proofs of the functions cite.
 pub mod DecimalLaws
 pub mod LentLaws
+pub mod PlacedLaws
 pub mod StepLaws
 pub mod FormLaws
 pub mod PartLaws

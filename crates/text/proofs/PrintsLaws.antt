@@ -23,7 +23,7 @@ use Rattle.text.proofs.WriteLaws.{written-fits}
 pub words-within : (f : Layout) (file lent : List ℕ) (room count : ℕ) → Answered f file room lent (Words count) → count ≤ length lent
 words-within f file lent room count h = rw (h .4) (simp (length-append, length-replicate) (omega (arith, h .2, h .3)))
 
-words-read : (f : Layout) (file lent : List ℕ) (room count : ℕ) (h : Answered f file room lent (Words count)) → take count lent ≡ h .0
+pub words-read : (f : Layout) (file lent : List ℕ) (room count : ℕ) (h : Answered f file room lent (Words count)) → take count lent ≡ h .0
 words-read f file lent room count h = rw (h .4) (take-at (h .0) _ count (h .2))
 
 -- 50 or 51

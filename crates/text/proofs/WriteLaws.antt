@@ -159,17 +159,17 @@ module _ (text b′ b″ : List ℕ) (end room : ℕ) (long : length b′ ≡ ro
 abbrev pub Narrow : List ℕ → Type 0
 Narrow words = (i : ℕ) → getD words i 0 < 2 ^ 32
 
-narrow-words : (words : List ℕ) → Narrow words → Words words
+pub narrow-words : (words : List ℕ) → Narrow words → Words words
 narrow-words [] p = tt
 narrow-words (w ∷ words) p = (p 0, narrow-words words (λ i. p (suc i)))
 
-narrow-take : (n : ℕ) (words : List ℕ) → Narrow words → Narrow (take n words)
+pub narrow-take : (n : ℕ) (words : List ℕ) → Narrow words → Narrow (take n words)
 narrow-take n [] p i = rw (take-nil {A = ℕ} n) (p i)
 narrow-take zero (w ∷ words) p i = omega arith
 narrow-take (suc n) (w ∷ words) p zero = p 0
 narrow-take (suc n) (w ∷ words) p (suc i) = narrow-take n words (λ k. p (suc k)) i
 
-narrow-drop : (n : ℕ) (words : List ℕ) → Narrow words → Narrow (drop n words)
+pub narrow-drop : (n : ℕ) (words : List ℕ) → Narrow words → Narrow (drop n words)
 narrow-drop n words p i = rw (getD-drop n words i 0) (p (n + i))
 
 tree-most : (count : ℕ) (words : List ℕ) → Narrow words → length (lines (rowsOf count words)) ≤ count * 66

@@ -9,6 +9,7 @@ pub mod Lent
 pub mod Form
 pub mod Steps
 pub mod Answer
+pub mod Placed
 pub mod Printed
 pub mod Prints
 pub mod Samples

@@ -2,6 +2,8 @@
 
 #[cfg(feature = "dot")]
 pub mod dot;
+#[cfg(feature = "table-text")]
+pub mod table_text;
 #[cfg(feature = "tree-check")]
 pub mod tree_check;
 #[cfg(feature = "tree-lookup")]

@@ -1,12 +1,13 @@
 //! The seams for the proved libraries. With the feature `candidate` the comparison and the vectors
 //! run the build, with `candidate-check` the comparison runs the check, on every table, and hold
-//! their answers against the reference or the model; with `candidate-dot`, `candidate-tree-check` and
-//! `candidate-lookup` their own comparisons run the drawing, the check of trees and the lookup.
+//! their answers against the reference or the model; with `candidate-dot`, `candidate-tree-check`, `candidate-lookup` and
+//! `candidate-texts` their own comparisons run the drawing, the check of trees, the lookup, the writer and the converters.
 //!
-//! The archives `libbuild.a`, `libtable.a`, `libdot.a`, `libtreerows.a` and `liblookup.a` are looked for in the
-//! folder that the variable CANDIDATE_DIR names. All but the check are called through the safe wrappers of ffi/rust.
+//! The archives (`libbuild.a`, `libtable.a`, `libdot.a`, ..) are looked for in the folder that the variable CANDIDATE_DIR names.
+//! All but the check are called through the safe wrappers of ffi/rust.
 
 use crate::model::Outcome;
+use crate::model::convert::Placed;
 use crate::model::dot::Drawn;
 
 pub type Candidate = fn(&[u32], &mut [u32]) -> Outcome;
@@ -15,6 +16,14 @@ pub type Candidate = fn(&[u32], &mut [u32]) -> Outcome;
 pub type CandidateCheck = fn(&[u32]) -> (u32, u32);
 
 pub type CandidateDot = fn(&[u32], &mut [u8]) -> Drawn;
+
+/// The writer, and the two converters.
+#[derive(Clone, Copy)]
+pub struct CandidateTexts {
+    pub write: fn(&[u32], &mut [u8]) -> Placed,
+    pub old_to_new: fn(&[u8], &mut [u8]) -> Placed,
+    pub new_to_old: fn(&[u8], &mut [u8]) -> Placed,
+}
 
 #[cfg(not(feature = "candidate"))]
 pub const CANDIDATE: Option<Candidate> = None;
@@ -108,4 +117,20 @@ fn look_up<'a>(index: &[u32], lines: u32, label: u32, tree: &'a [u32]) -> Looked
     let Found { code, at, begin, end } = find(index, lines, label, tree);
     let part = lookup(index, lines, label, tree).unwrap_or_default();
     Looked { code, at, begin, end, part }
+}
+
+#[cfg(not(feature = "candidate-texts"))]
+pub const CANDIDATE_TEXTS: Option<CandidateTexts> = None;
+
+#[cfg(feature = "candidate-texts")]
+pub const CANDIDATE_TEXTS: Option<CandidateTexts> = Some(CandidateTexts {
+    write: |words, text| placed(reactive_build::table_text::write(words, text)),
+    old_to_new: |file, text| placed(reactive_build::table_text::old_to_new(file, text)),
+    new_to_old: |file, text| placed(reactive_build::table_text::new_to_old(file, text)),
+});
+
+#[cfg(feature = "candidate-texts")]
+fn placed(placed: reactive_build::table_text::Placed) -> Placed {
+    let reactive_build::table_text::Placed { code, at, length } = placed;
+    Placed { code, at, length }
 }

@@ -39,9 +39,9 @@ fn first_bad_word(table: &Table) -> Option<usize> {
             cases.clone().find_map(|row| bad_in_columns(table, row, &columns))
         })
         .or_else(|| {
-            (table.places..table.identifiers).find(|at| !is_good(table, *at, Column::Identifier))
+            (table.places..table.identifiers).find(|at| !is_good(table.words, *at, Column::Identifier))
         })
-        .or_else(|| (table.identifiers..table.end).find(|at| !is_good(table, *at, Column::UpTo(1))))
+        .or_else(|| (table.identifiers..table.end).find(|at| !is_good(table.words, *at, Column::UpTo(1))))
 }
 
 fn bad_in_block(table: &Table, row: usize) -> Option<usize> {
@@ -64,11 +64,10 @@ fn bad_in_instruction(table: &Table, row: usize) -> Option<usize> {
 }
 
 fn bad_in_columns(table: &Table, first: usize, columns: &[Column]) -> Option<usize> {
-    (0..columns.len()).find(|at| !is_good(table, first + at, columns[*at])).map(|at| first + at)
+    (0..columns.len()).find(|at| !is_good(table.words, first + at, columns[*at])).map(|at| first + at)
 }
 
-fn is_good(table: &Table, at: usize, column: Column) -> bool {
-    let words = table.words;
+pub(super) fn is_good(words: &[u32], at: usize, column: Column) -> bool {
     let word = words[at];
     // A run of rows is charged to its number of rows, after a first row that may be any number.
     let run_fits = |rows: u32| word <= LARGEST && words[at - 1] + word <= rows;

@@ -4,6 +4,7 @@
 pub mod check;
 pub mod columns;
 mod context;
+pub mod convert;
 pub mod dot;
 pub mod index;
 mod statements;

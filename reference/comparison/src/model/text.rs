@@ -1,6 +1,6 @@
 //! The program `treebuild` (paper 01, "Samples"): the file form, refusals 50 and 51, the output.
 
-use super::table::{NAMES, WIDTHS};
+use super::convert::{Form, NEW};
 use super::{Outcome, ROW_WORDS, Refusal, build};
 
 pub const MAX_BYTES: usize = 32_768;
@@ -18,12 +18,17 @@ pub fn treebuild(input: &[u8]) -> String {
 
 /// The words of a file, or 51 or 50.
 pub fn parse(input: &[u8]) -> Result<Vec<u32>, Refusal> {
+    parse_as(NEW, input)
+}
+
+/// The same of a file of this form.
+pub fn parse_as(form: Form, input: &[u8]) -> Result<Vec<u32>, Refusal> {
     if input.len() > MAX_BYTES {
         return Err(Refusal { code: 51, at: 0 });
     }
     let mut reader = Reader { input, at: 0 };
     let mut words = Vec::new();
-    for (table, (names, width)) in NAMES.into_iter().zip(WIDTHS).enumerate() {
+    for (table, (names, width)) in form.names.into_iter().zip(form.widths).enumerate() {
         let lines = if table == 0 { 1 } else { words[table] };
         reader.names(names)?;
         for _ in 0..lines {
@@ -90,9 +95,14 @@ impl Reader<'_> {
 
 /// The words in the file form. They need not pass the check, but each table has its lines.
 pub fn write_file(words: &[u32]) -> String {
+    write_as(NEW, words)
+}
+
+/// The same of words of this form.
+pub fn write_as(form: Form, words: &[u32]) -> String {
     let mut file = String::new();
     let mut rest = words;
-    for (table, (names, width)) in NAMES.into_iter().zip(WIDTHS).enumerate() {
+    for (table, (names, width)) in form.names.into_iter().zip(form.widths).enumerate() {
         let lines = if table == 0 { 1 } else { words[table] };
         file += names;
         file.push('\n');

@@ -1,0 +1,4 @@
+pub mod OldCheck
+pub mod Widen
+pub mod Convert
+pub mod Parts

@@ -1,0 +1,3 @@
+pub mod CutLaws
+pub mod TextLaws
+pub mod GoodLaws
