@@ -1,6 +1,4 @@
-//! Where the archives are: the folder that REACTIVE_BUILD_DIR names. libbuild.a is always linked, libdot.a with the feature `dot`, libtreerows.a
-//! with `tree-check`, liblookup.a with `tree-lookup`.
-//! with `tree-check`, libwriter.a and libconvert.a with `table-text`.
+//! Where the archives are: the folder that REACTIVE_BUILD_DIR names. libbuild.a is always linked, each other one with its feature.
 
 use std::env;
 use std::path::{Path, PathBuf};
