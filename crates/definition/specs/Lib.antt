@@ -2,6 +2,9 @@ pub mod Tree
 pub mod Reading
 pub mod Result
 pub mod Context
+pub mod Around
+pub mod Named
+pub mod Survey
 pub mod Value
 pub mod Statement
 pub mod Build
@@ -13,3 +16,4 @@ pub mod Plain
 pub mod Machine
 pub mod Framed
 pub mod RunLaw
+pub mod Relabeled
