@@ -1,5 +1,6 @@
 pub mod Alike
 pub mod Contexts
+pub mod Arounds
 pub mod Tables
 pub mod Values
 pub mod Trees

@@ -16,6 +16,7 @@ use Rattle.table.proofs.PromiseLaws.{promised}
 use Rattle.table.proofs.RangeLaws.{in-range, case-block}
 use Rattle.table.proofs.TableLaws.{length-blocks}
 use Rattle.table.proofs.BlockLaws.{length-rows}
+use Rattle.definition.specs.Around.{Rule}
 use Rattle.definition.specs.Build.{built}
 use Rattle.definition.specs.Completion.{contains}
 use Rattle.definition.proofs.Steps.{true-false}
@@ -304,9 +305,9 @@ module _ (ws : List ℕ) (h : checked ws ≡ accepted) where
   unfolding rearranged tableOf
   rearranged-entry = let p : Promise ws = promised ws h in renamed-is (newNumber (walkingOrder (tableOf ws))) (oldNumber (walkingOrder (tableOf ws))) ws (p .sized) .entry ∙ entry-first (tableOf ws) (entry-here ws p) (named-here ws p)
 
-  pub rearranged-built : (lent : ℕ) → built (rearranged ws) lent ≡ renamedOutcome (newNumber (walkingOrder (tableOf ws))) (built ws lent)
+  pub rearranged-built : (rule : Rule) (lent : ℕ) → built rule (rearranged ws) lent ≡ renamedOutcome (newNumber (walkingOrder (tableOf ws))) (built rule ws lent)
   unfolding rearranged
-  rearranged-built lent = built-renamed _ _ ws lent (walking-renaming ws (promised ws h)) h
+  rearranged-built rule lent = built-renamed _ _ rule ws lent (walking-renaming ws (promised ws h)) h
 
   -- "and so restores the first table exactly"
   pub rearranged-restored : restoredBy (walkingOrder (tableOf ws)) (rearranged ws) ≡ ws

@@ -35,7 +35,7 @@ samples =
     ∷ record { table = table 0 (switch 0 1 1 1 ∷ return 0 ∷ return 0 ∷ []) (0 ∷ 2 ∷ 1 ∷ []); order = 0 ∷ 2 ∷ 1 ∷ [] }
     -- another entry
     ∷ record { table = table 3 (return 0 ∷ goto 0 Break ∷ return 0 ∷ goto 1 Break ∷ []) []; order = 3 ∷ 1 ∷ 0 ∷ 2 ∷ [] }
-    -- breadth first, and numbered when first named: depth first gives 0 1 3 4 2, a number on leaving the queue 0 1 4 3 2 for some of these
+    -- breadth first: depth first gives 0 1 3 2 4
     ∷ record { table = table 0 (if 0 1 2 4 ∷ goto 3 Break ∷ goto 4 Break ∷ return 0 ∷ return 0 ∷ []) []; order = 0 ∷ 1 ∷ 2 ∷ 4 ∷ 3 ∷ [] }
     ∷ []
 

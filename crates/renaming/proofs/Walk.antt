@@ -11,10 +11,12 @@ use Rattle.table.specs.Table.{Table, Block, Case, Terminal, absent, unreachable
 use Rattle.definition.specs.Tree.{Kind, implicit, labeled, unlabeled, Value, PLAIN, Statement, INSTR, IF, SWITCH, DOWHILE, WHILE, FOR, FOROF, FORIN, LABEL, TRY, SCOPE, BREAK, Statements, done, _▸_, Cases, no-cases, CASE}
 use Rattle.definition.specs.Result.{Result, ok, refused, _>>=_, refuseIf}
 use Rattle.definition.specs.Context.{has, target-if, target-switch, target-case, target-loop, Context, start, isScheduled, emit, withVisits, scheduleCatchHandler, schedule, unschedule, Resolution, getBreakTarget, getContinueTarget}
+use Rattle.definition.specs.Around.{Rule, Around, outermost, within, a-loop, a-switch, another, breakKindIn, breakUnnamed, continueUnnamed}
 use Rattle.definition.specs.Value.{beginVisit, VisitValueBlock, ValueBlockResult, visitValueBlockTerminal, visitValueBlock, valueBlockResultToSequence}
-use Rattle.definition.specs.Statement.{BlockResult, TerminalResult, TraverseBlock, enterBlock, unlessScheduled, unlessUnreachable, scheduleIf, scheduleSwitch, unscheduleIf, markScopeFallthroughIf, breakToScope, breakResolved, visitBreak, continueResolved, visitContinue, visitGoto, traverseUnscheduled, AlternateResult, traverseAlternate, followedBy, traverseConsequent, traverseEnclosed, loopIsTaken, traverseLoop, continueBlockOf, OptionalValue, visitUpdate, CasesResult, casesLastFirst, traverseCases, unscheduleAll, scheduleIds, visitValueStatement, visitTerminal, instructionStatements, thenNext, visitBlock, traverseBlock, buildTree}
+use Rattle.definition.specs.Statement.{BlockResult, TerminalResult, TraverseBlock, TraverseInside, enterBlock, unlessScheduled, unlessUnreachable, scheduleIf, scheduleSwitch, unscheduleIf, markScopeFallthroughIf, breakToScope, breakResolved, visitBreak, continueResolved, visitContinue, visitGoto, traverseUnscheduled, AlternateResult, traverseAlternate, followedBy, traverseConsequent, traverseEnclosed, loopIsTaken, traverseLoop, continueBlockOf, OptionalValue, visitUpdate, CasesResult, casesLastFirst, traverseCases, unscheduleAll, scheduleIds, visitValueStatement, visitTerminal, instructionStatements, thenNext, visitBlock, traverseBlock, buildTree}
 use Rattle.renaming.proofs.Alike.{Moves, same-test, Alike, alike-bind, alike-by, alike-unless, alike-pick}
 use Rattle.renaming.proofs.Contexts.{Alongside, renamedResolution, along-start, along-scheduled, along-emit, along-visits, along-scope, along-handler, along-schedule, along-unschedule, along-break, along-continue}
+use Rattle.renaming.proofs.Arounds.{renamedAround, kind-same, break-unnamed, continue-unnamed}
 use Rattle.renaming.proofs.Tables.{renamedTerminal, renamedBlock, renamedCase, renamedTable, Reordered, absent-same, unreachable-same}
 use Rattle.renaming.proofs.Values.{renamedValue, SameValue, SameEnd, ValuesAlike, sequence-same, begin-alike, end-alike, values-alike}
 use Rattle.renaming.proofs.Trees.{renamedStatement, renamedStatements, renamedCases}
@@ -113,32 +115,34 @@ module _ (new : ℕ → ℕ) (m : Moves new) where
     scope-alike labeled at = (refl, (λ _. refl), h .visits)
     scope-alike unlabeled at = (refl, (λ _. refl), h .visits)
 
-    resolved-alike : (at b id : ℕ) (found : Option Resolution)
-        → Alike new (λ a a′. a′ ≡ Option·map (renamedStatement new) a) (breakResolved at b id c found) (breakResolved (new at) (new b) id c′ (Option·map (renamedResolution new) found))
+    resolved-alike : (a : Around) (at b id : ℕ) (found : Option Resolution)
+        → Alike new (λ a a′. a′ ≡ Option·map (renamedStatement new) a) (breakResolved a at b id c found) (breakResolved (renamedAround new a) (new at) (new b) id c′ (Option·map (renamedResolution new) found))
     unfolding breakResolved
-    resolved-alike at b id none = (refl, (λ _. refl), h .visits)
-    resolved-alike at b id (some found) =
-        alike-pick new (λ a a′. a′ ≡ Option·map (renamedStatement new) a) _ _ _ _ _ (ok (some (BREAK (new (found .target)) id (found .kind) (found .loops)))) (h .scopeFallthroughs .flag (found .target)) (scope-alike (found .kind) at) refl
+    resolved-alike a at b id none = (refl, (λ _. refl), h .visits)
+    resolved-alike a at b id (some found) =
+        alike-pick new (λ a a′. a′ ≡ Option·map (renamedStatement new) a) _ _ _ _ _ _ (h .scopeFallthroughs .flag (found .target)) (scope-alike (found .kind) at)
+        (alike-unless new (λ a a′. a′ ≡ Option·map (renamedStatement new) a) _ _ 29 at _ _ _ _ _ (break-unnamed new m a found) refl (h .visits)
+        (ap (λ (k : Kind). some (BREAK (new (found .target)) id k (found .loops))) (kind-same new m a (found .kind))))
 
-    break-alike : (at b id : ℕ) → Alike new (λ a a′. a′ ≡ Option·map (renamedStatement new) a) (visitBreak at b id c) (visitBreak (new at) (new b) id c′)
+    break-alike : (a : Around) (at b id : ℕ) → Alike new (λ a a′. a′ ≡ Option·map (renamedStatement new) a) (visitBreak a at b id c) (visitBreak (renamedAround new a) (new at) (new b) id c′)
     unfolding visitBreak
-    break-alike at b id = rw (along-break new m c c′ h b) (resolved-alike at b id (getBreakTarget c b))
+    break-alike a at b id = rw (along-break new m c c′ h b) (resolved-alike a at b id (getBreakTarget c b))
 
-    continued-alike : (b id : ℕ) (found : Option Resolution)
-        → Alike new (λ a a′. a′ ≡ renamedStatement new a) (continueResolved b id c found) (continueResolved (new b) id c′ (Option·map (renamedResolution new) found))
+    continued-alike : (a : Around) (at b id : ℕ) (found : Option Resolution)
+        → Alike new (λ a a′. a′ ≡ renamedStatement new a) (continueResolved a at b id c found) (continueResolved (renamedAround new a) (new at) (new b) id c′ (Option·map (renamedResolution new) found))
     unfolding continueResolved
-    continued-alike b id none = (refl, (λ _. refl), h .visits)
-    continued-alike b id (some found) = refl
+    continued-alike a at b id none = (refl, (λ _. refl), h .visits)
+    continued-alike a at b id (some found) = alike-unless new (λ a a′. a′ ≡ renamedStatement new a) _ _ 29 at _ _ _ _ _ (continue-unnamed new m a found) refl (h .visits) refl
 
-    continue-alike : (b id : ℕ) → Alike new (λ a a′. a′ ≡ renamedStatement new a) (visitContinue b id c) (visitContinue (new b) id c′)
+    continue-alike : (a : Around) (at b id : ℕ) → Alike new (λ a a′. a′ ≡ renamedStatement new a) (visitContinue a at b id c) (visitContinue (renamedAround new a) (new at) (new b) id c′)
     unfolding visitContinue
-    continue-alike b id = rw (along-continue new m c c′ h b) (continued-alike b id (getContinueTarget c b))
+    continue-alike a at b id = rw (along-continue new m c c′ h b) (continued-alike a at b id (getContinueTarget c b))
 
-    goto-alike : (v : Variant) (at b id : ℕ) → Alike new (SameStep new) (visitGoto v at b id c) (visitGoto v (new at) (new b) id c′)
+    goto-alike : (a : Around) (v : Variant) (at b id : ℕ) → Alike new (SameStep new) (visitGoto a v at b id c) (visitGoto (renamedAround new a) v (new at) (new b) id c′)
     unfolding visitGoto
-    goto-alike Break at b id = alike-by new (Option·map (renamedStatement new)) (SameStep new) _ _ _ _ (break-alike at b id) (λ s. (refl, refl, h))
-    goto-alike Continue at b id = alike-by new (renamedStatement new) (SameStep new) _ _ _ _ (continue-alike b id) (λ s. (refl, refl, h))
-    goto-alike Try at b id = (refl, refl, h)
+    goto-alike a Break at b id = alike-by new (Option·map (renamedStatement new)) (SameStep new) _ _ _ _ (break-alike a at b id) (λ s. (refl, refl, h))
+    goto-alike a Continue at b id = alike-by new (renamedStatement new) (SameStep new) _ _ _ _ (continue-alike a at b id) (λ s. (refl, refl, h))
+    goto-alike a Try at b id = (refl, refl, h)
 
   followed-same : (s : Option Statement) (k : Statements) → followedBy (Option·map (renamedStatement new) s) (renamedStatements new k) ≡ renamedStatements new (followedBy s k)
   followed-same none k = refl
@@ -194,11 +198,11 @@ module _ (new : ℕ → ℕ) (m : Moves new) (traverse traverse′ : TraverseBlo
         alike-pick new (SameAlternate new) (eqb a f) _ (ok (record { present = false; statements = done; context = c })) _ (ok (record { present = false; statements = done; context = c′ })) _ (same-test new m a f)
         (refl, refl, h) (alike-block new (SameAlternate new) _ _ _ _ (unscheduled-alike a 13 a) (λ s d d′ q. (refl, refl, q)))
 
-    consequent-alike : (at y id : ℕ) → Alike new (SameBlock new) (traverseConsequent traverse at y id c) (traverseConsequent traverse′ (new at) (new y) id c′)
+    consequent-alike : (a : Around) (at y id : ℕ) → Alike new (SameBlock new) (traverseConsequent a traverse at y id c) (traverseConsequent (renamedAround new a) traverse′ (new at) (new y) id c′)
     unfolding traverseConsequent WalkAlike
-    consequent-alike at y id =
+    consequent-alike a at y id =
         alike-pick new (SameBlock new) _ _ _ _ _ _ (along-scheduled new m c c′ h y)
-        (alike-by new (Option·map (renamedStatement new)) (SameBlock new) _ _ _ _ (break-alike new m c c′ h at y id) (λ s. (followed-same new m s done, h))) (wa y c c′ h)
+        (alike-by new (Option·map (renamedStatement new)) (SameBlock new) _ _ _ _ (break-alike new m c c′ h a at y id) (λ s. (followed-same new m s done, h))) (wa y c c′ h)
 
   enclosed-alike : (b code at : ℕ) (g : Option ℕ) (c c′ d d′ : Context) (make make′ : Statements → Statement) → Alongside new c c′ → Alongside new d d′
       → ((s : Statements) → make′ (renamedStatements new s) ≡ renamedStatement new (make s))
@@ -253,7 +257,7 @@ module _ (new : ℕ → ℕ) (m : Moves new) (t : Table) (blocks : List Block) (
       begins : (b : ℕ) {v v′ : ℕ} → v′ ≡ v → Alike new (λ a a′. a′ ≡ a) (beginVisit t b v) (beginVisit there (new b) v′)
       begins b {v} e = rw e (begin-alike new m t blocks moved b v)
 
-  module _ (visit visit′ : VisitValueBlock) (va : ValuesAlike new visit visit′) (traverse traverse′ : TraverseBlock) (wa : WalkAlike new traverse traverse′) where
+  module _ (visit visit′ : VisitValueBlock) (va : ValuesAlike new visit visit′) (traverse traverse′ : TraverseInside) (wi : (a : Around) → WalkAlike new (traverse a) (traverse′ (renamedAround new a))) where
     visit-alike : (b : ℕ) (f : Option ℕ) (span : Span) {v v′ : ℕ} → v′ ≡ v → Alike new (SameValue new) (visit b f span v) (visit′ (new b) (Option·map new f) span v′)
     unfolding ValuesAlike
     visit-alike b f span {v} e = rw e (va b f span v)
@@ -276,83 +280,83 @@ module _ (new : ℕ → ℕ) (m : Moves new) (t : Table) (blocks : List Block) (
         ends : {v v′ : ℕ} → v′ ≡ v → Alike new (SameEnd new) (visitValueBlockTerminal t visit x (k .id) (k .span) v at) (visitValueBlockTerminal there visit′ (renamedTerminal new x) (k .id) (k .span) v′ (new at))
         ends {v} e = rw e (end-alike new m t blocks moved visit visit′ va x (k .id) (k .span) v at)
 
-    terminal-alike : (x : Terminal) (at : ℕ) (k : Block) (c c′ : Context) → Alongside new c c′
-        → Alike new (SameStep new) (visitTerminal t visit traverse x at k c) (visitTerminal there visit′ traverse′ (renamedTerminal new x) (new at) (renamedBlock new k) c′)
+    terminal-alike : (a : Around) (x : Terminal) (at : ℕ) (k : Block) (c c′ : Context) → Alongside new c c′
+        → Alike new (SameStep new) (visitTerminal t visit traverse a x at k c) (visitTerminal there visit′ traverse′ (renamedAround new a) (renamedTerminal new x) (new at) (renamedBlock new k) c′)
     unfolding visitTerminal WalkAlike
-    terminal-alike absent at k c c′ h = (refl, (λ _. refl), h .visits)
-    terminal-alike unreachable at k c c′ h = (refl, refl, h)
-    terminal-alike (throw v) at k c c′ h = (refl, refl, h)
-    terminal-alike (return v) at k c c′ h = (refl, refl, h)
-    terminal-alike (goto b v) at k c c′ h = goto-alike new m c c′ h v at b (k .id)
-    terminal-alike (if x y a f) at k c c′ h =
+    terminal-alike ar absent at k c c′ h = (refl, (λ _. refl), h .visits)
+    terminal-alike ar unreachable at k c c′ h = (refl, refl, h)
+    terminal-alike ar (throw v) at k c c′ h = (refl, refl, h)
+    terminal-alike ar (return v) at k c c′ h = (refl, refl, h)
+    terminal-alike ar (goto b v) at k c c′ h = goto-alike new m c c′ h ar v at b (k .id)
+    terminal-alike ar (if x y a f) at k c c′ h =
         alike-by new (Option·map new) (SameStep new) _ _ _ _ (reachable-alike c c′ h f) (λ g.
         alike-bind new (Alongside new) (SameStep new) _ _ _ _ (if-alike new m c c′ h g) (λ c₁ c₁′ h₁.
-        alike-block new (SameStep new) _ _ _ _ (unscheduled-alike new m traverse traverse′ wa c₁ c₁′ h₁ y 12 y) (λ s c₂ c₂′ h₂.
-        alike-alternate new (SameStep new) _ _ _ _ (alternate-alike new m traverse traverse′ wa c₂ c₂′ h₂ a f) (λ p z c₃ c₃′ h₃.
+        alike-block new (SameStep new) _ _ _ _ (unscheduled-alike new m _ _ (wi (within (another g) ar)) c₁ c₁′ h₁ y 12 y) (λ s c₂ c₂′ h₂.
+        alike-alternate new (SameStep new) _ _ _ _ (alternate-alike new m _ _ (wi (within (another g) ar)) c₂ c₂′ h₂ a f) (λ p z c₃ c₃′ h₃.
         alike-bind new (Alongside new) (SameStep new) _ _ _ _ (unschedule-alike new m c₃ c₃′ h₃ g (h .nextId)) (λ c₄ c₄′ h₄. (refl, refl, h₄))))))
-    terminal-alike (branch x y a) at k c c′ h =
-        alike-block new (SameStep new) _ _ _ _ (consequent-alike new m traverse traverse′ wa c c′ h at y (k .id)) (λ s c₁ c₁′ h₁.
-        alike-block new (SameStep new) _ _ _ _ (unscheduled-alike new m traverse traverse′ wa c₁ c₁′ h₁ a 19 at) (λ z c₂ c₂′ h₂. (refl, refl, h₂)))
-    terminal-alike (switch x i n f) at k c c′ h =
+    terminal-alike ar (branch x y a) at k c c′ h =
+        alike-block new (SameStep new) _ _ _ _ (consequent-alike new m _ _ (wi (within (another none) ar)) c c′ h ar at y (k .id)) (λ s c₁ c₁′ h₁.
+        alike-block new (SameStep new) _ _ _ _ (unscheduled-alike new m _ _ (wi (within (another none) ar)) c₁ c₁′ h₁ a 19 at) (λ z c₂ c₂′ h₂. (refl, refl, h₂)))
+    terminal-alike ar (switch x i n f) at k c c′ h =
         alike-by new (Option·map new) (SameStep new) _ _ _ _ (reachable-alike c c′ h f) (λ g.
         alike-bind new (Alongside new) (SameStep new) _ _ _ _ (switch-alike new m c c′ h g) (λ c₁ c₁′ h₁.
         rw (cases-renamed new t blocks i n, ids-same new m g (c′ .nextId), h .nextId)
-        (alike-cases new (SameStep new) _ _ _ _ (cases-alike new m traverse traverse′ wa at f (casesLastFirst t i n) (scheduleIds g (c .nextId)) c₁ c₁′ h₁) (λ z ids c₂ c₂′ h₂.
+        (alike-cases new (SameStep new) _ _ _ _ (cases-alike new m _ _ (wi (within (a-switch g) ar)) at f (casesLastFirst t i n) (scheduleIds g (c .nextId)) c₁ c₁′ h₁) (λ z ids c₂ c₂′ h₂.
         alike-bind new (Alongside new) (SameStep new) _ _ _ _ (all-alike new m ids c₂ c₂′ h₂) (λ c₃ c₃′ h₃. (refl, refl, h₃))))))
-    terminal-alike (do-while l x f) at k c c′ h =
+    terminal-alike ar (do-while l x f) at k c c′ h =
         rw (taken-same new m c c′ h f)
         (alike-bind new (Alongside new) (SameStep new) _ _ _ _ (along-schedule new m c c′ h (target-loop f x l)) (λ c₁ c₁′ h₁.
         alike-unless new (SameStep new) _ _ 16 at _ _ _ _ _ (loop-same new m c c′ h l f) refl (h₁ .visits)
-        (alike-block new (SameStep new) _ _ _ _ (wa l c₁ c₁′ h₁) (λ s c₂ c₂′ h₂.
+        (alike-block new (SameStep new) _ _ _ _ (wi (within (a-loop (unlessScheduled c f)) ar) l c₁ c₁′ h₁) (λ s c₂ c₂′ h₂.
         alike-by new (renamedValue new) (SameStep new) _ _ _ _ (visit-alike x none (k .span) (h₂ .visits)) (λ r.
         alike-bind new (Alongside new) (SameStep new) _ _ _ _
         (along-unschedule new m (withVisits (r .visits) c₂) (withVisits (r .visits) c₂′) (along-visits new m c₂ c₂′ h₂ refl) (h .nextId)) (λ c₃ c₃′ h₃. (refl, refl, h₃)))))))
-    terminal-alike (while x l f) at k c c′ h =
+    terminal-alike ar (while x l f) at k c c′ h =
         alike-by new (Option·map new) (SameStep new) _ _ _ _ (reachable-alike c c′ h f) (λ g.
         alike-bind new (Alongside new) (SameStep new) _ _ _ _ (along-schedule new m c c′ h (target-loop f x l)) (λ c₁ c₁′ h₁.
         alike-by new (renamedValue new) (SameStep new) _ _ _ _ (visit-alike x none (k .span) (h₁ .visits)) (λ r.
-        body-alike new m traverse traverse′ wa at l _ _ _ _ _ _ c₁ c₁′ g _ _ h₁ (loop-same new m c c′ h l f) refl (h .nextId) (λ s. refl))))
-    terminal-alike (for i x u l f) at k c c′ h =
+        body-alike new m _ _ (wi (within (a-loop g) ar)) at l _ _ _ _ _ _ c₁ c₁′ g _ _ h₁ (loop-same new m c c′ h l f) refl (h .nextId) (λ s. refl))))
+    terminal-alike ar (for i x u l f) at k c c′ h =
         rw (taken-same new m c c′ h f, continue-same new m u x)
         (alike-bind new (Alongside new) (SameStep new) _ _ _ _ (along-schedule new m c c′ h (target-loop f (continueBlockOf u x) l)) (λ c₁ c₁′ h₁.
         alike-by new (renamedValue new) (SameStep new) _ _ _ _ (visit-alike i none (k .span) (h₁ .visits)) (λ r.
         alike-by new (renamedValue new) (SameStep new) _ _ _ _ (visit-alike x none (k .span) refl) (λ q.
         alike-by new (λ (o : OptionalValue). o) (SameStep new) _ _ _ _ (update-alike u (k .span) (q .visits)) (λ o.
-        body-alike new m traverse traverse′ wa at l _ _ _ _ _ _ c₁ c₁′ (unlessScheduled c f) _ _ h₁ (loop-same new m c c′ h l f) refl (h .nextId)
+        body-alike new m _ _ (wi (within (a-loop (unlessScheduled c f)) ar)) at l _ _ _ _ _ _ c₁ c₁′ (unlessScheduled c f) _ _ h₁ (loop-same new m c c′ h l f) refl (h .nextId)
         (λ s. ap (λ (v : Value). FOR (k .id) (Option·map new (unlessScheduled c f)) v (q .value) (o .value) (renamedStatements new s)) (sequence-same new t blocks r (k .span))))))))
-    terminal-alike (for-of i x l f) at k c c′ h =
+    terminal-alike ar (for-of i x l f) at k c c′ h =
         rw (taken-same new m c c′ h f)
         (alike-bind new (Alongside new) (SameStep new) _ _ _ _ (along-schedule new m c c′ h (target-loop f i l)) (λ c₁ c₁′ h₁.
         alike-by new (renamedValue new) (SameStep new) _ _ _ _ (visit-alike i none (k .span) (h₁ .visits)) (λ r.
         alike-by new (renamedValue new) (SameStep new) _ _ _ _ (visit-alike x none (k .span) refl) (λ q.
-        body-alike new m traverse traverse′ wa at l _ _ _ _ _ _ c₁ c₁′ (unlessScheduled c f) _ _ h₁ (loop-same new m c c′ h l f) refl (h .nextId)
+        body-alike new m _ _ (wi (within (a-loop (unlessScheduled c f)) ar)) at l _ _ _ _ _ _ c₁ c₁′ (unlessScheduled c f) _ _ h₁ (loop-same new m c c′ h l f) refl (h .nextId)
         (λ s. ap (λ (v : Value). FOROF (k .id) (Option·map new (unlessScheduled c f)) (k .span) v (valueBlockResultToSequence there (renamedValue new q) (k .span)) (renamedStatements new s)) (sequence-same new t blocks r (k .span))
         ∙ ap (λ (v : Value). FOROF (k .id) (Option·map new (unlessScheduled c f)) (k .span) (valueBlockResultToSequence t r (k .span)) v (renamedStatements new s)) (sequence-same new t blocks q (k .span)))))))
-    terminal-alike (for-in i l f) at k c c′ h =
+    terminal-alike ar (for-in i l f) at k c c′ h =
         rw (taken-same new m c c′ h f)
         (alike-bind new (Alongside new) (SameStep new) _ _ _ _ (along-schedule new m c c′ h (target-loop f i l)) (λ c₁ c₁′ h₁.
         alike-by new (renamedValue new) (SameStep new) _ _ _ _ (visit-alike i none (k .span) (h₁ .visits)) (λ r.
-        body-alike new m traverse traverse′ wa at l _ _ _ _ _ _ c₁ c₁′ (unlessScheduled c f) _ _ h₁ (loop-same new m c c′ h l f) refl (h .nextId)
+        body-alike new m _ _ (wi (within (a-loop (unlessScheduled c f)) ar)) at l _ _ _ _ _ _ c₁ c₁′ (unlessScheduled c f) _ _ h₁ (loop-same new m c c′ h l f) refl (h .nextId)
         (λ s. ap (λ (v : Value). FORIN (k .id) (Option·map new (unlessScheduled c f)) (k .span) v (renamedStatements new s)) (sequence-same new t blocks r (k .span))))))
-    terminal-alike (logical o x f) at k c c′ h = value-alike (logical o x f) at k f c c′ h
-    terminal-alike (ternary x f) at k c c′ h = value-alike (ternary x f) at k f c c′ h
-    terminal-alike (optional g x f) at k c c′ h = value-alike (optional g x f) at k f c c′ h
-    terminal-alike (label x f) at k c c′ h =
+    terminal-alike ar (logical o x f) at k c c′ h = value-alike (logical o x f) at k f c c′ h
+    terminal-alike ar (ternary x f) at k c c′ h = value-alike (ternary x f) at k f c c′ h
+    terminal-alike ar (optional g x f) at k c c′ h = value-alike (optional g x f) at k f c c′ h
+    terminal-alike ar (label x f) at k c c′ h =
         alike-by new (Option·map new) (SameStep new) _ _ _ _ (reachable-alike c c′ h f) (λ g.
         alike-bind new (Alongside new) (SameStep new) _ _ _ _ (if-alike new m c c′ h g) (λ c₁ c₁′ h₁.
-        enclosed-alike new m traverse traverse′ wa x 17 at g c c′ c₁ c₁′ _ _ h h₁ (λ s. refl)))
-    terminal-alike (sequence x f) at k c c′ h = value-alike (sequence x f) at k f c c′ h
-    terminal-alike (maybe-throw x) at k c c′ h = (refl, taken-same new m c c′ h x, h)
-    terminal-alike (try x y f n) at k c c′ h =
+        enclosed-alike new m _ _ (wi (within (another g) ar)) x 17 at g c c′ c₁ c₁′ _ _ h h₁ (λ s. refl)))
+    terminal-alike ar (sequence x f) at k c c′ h = value-alike (sequence x f) at k f c c′ h
+    terminal-alike ar (maybe-throw x) at k c c′ h = (refl, taken-same new m c c′ h x, h)
+    terminal-alike ar (try x y f n) at k c c′ h =
         alike-by new (Option·map new) (SameStep new) _ _ _ _ (reachable-alike c c′ h f) (λ g.
         alike-bind new (Alongside new) (SameStep new) _ _ _ _ (if-alike new m c c′ h g) (λ c₁ c₁′ h₁.
-        alike-block new (SameStep new) _ _ _ _ (wa x (scheduleCatchHandler y c₁) (scheduleCatchHandler (new y) c₁′) (along-handler new m c₁ c₁′ h₁ y)) (λ s c₂ c₂′ h₂.
-        alike-block new (SameStep new) _ _ _ _ (wa y c₂ c₂′ h₂) (λ z c₃ c₃′ h₃.
+        alike-block new (SameStep new) _ _ _ _ (wi (within (another g) ar) x (scheduleCatchHandler y c₁) (scheduleCatchHandler (new y) c₁′) (along-handler new m c₁ c₁′ h₁ y)) (λ s c₂ c₂′ h₂.
+        alike-block new (SameStep new) _ _ _ _ (wi (within (another g) ar) y c₂ c₂′ h₂) (λ z c₃ c₃′ h₃.
         alike-bind new (Alongside new) (SameStep new) _ _ _ _ (unschedule-alike new m c₃ c₃′ h₃ g (h .nextId)) (λ c₄ c₄′ h₄. (refl, refl, h₄))))))
-    terminal-alike (scope p x f n) at k c c′ h =
+    terminal-alike ar (scope p x f n) at k c c′ h =
         rw (taken-same new m c c′ h f)
         (alike-bind new (Alongside new) (SameStep new) _ _ _ _ (if-alike new m c c′ h (unlessScheduled c f)) (λ c₁ c₁′ h₁.
-        enclosed-alike new m traverse traverse′ wa x 18 at (unlessScheduled c f) c c′ _ _ _ _ h (mark-alike new m c₁ c₁′ h₁ (unlessScheduled c f)) (λ s. refl)))
+        enclosed-alike new m _ _ (wi (within (another none) ar)) x 18 at (unlessScheduled c f) c c′ _ _ _ _ h (mark-alike new m c₁ c₁′ h₁ (unlessScheduled c f)) (λ s. refl)))
 
   -- ---- blocks
 
@@ -373,23 +377,23 @@ module _ (new : ℕ → ℕ) (m : Moves new) (t : Table) (blocks : List Block) (
   next-alike at again again′ wa s none c c′ h = (block-same at s done, h)
   next-alike at again again′ wa s (some n) c c′ h = alike-block new (SameBlock new) _ _ _ _ (wa n c c′ h) (λ z d d′ q. (block-same at s z, q))
 
-  visit-block-alike : (visit visit′ : VisitValueBlock) → ValuesAlike new visit visit′ → (traverse traverse′ : TraverseBlock) → WalkAlike new traverse traverse′
-      → (n : ℕ) → WalkAlike new (visitBlock t visit traverse n) (visitBlock there visit′ traverse′ n)
+  visit-block-alike : (visit visit′ : VisitValueBlock) → ValuesAlike new visit visit′ → (traverse traverse′ : TraverseInside) → ((a : Around) → WalkAlike new (traverse a) (traverse′ (renamedAround new a)))
+      → (a : Around) (n : ℕ) → WalkAlike new (visitBlock t visit traverse a n) (visitBlock there visit′ traverse′ (renamedAround new a) n)
   unfolding visitBlock WalkAlike
-  visit-block-alike visit visit′ va traverse traverse′ wa zero b c c′ h = (refl, (λ _. refl), h .visits)
-  visit-block-alike visit visit′ va traverse traverse′ wa (suc n) b c c′ h =
+  visit-block-alike visit visit′ va traverse traverse′ wa a zero b c c′ h = (refl, (λ _. refl), h .visits)
+  visit-block-alike visit visit′ va traverse traverse′ wa a (suc n) b c c′ h =
       alike-bind new (Alongside new) (SameBlock new) _ _ _ _ (enter-alike b c c′ h) (λ d d′ q.
       alike-step new (SameBlock new) _ _ _ _
-      (subst (λ (k : Block). Alike new (SameStep new) (visitTerminal t visit traverse (terminalAt t b) b (blockAt t b) d) (visitTerminal there visit′ traverse′ (k .terminal) (new b) k d′)) (sym (moved b))
-      (terminal-alike visit visit′ va traverse traverse′ wa (terminalAt t b) b (blockAt t b) d d′ q))
-      (λ s i e e′ p. next-alike b (visitBlock t visit traverse n) (visitBlock there visit′ traverse′ n) (visit-block-alike visit visit′ va traverse traverse′ wa n) s i e e′ p))
+      (subst (λ (k : Block). Alike new (SameStep new) (visitTerminal t visit traverse a (terminalAt t b) b (blockAt t b) d) (visitTerminal there visit′ traverse′ (renamedAround new a) (k .terminal) (new b) k d′)) (sym (moved b))
+      (terminal-alike visit visit′ va traverse traverse′ wa a (terminalAt t b) b (blockAt t b) d d′ q))
+      (λ s i e e′ p. next-alike b (visitBlock t visit traverse a n) (visitBlock there visit′ traverse′ (renamedAround new a) n) (visit-block-alike visit visit′ va traverse traverse′ wa a n) s i e e′ p))
 
-  walk-alike : (d : ℕ) → WalkAlike new (traverseBlock t d) (traverseBlock there d)
+  walk-alike : (d : ℕ) (a : Around) → WalkAlike new (traverseBlock t d a) (traverseBlock there d (renamedAround new a))
   unfolding traverseBlock WalkAlike
-  walk-alike zero b c c′ h = (refl, (λ _. refl), h .visits)
-  walk-alike (suc d) b c c′ h =
-      visit-block-alike (visitValueBlock t d) (visitValueBlock there d) (values-alike new m t blocks moved d) (traverseBlock t d) (traverseBlock there d) (walk-alike d) 8193 b c c′ h
+  walk-alike zero a b c c′ h = (refl, (λ _. refl), h .visits)
+  walk-alike (suc d) a b c c′ h =
+      visit-block-alike (visitValueBlock t d) (visitValueBlock there d) (values-alike new m t blocks moved d) (traverseBlock t d) (traverseBlock there d) (walk-alike d) a 8193 b c c′ h
 
-  pub tree-alike : Alike new (SameBlock new) (buildTree t) (buildTree there)
+  pub tree-alike : (rule : Rule) → Alike new (SameBlock new) (buildTree rule t) (buildTree rule there)
   unfolding buildTree WalkAlike
-  tree-alike = walk-alike 128 (t .entry) start start (along-start new m)
+  tree-alike rule = walk-alike 128 (outermost rule) (t .entry) start start (along-start new m)
