@@ -31,7 +31,7 @@ use Rattle.renaming.proofs.Theorem.{built-renamed}
 
 -- ---- one more at the end
 
-in-append : (l k : List ℕ) (b : ℕ) → contains (l ++ k) b ≡ contains l b || contains k b
+pub in-append : (l k : List ℕ) (b : ℕ) → contains (l ++ k) b ≡ contains l b || contains k b
 in-append [] k b = refl
 in-append (x ∷ l) k b = rw (in-append l k b) (by (eqb x b))
   where
@@ -39,21 +39,21 @@ in-append (x ∷ l) k b = rw (in-append l k b) (by (eqb x b))
     by true = refl
     by false = refl
 
-in-left : (l k : List ℕ) (b : ℕ) → contains l b ≡ true → contains (l ++ k) b ≡ true
+pub in-left : (l k : List ℕ) (b : ℕ) → contains l b ≡ true → contains (l ++ k) b ≡ true
 in-left l k b h = rw (in-append l k b, h)
 
-in-end : (l : List ℕ) (b : ℕ) → contains (l ++ (b ∷ [])) b ≡ true
+pub in-end : (l : List ℕ) (b : ℕ) → contains (l ++ (b ∷ [])) b ≡ true
 in-end l b = rw (in-append l (b ∷ []) b, eq-eqb b b refl) (by (contains l b))
   where
     by : (y : Bool) → y || true ≡ true
     by true = refl
     by false = refl
 
-below-end : (n : ℕ) (l : List ℕ) (b : ℕ) → allBelow n l ≡ true → ltb b n ≡ true → allBelow n (l ++ (b ∷ [])) ≡ true
+pub below-end : (n : ℕ) (l : List ℕ) (b : ℕ) → allBelow n l ≡ true → ltb b n ≡ true → allBelow n (l ++ (b ∷ [])) ≡ true
 below-end n [] b h q = both-and q refl
 below-end n (x ∷ l) b h q = both-and (and-both (ltb x n) (allBelow n l) h .0) (below-end n l b (and-both (ltb x n) (allBelow n l) h .1) q)
 
-once-end : (l : List ℕ) (b : ℕ) → noneTwice l ≡ true → contains l b ≡ false → noneTwice (l ++ (b ∷ [])) ≡ true
+pub once-end : (l : List ℕ) (b : ℕ) → noneTwice l ≡ true → contains l b ≡ false → noneTwice (l ++ (b ∷ [])) ≡ true
 once-end [] b h q = refl
 once-end (x ∷ l) b h q =
     let t : (not (contains l x) ≡ true) × (noneTwice l ≡ true) = and-both (not (contains l x)) (noneTwice l) h in

@@ -133,7 +133,7 @@ permutes n l h =
 -- ---- the places of a list
 
 module _ (b : ℕ) where
-  place-in : (place : ℕ) (l : List ℕ) → contains l b ≡ true → (i : ℕ) × (placeFrom place l b ≡ place + i) × (i < length l) × ((d : ℕ) → getD l i d ≡ b)
+  pub place-in : (place : ℕ) (l : List ℕ) → contains l b ≡ true → (i : ℕ) × (placeFrom place l b ≡ place + i) × (i < length l) × ((d : ℕ) → getD l i d ≡ b)
   place-in place [] h = absurd (true-false (sym h))
   place-in place (x ∷ l) h =
       by-equal x b (λ e. (0, pick-true (eqb x b) place (placeFrom (suc place) l b) (eq-eqb x b e) ∙ omega arith, omega arith, (λ d. e)))
@@ -141,7 +141,7 @@ module _ (b : ℕ) where
       let q : (i : ℕ) × (placeFrom (suc place) l b ≡ suc place + i) × (i < length l) × ((d : ℕ) → getD l i d ≡ b) = place-in (suc place) l (sym (in-other x b l f) ∙ h) in
       (suc (q .0), pick-false (eqb x b) place (placeFrom (suc place) l b) (ne-eqb x b f) ∙ omega (arith, q .1), omega (arith, q .2), q .3))
 
-  place-out : (place : ℕ) (l : List ℕ) → contains l b ≡ false → placeFrom place l b ≡ b
+  pub place-out : (place : ℕ) (l : List ℕ) → contains l b ≡ false → placeFrom place l b ≡ b
   place-out place [] h = refl
   place-out place (x ∷ l) h =
       by-equal x b (λ e. absurd (true-false (sym (subst (λ (z : ℕ). contains (x ∷ l) z ≡ true) e (in-head x l)) ∙ h)))
@@ -153,7 +153,7 @@ in-place (x ∷ l) zero d h = in-head x l
 in-place (x ∷ l) (suc i) d h = in-tail x (getD l i d) l (in-place l i d (omega arith))
 
 -- no number stands at two places
-once-at : (l : List ℕ) (i j d : ℕ) → noneTwice l ≡ true → i < length l → j < length l → getD l i d ≡ getD l j d → i ≡ j
+pub once-at : (l : List ℕ) (i j d : ℕ) → noneTwice l ≡ true → i < length l → j < length l → getD l i d ≡ getD l j d → i ≡ j
 once-at [] i j d h p q e = absurd (omega arith)
 once-at (x ∷ l) zero zero d h p q e = refl
 once-at (x ∷ l) zero (suc j) d h p q e = absurd (true-false (sym (rw (← e) at (in-place l j d (omega arith))) ∙ not-true (contains l x) (and-both (not (contains l x)) (noneTwice l) h .0)))

@@ -36,7 +36,7 @@ module _ (w : ℕ) where
   after-rows f wide n more k = rw (← (rows-long f wide n)) (getD-append-add (rowsOf f n) more k 0)
 
   -- what holds at every column of every row holds at every place
-  by-rows : (P : ℕ → Type 0) (begin n : ℕ) → 0 < w → ((i : ℕ) → i < n → (k : ℕ) → k < w → P (begin + i * w + k)) → (j : ℕ) → begin ≤ j → j < begin + n * w → P j
+  pub by-rows : (P : ℕ → Type 0) (begin n : ℕ) → 0 < w → ((i : ℕ) → i < n → (k : ℕ) → k < w → P (begin + i * w + k)) → (j : ℕ) → begin ≤ j → j < begin + n * w → P j
   by-rows P begin n pos h j l u =
       let d : ℕ = j - begin in
       let q : d / w * w + d % w ≡ d = div-add-mod' d w in
@@ -179,19 +179,19 @@ module _ (new old : ℕ → ℕ) (ws : List ℕ) where
 -- ---- no other words are so related
 
 module _ (new old : ℕ → ℕ) (ws ws′ : List ℕ) (r : RenamedWords new old ws ws′) where
-  begin-instructions : instructionsBegin ws′ ≡ instructionsBegin ws
+  pub begin-instructions : instructionsBegin ws′ ≡ instructionsBegin ws
   unfolding instructionsBegin
   begin-instructions = rw (r .blocks)
 
-  begin-cases : casesBegin ws′ ≡ casesBegin ws
+  pub begin-cases : casesBegin ws′ ≡ casesBegin ws
   unfolding casesBegin
   begin-cases = rw (begin-instructions, r .instructions)
 
-  begin-places : placesBegin ws′ ≡ placesBegin ws
+  pub begin-places : placesBegin ws′ ≡ placesBegin ws
   unfolding placesBegin
   begin-places = rw (begin-cases, r .cases)
 
-  begin-identifiers : identifiersBegin ws′ ≡ identifiersBegin ws
+  pub begin-identifiers : identifiersBegin ws′ ≡ identifiersBegin ws
   unfolding identifiersBegin
   begin-identifiers = rw (begin-places, r .places)
 
@@ -200,21 +200,21 @@ module _ (new old : ℕ → ℕ) (ws ws′ : List ℕ) (r : RenamedWords new old
   renamed-needed = rw (begin-identifiers, r .identifiers)
 
   -- the words of ws′, each by a word of ws
-  instruction-word : (i : ℕ) → i < instructionCount ws → (k : ℕ) → k < 7 → word ws′ (instructionsBegin ws + i * 7 + k) ≡ instructionWord ws i k
+  pub instruction-word : (i : ℕ) → i < instructionCount ws → (k : ℕ) → k < 7 → word ws′ (instructionsBegin ws + i * 7 + k) ≡ instructionWord ws i k
   unfolding instructionWord
   instruction-word i h k l = rw begin-instructions at (r .instruction i h k l)
 
-  case-word : (i : ℕ) → i < caseCount ws → (k : ℕ) → k < 2 → word ws′ (casesBegin ws + i * 2 + k) ≡ getD (renamedCaseRow new ws i) k 0
+  pub case-word : (i : ℕ) → i < caseCount ws → (k : ℕ) → k < 2 → word ws′ (casesBegin ws + i * 2 + k) ≡ getD (renamedCaseRow new ws i) k 0
   unfolding caseWord renamedCaseRow
   case-word i h zero l = rw begin-cases at (r .case-test i h)
   case-word i h (suc zero) l = rw begin-cases at (r .case-block i h)
   case-word i h (suc (suc k)) l = absurd (omega arith)
 
-  place-word : (i : ℕ) → i < placeCount ws → word ws′ (placesBegin ws + i) ≡ placeWord ws i
+  pub place-word : (i : ℕ) → i < placeCount ws → word ws′ (placesBegin ws + i) ≡ placeWord ws i
   unfolding placeWord
   place-word i h = rw begin-places at (r .place i h)
 
-  identifier-word : (i : ℕ) → i < identifierCount ws → word ws′ (identifiersBegin ws + i) ≡ identifierWord ws i
+  pub identifier-word : (i : ℕ) → i < identifierCount ws → word ws′ (identifiersBegin ws + i) ≡ identifierWord ws i
   unfolding identifierWord
   identifier-word i h = rw begin-identifiers at (r .identifier i h)
 
