@@ -35,7 +35,7 @@ module _ (new : ℕ → ℕ) (one : (a b : ℕ) → new a ≡ new b → a ≡ b)
       ≡ renamedTerminal new (terminalOf code a b c d e)
   unfolding terminalOf namesBlock
   terminal-same a b c d e = upto _ 22
-      (refl and refl and refl and refl and refl and refl and refl and refl and refl and refl and 
+      (refl and refl and refl and refl and refl and refl and refl and refl and refl and refl and
       ap (λ (u : Option ℕ). for (new a) (new b) u (new d) (new e)) (unless-none-same c)
       and refl and refl and refl and refl and refl and refl and refl and refl and refl and refl and refl and ends)
 

@@ -39,10 +39,11 @@ loop-again : tie.Need-loop-again Inv-loop μ-loop
 loop-again c =
     let named : tie.After-name-block Inv-loop μ-loop = search in
     let within : tie.In-loop Inv-loop μ-loop = search in
-    let turn : tie.At-loop Inv-loop μ-loop = search in
-    (omega (arith, within .loop-test .taken),
-    named .name-block .kept .1 .0 ∙ turn .loop .inv .1,
-    rw (rows-next (turn .loop .block)) (joined-then (turn .loop .inv .2) (named .name-block .ensures)))
+    let turn : tie.At-loop Inv-loop μ-loop = search in (
+      omega (arith, within .loop-test .taken),
+      named .name-block .kept .1 .0 ∙ turn .loop .inv .1,
+      rw (rows-next (turn .loop .block)) (joined-then (turn .loop .inv .2) (named .name-block .ensures)),
+    )
 
 same-length : tie.Need-same-length Inv-loop μ-loop
 same-length c =

@@ -62,10 +62,11 @@ loop-again c =
     let turn : tie.At-loop Inv-loop μ-loop = search in
     let read : tie.After-named-at Inv-loop μ-loop = search in
     let start : tie.Start Inv-loop μ-loop = search in
-    let there = rw (← (lines-count (start .pre .0) (read .named-at .ensures))) at (within .loop-test .taken) in
-    (omega (arith, within .loop-test .taken),
-    named .name-block .kept .1 .0 ∙ turn .loop .inv .1,
-    line-joined _ (turn .loop .k) there (aim .target .ensures .is) (turn .loop .inv .2) (named .name-block .ensures))
+    let there = rw (← (lines-count (start .pre .0) (read .named-at .ensures))) at (within .loop-test .taken) in (
+      omega (arith, within .loop-test .taken),
+      named .name-block .kept .1 .0 ∙ turn .loop .inv .1,
+      line-joined _ (turn .loop .k) there (aim .target .ensures .is) (turn .loop .inv .2) (named .name-block .ensures),
+    )
 
 same-length : tie.Need-same-length Inv-loop μ-loop
 same-length c =

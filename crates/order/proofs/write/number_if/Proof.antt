@@ -1,4 +1,3 @@
-
 use borrow.Author.Needs.{needs}
 use native.Mathlib.Omega.{arith}
 use Rattle.order.proofs.write.number_if.Statement.{statement}
