@@ -1,5 +1,5 @@
-//! Where the archives are: the folder that REACTIVE_BUILD_DIR names. libbuild.a is always linked, libdot.a with the feature `dot`, libtreerows.a
-//! with `tree-check`.
+//! Where the archives are: the folder that REACTIVE_BUILD_DIR names. libbuild.a is always linked, libdot.a with the feature `dot`, liborder.a
+//! with `order`, libtreerows.a with `tree-check`.
 
 use std::env;
 use std::path::{Path, PathBuf};
@@ -21,6 +21,9 @@ fn main() {
     link(&folder, "build");
     if env::var_os("CARGO_FEATURE_DOT").is_some() {
         link(&folder, "dot");
+    }
+    if env::var_os("CARGO_FEATURE_ORDER").is_some() {
+        link(&folder, "order");
     }
     if env::var_os("CARGO_FEATURE_TREE_CHECK").is_some() {
         link(&folder, "treerows");

@@ -2,6 +2,8 @@
 
 #[cfg(feature = "dot")]
 pub mod dot;
+#[cfg(feature = "order")]
+pub mod order;
 #[cfg(feature = "tree-check")]
 pub mod tree_check;
 

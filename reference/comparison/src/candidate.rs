@@ -1,13 +1,14 @@
 //! The seams for the proved libraries. With the feature `candidate` the comparison and the vectors
 //! run the build, with `candidate-check` the comparison runs the check, on every table, and hold
-//! their answers against the reference or the model; with `candidate-dot` and `candidate-tree-check`
-//! their own comparisons run the drawing and the check of trees.
+//! their answers against the reference or the model; with `candidate-dot`, `candidate-order` and
+//! `candidate-tree-check` their own comparisons run the drawing, the rearrangement and the check of trees.
 //!
-//! The archives `libbuild.a`, `libtable.a`, `libdot.a` and `libtreerows.a` are looked for in the folder
-//! that the variable CANDIDATE_DIR names. All but the check are called through the safe wrappers of ffi/rust.
+//! The archives `libbuild.a`, `libtable.a`, `libdot.a`, `liborder.a` and `libtreerows.a` are looked for in the
+//! folder that the variable CANDIDATE_DIR names. All but the check are called through the safe wrappers of ffi/rust.
 
 use crate::model::Outcome;
 use crate::model::dot::Drawn;
+use crate::model::order::Moved;
 
 pub type Candidate = fn(&[u32], &mut [u32]) -> Outcome;
 
@@ -15,6 +16,9 @@ pub type Candidate = fn(&[u32], &mut [u32]) -> Outcome;
 pub type CandidateCheck = fn(&[u32]) -> (u32, u32);
 
 pub type CandidateDot = fn(&[u32], &mut [u8]) -> Drawn;
+
+/// The rearrangement, and the inverse.
+pub type CandidateOrder = (fn(&[u32], &mut [u32], &mut [u32]) -> Moved, fn(&[u32], &[u32], &mut [u32]) -> Moved);
 
 #[cfg(not(feature = "candidate"))]
 pub const CANDIDATE: Option<Candidate> = None;
@@ -68,4 +72,22 @@ pub const CANDIDATE_TREE_CHECK: Option<CandidateCheck> = Some(check_tree);
 fn check_tree(tree: &[u32]) -> (u32, u32) {
     let reactive_build::tree_check::Checked { code, at } = reactive_build::tree_check::check(tree);
     (code, at)
+}
+
+#[cfg(not(feature = "candidate-order"))]
+pub const CANDIDATE_ORDER: Option<CandidateOrder> = None;
+
+#[cfg(feature = "candidate-order")]
+pub const CANDIDATE_ORDER: Option<CandidateOrder> = Some((rearrange, restore));
+
+#[cfg(feature = "candidate-order")]
+fn rearrange(words: &[u32], new_words: &mut [u32], old_numbers: &mut [u32]) -> Moved {
+    let reactive_build::order::Moved { code, at } = reactive_build::order::rearrange(words, new_words, old_numbers);
+    Moved { code, at }
+}
+
+#[cfg(feature = "candidate-order")]
+fn restore(words: &[u32], old_numbers: &[u32], first_words: &mut [u32]) -> Moved {
+    let reactive_build::order::Moved { code, at } = reactive_build::order::restore(words, old_numbers, first_words);
+    Moved { code, at }
 }

@@ -5,6 +5,7 @@ pub mod check;
 pub mod columns;
 mod context;
 pub mod dot;
+pub mod order;
 mod statements;
 pub mod table;
 pub mod text;
