@@ -13,3 +13,4 @@ pub mod Permutations
 pub mod OrderLaws
 pub mod Samples
 pub mod Canonical
+pub mod Operations

@@ -1,7 +1,7 @@
 use borrow.Author.Needs.{needs}
 use native.Mathlib.Omega.{arith}
 use mathlib.Core.Path.{sym, _∙_}
-use Rattle.order.proofs.EntryLaws.{accepted-promise, rearrangement-refused}
+use Rattle.renaming.proofs.Operations.{accepted-promise, rearrangement-refused}
 use Rattle.order.proofs.rearrange.Statement.{statement}
 use Rattle.order.proofs.rearrange.Tie as tie
 

@@ -1,7 +1,7 @@
 use borrow.Author.Needs.{needs}
 use native.Mathlib.Omega.{arith}
 use mathlib.Core.Path.{sym, _∙_}
-use Rattle.order.proofs.EntryLaws.{rearrangement-table, rearrangement-list, rearrangement-given}
+use Rattle.renaming.proofs.Operations.{rearrangement-table, rearrangement-list, rearrangement-given}
 use Rattle.order.proofs.rearrange_sized.Statement.{statement}
 use Rattle.order.proofs.rearrange_sized.Tie as tie
 

@@ -1,7 +1,7 @@
 use borrow.Author.Needs.{needs}
 use native.Mathlib.Omega.{arith}
 use mathlib.Core.Path.{sym, _∙_}
-use Rattle.order.proofs.EntryLaws.{restoration-table, restoration-list, restoration-given}
+use Rattle.renaming.proofs.Operations.{restoration-table, restoration-list, restoration-given}
 use Rattle.order.proofs.restore_sized.Statement.{statement}
 use Rattle.order.proofs.restore_sized.Tie as tie
 
