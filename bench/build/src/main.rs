@@ -51,6 +51,7 @@ fn measure(case: &Case) {
     let words = &case.words;
     let mut lent = vec![7; 60_000];
     let ours = reactive_build::build(words, &mut lent);
+    assert!(plain::checked_by_rows(words).is_some(), "{}: (a) takes its slow check", case.name);
     let mut theirs_lent = vec![7; 60_000];
     let theirs = plain::build(words, &mut theirs_lent);
     assert_eq!((ours.code, ours.rows, ours.visits), (0, theirs.rows, theirs.visits), "{}", case.name);

@@ -22,10 +22,10 @@ use Rattle.control.specs.Abstraction.{targetOf, noEntry, contextOf, resultOf, s
 use Rattle.control.specs.Contract.{Named, Room, Bounded, Last, Scheduled, Unscheduled}
 use Rattle.control.proofs.ContextLaws.{settles}
 use Rattle.definition.specs.Framed.{Below}
-use Rattle.planner.specs.declared.plan.Change.{Change}
-use Rattle.planner.specs.declared.plan.Change.the-variants.{Nothing, Schedule, ScheduleBriefly, Unschedule}
-use Rattle.planner.specs.declared.plan.Plan.{Plan}
-use Rattle.planner.specs.Plans.{changed, handled, scoped}
+use Rattle.plan.specs.declared.Change.{Change}
+use Rattle.plan.specs.declared.Change.the-variants.{Nothing, Schedule, ScheduleBriefly, Unschedule}
+use Rattle.plan.specs.declared.Plan.{Plan}
+use Rattle.plan.specs.Plans.{changed, handled, scoped}
 use Rattle.build.specs.Driver.{marked}
 
 -- ---- what applying a plan asks, and what it leaves

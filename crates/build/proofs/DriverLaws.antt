@@ -38,19 +38,19 @@ use Rattle.control.proofs.ContextLaws.{stack-length, named-block}
 use Rattle.rows.specs.Rows.{Holds}
 use Rattle.rows.specs.Stack.{pushed}
 use Rattle.rows.proofs.StackLaws.{length-pushed}
-use Rattle.planner.specs.declared.plan.Stage.{Stage}
-use Rattle.planner.specs.declared.plan.Stage.the-variants.{Visit, Ended, Choose, Pop, Halt}
-use Rattle.planner.specs.declared.plan.Position.{Position}
-use Rattle.planner.specs.declared.plan.Frame.{Frame}
-use Rattle.planner.specs.declared.plan.Change.{Change}
-use Rattle.planner.specs.declared.plan.Change.the-variants.{Nothing, Schedule, ScheduleBriefly, Unschedule}
-use Rattle.planner.specs.declared.plan.Plan.{Plan}
+use Rattle.plan.specs.declared.Stage.{Stage}
+use Rattle.plan.specs.declared.Stage.the-variants.{Visit, Ended, Choose, Pop, Halt}
+use Rattle.plan.specs.declared.Position.{Position}
+use Rattle.plan.specs.declared.Frame.{Frame}
+use Rattle.plan.specs.declared.Change.{Change}
+use Rattle.plan.specs.declared.Change.the-variants.{Nothing, Schedule, ScheduleBriefly, Unschedule}
+use Rattle.plan.specs.declared.Plan.{Plan}
 use Rattle.build.specs.declared.search.Jump.{Jump}
 use Rattle.build.specs.declared.search.Jump.the-variants as search
-use Rattle.planner.specs.Plans.{frameOf, noFrame, framesOf, stateAt, changed, handled, scoped, within, kept, contextAfter, onward, applied}
-use Rattle.planner.specs.Planned.{NamedChange, entriesOnTop, deepest, Nested, Fitting}
+use Rattle.plan.specs.Plans.{frameOf, noFrame, framesOf, stateAt, changed, handled, scoped, within, kept, contextAfter, onward, applied}
+use Rattle.plan.specs.Planned.{NamedChange, entriesOnTop, deepest, Nested, Fitting}
 use Rattle.planner.specs.Jumps.{FoundBelow}
-use Rattle.planner.specs.Turn.{Resolves, Shown, inHand, FrameFits, StageFits, Ready, emitting, PlannedTurn}
+use Rattle.plan.specs.Turn.{Resolves, Shown, inHand, FrameFits, StageFits, Ready, emitting, PlannedTurn}
 use Rattle.build.specs.Driver.{foundBy, Searches, visitedBlock, slot, isHalt, planEnds, startingAt, walkedBy, blockedBy, Reported}
 use Rattle.build.proofs.ApplyLaws.{emitted, withMarks, Whole, Changeable, Blocked, Applicable, Applied, marks}
 use Rattle.build.proofs.CheckedLaws.{checked-table}

@@ -5,7 +5,8 @@ use mathlib.Core.Path.{_≡_, refl, sym, ap, _∙_, subst}
 use mathlib.Core.Bool.{Bool, true, false, _||_}
 use mathlib.Core.List.{List}
 use mathlib.Core.Option.{Option, none}
-use borrow.Author.Tests.{eqb-true, eqb-false}
+use lib.Dec.{eqb}
+use borrow.Author.Tests.{eq-eqb, ne-eqb, eqb-true, eqb-false}
 use Rattle.table.specs.Words.{blockCount, placeCount, caseCount, blockWord}
 use Rattle.table.specs.Promise.{Promise, InRange}
 use Rattle.table.specs.Table.{Terminal, absent, unreachable, throw, return, goto, if, branch, switch, do-while, while, for, for-of, for-in, logical, ternary}
@@ -21,7 +22,7 @@ use Rattle.control.proofs.SearchLaws.{lastTarget, break-none, break-found, brea
 use Rattle.build.specs.declared.search.Jump.{Jump}
 use Rattle.build.specs.declared.search.Jump.the-variants.{Nothing}
 use Rattle.build.specs.declared.search.Jump.the-variants as jump
-use Rattle.planner.specs.Turn.{Resolves}
+use Rattle.plan.specs.Turn.{Resolves}
 use Rattle.build.specs.Driver.{foundBy, searchedFrom, isMet, resolvedAt, Searches}
 
 -- a terminal that is no jump
@@ -104,33 +105,38 @@ foundAmong Nothing entries top loopsAbove = none
 foundAmong (jump.Break block) entries top loopsAbove = breakTargetFrom entries block top loopsAbove
 foundAmong (jump.Continue block) entries top loopsAbove = continueTargetFrom entries block top loopsAbove
 
--- the first so many entries give what all give
-pub record Searching (sought : Jump) (cx : Context) (at : ℕ) (top : Bool) (loopsAbove : ℕ) : Type 0 where
+-- the first so many entries give what all give; the innermost is the last of all
+pub record Searching (sought : Jump) (cx : Context) (at : ℕ) (loopsAbove : ℕ) : Type 0 where
   pub settled : cx .pending ≡ false
   pub within : loopsAbove + at ≤ cx .len
-  pub rest : foundAmong sought (stackOf (cx .stack) (cx .len)) true 0 ≡ foundAmong sought (stackOf (cx .stack) at) top loopsAbove
+  pub rest : foundAmong sought (stackOf (cx .stack) (cx .len)) true 0 ≡ foundAmong sought (stackOf (cx .stack) at) (eqb at (cx .len)) loopsAbove
 
-pub search-start : (sought : Jump) (cx : Context) (n : ℕ) → cx .pending ≡ false → n ≡ searchedFrom sought (cx .len) → Searching sought cx n true 0
+pub search-start : (sought : Jump) (cx : Context) (n : ℕ) → cx .pending ≡ false → n ≡ searchedFrom sought (cx .len) → Searching sought cx n 0
 search-start Nothing cx n s e = record { settled = s; within = omega (arith, e); rest = refl }
-search-start (jump.Break b) cx n s e = record { settled = s; within = omega (arith, e); rest = rw e refl }
-search-start (jump.Continue b) cx n s e = record { settled = s; within = omega (arith, e); rest = rw e refl }
+search-start (jump.Break b) cx n s e = record { settled = s; within = omega (arith, e); rest = rw (eq-eqb n (cx .len) e, e) refl }
+search-start (jump.Continue b) cx n s e = record { settled = s; within = omega (arith, e); rest = rw (eq-eqb n (cx .len) e, e) refl }
 
-module _ (cx : Context) (at : ℕ) (top : Bool) (above : ℕ) where
+module _ (cx : Context) (at : ℕ) (above : ℕ) where
+  below-top : (sought : Jump) → Searching sought cx at above → (at ≡ 0 → ⊥) → eqb (at - 1) (cx .len) ≡ false
+  below-top sought h f = ne-eqb (at - 1) (cx .len) (λ (q : at - 1 ≡ cx .len). omega (arith, h .within, f, q))
+
   -- one entry further down, with the loops counted
-  pub search-on : {counted : ℕ} (sought : Jump) → Searching sought cx at top above → (at ≡ 0 → ⊥) → isMet sought (lastTarget (cx .stack) at) ≡ false
-      → (counted ≡ loopsOf (lastTarget (cx .stack) at) + above) × (counted ≤ above + 1) → Searching sought cx (at - 1) false counted
+  pub search-on : {counted : ℕ} (sought : Jump) → Searching sought cx at above → (at ≡ 0 → ⊥) → isMet sought (lastTarget (cx .stack) at) ≡ false
+      → (counted ≡ loopsOf (lastTarget (cx .stack) at) + above) × (counted ≤ above + 1) → Searching sought cx (at - 1) counted
   search-on Nothing h f m (e, one) = record { settled = h .settled; within = omega (arith, h .within, one); rest = refl }
-  search-on (jump.Break b) h f m (e, one) = record { settled = h .settled; within = omega (arith, h .within, one); rest = h .rest ∙ rw e (break-missed _ _ _ _ _ f (eqb-false _ _ m)) }
-  search-on (jump.Continue b) h f m (e, one) = record { settled = h .settled; within = omega (arith, h .within, one); rest = h .rest ∙ rw e (continue-missed _ _ _ _ _ f m) }
+  search-on (jump.Break b) h f m (e, one) =
+      record { settled = h .settled; within = omega (arith, h .within, one); rest = h .rest ∙ rw (e, below-top _ h f) (break-missed _ _ _ _ _ f (eqb-false _ _ m)) }
+  search-on (jump.Continue b) h f m (e, one) =
+      record { settled = h .settled; within = omega (arith, h .within, one); rest = h .rest ∙ rw (e, below-top _ h f) (continue-missed _ _ _ _ _ f m) }
 
-  pub search-none : (sought : Jump) → Searching sought cx at top above → at ≡ 0 → (visits : ℕ) → none ≡ foundBy sought (contextOf visits cx)
+  pub search-none : (sought : Jump) → Searching sought cx at above → at ≡ 0 → (visits : ℕ) → none ≡ foundBy sought (contextOf visits cx)
   unfolding getBreakTarget getContinueTarget contextOf
   search-none Nothing h e visits = refl
   search-none (jump.Break b) h e visits = rw (h .settled) (sym (h .rest ∙ break-none _ _ _ _ _ e))
   search-none (jump.Continue b) h e visits = rw (h .settled) (sym (h .rest ∙ continue-none _ _ _ _ _ e))
 
-  pub search-found : (sought : Jump) → Searching sought cx at top above → (at ≡ 0 → ⊥) → isMet sought (lastTarget (cx .stack) at) ≡ true → (visits : ℕ)
-      → resolvedAt sought (lastTarget (cx .stack) at) top above ≡ foundBy sought (contextOf visits cx)
+  pub search-found : (sought : Jump) → Searching sought cx at above → (at ≡ 0 → ⊥) → isMet sought (lastTarget (cx .stack) at) ≡ true → (visits : ℕ)
+      → resolvedAt sought (lastTarget (cx .stack) at) (eqb at (cx .len)) above ≡ foundBy sought (contextOf visits cx)
   unfolding getBreakTarget getContinueTarget contextOf
   search-found Nothing h f m visits = refl
   search-found (jump.Break b) h f m visits = rw (h .settled) (sym (h .rest ∙ break-found _ _ _ _ _ f (eqb-true _ _ m)))

@@ -13,11 +13,11 @@ use Rattle.control.specs.declared.Context.{Context}
 use Rattle.control.specs.Contract.{breakTo, continueTo}
 use Rattle.rows.specs.Rows.{Holds}
 use Rattle.rows.specs.Stack.{pushed}
-use Rattle.planner.specs.Turn.{Resolves}
-use Rattle.planner.specs.declared.plan.Stage.{Stage}
-use Rattle.planner.specs.declared.plan.Stage.the-variants.{Visit, Ended, Choose, Pop, Halt}
-use Rattle.planner.specs.declared.plan.Position.{Position}
-use Rattle.planner.specs.declared.plan.Plan.{Plan}
+use Rattle.plan.specs.Turn.{Resolves}
+use Rattle.plan.specs.declared.Stage.{Stage}
+use Rattle.plan.specs.declared.Stage.the-variants.{Visit, Ended, Choose, Pop, Halt}
+use Rattle.plan.specs.declared.Position.{Position}
+use Rattle.plan.specs.declared.Plan.{Plan}
 use Rattle.build.specs.declared.search.Jump.{Jump}
 use Rattle.build.specs.declared.search.Jump.the-variants.{Nothing}
 use Rattle.build.specs.declared.search.Jump.the-variants as jump

@@ -8,13 +8,13 @@ use control::ControlFlowTarget;
 use control::Resolved;
 use control::count_loop;
 use control::insert;
-use planner::fallthrough::narrow;
-use planner::plan::Change;
-use planner::plan::NONE;
-use planner::plan::Plan;
-use planner::plan::Position;
-use planner::plan::Stage;
-use planner::plan::no_frame;
+use plan::Change;
+use plan::NONE;
+use plan::Plan;
+use plan::Position;
+use plan::Stage;
+use plan::fallthrough::narrow;
+use plan::no_frame;
 use planner::turn::plan_turn;
 use table::words::entry;
 ghost use mathlib.Core.Path.{_≡_};
@@ -155,12 +155,12 @@ pub fn walk(words: &[u32], tree: &mut [u32]) -> Walked
         let frame = frames[innermost(p.depth)];
         let jump = jump_at(words, &cx.scheduled, &cx.catch_handlers, p);
         let mut at = search_from(jump, cx.len);
-        let mut top = true;
         let mut loops: u32 = 0;
         let resolved = loop {
             if at == 0 {
                 break Resolved::Nothing;
             }
+            let top = at == cx.len;
             at -= 1;
             let entry = cx.stack[at];
             let target = entry.target;
@@ -168,7 +168,6 @@ pub fn walk(words: &[u32], tree: &mut [u32]) -> Walked
                 break resolve(jump, entry, top, loops);
             }
             loops = count_loop(loops, target);
-            top = false;
         };
         let plan = plan_turn(
             words,

@@ -4,10 +4,10 @@ use control::Entry;
 use control::Resolved;
 use control::break_to;
 use control::continue_to;
-use planner::fallthrough::narrow;
-use planner::fallthrough::scheduled_at;
-use planner::plan::Position;
-use planner::plan::Stage;
+use plan::Position;
+use plan::Stage;
+use plan::fallthrough::narrow;
+use plan::fallthrough::scheduled_at;
 use table::words::block_word;
 ghost use mathlib.Core.Path.{_≡_};
 ghost use Prim.Native.Nat.{_<_};
@@ -15,7 +15,7 @@ ghost use Rattle.table.specs.Words.{blockCount, blockWord};
 ghost use Rattle.table.specs.Promise.{Promise};
 ghost use Rattle.definition.specs.Context.{Flags};
 ghost use Rattle.control.specs.Abstraction.{targetOf, resolvedOf};
-ghost use Rattle.planner.specs.declared.plan.Stage.the-variants.{Visit};
+ghost use Rattle.plan.specs.declared.Stage.the-variants.{Visit};
 ghost use Rattle.build.specs.Driver.{searchedFrom, isMet, resolvedAt, Searches};
 
 pub enum Jump {

@@ -22,15 +22,15 @@ use Rattle.control.specs.declared.Resolved.{Resolved}
 use Rattle.control.specs.Abstraction.{resolvedOf}
 use Rattle.rows.specs.Rows.{Written}
 use Rattle.planner.specs.declared.jump.Jumped.{Jumped}
-use Rattle.planner.specs.declared.plan.Position.{Position}
-use Rattle.planner.specs.declared.plan.Change.the-variants.{Nothing}
-use Rattle.planner.specs.declared.plan.Plan.{Plan}
-use Rattle.planner.specs.Plans.{frameOf, refusing, nesting, openFrame, second}
+use Rattle.plan.specs.declared.Position.{Position}
+use Rattle.plan.specs.declared.Change.the-variants.{Nothing}
+use Rattle.plan.specs.declared.Plan.{Plan}
+use Rattle.plan.specs.Plans.{frameOf, refusing, nesting, openFrame, second}
 use Rattle.planner.specs.Jumps.{JumpMet, jumpedTo, breakOutcome, BranchSeen}
-use Rattle.planner.specs.Planned.{Planned, Entered, terminalStep}
-use Rattle.planner.proofs.PlanLaws.{within-all, visits-same, refuse-applied, nest-applied}
-use Rattle.planner.proofs.StepLaws.{seen-scheduled, into-busy, into-free, turn-refused, turn-ok}
-use Rattle.planner.proofs.VisitLaws.{step-by, ranges}
+use Rattle.plan.specs.Planned.{Planned, Entered, terminalStep}
+use Rattle.plan.proofs.PlanLaws.{within-all, visits-same, refuse-applied, nest-applied}
+use Rattle.plan.proofs.StepLaws.{seen-scheduled, into-busy, into-free, turn-refused, turn-ok}
+use Rattle.plan.proofs.PlannedLaws.{step-by, ranges}
 use Rattle.planner.proofs.RowPlanLaws.{row-held}
 
 module _ (w : List ℕ) (p : Position) (en : Entered w p) (code : blockWord w (p .block) 2 ≡ 6) where

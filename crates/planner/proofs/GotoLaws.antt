@@ -20,15 +20,15 @@ use Rattle.definition.specs.Tree.{Row, Statement}
 use Rattle.control.specs.declared.Resolved.{Resolved}
 use Rattle.control.specs.Abstraction.{resolvedOf}
 use Rattle.planner.specs.declared.jump.Jumped.{Jumped}
-use Rattle.planner.specs.declared.plan.Position.{Position}
-use Rattle.planner.specs.declared.plan.Change.the-variants.{Nothing}
-use Rattle.planner.specs.declared.plan.Plan.{Plan}
-use Rattle.planner.specs.Plans.{leaving}
+use Rattle.plan.specs.declared.Position.{Position}
+use Rattle.plan.specs.declared.Change.the-variants.{Nothing}
+use Rattle.plan.specs.declared.Plan.{Plan}
+use Rattle.plan.specs.Plans.{leaving}
 use Rattle.planner.specs.Jumps.{JumpSeen, JumpMet, jumpedTo, breakOutcome, continueOutcome, afterJumpBy, afterJump, GotoSeen}
-use Rattle.planner.specs.Planned.{Planned, Entered, terminalStep}
-use Rattle.planner.proofs.PlanLaws.{within-all, visits-same, refuse-applied, leave-applied}
-use Rattle.planner.proofs.StepLaws.{turn-refused, turn-ok}
-use Rattle.planner.proofs.VisitLaws.{step-by}
+use Rattle.plan.specs.Planned.{Planned, Entered, terminalStep}
+use Rattle.plan.proofs.PlanLaws.{within-all, visits-same, refuse-applied, leave-applied}
+use Rattle.plan.proofs.StepLaws.{turn-refused, turn-ok}
+use Rattle.plan.proofs.PlannedLaws.{step-by}
 
 -- a jump and then the end of the list
 abbrev jumpStep : Position → (definition.Context → Result (Option Statement)) → List machine.Frame → List Row → definition.Context → Result State

@@ -29,19 +29,19 @@ use Rattle.rows.specs.Rows.{Holds}
 use Rattle.rows.specs.Stack.{pushed, pushInstructionRows}
 use Rattle.rows.proofs.StackLaws.{push-instruction-rows-after}
 use Rattle.value.specs.Met.{InstructionsPut}
-use Rattle.planner.specs.declared.plan.Stage.{Stage}
-use Rattle.planner.specs.declared.plan.Stage.the-variants.{Visit, Halt}
-use Rattle.planner.specs.declared.plan.Position.{Position}
-use Rattle.planner.specs.declared.plan.Frame.{Frame}
-use Rattle.planner.specs.declared.plan.Plan.{Plan}
-use Rattle.planner.specs.Plans.{stateAt, applied, refusing}
-use Rattle.planner.specs.Planned.{Seen, Fitting, Planned, terminalStep}
+use Rattle.plan.specs.declared.Stage.{Stage}
+use Rattle.plan.specs.declared.Stage.the-variants.{Visit, Halt}
+use Rattle.plan.specs.declared.Position.{Position}
+use Rattle.plan.specs.declared.Frame.{Frame}
+use Rattle.plan.specs.declared.Plan.{Plan}
+use Rattle.plan.specs.Plans.{stateAt, applied, refusing}
+use Rattle.plan.specs.Planned.{Seen, Fitting, Planned, terminalStep}
 use Rattle.planner.specs.Jumps.{JumpSeen, GotoSeen, BranchSeen}
-use Rattle.planner.specs.Loops.{valueFallthrough}
-use Rattle.planner.specs.Turn.{Resolves, Shown, AtTerminal, Visits, inHand, StageFits, Ready, emitting, PlannedTurn}
-use Rattle.planner.proofs.PlanLaws.{refuse-applied}
-use Rattle.planner.proofs.StepLaws.{turn-refused}
-use Rattle.planner.proofs.ResumeLaws.{applied-visits}
+use Rattle.loops.specs.Loops.{valueFallthrough}
+use Rattle.plan.specs.Turn.{Resolves, Shown, AtTerminal, Visits, inHand, StageFits, Ready, emitting, PlannedTurn}
+use Rattle.plan.proofs.PlanLaws.{refuse-applied}
+use Rattle.plan.proofs.StepLaws.{turn-refused}
+use Rattle.plan.proofs.PlannedLaws.{applied-visits}
 
 -- ---- what the planners of jumps see
 

@@ -18,11 +18,11 @@ use Rattle.rows.specs.Rows.{Holds}
 use Rattle.rows.specs.Stack.{pushed}
 use Rattle.table.specs.Words.{blockWord}
 use Rattle.planner.specs.declared.jump.Jumped.{Jumped}
-use Rattle.planner.specs.declared.plan.Position.{Position}
-use Rattle.planner.specs.declared.plan.Plan.{Plan}
-use Rattle.planner.specs.declared.plan.Change.the-variants as plan
-use Rattle.planner.specs.Plans.{leaving, refusing}
-use Rattle.planner.specs.Planned.{Seen}
+use Rattle.plan.specs.declared.Position.{Position}
+use Rattle.plan.specs.declared.Plan.{Plan}
+use Rattle.plan.specs.declared.Change.the-variants as plan
+use Rattle.plan.specs.Plans.{leaving, refusing}
+use Rattle.plan.specs.Planned.{Seen}
 
 -- the target that was found is one of the 1,024 blocks
 abbrev pub FoundBelow : Resolved → Type 0

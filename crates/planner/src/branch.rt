@@ -1,18 +1,18 @@
 // Goto and Branch.
-use crate::fallthrough::scheduled_at;
 use crate::jump::Jumped;
 use crate::jump::visit_break;
 use crate::jump::visit_continue;
-use crate::plan::Change;
-use crate::plan::NONE;
-use crate::plan::Plan;
-use crate::plan::Position;
-use crate::plan::frame_of;
-use crate::plan::leave;
-use crate::plan::refuse;
-use crate::plan::second_part;
-use crate::plan::traverse_block;
 use control::Resolved;
+use plan::Change;
+use plan::NONE;
+use plan::Plan;
+use plan::Position;
+use plan::fallthrough::scheduled_at;
+use plan::frame_of;
+use plan::leave;
+use plan::refuse;
+use plan::second_part;
+use plan::traverse_block;
 use rows::BLOCK;
 use rows::put;
 use table::words::block_word;
@@ -23,7 +23,7 @@ ghost use Prim.Native.Nat.{_+_, _≤_, _<_};
 ghost use Rattle.table.specs.Words.{blockWord};
 ghost use Rattle.definition.specs.Context.{has};
 ghost use Rattle.planner.specs.Jumps.{FoundBelow, afterJump, GotoSeen, BranchSeen};
-ghost use Rattle.planner.specs.Planned.{Entered, Planned, terminalStep};
+ghost use Rattle.plan.specs.Planned.{Entered, Planned, terminalStep};
 
 fn after_jump(p: Position, jump: Jumped) -> Plan
     requires { ⌜ p .count ≤ 1000000000 ⌝ }

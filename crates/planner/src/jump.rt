@@ -1,7 +1,7 @@
 // The Rust's visit_break and visit_continue. The driver has searched the stack for the target.
-use crate::plan::Position;
 use control::Resolution;
 use control::Resolved;
+use plan::Position;
 use rows::BREAK;
 use rows::CONTINUE;
 use rows::put;

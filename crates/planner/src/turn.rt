@@ -1,16 +1,16 @@
 // A turn of the walk: the visit of a block, the end of a nested list, a Switch's next case, or an entry that comes off the stack.
-use crate::plan::Frame;
-use crate::plan::Plan;
-use crate::plan::Position;
-use crate::plan::Stage;
-use crate::plan::refuse;
-use crate::resume::choose_case;
-use crate::resume::close_statement;
-use crate::resume::resume;
 use crate::visit::visit_block;
 use control::Resolved;
+use plan::Frame;
+use plan::Plan;
+use plan::Position;
+use plan::Stage;
+use plan::refuse;
+use resume::choose_case;
+use resume::close_statement;
+use resume::resume;
 ghost use Rattle.planner.specs.Jumps.{FoundBelow};
-ghost use Rattle.planner.specs.Turn.{Ready, Shown, PlannedTurn};
+ghost use Rattle.plan.specs.Turn.{Ready, Shown, PlannedTurn};
 
 pub fn plan_turn<'a>(
     words: &[u32],

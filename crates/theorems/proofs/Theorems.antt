@@ -6,7 +6,7 @@ use mathlib.Core.List.{List, map}
 use mathlib.Core.Logic.{_⊎_}
 use mathlib.Core.Bool.{_||_}
 use mathlib.Core.Option.{some}
-use lib.ListN.{length}
+use lib.ListN.{length, take}
 use lib.Dec.{T, eqb}
 use contract.Lifetimes.{Lfts}
 use denote.Ref.{RefT, now}
@@ -38,6 +38,18 @@ use Rattle.definition.proofs.Crossed.{Found, break-found, continue-found}
 use Rattle.definition.proofs.JumpRows.{built-within}
 use Rattle.definition.proofs.Example.{W, loops, W-law, loops-law}
 use Rattle.definition.proofs.Samples.{Sample, samples, builtFor, the-samples}
+use Rattle.definition.specs.Tree.{Row}
+use Rattle.definition.specs.Reading.{ReadAs}
+use Rattle.definition.proofs.Readings.{one-reading}
+use Rattle.reading.specs.Grammar.{Answer}
+use Rattle.reading.specs.Needs.{treeVerdict, codeOf, atOf}
+use Rattle.reading.proofs.Words.{words-answered, words-answer-is}
+use Rattle.reading.proofs.BuiltReads.{built-answered}
+use Rattle.treerows.specs.Found.{TreeAnswered}
+use Rattle.treerows.specs.declared.TreeChecked.{TreeChecked}
+use Rattle.treerows.proofs.check_tree.Statement as tree-stated
+use Rattle.treerows.proofs.check_tree.Met as tree-proved
+use Rattle.treerows.proofs.check_tree.Reads as check-tree
 use Rattle.text.specs.Ascii.{ascii}
 use Rattle.text.specs.Decimal.{digitsOf, decimal}
 use Rattle.text.specs.declared.write.Written.{Written}
@@ -53,7 +65,7 @@ use Rattle.build.proofs.reactive_build.Statement as export-stated
 use Rattle.build.proofs.reactive_build.Met as export-proved
 use Rattle.build.proofs.reactive_build.Reads as export
 use Rattle.treefile.specs.Prints.{Prints, FileBuilt}
-use Rattle.treefile.proofs.OneText.{file-built-one}
+use Rattle.text.proofs.PrintsLaws.{file-printed-one}
 use Rattle.treefile.proofs.Sample.{sample-prints}
 use Rattle.treefile.proofs.build_file.Statement as file-stated
 use Rattle.treefile.proofs.build_file.Met as file-proved
@@ -193,6 +205,34 @@ a-continue-gives-the-loops-above-its-loop = continue-found
 pub no-row-has-more-than-128-loops : (words : List ℕ) (lent : ℕ) → (accepts : built words lent .code ≡ 0) → JumpsWithin (rows (one-tree words lent accepts .tree))
 no-row-has-more-than-128-loops = built-within
 
+-- ---- M-100: read a tree back
+
+pub check-tree-meets-its-contract : {M : Type 1} → tree-stated.statement M
+check-tree-meets-its-contract = tree-proved.met
+
+pub check-tree-asks-nothing : (κs : Lfts 1) (before : RefT (List ℕ) × Unit {0}) → check-tree.Asked κs before
+check-tree-asks-nothing κs before = tt
+
+-- it gives the grammar's answer: "accepts a list .. exactly when it reads as one tree", 60 and 61 at the first row, 62
+pub check-tree-gives-the-grammars-answer : (κs : Lfts 1) (before after : RefT (List ℕ) × Unit {0}) (answer : TreeChecked) → check-tree.Learnt κs before answer after
+    → Answer (now (before .0)) (answer .code) (answer .at)
+check-tree-gives-the-grammars-answer κs before after answer learnt = let promised : TreeAnswered _ _ _ = learnt in promised .answer
+
+-- any words have an answer, and no other
+pub any-words-have-an-answer : (words : List ℕ) → Answer words (codeOf (treeVerdict words)) (atOf (treeVerdict words))
+any-words-have-an-answer = words-answered
+
+pub they-have-no-other : (words : List ℕ) {code at : ℕ} → Answer words code at → (code ≡ codeOf (treeVerdict words)) × (at ≡ atOf (treeVerdict words))
+they-have-no-other = words-answer-is
+
+pub a-list-has-one-reading : (list : List Row) (root root′ : Statements) → ReadAs list root → ReadAs list root′ → root ≡ root′
+a-list-has-one-reading = one-reading
+
+-- "every list that the build makes within that size is accepted"
+pub what-the-build-makes-is-accepted : (words : List ℕ) (lent : ℕ) → built words lent .code ≡ 0 → built words lent .rows ≤ 2048
+    → Answer (take (built words lent .rows * 6) (built words lent .buffer)) 0 0
+what-the-build-makes-is-accepted = built-answered
+
 -- ---- samples
 
 -- the ★ samples, as one table
@@ -221,7 +261,7 @@ build-file-prints-the-definition κs before after answer learnt = learnt
 
 -- and that fixes the answer and every lent byte
 pub a-file-has-one-answer : (file : List ℕ) (room : ℕ) (r s : Written) (l m : List ℕ) → FileBuilt file room r l → FileBuilt file room s m → (r ≡ s) × (l ≡ m)
-a-file-has-one-answer = file-built-one
+a-file-has-one-answer = file-printed-one _ _ _
 
 -- ---- the machine, which the code follows turn by turn, gives what the definition gives
 

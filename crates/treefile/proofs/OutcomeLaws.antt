@@ -1,5 +1,5 @@
 -- Laws of outcomes that printing rests on.
-use Prim.Native.Nat.{ℕ, zero, suc, _-_, _*_, _/_, _≤_}
+use Prim.Native.Nat.{ℕ, _-_, _*_, _/_, _≤_}
 use mathlib.Core.Path.{_≡_, refl, sym, ap, _∙_}
 use mathlib.Core.Bool.{Bool, true, false}
 use mathlib.Core.List.{List, _++_}
@@ -12,7 +12,7 @@ use Rattle.table.specs.Check as check
 use Rattle.table.specs.Table.{tableOf}
 use Rattle.definition.specs.Tree.{Row}
 use Rattle.definition.specs.Build.{Report, Outcome, accepted, rejected, report, refusal, wordsOf, placed, outcomeOf, afterCheck, built}
-use Rattle.text.specs.Printed.{printed, treeLines}
+use Rattle.text.specs.Printed.{printed}
 use Rattle.build.specs.Entry.{outcome}
 use Rattle.build.specs.declared.Outcome as build
 use Rattle.treefile.specs.Prints.{printedOutcome}
@@ -45,12 +45,6 @@ after-fits lent check.accepted words = outcome-fits lent (report (tableOf words)
 built-fits : (words : List ℕ) (lent : ℕ) → built words lent .code ≡ 0 → built words lent .rows * 6 ≤ lent
 unfolding built Fits
 built-fits words lent = after-fits lent (checked words) words
-
--- a refusal prints no tree
-pub refusal-lines : (code at rows visits : ℕ) (t t′ : List ℕ) → (code ≡ 0 → ⊥) → printed code at rows visits t ≡ printed code at rows visits t′
-unfolding printed treeLines
-refusal-lines zero at rows visits t t′ h = absurd (h refl)
-refusal-lines (suc code) at rows visits t t′ h = refl
 
 -- what is written of a build is what its outcome prints
 pub built-printed : (words : List ℕ) (lent : ℕ) (r : build.Outcome) (tree : List ℕ) {room : ℕ} → room ≡ lent → outcome r tree ≡ built words room

@@ -1,11 +1,10 @@
 // The program treebuild as a function: a file's bytes in, the bytes that are printed of it out.
 ghost use mathlib.Core.Path.{_≡_};
-ghost use Prim.Native.Nat.{_≤_};
+ghost use Prim.Native.Nat.{_+_, _*_, _/_};
 ghost use lib.ListN.{length};
-ghost use Rattle.definition.specs.Build.{built};
-ghost use Rattle.text.specs.Printed.{printed, writtenOf, lentOf};
-ghost use Rattle.text.specs.declared.write.Written.the-variants.{Bytes};
-ghost use Rattle.treefile.specs.Prints.{lentWords, printedOutcome, FileBuilt};
+ghost use Rattle.text.specs.Printed.{printed};
+ghost use Rattle.text.specs.Prints.{WrittenText};
+ghost use Rattle.treefile.specs.Prints.{treeText, FileBuilt};
 use build::build_reactive_function;
 use text::read::Answer;
 use text::read::read;
@@ -28,20 +27,16 @@ fn lent_words() -> [u32; 16384]
     [0; 16384]
 }
 
-// Writes a result of at most 2,048 rows: 135,245 bytes are always enough.
+// Writes a result: 77 bytes, and 66 for each row, are always enough.
 fn write_result(out: &mut [u8], code: u32, at: u32, rows: u32, visits: u32, tree: &[u32]) -> Written
-    ensures { λ r. ⌜ r ≡ writtenOf (length (now (out .entry))) (printed code at rows visits (now (tree .entry))) ⌝ }
-    ensures { λ _. ⌜ now (out .exit) ≡ lentOf (length (now (out .entry))) (printed code at rows visits (now (tree .entry))) ⌝ }
-    ensures { λ r. ⌜ (length (now (tree .entry)) ≤ lentWords → 135245 ≤ length (now (out .entry)) → r ≡ Bytes (length (printed code at rows visits (now (tree .entry))))) ⌝ }
+    ensures { λ r. ⌜ WrittenText (77 + length (now (tree .entry)) / 6 * 66) (printed code at rows visits (now (tree .entry))) (length (now (out .entry))) r (now (out .exit)) ⌝ }
 {
     write(out, code, at, rows, visits, tree)
 }
 
 // Builds the table's tree, with 2,048 rows lent, and writes the result.
 fn build_words(words: &[u32], out: &mut [u8]) -> Written
-    ensures { λ r. ⌜ r ≡ writtenOf (length (now (out .entry))) (printedOutcome (built (now (words .entry)) lentWords)) ⌝ }
-    ensures { λ _. ⌜ now (out .exit) ≡ lentOf (length (now (out .entry))) (printedOutcome (built (now (words .entry)) lentWords)) ⌝ }
-    ensures { λ r. ⌜ (135245 ≤ length (now (out .entry)) → r ≡ Bytes (length (printedOutcome (built (now (words .entry)) lentWords)))) ⌝ }
+    ensures { λ r. ⌜ WrittenText 135245 (treeText (now (words .entry))) (length (now (out .entry))) r (now (out .exit)) ⌝ }
 {
     let mut tree = lent_rows();
     let built = build_reactive_function(words, &mut tree);

@@ -1,7 +1,7 @@
 use native.Mathlib.Omega.{arith}
 use mathlib.Core.Path.{sym}
 use lib.Seq.{length-take-le}
-use Rattle.treefile.proofs.FileLaws.{bytes-within}
+use Rattle.text.proofs.WriteLaws.{bytes-within}
 use borrow.Author.Needs.{needs}
 use Rattle.treebuild.proofs.main.Statement.{statement}
 use Rattle.treebuild.proofs.main.Tie as tie
@@ -46,13 +46,13 @@ array-share-prefix-out : tie.Need-array-share-prefix-out
 array-share-prefix-out c =
     let at-build : tie.After-build-file = search in
     let at-bytes : tie.After-written = search in
-    omega (arith, bytes-within _ _ _ _ (at-build .build-file .ensures .answer) (at-bytes .written .given .1), at-build .build-file .kept .1 .0)
+    omega (arith, bytes-within _ _ _ _ (at-build .build-file .ensures .written .answer) (at-bytes .written .given .1), at-build .build-file .kept .1 .0)
 
 slice-aggregate-write-all-2 : tie.Need-slice-aggregate-write-all-2
 slice-aggregate-write-all-2 c =
     let at-build : tie.After-build-file = search in
     let at-bytes : tie.After-written = search in
-    sym (length-take-le _ _ (omega (arith, bytes-within _ _ _ _ (at-build .build-file .ensures .answer) (at-bytes .written .given .1), at-build .build-file .kept .1 .0)))
+    sym (length-take-le _ _ (omega (arith, bytes-within _ _ _ _ (at-build .build-file .ensures .written .answer) (at-bytes .written .given .1), at-build .build-file .kept .1 .0)))
 
 write-all-requires : tie.Need-write-all-requires
 write-all-requires c κs = search needs

@@ -1,14 +1,12 @@
 use borrow.Author.Needs.{needs}
 use native.Mathlib.Omega.{arith}
-use mathlib.Core.Path.{sym, ap, _∙_}
-use Prim.Native.Nat.{ℕ, _*_, _≤_}
-use mathlib.Core.List.{List}
-use Rattle.text.specs.declared.write.Written.the-variants.{Bytes}
+use mathlib.Core.Path.{sym, _∙_}
+use Prim.Native.Nat.{_*_, _≤_}
 use lib.ListN.{length}
-use Rattle.text.specs.Printed.{writtenOf, lentOf}
-use Rattle.treefile.specs.Prints.{lentWords}
 use lib.Seq.{length-take-le}
-use Rattle.treefile.proofs.OutcomeLaws.{built-within, refusal-lines, built-printed}
+use Rattle.text.proofs.PrintsLaws.{refusal-lines, written-as}
+use Rattle.treefile.specs.Prints.{lentWords}
+use Rattle.treefile.proofs.OutcomeLaws.{built-within, built-printed}
 use Rattle.treefile.proofs.build_words.Statement.{statement}
 use Rattle.treefile.proofs.build_words.Tie as tie
 
@@ -39,10 +37,8 @@ returns c =
     let at-rows : tie.After-lent-rows = search in
     let start : tie.Start = search in
     let b = at-build-reactive-function .build-reactive-function in
-    let h = b .ensures in
-    let w = at-write-result .write-result .ensures in
-    let e = refusal-lines _ _ _ _ _ _ (then1 .if1 .taken) ∙ built-printed (start .args .words .now) lentWords (b .result) (b .last .1 .0) (sym (at-rows .lent-rows .ensures)) h in
-    (w .0 ∙ ap (writtenOf _) e, (w .1 .0 ∙ ap (lentOf _) e, λ p. w .1 .1 (omega (arith, at-tree2 .tree2 .given)) p ∙ ap (λ (text : List ℕ). Bytes (length text)) e))
+    let e = refusal-lines _ _ _ _ _ _ (then1 .if1 .taken) ∙ built-printed (start .args .words .now) lentWords (b .result) (b .last .1 .0) (sym (at-rows .lent-rows .ensures)) (b .ensures) in
+    written-as e (omega (arith, at-tree2 .tree2 .given)) (at-write-result .write-result .ensures)
 
 cast-end : tie.Need-cast-end
 cast-end c = search needs
@@ -81,15 +77,8 @@ returns-2 c =
     let b = at-build-reactive-function .build-reactive-function in
     let h = b .ensures in
     let fits : b .result .rows * 6 ≤ length (b .last .1 .0) = omega (arith, built-within _ _ _ _ h (else1 .if1 .left), b .kept .1 .0) in
-    let w = at-write-result2 .write-result2 .ensures in
-    let e = built-printed (start .args .words .now) lentWords (b .result) (b .last .1 .0) (sym (at-rows .lent-rows .ensures)) h in (
-      w .0 ∙ ap (writtenOf _) e,
-      (
-        w .1 .0 ∙ ap (lentOf _) e,
-        λ p. w .1 .1 (omega (arith, length-take-le (b .result .rows * 6) (b .last .1 .0) fits, fits, at-tree2 .tree2 .given)) p ∙ ap
-            (λ (text : List ℕ). Bytes (length text)) e,
-      ),
-    )
+    let e = built-printed (start .args .words .now) lentWords (b .result) (b .last .1 .0) (sym (at-rows .lent-rows .ensures)) h in
+    written-as e (omega (arith, length-take-le (b .result .rows * 6) (b .last .1 .0) fits, fits, at-tree2 .tree2 .given)) (at-write-result2 .write-result2 .ensures)
 
 pub build-words-spec : {M : Type 1} → statement M
 build-words-spec =

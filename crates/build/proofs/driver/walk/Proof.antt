@@ -8,9 +8,9 @@ use mathlib.Core.Logic.{⊎-elim}
 use borrow.Author.Needs.{needs}
 use Rattle.control.specs.Abstraction.{contextOf, resolvedOf, settled}
 use Rattle.control.specs.Contract.{Last}
-use Rattle.planner.specs.declared.plan.Plan.{Plan}
-use Rattle.planner.specs.declared.plan.Change.{Change}
-use Rattle.planner.specs.declared.plan.Change.the-variants.{Schedule, ScheduleBriefly, Unschedule}
+use Rattle.plan.specs.declared.Plan.{Plan}
+use Rattle.plan.specs.declared.Change.{Change}
+use Rattle.plan.specs.declared.Change.the-variants.{Schedule, ScheduleBriefly, Unschedule}
 use Rattle.table.specs.Table.{tableOf}
 use Rattle.definition.specs.Build.{report}
 use Rattle.build.specs.Driver.{foundBy, visitedBlock, planEnds, blockedBy, Reported}
@@ -18,8 +18,8 @@ use Rattle.build.proofs.ApplyLaws.{withMarks, Whole, Changeable, Change
 use Rattle.build.proofs.ApplyLaws.{schedule-blocked, unschedule-changed, briefly-changed, briefly-blocked, last-scheduled, changeable-marked}
 use Rattle.build.proofs.ApplyLaws.{whole-marked, plan-applied, last-entry}
 use Rattle.control.specs.declared.Context.{Context}
-use Rattle.planner.specs.declared.plan.Position.{Position}
-use Rattle.planner.specs.declared.plan.Frame.{Frame}
+use Rattle.plan.specs.declared.Position.{Position}
+use Rattle.plan.specs.declared.Frame.{Frame}
 use Rattle.build.proofs.DriverLaws.{Walking, turnsLeft, walking-start, frame-read, found-jump, found-below, ready, shallow, visit-below, AtTurn}
 use Rattle.build.proofs.DriverLaws.{turn-ends, turn-applicable, turn-slot, turn-blocked, turn-again, turn-lower}
 use denote.Ref.{now}
@@ -33,11 +33,11 @@ record Inv (words buffer₀ buffer : List ℕ) (cx : Context) (frames : List Fra
   long : length buffer ≡ length buffer₀
 
 abbrev Inv-loop2 : tie.InvT-loop2
-Inv-loop2 words tree cx frames p frame jump at₀ top₀ loops₀ at top loops =
-    Searching jump cx at top loops
+Inv-loop2 words tree cx frames p frame jump at₀ loops₀ at loops =
+    Searching jump cx at loops
 
 abbrev μ-loop2 : tie.MeasureT-loop2
-μ-loop2 words tree cx frames p frame jump at₀ top₀ loops₀ at top loops =
+μ-loop2 words tree cx frames p frame jump at₀ loops₀ at loops =
     at
 
 abbrev Inv-loop : tie.InvT-loop
@@ -130,38 +130,55 @@ loop2-again c =
     let at-meets : tie.After-meets Inv-loop2 μ-loop2 Inv-loop μ-loop = search in
     let else1 : tie.Else1 Inv-loop2 μ-loop2 Inv-loop μ-loop = search in
     let at-loop2 : tie.At-loop2 Inv-loop2 μ-loop2 Inv-loop μ-loop = search in
-    search-on _ _ _ _ _ (at-loop2 .loop2 .inv) (else1 .if1 .left) (sym (at-meets .meets .ensures) ∙ else2 .if2 .left) (c .count-loop .ensures)
+    search-on _ _ _ _ (at-loop2 .loop2 .inv) (else1 .if1 .left) (sym (at-meets .meets .ensures) ∙ else2 .if2 .left) (c .count-loop .ensures)
 
 -- where the search has ended
 module _ (c : tie.Joined1 Inv-loop2 μ-loop2 Inv-loop μ-loop) where
-  abbrev head : tie.At-loop Inv-loop2 μ-loop2 Inv-loop μ-loop
-  head = c .before .before .before .before .before .before .before .before .before
+  abbrev asked-jump : tie.After-jump-at Inv-loop2 μ-loop2 Inv-loop μ-loop
+  asked-jump = search
 
-  found : (visits : ℕ) → resolvedOf (c .if1 .resolved) ≡ foundBy (c .before .before .before .jump-at .result) (contextOf visits (head .loop .cx))
+  abbrev head : tie.At-loop Inv-loop2 μ-loop2 Inv-loop μ-loop
+  head =
+      let asked : tie.After-jump-at Inv-loop2 μ-loop2 Inv-loop μ-loop = search in
+      search
+
+  found : (visits : ℕ) → resolvedOf (c .if1 .resolved) ≡ foundBy (asked-jump .jump-at .result) (contextOf visits (head .loop .cx))
   found visits =
-      ⊎-elim (λ w. ap resolvedOf (w .2) ∙ search-none _ _ _ _ _ (c .before .loop2 .inv) (w .0 .taken) visits)
-      (λ w. ap resolvedOf (w .6) ∙ w .4 .ensures ∙ search-found _ _ _ _ _ (c .before .loop2 .inv) (w .0 .left) (sym (w .2 .ensures) ∙ w .3 .taken) visits)
+      ⊎-elim (λ w. ap resolvedOf (w .2) ∙ search-none _ _ _ _ (c .before .loop2 .inv) (w .0 .taken) visits)
+      (λ w. ap resolvedOf (w .6) ∙ w .4 .ensures ∙ search-found _ _ _ _ (c .before .loop2 .inv) (w .0 .left) (sym (w .2 .ensures) ∙ w .3 .taken) visits)
       (c .if1 .came)
 
 -- where the turn is planned
 module _ (c : tie.After-plan-turn Inv-loop2 μ-loop2 Inv-loop μ-loop) where
-  abbrev at-head : tie.At-loop Inv-loop2 μ-loop2 Inv-loop μ-loop
-  at-head = head (c .before .before .before .before .before .before .before)
+  abbrev resolved-at : tie.Joined1 Inv-loop2 μ-loop2 Inv-loop μ-loop
+  resolved-at =
+      let at-cx2 : tie.After-cx2 Inv-loop2 μ-loop2 Inv-loop μ-loop = search in
+      search
 
-  turn : AtTurn (now (at-head .before .before .before .before .before .before .args .words)) (at-head .loop .tree) (at-head .loop .cx) (at-head .loop .frames)
+  abbrev at-head : tie.At-loop Inv-loop2 μ-loop2 Inv-loop μ-loop
+  at-head = head resolved-at
+
+  abbrev begun : tie.Start Inv-loop2 μ-loop2 Inv-loop μ-loop
+  begun =
+      let looping : tie.At-loop Inv-loop2 μ-loop2 Inv-loop μ-loop = at-head in
+      search
+
+  abbrev innermost-at : tie.After-innermost Inv-loop2 μ-loop2 Inv-loop μ-loop
+  innermost-at =
+      let asked : tie.After-jump-at Inv-loop2 μ-loop2 Inv-loop μ-loop = asked-jump resolved-at in
+      search
+
+  turn : AtTurn (now (begun .args .words)) (at-head .loop .tree) (at-head .loop .cx) (at-head .loop .frames)
       (at-head .loop .p) (c .plan-turn .last .1 .0) (c .plan-turn .result)
   turn =
-      let at-if1 = c .before .before .before .before .before .before .before in
-      let at-jump-at = at-if1 .before .before .before in
-      let start = at-head .before .before .before .before .before .before in
       record {
-        promise = start .pre;
+        promise = begun .pre;
         walking = at-head .loop .inv .walking;
         frame = _;
-        read = frame-read _ (start .pre) (checked-table _ (start .pre)) _ _ _ _ (at-head .loop .inv .walking) _ (at-jump-at .before .before .before .before .before .innermost .ensures);
-        found = at-if1 .if1 .resolved;
+        read = frame-read _ (begun .pre) (checked-table _ (begun .pre)) _ _ _ _ (at-head .loop .inv .walking) _ (innermost-at .innermost .ensures);
+        found = resolved-at .if1 .resolved;
         planned = c .plan-turn .ensures;
-        jump = found-jump _ _ (at-head .loop .p) _ (at-if1 .if1 .resolved) (at-jump-at .jump-at .ensures) (found at-if1);
+        jump = found-jump _ _ (at-head .loop .p) _ (resolved-at .if1 .resolved) (asked-jump resolved-at .jump-at .ensures) (found resolved-at);
       }
 
 plan-turn-requires : tie.Need-plan-turn-requires Inv-loop2 μ-loop2 Inv-loop μ-loop
@@ -227,8 +244,36 @@ frame-slot-requires c κs = tt
 
 -- where the sets are marked: the change of the stack is left
 module _ (c : tie.After-frame-slot Inv-loop2 μ-loop2 Inv-loop μ-loop) where
+  abbrev marked3 : tie.After-mark3 Inv-loop2 μ-loop2 Inv-loop μ-loop
+  marked3 = search
+
+  abbrev marked2 : tie.After-mark2 Inv-loop2 μ-loop2 Inv-loop μ-loop
+  marked2 = search
+
+  abbrev marked : tie.After-mark Inv-loop2 μ-loop2 Inv-loop μ-loop
+  marked =
+      let after : tie.After-mark2 Inv-loop2 μ-loop2 Inv-loop μ-loop = marked2 in
+      search
+
+  abbrev visited-at : tie.After-visited-block Inv-loop2 μ-loop2 Inv-loop μ-loop
+  visited-at =
+      let after : tie.After-mark Inv-loop2 μ-loop2 Inv-loop μ-loop = marked in
+      search
+
+  abbrev left-at : tie.Else3 Inv-loop2 μ-loop2 Inv-loop μ-loop
+  left-at =
+      let after : tie.After-mark Inv-loop2 μ-loop2 Inv-loop μ-loop = marked in
+      search
+
+  abbrev ended : tie.After-ends Inv-loop2 μ-loop2 Inv-loop μ-loop
+  ended =
+      let after : tie.Else3 Inv-loop2 μ-loop2 Inv-loop μ-loop = left-at in
+      search
+
   abbrev planned : tie.After-plan-turn Inv-loop2 μ-loop2 Inv-loop μ-loop
-  planned = c .before .before .before .before .before .before .before .before .before .before .before .before .before .before
+  planned =
+      let after : tie.After-ends Inv-loop2 μ-loop2 Inv-loop μ-loop = ended in
+      search
 
   abbrev plan : Plan
   plan = planned .plan-turn .result
@@ -245,9 +290,9 @@ module _ (c : tie.After-frame-slot Inv-loop2 μ-loop2 Inv-loop μ-loop) where
   abbrev with-marks : Context
   with-marks =
       record {
-        emitted = c .before .before .before .before .before .before .before .mark .last .0;
-        «catch_handlers» = c .before .before .before .before .before .mark2 .last .0;
-        «scope_fallthroughs» = c .before .before .before .mark3 .last .0;
+        emitted = marked .mark .last .0;
+        «catch_handlers» = marked2 .mark2 .last .0;
+        «scope_fallthroughs» = marked3 .mark3 .last .0;
         len =
             cx .len;
         scheduled = cx .scheduled;
@@ -262,19 +307,10 @@ module _ (c : tie.After-frame-slot Inv-loop2 μ-loop2 Inv-loop μ-loop) where
   frames = set (at-head planned .loop .frames) (c .frame-slot .result) (plan .frame)
 
   goes-on : planEnds plan ≡ false
-  goes-on =
-      sym (c .before .before .before .before .before .before .before .before .before .before .before .ends .ensures) ∙
-      c .before .before .before .before .before .before .before .before .before .before .if3 .left
+  goes-on = sym (ended .ends .ensures) ∙ left-at .if3 .left
 
   marks-made : with-marks ≡ withMarks visited (plan .handler) (plan .scope) cx
-  marks-made =
-      rw (
-        ← (c .before .before .before .mark3 .ensures),
-        ← (c .before .before .before .before .before .mark2 .ensures),
-        ← (c .before .before .before .before .before .before .before .before .visited-block .ensures),
-        ←
-            (c .before .before .before .before .before .before .before .mark .ensures),
-      ) refl
+  marks-made = rw (← (marked3 .mark3 .ensures), ← (marked2 .mark2 .ensures), ← (visited-at .visited-block .ensures), ← (marked .mark .ensures)) refl
 
   applicable : Applicable visited plan cx
   applicable = turn-applicable (turn planned) goes-on
@@ -289,7 +325,7 @@ module _ (c : tie.After-frame-slot Inv-loop2 μ-loop2 Inv-loop μ-loop) where
         (changeable-marked change visited (plan .handler) (plan .scope) cx (subst (λ (z : Change). Changeable z cx) e (applicable .change)))
 
     blocks : {code at : ℕ} → Blocked change with-marks code at
-        → Reported (report (tableOf (now (at-head planned .before .before .before .before .before .before .args .words)))) (blockedBy code at (plan .position)) (planned .plan-turn .last .1 .0)
+        → Reported (report (tableOf (now (begun planned .args .words)))) (blockedBy code at (plan .position)) (planned .plan-turn .last .1 .0)
     blocks {code} {at} E =
         turn-blocked (turn planned) goes-on (subst (λ (z : Change). Blocked z (withMarks visited (plan .handler) (plan .scope) cx) code at) (sym e)
         (subst (λ (z : Context). Blocked change z code at) marks-made E))
@@ -298,8 +334,8 @@ module _ (c : tie.After-frame-slot Inv-loop2 μ-loop2 Inv-loop μ-loop) where
       changed : Applied visited plan cx r
       changed = plan-applied visited plan cx with-marks r marks-made (subst (λ (z : Change). Changed z with-marks r) (sym e) E)
 
-      next : Inv (now (at-head planned .before .before .before .before .before .before .args .words))
-          (now (at-head planned .before .before .before .before .before .before .args .tree)) (planned .plan-turn .last .1 .0) r frames (plan .position)
+      next : Inv (now (begun planned .args .words))
+          (now (begun planned .args .tree)) (planned .plan-turn .last .1 .0) r frames (plan .position)
       next = record { walking = turn-again (turn planned) goes-on changed (c .frame-slot .ensures); long = omega (arith, planned .plan-turn .kept .1 .0, at-head planned .loop .inv .long) }
 
       lower : turnsLeft (plan .position) frames r < turnsLeft p (at-head planned .loop .frames) cx
@@ -348,10 +384,15 @@ module _ (c : tie.After-unschedule Inv-loop2 μ-loop2 Inv-loop μ-loop) where
   by-briefly = briefly-changed _ _ _ _ _ (pushed-first scheduled2 (else5 .if5 .left)) (pushed-last scheduled2) (c .unschedule .ensures)
 
 module _ (c : tie.After-unschedule2 Inv-loop2 μ-loop2 Inv-loop μ-loop) where
-  by-unschedule : Changed Unschedule (with-marks (c .before .before .before .before)) (c .unschedule2 .result)
+  abbrev slotted3 : tie.After-frame-slot Inv-loop2 μ-loop2 Inv-loop μ-loop
+  slotted3 = search
+
+  abbrev told : tie.After-enum-told2 Inv-loop2 μ-loop2 Inv-loop μ-loop
+  told = search
+
+  by-unschedule : Changed Unschedule (with-marks slotted3) (c .unschedule2 .result)
   by-unschedule =
-      unschedule-changed _ _ _ (last-entry _ (changeable (c .before .before .before .before) _ (c .before .before .enum-told2 .given .1))
-      (whole (c .before .before .before .before))) (c .unschedule2 .ensures) (whole (c .before .before .before .before))
+      unschedule-changed _ _ _ (last-entry _ (changeable slotted3 _ (told .enum-told2 .given .1)) (whole slotted3)) (c .unschedule2 .ensures) (whole slotted3)
 
 mul-frames : tie.Need-mul-frames Inv-loop2 μ-loop2 Inv-loop μ-loop
 mul-frames c = omega (arith, c .frame-slot .ensures, turn-slot (turn (planned c)) (goes-on c))

@@ -1,9 +1,9 @@
-use Rattle.planner.specs.Plans.{nesting, second}
-use Rattle.planner.specs.declared.plan.Change.the-variants.{Nothing}
-use Rattle.planner.specs.declared.plan.Frame.{Frame}
+use Rattle.plan.specs.Plans.{nesting, second}
+use Rattle.plan.specs.declared.Change.the-variants.{Nothing}
+use Rattle.plan.specs.declared.Frame.{Frame}
 use Prim.Native.Nat.{_+_}
 use Rattle.planner.proofs.BranchLaws.{branch-below, branch-refused, branch-taken, branch-other}
-use Rattle.planner.proofs.VisitLaws.{few-blocks}
+use Rattle.plan.proofs.PlannedLaws.{few-blocks}
 use native.Mathlib.Omega.{arith}
 use mathlib.Core.Path.{refl, sym, _∙_, ap}
 use borrow.Author.Needs.{needs}

@@ -2,7 +2,7 @@ use Rattle.planner.proofs.BranchLaws.{branch-below, branch-nested}
 use Prim.Native.Nat.{ℕ}
 use mathlib.Core.Bool.{_||_}
 use Rattle.definition.specs.Context.{has}
-use Rattle.planner.proofs.VisitLaws.{few-blocks}
+use Rattle.plan.proofs.PlannedLaws.{few-blocks}
 use mathlib.Core.Path.{sym, _∙_, ap}
 use borrow.Author.Needs.{needs}
 use Rattle.planner.proofs.branch.visit_branch.Statement.{statement}

@@ -1,5 +1,5 @@
 use Rattle.planner.proofs.TerminalLaws.{visits-ready, shown-seen, not-halted}
-use Rattle.planner.proofs.ResumeLaws.{turn-on, popped, closing-at-pop}
+use Rattle.resume.proofs.ResumeLaws.{turn-on, popped, closing-at-pop}
 use borrow.Author.Needs.{needs}
 use Rattle.planner.proofs.turn.plan_turn.Statement.{statement}
 use Rattle.planner.proofs.turn.plan_turn.Tie as tie

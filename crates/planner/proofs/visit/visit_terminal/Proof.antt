@@ -2,7 +2,7 @@ use mathlib.Core.Path.{refl, sym, _∙_}
 use native.Mathlib.Omega.{arith}
 use Rattle.table.specs.Table.{terminalOf}
 use Rattle.planner.proofs.VisitLaws.{unreachable-left}
-use Rattle.planner.proofs.ResumeLaws.{planned-as}
+use Rattle.plan.proofs.PlannedLaws.{planned-as}
 use Rattle.planner.proofs.TerminalLaws.{goto-seen, branch-seen, fallthrough-by, missed-past}
 use Rattle.table.proofs.RangeLaws.{code-known}
 use borrow.Author.Needs.{needs}
