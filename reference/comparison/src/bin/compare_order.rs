@@ -1,7 +1,7 @@
 //! `compare_order [TABLES [SEED]]`: rearranges seeded tables, every other one a graph of its own, by the
 //! model and by the proved library, and restores them, into buffers of the lengths needed and of others,
 //! with lists that are permutations and lists that are not; then renumbers each table at random, and
-//! builds it before and after. Says how often anything differs and what was met. The status is not 0 if
+//! builds it before and after, in both entries. Says how often anything differs and what was met. The status is not 0 if
 //! anything differs, if a kind was not met in a long enough run, or if the library is not linked.
 
 use std::process::ExitCode;
@@ -26,6 +26,11 @@ const ANSWERS: [u32; 7] = [0, 1, 2, 3, 4, 45, 46];
 /// What a buffer holds before the call.
 const STALE: u32 = 7;
 
+type Entry = fn(&[u32], &mut [u32]) -> Outcome;
+
+/// The entry that equals the Rust, and the language entry.
+const ENTRIES: [Entry; 2] = [model::build, model::build_language];
+
 /// Lent to each build.
 const TREE: usize = 4_096 * ROW_WORDS;
 
@@ -36,6 +41,7 @@ struct Met {
     calls: u64,
     built: u64,
     refused_at_a_block: u64,
+    no_such_label: u64,
     all_named: u64,
     some_unnamed: u64,
     moved: u64,
@@ -135,6 +141,7 @@ impl Met {
         }
         let kinds = [
             ("a build refused at a block", self.refused_at_a_block),
+            ("a jump that finds no label (29)", self.no_such_label),
             ("a table whose blocks are all named", self.all_named),
             ("a table with a block that is not named", self.some_unnamed),
             ("a table that is not in walking order", self.moved),
@@ -203,16 +210,18 @@ fn renumbered(candidate: CandidateOrder, table: &Table, rng: &mut Rng, met: &mut
     }
     let short = rng.below(60) as usize;
     for lent in [TREE, short] {
-        built(words, &other, &new, lent, met);
-        built(words, &first, &places(&order), lent, met);
+        for entry in ENTRIES {
+            built(entry, words, &other, &new, lent, met);
+            built(entry, words, &first, &places(&order), lent, met);
+        }
     }
 }
 
 /// The same rows, code and visits with every block renamed, and `at` where it is a block.
-fn built(words: &[u32], other: &[u32], new: &[u32], lent: usize, met: &mut Met) {
+fn built(entry: Entry, words: &[u32], other: &[u32], new: &[u32], lent: usize, met: &mut Met) {
     let (mut tree, mut there) = (vec![STALE; lent], vec![STALE; lent]);
-    let before = model::build(words, &mut tree);
-    let after = model::build(other, &mut there);
+    let before = entry(words, &mut tree);
+    let after = entry(other, &mut there);
     let at_a_block = (10..=31).contains(&before.code);
     let at = if at_a_block { new[before.at as usize] } else { before.at };
     let (rows, rest) = tree.as_chunks_mut::<ROW_WORDS>();
@@ -221,4 +230,5 @@ fn built(words: &[u32], other: &[u32], new: &[u32], lent: usize, met: &mut Met) 
     met.hold(after == Outcome { at, ..before } && tree == there);
     met.built += 1;
     met.refused_at_a_block += u64::from(at_a_block);
+    met.no_such_label += u64::from(before.code == 29);
 }
