@@ -55,10 +55,26 @@ module _ (ws list new : List ℕ) (promise : Promise ws) (p : Permutes (blockCou
   few = omega (arith, numbers .wide, promise .sized .limited .blocks)
 
   pub writing-new : {out : List ℕ} → length out ≡ length ws → Writing ws new list out 0
-  writing-new long = record { promise = promise; named = few; rowed = omega (arith, p .long); there = list-below (blockCount ws) list new p numbers; long = long; written = λ k l. absurd (omega arith) }
+  writing-new long =
+      record {
+        promise = promise;
+        named = few;
+        rowed = omega (arith, p .long);
+        there = list-below (blockCount ws) list new p numbers;
+        long = long;
+        written = λ k l. absurd (omega arith);
+      }
 
   pub writing-first : {out : List ℕ} → length out ≡ length ws → Writing ws list new out 0
-  writing-first long = record { promise = promise; named = omega (arith, p .long); rowed = few; there = new-small (blockCount ws) list new p numbers; long = long; written = λ k l. absurd (omega arith) }
+  writing-first long =
+      record {
+        promise = promise;
+        named = omega (arith, p .long);
+        rowed = few;
+        there = new-small (blockCount ws) list new p numbers;
+        long = long;
+        written = λ k l. absurd (omega arith);
+      }
 
   pub is-restored : renumbered ws list new ≡ restoredBy list ws
   unfolding renumbered restoredBy
@@ -86,6 +102,7 @@ pub cleared-both : (code at : ℕ) (table₀ table list₀ list : List ℕ) → 
 unfolding refusedRearrangement
 cleared-both code at table₀ table list₀ list e f = rw (cleared table₀ table e, cleared list₀ list f)
 
-pub cleared-one : (code at : ℕ) (table₀ table : List ℕ) → table ≡ take 0 table₀ ++ replicate (length table₀ - 0) 0 → record { code = code; at = at; table = table } ≡ refusedRestoration code at (length table₀)
+pub cleared-one : (code at : ℕ) (table₀ table : List ℕ) → table ≡ take 0 table₀ ++ replicate (length table₀ - 0) 0
+    → record { code = code; at = at; table = table } ≡ refusedRestoration code at (length table₀)
 unfolding refusedRestoration
 cleared-one code at table₀ table e = rw (cleared table₀ table e)

@@ -110,7 +110,9 @@ module _ {list new : List ℕ} {count : ℕ} (q : Queue list new count) where
     pub room : contains found b ≡ false → count < length list
     room h =
         let most : length (b ∷ found) ≤ length (rowsFrom 0 (length list)) =
-        fits-in (b ∷ found) (rowsFrom 0 (length list)) (both-and (ap not h) (q .once)) (λ c e. in-rows 0 (length list) c (omega arith) (in-cases b c found e (λ z. omega arith) (λ z. omega (arith, below-of (length list) found (q .below) c z)))) in
+        fits-in (b ∷ found) (rowsFrom 0 (length list)) (both-and (ap not h) (q .once))
+        (λ c e. in-rows 0 (length list) c (omega arith)
+        (in-cases b c found e (λ z. omega arith) (λ z. omega (arith, below-of (length list) found (q .below) c z)))) in
         omega (arith, found-long, length-rows 0 (length list))
 
   -- the next word of the list is a block that is not found
@@ -122,7 +124,8 @@ module _ {list new : List ℕ} {count : ℕ} (q : Queue list new count) where
     below = rw longer (below-end (length list) found block (q .below) (lt-ltb block (length list) inside));
     once = rw longer (once-end found block (q .once) out);
     placed = λ b l. rw longer (by-equal b block
-        (λ e. subst (λ (z : ℕ). getD (set new block count) z 0 ≡ placeOrNone (found ++ (block ∷ [])) z) (sym e) (getD-set-same new block count 0 (omega (arith, q .wide, q .few)) ∙ (sym found-long ∙ sym (placed-last found block out))))
+        (λ e. subst (λ (z : ℕ). getD (set new block count) z 0 ≡ placeOrNone (found ++ (block ∷ [])) z) (sym e)
+        (getD-set-same new block count 0 (omega (arith, q .wide, q .few)) ∙ (sym found-long ∙ sym (placed-last found block out))))
         (λ f. getD-set-other new block b count 0 f ∙ (q .placed b l ∙ sym (placed-end found block out b f))));
   }
     where
@@ -178,7 +181,12 @@ with-append found (x ∷ a) b = by (contains found x) refl (with-append found a 
         ∙ (more ∙ ap (λ (l : List ℕ). withNamed l b) (sym (pick-false (contains found x) (withNamed found a) (withNamed (found ++ (x ∷ [])) a) e)))
 
 pub joined-then : {list₀ list₁ list₂ new₁ new₂ a b : List ℕ} {c₀ c₁ c₂ : ℕ} → Joined list₀ c₀ a list₁ new₁ c₁ → Joined list₁ c₁ b list₂ new₂ c₂ → Joined list₀ c₀ (a ++ b) list₂ new₂ c₂
-joined-then {list₀} {a = a} {b = b} {c₀} p q = record { long = q .long ∙ p .long; queue = q .queue; found = q .found ∙ (ap (λ (l : List ℕ). withNamed l b) (p .found) ∙ sym (with-append (take c₀ list₀) a b)) }
+joined-then {list₀} {a = a} {b = b} {c₀} p q =
+    record {
+      long = q .long ∙ p .long;
+      queue = q .queue;
+      found = q .found ∙ (ap (λ (l : List ℕ). withNamed l b) (p .found) ∙ sym (with-append (take c₀ list₀) a b));
+    }
 
 -- the numbers 0, 1, .. with one more
 rows-end : (first n : ℕ) → rowsFrom first (suc n) ≡ rowsFrom first n ++ ((first + n) ∷ [])

@@ -9,7 +9,8 @@ use lib.ListN.{length, getD, set, length-set}
 use lib.Seq.{getD-set-same, getD-set-other, ext-getD}
 use lib.Dec.{ltb}
 use borrow.Author.Tests.{lt-ltb, le-ltb, ltb-true, ltb-false}
-use Rattle.table.specs.Words.{word, entryWord, blockCount, instructionCount, caseCount, placeCount, identifierCount, blocksBegin, instructionsBegin, casesBegin, placesBegin, identifiersBegin, wordsNeeded, codeAt, blockWord, instructionWord, caseWord, placeWord, identifierWord}
+use Rattle.table.specs.Words.{word, entryWord, blockCount, instructionCount, caseCount, placeCount, identifierCount, blocksBegin, instructionsBegin, casesBegin}
+use Rattle.table.specs.Words.{placesBegin, identifiersBegin, wordsNeeded, codeAt, blockWord, instructionWord, caseWord, placeWord, identifierWord}
 use Rattle.table.specs.Promise.{Promise}
 use Rattle.renaming.specs.Renaming.{namesBlock, renamedIf, renamedBlockRow, renamedCaseRow, renamed, RenamedWords}
 use Rattle.renaming.proofs.Permutations.{by-equal, pick-true, pick-false}
@@ -29,7 +30,16 @@ pub record Sizes (ws : List ℕ) : Type 0 where
 
 pub sizes : {ws : List ℕ} → Promise ws → Sizes ws
 unfolding wordsNeeded identifiersBegin placesBegin casesBegin instructionsBegin blocksBegin
-sizes p = record { head = p .sized .limited .head; blocks = p .sized .limited .blocks; rows = refl; instructions = refl; cases = refl; end = p .sized .long; short = omega (arith, p .sized .long, p .sized .limited) }
+sizes p =
+    record {
+      head = p .sized .limited .head;
+      blocks = p .sized .limited .blocks;
+      rows = refl;
+      instructions = refl;
+      cases = refl;
+      end = p .sized .long;
+      short = omega (arith, p .sized .long, p .sized .limited);
+    }
 
 -- ---- numbers
 
@@ -126,7 +136,9 @@ module _ (ws names rows : List ℕ) (p : Promise ws) where
           subst (λ (j : ℕ). getD ws j 0 ≡ getD there j 0) z (sym (place-word new old ws there is-renamed (k - placesBegin ws) (omega (arith, ltb-true k (placesBegin ws + placeCount ws) e))))
       by false e =
           let z : placesBegin ws + placeCount ws + (k - (placesBegin ws + placeCount ws)) ≡ k = omega (arith, ltb-false k (placesBegin ws + placeCount ws) e) in
-          subst (λ (j : ℕ). getD ws j 0 ≡ getD there j 0) z (sym (identifier-word new old ws there is-renamed (k - (placesBegin ws + placeCount ws)) (omega (arith, ltb-false k (placesBegin ws + placeCount ws) e, sizes p .end))))
+          subst (λ (j : ℕ). getD ws j 0 ≡ getD there j 0) z
+          (sym (identifier-word new old ws there is-renamed (k - (placesBegin ws + placeCount ws))
+          (omega (arith, ltb-false k (placesBegin ws + placeCount ws) e, sizes p .end))))
 
 -- ---- what is written
 
@@ -154,18 +166,25 @@ module _ {ws names rows out : List ℕ} {end : ℕ} (w : Writing ws names rows o
   whole h = ext-getD 0 out (renumbered ws names rows) (w .long ∙ sym (is-renamed ws names rows (w .promise) .long)) (λ k l. w .written k (omega (arith, w .long)))
 
 -- a case row
-pub case-written : (ws names rows : List ℕ) (p : Promise ws) {out : List ℕ} {case : ℕ} → Writing ws names rows out (casesBegin ws + case * 2) → (begin : ℕ) {block : ℕ} → begin ≡ casesBegin ws → case < caseCount ws
+pub case-written : (ws names rows : List ℕ) (p : Promise ws) {out : List ℕ} {case : ℕ} → Writing ws names rows out (casesBegin ws + case * 2)
+    → (begin : ℕ) {block : ℕ} → begin ≡ casesBegin ws → case < caseCount ws
     → block ≡ numberIn (blockCount ws) names (getD ws (begin + case * 2 + 1) 0)
     → (case + 1 ≤ caseCount ws) × Writing ws names rows (set (set out (begin + case * 2) (getD ws (begin + case * 2) 0)) (begin + case * 2 + 1) block) (casesBegin ws + (case + 1) * 2)
 case-written ws names rows p {case = case} w begin {block} e h is =
     let s = sizes p in
-    rw e (omega arith, at (put (put w (getD ws (casesBegin ws + case * 2) 0) (omega (arith, s .cases, s .end)) (test-is ws names rows p case h)) block (omega (arith, s .cases, s .end)) ((rw e at is) ∙ case-is ws names rows p case h)) (omega arith))
+    rw e (
+      omega arith,
+      at (put (put w (getD ws (casesBegin ws + case * 2) 0) (omega (arith, s .cases, s .end)) (test-is ws names rows p case h)) block
+          (omega (arith, s .cases, s .end)) ((rw e at is) ∙ case-is ws names rows p case h)) (omega arith),
+    )
 
-pub instructions-copied : {ws names rows out out′ : List ℕ} {begin end : ℕ} → Writing ws names rows out (instructionsBegin ws) → begin ≡ instructionsBegin ws → end ≡ casesBegin ws → Copied ws out begin end out′
+pub instructions-copied : {ws names rows out out′ : List ℕ} {begin end : ℕ} → Writing ws names rows out (instructionsBegin ws) → begin ≡ instructionsBegin ws
+    → end ≡ casesBegin ws → Copied ws out begin end out′
     → Writing ws names rows out′ (casesBegin ws)
 instructions-copied {ws} {names} {rows} w e f c = copy w (rw (e, f) at c) (instructions-same ws names rows (w .promise))
 
-pub tail-copied : {ws names rows out out′ : List ℕ} {begin : ℕ} → Writing ws names rows out (placesBegin ws) → begin ≡ placesBegin ws → Copied ws out begin (length ws) out′ → out′ ≡ renumbered ws names rows
+pub tail-copied : {ws names rows out out′ : List ℕ} {begin : ℕ} → Writing ws names rows out (placesBegin ws) → begin ≡ placesBegin ws
+    → Copied ws out begin (length ws) out′ → out′ ≡ renumbered ws names rows
 tail-copied {ws} {names} {rows} w e c = whole (copy w (rw e at c) (tail-same ws names rows (w .promise))) (omega arith)
 
 -- copied so far

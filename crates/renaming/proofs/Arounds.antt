@@ -6,7 +6,8 @@ use mathlib.Core.Option.{Option, none, some, Option·map}
 use mathlib.Core.Bool.{Bool, _||_}
 use Rattle.definition.specs.Tree.{Kind}
 use Rattle.definition.specs.Context.{Resolution}
-use Rattle.definition.specs.Around.{Rule, Enclosing, a-loop, a-switch, another, Around, outermost, within, switchInside, kindBy, breakKindIn, isLabel, namesStatement, namesLoop, unnamed, breakUnnamed, continueUnnamed}
+use Rattle.definition.specs.Around.{Rule, Enclosing, a-loop, a-switch, another, Around, outermost, within, switchInside, kindBy, breakKindIn, isLabel}
+use Rattle.definition.specs.Around.{namesStatement, namesLoop, unnamed, breakUnnamed, continueUnnamed}
 use Rattle.renaming.proofs.Alike.{Moves, same-test}
 use Rattle.renaming.proofs.Contexts.{renamedResolution}
 

@@ -10,7 +10,8 @@ use lib.Dec.{eqb, ltb}
 use borrow.Author.Tests.{ltb-true, ltb-false}
 use Rattle.table.specs.Words.{entryWord, blockCount, blockWord, caseWord}
 use Rattle.table.specs.Check.{accepted, checked}
-use Rattle.table.specs.Table.{Table, Block, Case, Terminal, absent, unreachable, throw, return, goto, if, branch, switch, do-while, while, for, for-of, for-in, logical, ternary, optional, label, sequence, maybe-throw, try, scope, terminalAt, rowsFrom, tableOf}
+use Rattle.table.specs.Table.{Table, Block, Case, Terminal, absent, unreachable, throw, return, goto, if, branch, switch, do-while, while, for, for-of, for-in}
+use Rattle.table.specs.Table.{logical, ternary, optional, label, sequence, maybe-throw, try, scope, terminalAt, rowsFrom, tableOf}
 use Rattle.table.specs.Promise.{Promise, Sized}
 use Rattle.table.proofs.PromiseLaws.{promised}
 use Rattle.table.proofs.TableLaws.{length-blocks}
@@ -97,14 +98,16 @@ module _ (new : ℕ → ℕ) (m : Moves new) where
         there : Table
         there = renamedTable new blocks t
 
-        next : place < length found → withNamed (map new found) (namedBy there (terminalAt there (getD (map new found) place 0))) ≡ map new (withNamed found (namedBy t (terminalAt t (getD found place 0))))
+        next : place < length found → withNamed (map new found) (namedBy there (terminalAt there (getD (map new found) place 0))) ≡ map new
+            (withNamed found (namedBy t (terminalAt t (getD found place 0))))
         next h =
             ap (λ (z : ℕ). withNamed (map new found) (namedBy there (terminalAt there z))) (getD-new found place h)
             ∙ (ap (λ (k : Block). withNamed (map new found) (namedBy there (k .terminal))) (moved (getD found place 0))
             ∙ (ap (withNamed (map new found)) (names-renamed t blocks (terminalAt t (getD found place 0))) ∙ with-renamed found (namedBy t (terminalAt t (getD found place 0)))))
 
         by : (y : Bool) → ltb place (length found) ≡ y
-            → walkFrom there places (suc place) (map new (withNamed found (namedBy t (terminalAt t (getD found place 0))))) ≡ map new (walkFrom t places (suc place) (withNamed found (namedBy t (terminalAt t (getD found place 0)))))
+            → walkFrom there places (suc place) (map new (withNamed found (namedBy t (terminalAt t (getD found place 0))))) ≡ map new
+            (walkFrom t places (suc place) (withNamed found (namedBy t (terminalAt t (getD found place 0)))))
             → walkFrom there (suc places) place (map new found) ≡ map new (walkFrom t (suc places) place found)
         by true e q =
             pick-true (ltb place (length (map new found))) _ _ (ap (ltb place) (length-map found new) ∙ e)
@@ -125,7 +128,8 @@ with-all found (b ∷ names) h = pick-true (contains found b) _ _ (h b (in-head 
 order-walked : (t : Table) → AllNamed t → walkingOrder t ≡ walkFrom t (length (t .blocks)) 0 (t .entry ∷ [])
 unfolding walkingOrder
 order-walked t h =
-    with-all _ (rowsFrom 0 (length (t .blocks))) (λ b q. h b (below-of (length (t .blocks)) (rowsFrom 0 (length (t .blocks))) (rows-below 0 (length (t .blocks)) (length (t .blocks)) (omega arith)) b q))
+    with-all _ (rowsFrom 0 (length (t .blocks)))
+    (λ b q. h b (below-of (length (t .blocks)) (rowsFrom 0 (length (t .blocks))) (rows-below 0 (length (t .blocks)) (length (t .blocks)) (omega arith)) b q))
 
 module _ (n : ℕ) (new old : ℕ → ℕ) (few : n ≤ 1024) (g : Renaming n new old) (t : Table) (count : length (t .blocks) ≡ n) (blocks : List Block) (count′ : length blocks ≡ n)
     (moved : Reordered new (t .blocks) blocks) (all : AllNamed t) where
@@ -158,7 +162,8 @@ module _ (n₁ o₁ n₂ o₂ N O : ℕ → ℕ) (ws ws₁ ws₂ : List ℕ) (af
     unfolding renamedBlockRow
     code-middle = middle 2 (omega arith)
 
-    name-twice : (j w′ w : ℕ) → w′ ≡ renamedIf (namesBlock (blockWord ws (O i) 2) j) n₁ w → renamedIf (namesBlock (blockWord ws₁ (o₂ i) 2) j) n₂ w′ ≡ renamedIf (namesBlock (blockWord ws (O i) 2) j) N w
+    name-twice : (j w′ w : ℕ) → w′ ≡ renamedIf (namesBlock (blockWord ws (O i) 2) j) n₁ w
+        → renamedIf (namesBlock (blockWord ws₁ (o₂ i) 2) j) n₂ w′ ≡ renamedIf (namesBlock (blockWord ws (O i) 2) j) N w
     name-twice j w′ w e = rw (code-middle, e) (twice (namesBlock (blockWord ws (O i) 2) j) w)
 
     column-twice : (k : ℕ) → k < 11 → getD (renamedBlockRow n₂ ws₁ (o₂ i)) k 0 ≡ getD (renamedBlockRow N ws (O i)) k 0
@@ -217,7 +222,8 @@ module _ (new old : ℕ → ℕ) (ws : List ℕ) (h : checked ws ≡ accepted) (
   pub orders : walkingOrder (tableOf (renamed new old ws)) ≡ map new (walkingOrder (tableOf ws))
   orders =
       ap walkingOrder (table-renamed new old ws (renamed new old ws) (promised ws h) g r)
-      ∙ order-renamed (blockCount ws) new old (promised ws h .sized .limited .blocks) g (tableOf ws) (length-blocks ws) (tableOf (renamed new old ws) .blocks) (length-blocks (renamed new old ws) ∙ r .blocks)
+      ∙ order-renamed (blockCount ws) new old (promised ws h .sized .limited .blocks) g (tableOf ws) (length-blocks ws) (tableOf (renamed new old ws) .blocks)
+      (length-blocks (renamed new old ws) ∙ r .blocks)
       (blocks-reordered new old ws (renamed new old ws) (promised ws h) g r) all
 
   module _ (W W₁ : List ℕ) (e₁ : W₁ ≡ map new W) (f : Renaming (blockCount ws) (newNumber W) (oldNumber W)) (f₁ : Renaming (blockCount ws) (newNumber W₁) (oldNumber W₁))
@@ -254,7 +260,8 @@ module _ (new old : ℕ → ℕ) (ws : List ℕ) (h : checked ws ≡ accepted) (
   one-rearrangement =
       let W : List ℕ = walkingOrder (tableOf ws) in
       let W₁ : List ℕ = walkingOrder (tableOf (renamed new old ws)) in
-      let f₁ : Renaming (blockCount ws) (newNumber W₁) (oldNumber W₁) = subst (λ (n : ℕ). Renaming n (newNumber W₁) (oldNumber W₁)) (r .blocks) (walking-renaming (renamed new old ws) (promised (renamed new old ws) h₁)) in
+      let f₁ : Renaming (blockCount ws) (newNumber W₁) (oldNumber W₁) = subst (λ (n : ℕ). Renaming n (newNumber W₁) (oldNumber W₁)) (r .blocks)
+      (walking-renaming (renamed new old ws) (promised (renamed new old ws) h₁)) in
       one-renamed (newNumber W) (oldNumber W) ws (renamed (newNumber W₁) (oldNumber W₁) (renamed new old ws)) (renamed (newNumber W) (oldNumber W) ws)
       (one-form W W₁ orders (walking-renaming ws (promised ws h)) f₁ (permutes (blockCount ws) W (walking-order ws (promised ws h))))
       (renamed-is (newNumber W) (oldNumber W) ws (promised ws h .sized)) (promised ws h .sized)

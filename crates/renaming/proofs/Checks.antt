@@ -10,7 +10,8 @@ use lib.ListN.{length, getD}
 use lib.Dec.{eqb, ltb}
 use borrow.Author.Tests.{eqb-true, eqb-false, eq-eqb, ltb-true, lt-ltb}
 use Rattle.table.specs.Words.{entryWord, blockCount, instructionCount, caseCount, placeCount, identifierCount, wordsNeeded, blockWord, instructionWord, caseWord, placeWord, identifierWord, largest}
-use Rattle.table.specs.Check.{accepted, Rule, unused, number, row, row-or-none, rows-from, fits, block, block-or-none, place, place-or-none, rulesByCode, terminalRules, blockRules, operandRules, instructionRules, caseRules, checked}
+use Rattle.table.specs.Check.{accepted, Rule, unused, number, row, row-or-none, rows-from, fits, block, block-or-none, place, place-or-none, rulesByCode}
+use Rattle.table.specs.Check.{terminalRules, blockRules, operandRules, instructionRules, caseRules, checked}
 use Rattle.table.specs.Promise.{Limited, Sized, Promise}
 use Rattle.table.proofs.RuleLaws.{absent, present}
 use Rattle.table.proofs.PromiseLaws.{promised, promise-checked, none-or-below, row-below, row-fitting}

@@ -12,7 +12,11 @@ use lib.Seq.{getD-set-same, getD-set-other, set-out}
 use lib.Dec.{eqb, ltb}
 use borrow.Author.Tests.{ltb-true, ltb-false}
 use Rattle.definition.specs.Result.{Result, ok, refused, _>>=_, refuseIf, alreadyScheduled, unscheduleOutOfOrder}
-use Rattle.definition.specs.Context.{Flags, noFlags, has, add, remove, ControlFlowTarget, target-if, target-switch, target-case, target-loop, targetBlock, isLoop, loopsOf, continuesAt, Entry, Context, start, isScheduled, emit, withVisits, markScopeFallthrough, scheduleCatchHandler, isBlocked, blockAsked, blockedCode, scheduledBy, owns, pushed, schedule, unscheduledBy, popped, unscheduleTop, unschedule, Resolution, breakKind, breakTargetFrom, getBreakTarget, continueKind, continueTargetFrom, getContinueTarget}
+use Rattle.definition.specs.Context.{Flags, noFlags, has, add, remove, ControlFlowTarget, target-if, target-switch, target-case, target-loop, targetBlock}
+use Rattle.definition.specs.Context.{isLoop, loopsOf, continuesAt, Entry, Context, start, isScheduled, emit, withVisits, markScopeFallthrough}
+use Rattle.definition.specs.Context.{scheduleCatchHandler, isBlocked, blockAsked, blockedCode, scheduledBy, owns, pushed, schedule, unscheduledBy, popped}
+use Rattle.definition.specs.Context.{unscheduleTop, unschedule, Resolution, breakKind, breakTargetFrom, getBreakTarget, continueKind, continueTargetFrom}
+use Rattle.definition.specs.Context.{getContinueTarget}
 use Rattle.definition.proofs.Flags.{has-none, length-none}
 use Rattle.renaming.proofs.Alike.{Moves, same-test, Alike, alike-bind, alike-by, alike-unless, alike-pick}
 
@@ -88,23 +92,68 @@ module _ (new : ℕ → ℕ) (m : Moves new) where
 
     pub along-emit : (b : ℕ) → Alongside new (emit b c) (emit (new b) c′)
     unfolding emit
-    along-emit b = record { nextId = h .nextId; emitted = moved-add _ _ b (h .emitted); scopeFallthroughs = h .scopeFallthroughs; scheduled = h .scheduled; catchHandlers = h .catchHandlers; stack = h .stack; visits = h .visits }
+    along-emit b =
+        record {
+          nextId = h .nextId;
+          emitted = moved-add _ _ b (h .emitted);
+          scopeFallthroughs = h .scopeFallthroughs;
+          scheduled = h .scheduled;
+          catchHandlers = h .catchHandlers;
+          stack = h .stack;
+          visits = h .visits;
+        }
 
     pub along-visits : {v v′ : ℕ} → v′ ≡ v → Alongside new (withVisits v c) (withVisits v′ c′)
     unfolding withVisits
-    along-visits e = record { nextId = h .nextId; emitted = h .emitted; scopeFallthroughs = h .scopeFallthroughs; scheduled = h .scheduled; catchHandlers = h .catchHandlers; stack = h .stack; visits = e }
+    along-visits e =
+        record {
+          nextId = h .nextId;
+          emitted = h .emitted;
+          scopeFallthroughs = h .scopeFallthroughs;
+          scheduled = h .scheduled;
+          catchHandlers = h .catchHandlers;
+          stack = h .stack;
+          visits = e;
+        }
 
     pub along-scope : (b : ℕ) → Alongside new (markScopeFallthrough b c) (markScopeFallthrough (new b) c′)
     unfolding markScopeFallthrough
-    along-scope b = record { nextId = h .nextId; emitted = h .emitted; scopeFallthroughs = moved-add _ _ b (h .scopeFallthroughs); scheduled = h .scheduled; catchHandlers = h .catchHandlers; stack = h .stack; visits = h .visits }
+    along-scope b =
+        record {
+          nextId = h .nextId;
+          emitted = h .emitted;
+          scopeFallthroughs = moved-add _ _ b (h .scopeFallthroughs);
+          scheduled = h .scheduled;
+          catchHandlers = h .catchHandlers;
+          stack = h .stack;
+          visits = h .visits;
+        }
 
     pub along-handler : (b : ℕ) → Alongside new (scheduleCatchHandler b c) (scheduleCatchHandler (new b) c′)
     unfolding scheduleCatchHandler
-    along-handler b = record { nextId = h .nextId; emitted = h .emitted; scopeFallthroughs = h .scopeFallthroughs; scheduled = h .scheduled; catchHandlers = moved-add _ _ b (h .catchHandlers); stack = h .stack; visits = h .visits }
+    along-handler b =
+        record {
+          nextId = h .nextId;
+          emitted = h .emitted;
+          scopeFallthroughs = h .scopeFallthroughs;
+          scheduled = h .scheduled;
+          catchHandlers = moved-add _ _ b (h .catchHandlers);
+          stack = h .stack;
+          visits = h .visits;
+        }
 
     along-popped : (s : List Entry) (f f′ : Flags) → Moved new f f′ → Alongside new (popped s f c) (popped (map (renamedEntry new) s) f′ c′)
     unfolding popped
-    along-popped s f f′ q = record { nextId = h .nextId; emitted = h .emitted; scopeFallthroughs = h .scopeFallthroughs; scheduled = q; catchHandlers = h .catchHandlers; stack = refl; visits = h .visits }
+    along-popped s f f′ q =
+        record {
+          nextId = h .nextId;
+          emitted = h .emitted;
+          scopeFallthroughs = h .scopeFallthroughs;
+          scheduled = q;
+          catchHandlers = h .catchHandlers;
+          stack = refl;
+          visits = h .visits;
+        }
 
     -- ---- schedule, unschedule
 
@@ -222,7 +271,8 @@ module _ (new : ℕ → ℕ) (m : Moves new) where
     unfolding getBreakTarget
     along-break b = rw (h .stack) (break-from (c .stack) b true 0)
 
-    continue-from : (s : List Entry) (b : ℕ) (top : Bool) (above : ℕ) → continueTargetFrom (map (renamedEntry new) s) (new b) top above ≡ Option·map (renamedResolution new) (continueTargetFrom s b top above)
+    continue-from : (s : List Entry) (b : ℕ) (top : Bool) (above : ℕ)
+        → continueTargetFrom (map (renamedEntry new) s) (new b) top above ≡ Option·map (renamedResolution new) (continueTargetFrom s b top above)
     unfolding continueTargetFrom
     continue-from [] b top above = refl
     continue-from (entry ∷ below) b top above =

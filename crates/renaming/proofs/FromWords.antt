@@ -9,7 +9,8 @@ use lib.ListN.{length, getD, List·getD-eq-default}
 use lib.Dec.{eqb, ltb}
 use borrow.Author.Tests.{eq-eqb, ne-eqb, eqb-true, eqb-false, ltb-true, ltb-false}
 use Rattle.table.specs.Words.{entryWord, blockCount, instructionCount, caseCount, placeCount, identifierCount, blockWord, instructionWord, caseWord, placeWord, identifierWord, largest}
-use Rattle.table.specs.Table.{Table, Block, noBlock, Instruction, Case, Terminal, for, terminalOf, terminalsByCode, unlessNone, variantOf, blockOf, instructionOf, operationOf, caseOf, tabulate, tableOf, blockAt}
+use Rattle.table.specs.Table.{Table, Block, noBlock, Instruction, Case, Terminal, for, terminalOf, terminalsByCode, unlessNone, variantOf, blockOf}
+use Rattle.table.specs.Table.{instructionOf, operationOf, caseOf, tabulate, tableOf, blockAt}
 use Rattle.table.specs.Promise.{Promise}
 use Rattle.table.proofs.TableLaws.{length-blocks, block-at}
 use Rattle.table.proofs.RangeLaws.{code-known}
@@ -31,7 +32,8 @@ module _ (new : ℕ → ℕ) (one : (a b : ℕ) → new a ≡ new b → a ≡ b)
 
   -- each code in turn
   terminal-same : (a b c d e code : ℕ) → code < 22
-      → terminalOf code (renamedIf (namesBlock code 0) new a) (renamedIf (namesBlock code 1) new b) (renamedIf (namesBlock code 2) new c) (renamedIf (namesBlock code 3) new d) (renamedIf (namesBlock code 4) new e)
+      → terminalOf code (renamedIf (namesBlock code 0) new a) (renamedIf (namesBlock code 1) new b) (renamedIf (namesBlock code 2) new c)
+      (renamedIf (namesBlock code 3) new d) (renamedIf (namesBlock code 4) new e)
       ≡ renamedTerminal new (terminalOf code a b c d e)
   unfolding terminalOf namesBlock
   terminal-same a b c d e = upto _ 22
@@ -55,7 +57,8 @@ module _ {A B : Type 0} where
   map-tabulate k f (suc n) = ap (λ (l : List B). k (f 0) ∷ l) (map-tabulate k (λ i. f (suc i)) n)
 
 same-tables : (blocks : List Block) {e e′ : ℕ} {i i′ : List Instruction} {c c′ : List Case} {p p′ n n′ : List ℕ} → e ≡ e′ → i ≡ i′ → c ≡ c′ → p ≡ p′ → n ≡ n′
-    → _≡_ {A = Table} (record { entry = e; blocks = blocks; instructions = i; cases = c; places = p; named = n }) (record { entry = e′; blocks = blocks; instructions = i′; cases = c′; places = p′; named = n′ })
+    → _≡_ {A = Table} (record { entry = e; blocks = blocks; instructions = i; cases = c; places = p; named = n })
+    (record { entry = e′; blocks = blocks; instructions = i′; cases = c′; places = p′; named = n′ })
 same-tables blocks e i c p n = cc
 
 module _ (new old : ℕ → ℕ) (ws ws′ : List ℕ) (p : Promise ws) (g : Renaming (blockCount ws) new old) (r : RenamedWords new old ws ws′) where
@@ -72,9 +75,22 @@ module _ (new old : ℕ → ℕ) (ws ws′ : List ℕ) (p : Promise ws) (g : Ren
     block-renamed : blockOf ws′ (new b) ≡ renamedBlock new (blockOf ws b)
     unfolding blockOf renamedBlockRow
     block-renamed =
-        rw (column 0 (omega arith), column 1 (omega arith), column 2 (omega arith), column 3 (omega arith), column 4 (omega arith), column 5 (omega arith), column 6 (omega arith), column 7 (omega arith), column 8 (omega arith), column 9 (omega arith), column 10 (omega arith))
+        rw (
+          column 0 (omega arith),
+          column 1 (omega arith),
+          column 2 (omega arith),
+          column 3 (omega arith),
+          column 4 (omega arith),
+          column 5 (omega arith),
+          column 6 (omega arith),
+          column 7 (omega arith),
+          column 8 (omega arith),
+          column 9 (omega arith),
+          column 10 (omega arith),
+        )
         (ap (λ (x : Terminal). record { first = blockWord ws b 0; count = blockWord ws b 1; terminal = x; id = blockWord ws b 8; span = record { from = blockWord ws b 9; to = blockWord ws b 10 } })
-        (terminal-same new (one-old (blockCount ws) new old g) none-stays (blockWord ws b 3) (blockWord ws b 4) (blockWord ws b 5) (blockWord ws b 6) (blockWord ws b 7) (blockWord ws b 2) (omega (arith, code-known ws p b h))))
+        (terminal-same new (one-old (blockCount ws) new old g) none-stays (blockWord ws b 3) (blockWord ws b 4) (blockWord ws b 5) (blockWord ws b 6)
+        (blockWord ws b 7) (blockWord ws b 2) (omega (arith, code-known ws p b h))))
 
   pub blocks-reordered : Reordered new (tableOf ws .blocks) (tableOf ws′ .blocks)
   blocks-reordered b = by (ltb b (blockCount ws)) refl
@@ -92,11 +108,21 @@ module _ (new old : ℕ → ℕ) (ws ws′ : List ℕ) (p : Promise ws) (g : Ren
   instructions-same : tableOf ws′ .instructions ≡ tableOf ws .instructions
   unfolding tableOf instructionOf
   instructions-same = rw (r .instructions) (tabulate-same (instructionOf ws′) (instructionOf ws) (instructionCount ws) (λ i h.
-      rw (r .instruction i h 0 (omega arith), r .instruction i h 1 (omega arith), r .instruction i h 2 (omega arith), r .instruction i h 3 (omega arith), r .instruction i h 4 (omega arith), r .instruction i h 5 (omega arith), r .instruction i h 6 (omega arith))))
+      rw (
+        r .instruction i h 0 (omega arith),
+        r .instruction i h 1 (omega arith),
+        r .instruction i h 2 (omega arith),
+        r .instruction i h 3 (omega arith),
+        r .instruction i h 4 (omega arith),
+        r .instruction i h 5 (omega arith),
+        r .instruction i h 6 (omega arith),
+      )))
 
   cases-same : tableOf ws′ .cases ≡ map (renamedCase new) (tableOf ws .cases)
   unfolding tableOf caseOf
-  cases-same = rw (r .cases) (tabulate-same (caseOf ws′) (λ i. renamedCase new (caseOf ws i)) (caseCount ws) (λ i h. rw (r .case-test i h, r .case-block i h)) ∙ sym (map-tabulate (renamedCase new) (caseOf ws) (caseCount ws)))
+  cases-same =
+      rw (r .cases) (tabulate-same (caseOf ws′) (λ i. renamedCase new (caseOf ws i)) (caseCount ws) (λ i h. rw (r .case-test i h, r .case-block i h)) ∙ sym
+      (map-tabulate (renamedCase new) (caseOf ws) (caseCount ws)))
 
   places-same : tableOf ws′ .places ≡ tableOf ws .places
   unfolding tableOf

@@ -70,6 +70,7 @@ module _ (ws : List ℕ) (p : Promise ws) where
     unfolding restoration
     restoration-list same e f = rw (same, is-accepted, eq-eqb lentTable (length ws) e, ← f, restoration)
 
-    pub restoration-given : {table : List ℕ} → lentTable ≡ length ws → true ≡ isPermutation (blockCount ws) list → table ≡ restoredBy list ws → record { code = 0; at = 0; table = table } ≡ restoration ws list lentTable
+    pub restoration-given : {table : List ℕ} → lentTable ≡ length ws → true ≡ isPermutation (blockCount ws) list → table ≡ restoredBy list ws
+        → record { code = 0; at = 0; table = table } ≡ restoration ws list lentTable
     unfolding restoration
     restoration-given e f g = rw (g, is-accepted, eq-eqb lentTable (length ws) e, ← f, restoration)

@@ -10,7 +10,8 @@ use lib.Dec.{eqb, ltb}
 use borrow.Author.Tests.{eq-eqb, ne-eqb, eqb-true, eqb-false, lt-ltb, le-ltb, ltb-true, ltb-false, not-true}
 use Rattle.table.specs.Words.{entryWord, blockCount, caseCount, placeCount, caseWord}
 use Rattle.table.specs.Check.{accepted, checked}
-use Rattle.table.specs.Table.{Table, Block, noBlock, Case, Terminal, absent, unreachable, throw, return, goto, if, branch, switch, do-while, while, for, for-of, for-in, logical, ternary, optional, label, sequence, maybe-throw, try, scope, terminalAt, rowsFrom, tabulate, caseOf, tableOf}
+use Rattle.table.specs.Table.{Table, Block, noBlock, Case, Terminal, absent, unreachable, throw, return, goto, if, branch, switch, do-while, while, for, for-of}
+use Rattle.table.specs.Table.{for-in, logical, ternary, optional, label, sequence, maybe-throw, try, scope, terminalAt, rowsFrom, tabulate, caseOf, tableOf}
 use Rattle.table.specs.Promise.{Promise, InRange, BelowUnlessNone}
 use Rattle.table.proofs.PromiseLaws.{promised}
 use Rattle.table.proofs.RangeLaws.{in-range, case-block}
@@ -23,7 +24,8 @@ use Rattle.definition.proofs.Steps.{true-false}
 use Rattle.renaming.specs.Renaming.{Renaming, renamed, RenamedWords, renamedOutcome}
 use Rattle.reading.proofs.Upto.{and-both}
 use Rattle.lines.specs.Lines.{caseBlocks, unlessNo, namedBy}
-use Rattle.renaming.specs.Order.{allBelow, noneTwice, isPermutation, oldNumber, placeFrom, newNumber, withNamed, walkFrom, walkingOrder, rearranged, restoredBy, Rearrangement, rearrangement, Restoration, restoration}
+use Rattle.renaming.specs.Order.{allBelow, noneTwice, isPermutation, oldNumber, placeFrom, newNumber, withNamed, walkFrom, walkingOrder, rearranged}
+use Rattle.renaming.specs.Order.{restoredBy, Rearrangement, rearrangement, Restoration, restoration}
 use Rattle.renaming.proofs.Permutations.{both-and, by-equal, pick-true, pick-false, in-head, in-tail, in-other, in-cases, fits-in, in-rows, rows-once, below-of, Permutes, permutes, renaming-of}
 use Rattle.renaming.proofs.WordLaws.{renamed-is}
 use Rattle.renaming.proofs.Checks.{restored, renamed-checked}
@@ -91,7 +93,8 @@ with-names found [] b h = absurd (true-false (sym h))
 with-names found (c ∷ names) b h =
     with-step (λ l. contains l b ≡ true) found c names
     (λ e. in-cases c b names h (λ q. with-found found names b (subst (λ (z : ℕ). contains found z ≡ true) q e)) (λ q. with-names found names b q))
-    (λ e. in-cases c b names h (λ q. with-found (found ++ (c ∷ [])) names b (subst (λ (z : ℕ). contains (found ++ (c ∷ [])) z ≡ true) q (in-end found c))) (λ q. with-names (found ++ (c ∷ [])) names b q))
+    (λ e. in-cases c b names h (λ q. with-found (found ++ (c ∷ [])) names b (subst (λ (z : ℕ). contains (found ++ (c ∷ [])) z ≡ true) q (in-end found c)))
+    (λ q. with-names (found ++ (c ∷ [])) names b q))
 
 -- what is found stays where it is
 with-prefix : (found names : List ℕ) (i d : ℕ) → i < length found → getD (withNamed found names) i d ≡ getD found i d
@@ -117,7 +120,8 @@ with-begins b found (c ∷ names) h = with-step (Begins b) found c names (λ e. 
 
 module _ (t : Table) (n : ℕ) (names : (b : ℕ) → allBelow n (namedBy t (terminalAt t b)) ≡ true) where
   -- what one step keeps, the walk keeps
-  walk-keeps : (P : List ℕ → Type 0) → ((found : List ℕ) (b : ℕ) → P found → P (withNamed found (namedBy t (terminalAt t b)))) → (places place : ℕ) (found : List ℕ) → P found → P (walkFrom t places place found)
+  walk-keeps : (P : List ℕ → Type 0) → ((found : List ℕ) (b : ℕ) → P found → P (withNamed found (namedBy t (terminalAt t b))))
+      → (places place : ℕ) (found : List ℕ) → P found → P (walkFrom t places place found)
   unfolding walkFrom
   walk-keeps P step zero place found h = h
   walk-keeps P step (suc places) place found h =
@@ -157,7 +161,8 @@ module _ (t : Table) (n : ℕ) (names : (b : ℕ) → allBelow n (namedBy t (ter
   walk-closed zero place found o b m h = λ i u v c e.
       h i (omega (arith, length-rows 0 n, fits-in found (rowsFrom 0 n) o (λ d q. in-rows 0 n d (omega arith) (omega (arith, below-of n found b d q))))) v c e
   walk-closed (suc places) place found o b m h =
-      by (ltb place (length found)) refl (λ l. walk-closed places (suc place) next (with-once found names-here o) (with-below n found names-here b (names (getD found place 0))) (omega arith) (closed-step found place l h))
+      by (ltb place (length found)) refl (λ l. walk-closed places (suc place) next (with-once found names-here o)
+      (with-below n found names-here b (names (getD found place 0))) (omega arith) (closed-step found place l h))
     where
       names-here : List ℕ
       names-here = namedBy t (terminalAt t (getD found place 0))
@@ -303,7 +308,9 @@ module _ (ws : List ℕ) (h : checked ws ≡ accepted) where
 
   pub rearranged-entry : entryWord (rearranged ws) ≡ 0
   unfolding rearranged tableOf
-  rearranged-entry = let p : Promise ws = promised ws h in renamed-is (newNumber (walkingOrder (tableOf ws))) (oldNumber (walkingOrder (tableOf ws))) ws (p .sized) .entry ∙ entry-first (tableOf ws) (entry-here ws p) (named-here ws p)
+  rearranged-entry =
+      let p : Promise ws = promised ws h in renamed-is (newNumber (walkingOrder (tableOf ws))) (oldNumber (walkingOrder (tableOf ws))) ws (p .sized) .entry ∙
+      entry-first (tableOf ws) (entry-here ws p) (named-here ws p)
 
   pub rearranged-built : (rule : Rule) (lent : ℕ) → built rule (rearranged ws) lent ≡ renamedOutcome (newNumber (walkingOrder (tableOf ws))) (built rule ws lent)
   unfolding rearranged

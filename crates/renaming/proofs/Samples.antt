@@ -4,7 +4,8 @@ use Prim.Native.Nat.{ℕ}
 use mathlib.Core.List.{List, [], _∷_, _++_, map}
 use mathlib.Core.Option.{none, some}
 use Rattle.table.specs.Table.{Table, Block, Case, Terminal, absent, return, goto, if, switch, for, Break, noBlock, tableOf, tabulate, blockOf, caseOf, instructionOf, terminalOf, unlessNone, variantOf}
-use Rattle.table.specs.Words.{word, entryWord, blockCount, instructionCount, caseCount, placeCount, identifierCount, blocksBegin, instructionsBegin, casesBegin, placesBegin, identifiersBegin, wordsNeeded, blockWord, instructionWord, caseWord, placeWord, identifierWord}
+use Rattle.table.specs.Words.{word, entryWord, blockCount, instructionCount, caseCount, placeCount, identifierCount, blocksBegin, instructionsBegin, casesBegin}
+use Rattle.table.specs.Words.{placesBegin, identifiersBegin, wordsNeeded, blockWord, instructionWord, caseWord, placeWord, identifierWord}
 use Rattle.lines.specs.Lines.{namedBy}
 use Rattle.renaming.specs.Renaming.{renamed, rowsOf, renamedBlockRow, instructionRow, renamedCaseRow, namesBlock}
 use Rattle.renaming.specs.Order.{walkingOrder, walkFrom, rearranged, newNumber, oldNumber, restoredBy}
@@ -61,14 +62,20 @@ abbrev pub walked : List ℕ
 walked = words 0 (ends 9 1 2 3 0 0 1) (ends 6 0 2 3 0 0 2) (ends 4 1 1 0 0 0 3) (ends 3 0 0 0 0 0 4) (ends 1 0 0 0 0 0 5) 2
 
 pub order : walkingOrder (tableOf mixed) ≡ 3 ∷ 2 ∷ 1 ∷ 0 ∷ 4 ∷ []
-unfolding walkingOrder walkFrom namedBy tableOf tabulate blockOf caseOf instructionOf terminalOf unlessNone variantOf word entryWord blockCount instructionCount caseCount placeCount identifierCount blocksBegin instructionsBegin casesBegin placesBegin identifiersBegin blockWord instructionWord caseWord placeWord identifierWord
+unfolding walkingOrder walkFrom namedBy tableOf tabulate blockOf caseOf instructionOf terminalOf unlessNone variantOf word entryWord blockCount instructionCount
+    caseCount placeCount identifierCount blocksBegin instructionsBegin casesBegin placesBegin identifiersBegin blockWord instructionWord caseWord placeWord
+    identifierWord
 order = refl
 
 pub rearranges : rearranged mixed ≡ walked
-unfolding rearranged renamed rowsOf renamedBlockRow instructionRow renamedCaseRow namesBlock newNumber oldNumber word entryWord blockCount instructionCount caseCount placeCount identifierCount blocksBegin instructionsBegin casesBegin placesBegin identifiersBegin blockWord instructionWord caseWord placeWord identifierWord
+unfolding rearranged renamed rowsOf renamedBlockRow instructionRow renamedCaseRow namesBlock newNumber oldNumber word entryWord blockCount instructionCount
+    caseCount placeCount identifierCount blocksBegin instructionsBegin casesBegin placesBegin identifiersBegin blockWord instructionWord caseWord placeWord
+    identifierWord
 rearranges = rw order
 
 -- "renames every block, the entry too, to its old number in the list"
 pub restores : restoredBy (3 ∷ 2 ∷ 1 ∷ 0 ∷ 4 ∷ []) walked ≡ mixed
-unfolding restoredBy renamed rowsOf renamedBlockRow instructionRow renamedCaseRow namesBlock newNumber oldNumber word entryWord blockCount instructionCount caseCount placeCount identifierCount blocksBegin instructionsBegin casesBegin placesBegin identifiersBegin blockWord instructionWord caseWord placeWord identifierWord
+unfolding restoredBy renamed rowsOf renamedBlockRow instructionRow renamedCaseRow namesBlock newNumber oldNumber word entryWord blockCount instructionCount
+    caseCount placeCount identifierCount blocksBegin instructionsBegin casesBegin placesBegin identifiersBegin blockWord instructionWord caseWord placeWord
+    identifierWord
 restores = refl

@@ -5,7 +5,10 @@ use native.Mathlib.Omega.{arith}
 use mathlib.Core.List.{List, [], _∷_, map}
 use mathlib.Core.Option.{Option, none, some, Option·map}
 use mathlib.Core.Bool.{Bool, true, false}
-use Rattle.definition.specs.Tree.{Value, PLAIN, LOAD, UNDEF, SEQ, LOGICAL, COND, OPTIONAL, Instructions, no-instructions, instruction, Statement, INSTR, IF, SWITCH, DOWHILE, WHILE, FOR, FOROF, FORIN, LABEL, TRY, SCOPE, RETURN, THROW, BREAK, CONTINUE, Statements, done, _▸_, Cases, no-cases, CASE, Row, row, instrRow, forOfRow, forInRow, orNone, kindNumber, updatePresent, countInstructions, countStatements, countCases, valueRows, instructionsRows, updateRows, statementRows, statementsRows, blockRows, casesRows, rows}
+use Rattle.definition.specs.Tree.{Value, PLAIN, LOAD, UNDEF, SEQ, LOGICAL, COND, OPTIONAL, Instructions, no-instructions, instruction, Statement, INSTR, IF}
+use Rattle.definition.specs.Tree.{SWITCH, DOWHILE, WHILE, FOR, FOROF, FORIN, LABEL, TRY, SCOPE, RETURN, THROW, BREAK, CONTINUE, Statements, done, _▸_, Cases}
+use Rattle.definition.specs.Tree.{no-cases, CASE, Row, row, instrRow, forOfRow, forInRow, orNone, kindNumber, updatePresent, countInstructions, countStatements}
+use Rattle.definition.specs.Tree.{countCases, valueRows, instructionsRows, updateRows, statementRows, statementsRows, blockRows, casesRows, rows}
 use Rattle.renaming.specs.Renaming.{renamedRow}
 use Rattle.renaming.proofs.Alike.{Moves}
 

@@ -7,10 +7,16 @@ use mathlib.Core.Bool.{Bool, true, false, _&&_}
 use lib.ListN.{getD}
 use lib.Dec.{eqb}
 use Rattle.table.specs.declared.columns.Span.{Span}
-use Rattle.table.specs.Table.{Table, Block, noBlock, Instruction, Operation, other, load-local, store-local, Terminal, absent, unreachable, throw, return, goto, if, branch, switch, do-while, while, for, for-of, for-in, logical, ternary, optional, label, sequence, maybe-throw, try, scope, isAbsent, isGoto, blockAt, terminalAt, instructionAt, instructionRows}
+use Rattle.table.specs.Table.{Table, Block, noBlock, Instruction, Operation, other, load-local, store-local, Terminal, absent, unreachable, throw, return, goto}
+use Rattle.table.specs.Table.{if, branch, switch, do-while, while, for, for-of, for-in, logical, ternary, optional, label, sequence, maybe-throw, try, scope}
+use Rattle.table.specs.Table.{isAbsent, isGoto, blockAt, terminalAt, instructionAt, instructionRows}
 use Rattle.definition.specs.Tree.{Value, PLAIN, LOAD, UNDEF, SEQ, LOGICAL, COND, OPTIONAL, Instructions, no-instructions, instruction}
 use Rattle.definition.specs.Result.{Result, ok, refused, _>>=_, refuseIf}
-use Rattle.definition.specs.Value.{beginVisit, ValueBlockResult, ValueTerminalResult, isEmpty, instructionsOf, wrapWithSequence, finalValue, finalPlace, storedToNamed, allButLast, last, extractValueBlockResult, extractOrRefuse, VisitValueBlock, Ways, branchWays, TestBlockResult, testBlockEnded, visitTestBlock, singleInstruction, visitValueBlockTerminal, thenFallthrough, branchValue, isEmptyGoto, maybeThrowValue, terminalThenFallthrough, visitValueBlockAt, isFallthrough, visitValueBlock, innermostValue, loadedBy, loadedPlace, sameIdentifier, unlessSame, valueBlockResultToSequence}
+use Rattle.definition.specs.Value.{beginVisit, ValueBlockResult, ValueTerminalResult, isEmpty, instructionsOf, wrapWithSequence, finalValue, finalPlace}
+use Rattle.definition.specs.Value.{storedToNamed, allButLast, last, extractValueBlockResult, extractOrRefuse, VisitValueBlock, Ways, branchWays}
+use Rattle.definition.specs.Value.{TestBlockResult, testBlockEnded, visitTestBlock, singleInstruction, visitValueBlockTerminal, thenFallthrough, branchValue}
+use Rattle.definition.specs.Value.{isEmptyGoto, maybeThrowValue, terminalThenFallthrough, visitValueBlockAt, isFallthrough, visitValueBlock, innermostValue}
+use Rattle.definition.specs.Value.{loadedBy, loadedPlace, sameIdentifier, unlessSame, valueBlockResultToSequence}
 use Rattle.renaming.proofs.Alike.{Moves, same-test, Alike, alike-bind, alike-by, alike-unless, alike-pick}
 use Rattle.renaming.proofs.Tables.{renamedTerminal, renamedBlock, renamedTable, Reordered, code-same, absent-same}
 
@@ -116,7 +122,8 @@ module _ (new : ℕ → ℕ) (m : Moves new) (t : Table) (blocks : List Block) (
   ways-same (try block handler fallthrough binding) = refl
   ways-same (scope pruned block fallthrough number) = refl
 
-  ended-alike : (r : ValueBlockResult) (w : Option Ways) (at : ℕ) → Alike new (λ a a′. a′ ≡ renamedTest new a) (testBlockEnded r w at) (testBlockEnded (renamedValue new r) (Option·map (renamedWays new) w) (new at))
+  ended-alike : (r : ValueBlockResult) (w : Option Ways) (at : ℕ)
+      → Alike new (λ a a′. a′ ≡ renamedTest new a) (testBlockEnded r w at) (testBlockEnded (renamedValue new r) (Option·map (renamedWays new) w) (new at))
   unfolding testBlockEnded
   ended-alike r none at = (refl, (λ _. refl), refl)
   ended-alike r (some w) at = refl
@@ -128,7 +135,9 @@ module _ (new : ℕ → ℕ) (m : Moves new) (t : Table) (blocks : List Block) (
         alike-by new (renamedValue new) _ _ _ _ _ (va b none span v) (λ r.
         rw (ap (λ (k : Block). branchWays (k .terminal)) (moved (r .block)) ∙ ways-same (terminalAt t (r .block))) (ended-alike r (branchWays (terminalAt t (r .block))) at))
 
-    pub end-alike : (x : Terminal) (id : ℕ) (span : Span) (v at : ℕ) → Alike new (SameEnd new) (visitValueBlockTerminal t visit x id span v at) (visitValueBlockTerminal (there new t blocks) visit′ (renamedTerminal new x) id span v (new at))
+    pub end-alike : (x : Terminal) (id : ℕ) (span : Span) (v at : ℕ)
+        → Alike new (SameEnd new) (visitValueBlockTerminal t visit x id span v at)
+        (visitValueBlockTerminal (there new t blocks) visit′ (renamedTerminal new x) id span v (new at))
     unfolding visitValueBlockTerminal ValuesAlike
     end-alike absent id span v at = (refl, (λ _. refl), refl)
     end-alike unreachable id span v at = (refl, (λ _. refl), refl)
@@ -185,7 +194,8 @@ module _ (new : ℕ → ℕ) (m : Moves new) (t : Table) (blocks : List Block) (
     goto-same b = ap isEmptyGoto (moved b) ∙ ap (λ (n : ℕ). isEmpty (instructionRows (blockAt t b)) && eqb n 4) (code-same new (terminalAt t b))
 
     at-alike : (x : Terminal) (b : ℕ) (k : Block) (f : Option ℕ) (span : Span) (v : ℕ)
-        → Alike new (SameValue new) (visitValueBlockAt t visit x b k f span v) (visitValueBlockAt (there new t blocks) visit′ (renamedTerminal new x) (new b) (renamedBlock new k) (Option·map new f) span v)
+        → Alike new (SameValue new) (visitValueBlockAt t visit x b k f span v)
+        (visitValueBlockAt (there new t blocks) visit′ (renamedTerminal new x) (new b) (renamedBlock new k) (Option·map new f) span v)
     unfolding visitValueBlockAt
     at-alike absent b k f span v = then-alike absent b k span v
     at-alike unreachable b k f span v = then-alike unreachable b k span v

@@ -7,15 +7,25 @@ use mathlib.Core.Bool.{Bool, true, false, not, _||_}
 use lib.ListN.{getD, take, drop}
 use lib.Dec.{eqb}
 use Rattle.table.specs.declared.columns.Span.{Span}
-use Rattle.table.specs.Table.{Table, Block, Case, Terminal, absent, unreachable, throw, return, goto, if, branch, switch, do-while, while, for, for-of, for-in, logical, ternary, optional, label, sequence, maybe-throw, try, scope, Variant, Break, Continue, Try, blockAt, terminalAt, instructionAt, instructionRows, instructionRowsAt, isUnreachable}
-use Rattle.definition.specs.Tree.{Kind, implicit, labeled, unlabeled, Value, PLAIN, Statement, INSTR, IF, SWITCH, DOWHILE, WHILE, FOR, FOROF, FORIN, LABEL, TRY, SCOPE, BREAK, Statements, done, _▸_, Cases, no-cases, CASE}
+use Rattle.table.specs.Table.{Table, Block, Case, Terminal, absent, unreachable, throw, return, goto, if, branch, switch, do-while, while, for, for-of, for-in}
+use Rattle.table.specs.Table.{logical, ternary, optional, label, sequence, maybe-throw, try, scope, Variant, Break, Continue, Try, blockAt, terminalAt}
+use Rattle.table.specs.Table.{instructionAt, instructionRows, instructionRowsAt, isUnreachable}
+use Rattle.definition.specs.Tree.{Kind, implicit, labeled, unlabeled, Value, PLAIN, Statement, INSTR, IF, SWITCH, DOWHILE, WHILE, FOR, FOROF, FORIN, LABEL, TRY}
+use Rattle.definition.specs.Tree.{SCOPE, BREAK, Statements, done, _▸_, Cases, no-cases, CASE}
 use Rattle.definition.specs.Result.{Result, ok, refused, _>>=_, refuseIf}
-use Rattle.definition.specs.Context.{has, target-if, target-switch, target-case, target-loop, Context, start, isScheduled, emit, withVisits, scheduleCatchHandler, schedule, unschedule, Resolution, getBreakTarget, getContinueTarget}
+use Rattle.definition.specs.Context.{has, target-if, target-switch, target-case, target-loop, Context, start, isScheduled, emit, withVisits}
+use Rattle.definition.specs.Context.{scheduleCatchHandler, schedule, unschedule, Resolution, getBreakTarget, getContinueTarget}
 use Rattle.definition.specs.Around.{Rule, Around, outermost, within, a-loop, a-switch, another, breakKindIn, breakUnnamed, continueUnnamed}
 use Rattle.definition.specs.Value.{beginVisit, VisitValueBlock, ValueBlockResult, visitValueBlockTerminal, visitValueBlock, valueBlockResultToSequence}
-use Rattle.definition.specs.Statement.{BlockResult, TerminalResult, TraverseBlock, TraverseInside, enterBlock, unlessScheduled, unlessUnreachable, scheduleIf, scheduleSwitch, unscheduleIf, markScopeFallthroughIf, breakToScope, breakResolved, visitBreak, continueResolved, visitContinue, visitGoto, traverseUnscheduled, AlternateResult, traverseAlternate, followedBy, traverseConsequent, traverseEnclosed, loopIsTaken, traverseLoop, continueBlockOf, OptionalValue, visitUpdate, CasesResult, casesLastFirst, traverseCases, unscheduleAll, scheduleIds, visitValueStatement, visitTerminal, instructionStatements, thenNext, visitBlock, traverseBlock, buildTree}
+use Rattle.definition.specs.Statement.{BlockResult, TerminalResult, TraverseBlock, TraverseInside, enterBlock, unlessScheduled, unlessUnreachable, scheduleIf}
+use Rattle.definition.specs.Statement.{scheduleSwitch, unscheduleIf, markScopeFallthroughIf, breakToScope, breakResolved, visitBreak, continueResolved}
+use Rattle.definition.specs.Statement.{visitContinue, visitGoto, traverseUnscheduled, AlternateResult, traverseAlternate, followedBy, traverseConsequent}
+use Rattle.definition.specs.Statement.{traverseEnclosed, loopIsTaken, traverseLoop, continueBlockOf, OptionalValue, visitUpdate, CasesResult, casesLastFirst}
+use Rattle.definition.specs.Statement.{traverseCases, unscheduleAll, scheduleIds, visitValueStatement, visitTerminal, instructionStatements, thenNext}
+use Rattle.definition.specs.Statement.{visitBlock, traverseBlock, buildTree}
 use Rattle.renaming.proofs.Alike.{Moves, same-test, Alike, alike-bind, alike-by, alike-unless, alike-pick}
-use Rattle.renaming.proofs.Contexts.{Alongside, renamedResolution, along-start, along-scheduled, along-emit, along-visits, along-scope, along-handler, along-schedule, along-unschedule, along-break, along-continue}
+use Rattle.renaming.proofs.Contexts.{Alongside, renamedResolution, along-start, along-scheduled, along-emit, along-visits, along-scope, along-handler}
+use Rattle.renaming.proofs.Contexts.{along-schedule, along-unschedule, along-break, along-continue}
 use Rattle.renaming.proofs.Arounds.{renamedAround, kind-same, break-unnamed, continue-unnamed}
 use Rattle.renaming.proofs.Tables.{renamedTerminal, renamedBlock, renamedCase, renamedTable, Reordered, absent-same, unreachable-same}
 use Rattle.renaming.proofs.Values.{renamedValue, SameValue, SameEnd, ValuesAlike, sequence-same, begin-alike, end-alike, values-alike}
@@ -116,7 +126,8 @@ module _ (new : ℕ → ℕ) (m : Moves new) where
     scope-alike unlabeled at = (refl, (λ _. refl), h .visits)
 
     resolved-alike : (a : Around) (at b id : ℕ) (found : Option Resolution)
-        → Alike new (λ a a′. a′ ≡ Option·map (renamedStatement new) a) (breakResolved a at b id c found) (breakResolved (renamedAround new a) (new at) (new b) id c′ (Option·map (renamedResolution new) found))
+        → Alike new (λ a a′. a′ ≡ Option·map (renamedStatement new) a) (breakResolved a at b id c found)
+        (breakResolved (renamedAround new a) (new at) (new b) id c′ (Option·map (renamedResolution new) found))
     unfolding breakResolved
     resolved-alike a at b id none = (refl, (λ _. refl), h .visits)
     resolved-alike a at b id (some found) =
@@ -129,7 +140,8 @@ module _ (new : ℕ → ℕ) (m : Moves new) where
     break-alike a at b id = rw (along-break new m c c′ h b) (resolved-alike a at b id (getBreakTarget c b))
 
     continued-alike : (a : Around) (at b id : ℕ) (found : Option Resolution)
-        → Alike new (λ a a′. a′ ≡ renamedStatement new a) (continueResolved a at b id c found) (continueResolved (renamedAround new a) (new at) (new b) id c′ (Option·map (renamedResolution new) found))
+        → Alike new (λ a a′. a′ ≡ renamedStatement new a) (continueResolved a at b id c found)
+        (continueResolved (renamedAround new a) (new at) (new b) id c′ (Option·map (renamedResolution new) found))
     unfolding continueResolved
     continued-alike a at b id none = (refl, (λ _. refl), h .visits)
     continued-alike a at b id (some found) = alike-unless new (λ a a′. a′ ≡ renamedStatement new a) _ _ 29 at _ _ _ _ _ (continue-unnamed new m a found) refl (h .visits) refl
@@ -195,7 +207,8 @@ module _ (new : ℕ → ℕ) (m : Moves new) (traverse traverse′ : TraverseBlo
     alternate-alike : (a f : ℕ) → Alike new (SameAlternate new) (traverseAlternate traverse a f c) (traverseAlternate traverse′ (new a) (new f) c′)
     unfolding traverseAlternate
     alternate-alike a f =
-        alike-pick new (SameAlternate new) (eqb a f) _ (ok (record { present = false; statements = done; context = c })) _ (ok (record { present = false; statements = done; context = c′ })) _ (same-test new m a f)
+        alike-pick new (SameAlternate new) (eqb a f) _ (ok (record { present = false; statements = done; context = c })) _
+        (ok (record { present = false; statements = done; context = c′ })) _ (same-test new m a f)
         (refl, refl, h) (alike-block new (SameAlternate new) _ _ _ _ (unscheduled-alike a 13 a) (λ s d d′ q. (refl, refl, q)))
 
     consequent-alike : (a : Around) (at y id : ℕ) → Alike new (SameBlock new) (traverseConsequent a traverse at y id c) (traverseConsequent (renamedAround new a) traverse′ (new at) (new y) id c′)
@@ -257,7 +270,8 @@ module _ (new : ℕ → ℕ) (m : Moves new) (t : Table) (blocks : List Block) (
       begins : (b : ℕ) {v v′ : ℕ} → v′ ≡ v → Alike new (λ a a′. a′ ≡ a) (beginVisit t b v) (beginVisit there (new b) v′)
       begins b {v} e = rw e (begin-alike new m t blocks moved b v)
 
-  module _ (visit visit′ : VisitValueBlock) (va : ValuesAlike new visit visit′) (traverse traverse′ : TraverseInside) (wi : (a : Around) → WalkAlike new (traverse a) (traverse′ (renamedAround new a))) where
+  module _ (visit visit′ : VisitValueBlock) (va : ValuesAlike new visit visit′) (traverse traverse′ : TraverseInside)
+      (wi : (a : Around) → WalkAlike new (traverse a) (traverse′ (renamedAround new a))) where
     visit-alike : (b : ℕ) (f : Option ℕ) (span : Span) {v v′ : ℕ} → v′ ≡ v → Alike new (SameValue new) (visit b f span v) (visit′ (new b) (Option·map new f) span v′)
     unfolding ValuesAlike
     visit-alike b f span {v} e = rw e (va b f span v)
@@ -277,7 +291,8 @@ module _ (new : ℕ → ℕ) (m : Moves new) (t : Table) (blocks : List Block) (
         rw e (alike-bind new (Alongside new) (SameStep new) _ _ _ _
         (unschedule-alike new m (withVisits (r .visits) d) (withVisits (r .visits) d′) (along-visits new m d d′ q refl) (unlessScheduled c f) (h .nextId)) (λ g g′ l. (refl, refl, l))))))
       where
-        ends : {v v′ : ℕ} → v′ ≡ v → Alike new (SameEnd new) (visitValueBlockTerminal t visit x (k .id) (k .span) v at) (visitValueBlockTerminal there visit′ (renamedTerminal new x) (k .id) (k .span) v′ (new at))
+        ends : {v v′ : ℕ} → v′ ≡ v → Alike new (SameEnd new) (visitValueBlockTerminal t visit x (k .id) (k .span) v at)
+            (visitValueBlockTerminal there visit′ (renamedTerminal new x) (k .id) (k .span) v′ (new at))
         ends {v} e = rw e (end-alike new m t blocks moved visit visit′ va x (k .id) (k .span) v at)
 
     terminal-alike : (a : Around) (x : Terminal) (at : ℕ) (k : Block) (c c′ : Context) → Alongside new c c′
@@ -330,8 +345,10 @@ module _ (new : ℕ → ℕ) (m : Moves new) (t : Table) (blocks : List Block) (
         alike-by new (renamedValue new) (SameStep new) _ _ _ _ (visit-alike i none (k .span) (h₁ .visits)) (λ r.
         alike-by new (renamedValue new) (SameStep new) _ _ _ _ (visit-alike x none (k .span) refl) (λ q.
         body-alike new m _ _ (wi (within (a-loop (unlessScheduled c f)) ar)) at l _ _ _ _ _ _ c₁ c₁′ (unlessScheduled c f) _ _ h₁ (loop-same new m c c′ h l f) refl (h .nextId)
-        (λ s. ap (λ (v : Value). FOROF (k .id) (Option·map new (unlessScheduled c f)) (k .span) v (valueBlockResultToSequence there (renamedValue new q) (k .span)) (renamedStatements new s)) (sequence-same new t blocks r (k .span))
-        ∙ ap (λ (v : Value). FOROF (k .id) (Option·map new (unlessScheduled c f)) (k .span) (valueBlockResultToSequence t r (k .span)) v (renamedStatements new s)) (sequence-same new t blocks q (k .span)))))))
+        (λ s. ap (λ (v : Value). FOROF (k .id) (Option·map new (unlessScheduled c f)) (k .span) v
+        (valueBlockResultToSequence there (renamedValue new q) (k .span)) (renamedStatements new s)) (sequence-same new t blocks r (k .span))
+        ∙ ap (λ (v : Value). FOROF (k .id) (Option·map new (unlessScheduled c f)) (k .span) (valueBlockResultToSequence t r (k .span)) v
+        (renamedStatements new s)) (sequence-same new t blocks q (k .span)))))))
     terminal-alike ar (for-in i l f) at k c c′ h =
         rw (taken-same new m c c′ h f)
         (alike-bind new (Alongside new) (SameStep new) _ _ _ _ (along-schedule new m c c′ h (target-loop f i l)) (λ c₁ c₁′ h₁.
@@ -366,7 +383,8 @@ module _ (new : ℕ → ℕ) (m : Moves new) (t : Table) (blocks : List Block) (
   statements-same (r ∷ rs) k = ap (λ (z : Statements). INSTR (instructionAt t r .id) (instructionAt t r .lvalue) (instructionAt t r .span) (PLAIN r) ▸ z) (statements-same rs k)
 
   block-same : (at : ℕ) (s : Option Statement) (k : Statements)
-      → instructionStatements there (instructionRowsAt there (new at)) (followedBy (Option·map (renamedStatement new) s) (renamedStatements new k)) ≡ renamedStatements new (instructionStatements t (instructionRowsAt t at) (followedBy s k))
+      → instructionStatements there (instructionRowsAt there (new at)) (followedBy (Option·map (renamedStatement new) s) (renamedStatements new k)) ≡
+      renamedStatements new (instructionStatements t (instructionRowsAt t at) (followedBy s k))
   block-same at s k =
       ap (λ (b : Block). instructionStatements there (instructionRows b) (followedBy (Option·map (renamedStatement new) s) (renamedStatements new k))) (moved at)
       ∙ (ap (instructionStatements there (instructionRowsAt t at)) (followed-same new m s k) ∙ statements-same (instructionRowsAt t at) (followedBy s k))
@@ -377,16 +395,19 @@ module _ (new : ℕ → ℕ) (m : Moves new) (t : Table) (blocks : List Block) (
   next-alike at again again′ wa s none c c′ h = (block-same at s done, h)
   next-alike at again again′ wa s (some n) c c′ h = alike-block new (SameBlock new) _ _ _ _ (wa n c c′ h) (λ z d d′ q. (block-same at s z, q))
 
-  visit-block-alike : (visit visit′ : VisitValueBlock) → ValuesAlike new visit visit′ → (traverse traverse′ : TraverseInside) → ((a : Around) → WalkAlike new (traverse a) (traverse′ (renamedAround new a)))
+  visit-block-alike : (visit visit′ : VisitValueBlock) → ValuesAlike new visit visit′ → (traverse traverse′ : TraverseInside)
+      → ((a : Around) → WalkAlike new (traverse a) (traverse′ (renamedAround new a)))
       → (a : Around) (n : ℕ) → WalkAlike new (visitBlock t visit traverse a n) (visitBlock there visit′ traverse′ (renamedAround new a) n)
   unfolding visitBlock WalkAlike
   visit-block-alike visit visit′ va traverse traverse′ wa a zero b c c′ h = (refl, (λ _. refl), h .visits)
   visit-block-alike visit visit′ va traverse traverse′ wa a (suc n) b c c′ h =
       alike-bind new (Alongside new) (SameBlock new) _ _ _ _ (enter-alike b c c′ h) (λ d d′ q.
       alike-step new (SameBlock new) _ _ _ _
-      (subst (λ (k : Block). Alike new (SameStep new) (visitTerminal t visit traverse a (terminalAt t b) b (blockAt t b) d) (visitTerminal there visit′ traverse′ (renamedAround new a) (k .terminal) (new b) k d′)) (sym (moved b))
+      (subst (λ (k : Block). Alike new (SameStep new) (visitTerminal t visit traverse a (terminalAt t b) b (blockAt t b) d)
+      (visitTerminal there visit′ traverse′ (renamedAround new a) (k .terminal) (new b) k d′)) (sym (moved b))
       (terminal-alike visit visit′ va traverse traverse′ wa a (terminalAt t b) b (blockAt t b) d d′ q))
-      (λ s i e e′ p. next-alike b (visitBlock t visit traverse a n) (visitBlock there visit′ traverse′ (renamedAround new a) n) (visit-block-alike visit visit′ va traverse traverse′ wa a n) s i e e′ p))
+      (λ s i e e′ p. next-alike b (visitBlock t visit traverse a n) (visitBlock there visit′ traverse′ (renamedAround new a) n)
+      (visit-block-alike visit visit′ va traverse traverse′ wa a n) s i e e′ p))
 
   walk-alike : (d : ℕ) (a : Around) → WalkAlike new (traverseBlock t d a) (traverseBlock there d (renamedAround new a))
   unfolding traverseBlock WalkAlike

@@ -9,7 +9,8 @@ use lib.ListN.{length, getD, length-append, List·getD-append}
 use lib.Seq.{getD-append-add, ext-getD}
 use lib.Dec.{ltb}
 use borrow.Author.Tests.{ltb-true, ltb-false}
-use Rattle.table.specs.Words.{word, entryWord, blockCount, instructionCount, caseCount, placeCount, identifierCount, blocksBegin, instructionsBegin, casesBegin, placesBegin, identifiersBegin, wordsNeeded, blockWord, instructionWord, caseWord, placeWord, identifierWord}
+use Rattle.table.specs.Words.{word, entryWord, blockCount, instructionCount, caseCount, placeCount, identifierCount, blocksBegin, instructionsBegin, casesBegin}
+use Rattle.table.specs.Words.{placesBegin, identifiersBegin, wordsNeeded, blockWord, instructionWord, caseWord, placeWord, identifierWord}
 use Rattle.table.specs.Promise.{Sized}
 use Rattle.renaming.specs.Renaming.{Renaming, namesBlock, renamedIf, renamedBlockRow, instructionRow, renamedCaseRow, rowsOf, renamed, RenamedWords}
 

@@ -159,7 +159,8 @@ loop-again c =
     let blocks : tie.After-block-count Inv-loop μ-loop = search in
     let start : tie.Start Inv-loop μ-loop = search in
     let p = start .pre .promise in
-    case-written _ _ _ p (turn .loop .inv .1) _ (begun .cases-begin .ensures .0) (omega (arith, within .loop-test .taken, counted .case-count .ensures)) (rw (blocks .block-count .ensures) at (numbered .number-in .ensures))
+    case-written _ _ _ p (turn .loop .inv .1) _ (begun .cases-begin .ensures .0) (omega (arith, within .loop-test .taken, counted .case-count .ensures))
+    (rw (blocks .block-count .ensures) at (numbered .number-in .ensures))
 
 same-length : tie.Need-same-length Inv-loop μ-loop
 same-length c =
