@@ -17,6 +17,7 @@ pub mod Crossed
 pub mod Formed
 pub mod Labels
 pub mod Surveys
+pub mod Goals
 pub mod Parting
 pub mod PlainEnough
 pub mod Loops

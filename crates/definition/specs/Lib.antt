@@ -7,6 +7,7 @@ pub mod Named
 pub mod Survey
 pub mod Value
 pub mod Statement
+pub mod Goal
 pub mod Build
 pub mod Run
 pub mod BlockRun

@@ -45,7 +45,7 @@ use Rattle.loops.specs.declared.Values.{Values}
 use Rattle.loops.specs.declared.Loop as loops
 use Rattle.control.specs.declared.ControlFlowTarget.the-variants.{Loop}
 use Rattle.plan.specs.Plans.{frameOf, changed, applied, openFrame, refusing, leaving, unlessTaken, brieflyIf}
-use Rattle.plan.specs.Planned.{Seen, NamedChange, Fitting, PlannedBare, Entered, terminalStep}
+use Rattle.plan.specs.Planned.{Seen, NamedChange, Fitting, PlannedBare, Entered, nowhere, terminalStep}
 use Rattle.loops.specs.Loops.{PlannedRows, Made, plainMade, flatMade, testedValues, forValues, forOfValues, noneMade, valueMade, plainForm, flatForm}
 use Rattle.loops.specs.Loops.{updateMade, testedMade, forMade, forOfMade, noValues, valuesOf, Makes, Spent, MakesMore, MakesTested, loopTurn}
 use Rattle.loops.specs.Loops.{afterValues, enteringBody, enteringLoop, loopTaken, continuesAt, valueFallthrough}
@@ -351,7 +351,7 @@ module _ (w : List ℕ) (S H : Flags) (p : Position) (en : Entered w p) where
   -- a loop that does not ask whether its fallthrough is reachable
   abbrev Loops : Terminal → (f c l : ℕ) → (ℕ → Result Made) → Type 0
   Loops e f c l values = (F : List machine.Frame) (R : List Row) (C : definition.Context)
-      → terminalTurn (tableOf w) visit e (p .block) (blockAt (tableOf w) (p .block)) F R (p .count) C ≡ loopTurn (p .block) f c l (unlessScheduled C f) (p .count) values F R C
+      → terminalTurn nowhere (tableOf w) visit e (p .block) (blockAt (tableOf w) (p .block)) F R (p .count) C ≡ loopTurn (p .block) f c l (unlessScheduled C f) (p .count) values F R C
 
   turns : (e : Terminal) (f c l n : ℕ) (values : ℕ → Result Made) → Is e → Loops e f c l values → f < blockCount w → n ≡ unlessTaken (has S f || has H f) f → Turns f c l n values
   turns e f c l n values q loops h o F R C seen = ap turn (step-by w p e F R C q ∙ loops F R C)
@@ -404,7 +404,7 @@ module _ (w : List ℕ) (S H : Flags) (p : Position) (en : Entered w p) where
 
   -- While asks first whether its fallthrough is reachable
   while-asks : (c l f : ℕ) (F : List machine.Frame) (R : List Row) (C : definition.Context)
-      → terminalTurn (tableOf w) visit (while c l f) (p .block) (blockAt (tableOf w) (p .block)) F R (p .count) C
+      → terminalTurn nowhere (tableOf w) visit (while c l f) (p .block) (blockAt (tableOf w) (p .block)) F R (p .count) C
       ≡ unlessUnreachable (tableOf w) C f >>= λ taken. loopTurn (p .block) f c l taken (p .count) (λ v. valueMade visit plainForm c span (noneMade v)) F R C
   unfolding terminalTurn loopTurn
   while-asks c l f F R C = (then-same (unlessUnreachable (tableOf w) C f) _ _ (λ taken. then-same (schedule (target-loop f c l) C) _ _ (λ inside.
@@ -528,7 +528,7 @@ value-moved n after C = at (unlessNone n)
 -- a terminal with such a fallthrough: its turn, and the fallthrough's range
 pub record ValueTerminal (e : Terminal) (f : ℕ) : Type 0 where
   pub turns : (t : Table) (visit : VisitValueBlock) (at : ℕ) (block : Block) (F : List machine.Frame) (R : List Row) (count : ℕ) (C : definition.Context)
-      → terminalTurn t visit e at block F R count C ≡ valueTurn t visit e at block f F R count C
+      → terminalTurn nowhere t visit e at block F R count C ≡ valueTurn t visit e at block f F R count C
   pub below : (blocks places cases : ℕ) → InRange blocks places cases e → f < blocks
 
 value-terminal : (e : Terminal) (f : ℕ) → valueFallthrough e ≡ some f → ValueTerminal e f

@@ -24,7 +24,6 @@ use table::terminals::for_at;
 use table::terminals::for_in_at;
 use table::terminals::for_of_at;
 use table::terminals::while_at;
-use table::words::block_word;
 use value::result::Tally;
 use value::result::ValueResult;
 use value::sequence::value_block_result_to_sequence;
@@ -34,7 +33,7 @@ ghost use mathlib.Core.Path.{_≡_};
 ghost use mathlib.Core.Option.{some};
 ghost use Prim.Native.Nat.{_-_, _≤_, _<_};
 ghost use lib.Dec.{eqb};
-ghost use Rattle.table.specs.Words.{blockCount, blockWord, codeAt};
+ghost use Rattle.table.specs.Words.{blockCount, codeAt};
 ghost use Rattle.table.specs.Table.{tableOf, terminalAt, unlessNone};
 ghost use Rattle.definition.specs.Value.{visitValueBlock};
 ghost use Rattle.control.specs.Contract.{continueScheduled};
@@ -448,21 +447,19 @@ fn schedule_briefly(label: u32) -> Change
     })
 }
 
-// A Logical, Ternary, Optional or Sequence, whose fallthrough is that column, as a statement: an INSTR with the terminal's own span.
+// A Logical, Ternary, Optional or Sequence with that fallthrough, as a statement: an INSTR with the terminal's own span.
 pub fn visit_value<'a>(
     words: &[u32],
     tree: &mut [u32],
     scheduled: &'a [bool; 1024],
     catch_handlers: &'a [bool; 1024],
     p: Position,
-    column: u32,
+    fallthrough: u32,
 ) -> Plan
     requires { ⌜ Entered (now words) p ⌝ }
-    requires { ⌜ column < 10 ⌝ }
-    requires { ⌜ valueFallthrough (terminalAt (tableOf (now words)) (p .block)) ≡ some (blockWord (now words) (p .block) column) ⌝ }
+    requires { ⌜ valueFallthrough (terminalAt (tableOf (now words)) (p .block)) ≡ some fallthrough ⌝ }
     ensures { λ r. ⌜ PlannedRows (now (words .entry)) (now (scheduled .entry)) (now («catch_handlers» .entry)) p (now (tree .entry)) r (now (tree .exit)) ⌝ }
 {
-    let fallthrough = block_word(words, p.block, column);
     let label = unless_scheduled(scheduled, catch_handlers, fallthrough);
     let span = span_at(words, p.block);
     let tally = Tally {

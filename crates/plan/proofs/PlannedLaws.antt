@@ -9,7 +9,8 @@ use lib.Dec.{eqb}
 use lib.ListN.{length}
 use Rattle.table.specs.Words.{blockCount, placeCount, caseCount, blockWord, codeAt}
 use Rattle.table.specs.Promise.{Promise, InRange, Ends}
-use Rattle.table.specs.Table.{Terminal, tableOf, terminalAt, blockAt, unlessNone}
+use Rattle.table.specs.Table.{Terminal, absent, unreachable, throw, return, goto, if, branch, switch, do-while, while, for, for-of, for-in, logical, ternary}
+use Rattle.table.specs.Table.{optional, label, sequence, maybe-throw, try, scope, codeOf, Table, Block, tableOf, terminalAt, blockAt, unlessNone}
 use Rattle.table.proofs.RangeLaws.{in-range}
 use Rattle.definition.specs.Build.{rejected}
 use Rattle.definition.specs.Context.{Flags, has, pushed, withVisits}
@@ -19,14 +20,15 @@ use Rattle.definition.specs.Machine as machine
 use Rattle.definition.specs.Result.{Result, _>>=_}
 use Rattle.definition.specs.Statement.{unlessUnreachable}
 use Rattle.definition.specs.Tree.{Row}
-use Rattle.definition.specs.Value.{visitValueBlock}
+use Rattle.definition.specs.Around.{Around}
+use Rattle.definition.specs.Value.{VisitValueBlock, visitValueBlock}
 use Rattle.rows.specs.Rows.{Holds}
 use Rattle.rows.specs.Stack as stack
 use Rattle.plan.specs.declared.Position.{Position}
 use Rattle.plan.specs.declared.Frame.{Frame}
 use Rattle.plan.specs.declared.Plan.{Plan}
 use Rattle.plan.specs.Plans.{frameOf, applied, refusing, unlessTaken}
-use Rattle.plan.specs.Planned.{Seen, Fitting, Planned, PlannedBare, Entered, terminalStep}
+use Rattle.plan.specs.Planned.{Seen, Fitting, Planned, PlannedBare, Entered, terminalStepIn, nowhere, terminalStep}
 use Rattle.plan.proofs.PlanLaws.{refuse-applied, Label, label-taken, label-most}
 use Rattle.plan.proofs.StepLaws.{label-missing, label-reached, turn-refused}
 
@@ -71,9 +73,41 @@ bare-planned w S H p plan rows same fit buffer = record {
   fitting = fit;
 }
 
+-- a jump, with this around
+pub step-in : (around : Around) (w : List ℕ) (p : Position) (e : Terminal) (F : List machine.Frame) (R : List Row) (C : definition.Context) → terminalAt (tableOf w) (p .block) ≡ e
+    → terminalStepIn around w p F R C ≡ terminalTurn around (tableOf w) (visitValueBlock (tableOf w) (127 - p .depth)) e (p .block) (blockAt (tableOf w) (p .block)) F R (p .count) C
+step-in around w p e F R C q =
+    ap (λ (z : Terminal). terminalTurn around (tableOf w) (visitValueBlock (tableOf w) (127 - p .depth)) z (p .block) (blockAt (tableOf w) (p .block)) F R (p .count) C) q
+
 pub step-by : (w : List ℕ) (p : Position) (e : Terminal) (F : List machine.Frame) (R : List Row) (C : definition.Context) → terminalAt (tableOf w) (p .block) ≡ e
-    → terminalStep w p F R C ≡ terminalTurn (tableOf w) (visitValueBlock (tableOf w) (127 - p .depth)) e (p .block) (blockAt (tableOf w) (p .block)) F R (p .count) C
-step-by w p e F R C q = ap (λ (z : Terminal). terminalTurn (tableOf w) (visitValueBlock (tableOf w) (127 - p .depth)) z (p .block) (blockAt (tableOf w) (p .block)) F R (p .count) C) q
+    → terminalStep w p F R C ≡ terminalTurn nowhere (tableOf w) (visitValueBlock (tableOf w) (127 - p .depth)) e (p .block) (blockAt (tableOf w) (p .block)) F R (p .count) C
+step-by w p e F R C q = step-in nowhere w p e F R C q
+
+-- a terminal that is no jump does not look at what is around
+pub around-unread : (around : Around) (t : Table) (visit : VisitValueBlock) (e : Terminal) (at : ℕ) (block : Block) (F : List machine.Frame) (R : List Row) (n : ℕ) (C : definition.Context)
+    → (codeOf e ≡ 4 → ⊥) → (codeOf e ≡ 6 → ⊥) → terminalTurn around t visit e at block F R n C ≡ terminalTurn nowhere t visit e at block F R n C
+unfolding terminalTurn
+around-unread a t v absent at k F R n C f g = refl
+around-unread a t v unreachable at k F R n C f g = refl
+around-unread a t v (throw x) at k F R n C f g = refl
+around-unread a t v (return x) at k F R n C f g = refl
+around-unread a t v (goto x y) at k F R n C f g = absurd (f refl)
+around-unread a t v (if x y z q) at k F R n C f g = refl
+around-unread a t v (branch x y z) at k F R n C f g = absurd (g refl)
+around-unread a t v (switch x y z q) at k F R n C f g = refl
+around-unread a t v (do-while x y q) at k F R n C f g = refl
+around-unread a t v (while x y q) at k F R n C f g = refl
+around-unread a t v (for x y z l q) at k F R n C f g = refl
+around-unread a t v (for-of x y l q) at k F R n C f g = refl
+around-unread a t v (for-in x l q) at k F R n C f g = refl
+around-unread a t v (logical o x q) at k F R n C f g = refl
+around-unread a t v (ternary x q) at k F R n C f g = refl
+around-unread a t v (optional o x q) at k F R n C f g = refl
+around-unread a t v (label x q) at k F R n C f g = refl
+around-unread a t v (sequence x q) at k F R n C f g = refl
+around-unread a t v (maybe-throw x) at k F R n C f g = refl
+around-unread a t v (try x y q z) at k F R n C f g = refl
+around-unread a t v (scope o x q z) at k F R n C f g = refl
 
 refuse-fits : (p : Position) (code at : ℕ) → (code ≡ 0 → ⊥) → code ≡ 0 → Fitting [] (p .depth) (refusing p code at)
 refuse-fits p code at h e = absurd (h e)
@@ -108,7 +142,7 @@ Rest = List machine.Frame → List Row → definition.Context → Option ℕ →
 -- the terminal's turn looks at the fallthrough f first
 abbrev pub Asks : List ℕ → Position → Terminal → ℕ → Rest → Type 0
 Asks w p e f k = (F : List machine.Frame) (R : List Row) (C : definition.Context)
-    → terminalTurn (tableOf w) (visitValueBlock (tableOf w) (127 - p .depth)) e (p .block) (blockAt (tableOf w) (p .block)) F R (p .count) C ≡ unlessUnreachable (tableOf w) C f >>= k F R C
+    → terminalTurn nowhere (tableOf w) (visitValueBlock (tableOf w) (127 - p .depth)) e (p .block) (blockAt (tableOf w) (p .block)) F R (p .count) C ≡ unlessUnreachable (tableOf w) C f >>= k F R C
 
 -- the label that the code takes
 abbrev pub Reached : List ℕ → Flags → Flags → (f n : ℕ) → Type 0

@@ -7,6 +7,7 @@ use lib.ListN.{length}
 use Rattle.table.specs.Words.{blockCount}
 use Rattle.table.specs.Promise.{Promise}
 use Rattle.table.specs.Table.{tableOf, terminalAt, blockAt, unlessNone}
+use Rattle.definition.specs.Around.{rust, Around, outermost}
 use Rattle.definition.specs.Context.{Flags}
 use Rattle.definition.specs.Context as definition
 use Rattle.definition.specs.Machine.{State, turn}
@@ -77,11 +78,18 @@ pub record Planned (step : List machine.Frame → List Row → definition.Contex
 
 -- ---- the terminal of a block that is entered
 
--- what the machine's turn comes to
-abbrev pub terminalStep : List ℕ → Position → List machine.Frame → List Row → definition.Context → Result State
-terminalStep words p frames before cx =
-    machine.terminalTurn (tableOf words) (visitValueBlock (tableOf words) (127 - p .depth)) (terminalAt (tableOf words) (p .block)) (p .block)
+-- what the machine's turn comes to, with this around
+abbrev pub terminalStepIn : Around → List ℕ → Position → List machine.Frame → List Row → definition.Context → Result State
+terminalStepIn around words p frames before cx =
+    machine.terminalTurn around (tableOf words) (visitValueBlock (tableOf words) (127 - p .depth)) (terminalAt (tableOf words) (p .block)) (p .block)
     (blockAt (tableOf words) (p .block)) frames before (p .count) cx
+
+-- Only Goto and Branch look at what is around (PlannedLaws, `around-unread`): the turn of any other terminal is this one
+abbrev pub nowhere : Around
+nowhere = outermost rust
+
+abbrev pub terminalStep : List ℕ → Position → List machine.Frame → List Row → definition.Context → Result State
+terminalStep words p = terminalStepIn nowhere words p
 
 -- what holds of a position there
 pub record Entered (words : List ℕ) (p : Position) : Type 0 where

@@ -11,13 +11,14 @@ use Rattle.table.specs.Table.{Terminal, absent, unreachable, throw, return, got
 use Rattle.table.specs.Table.{optional, label, sequence, maybe-throw, try, scope, Break, Continue, Try, tableOf, terminalAt}
 use Rattle.definition.specs.Context.{Flags, emit, isScheduled, getBreakTarget, getContinueTarget}
 use Rattle.definition.specs.Context as definition
-use Rattle.definition.specs.Machine.{step}
+use Rattle.definition.specs.Around.{Around}
+use Rattle.definition.specs.Goal.{Goal, breakGoal, continueGoal, goals}
+use Rattle.definition.specs.Machine.{enclosings, step}
 use Rattle.definition.specs.Machine as machine
 use Rattle.definition.specs.Tree.{Row}
 use Rattle.definition.specs.Framed.{Framed, isSwitch}
-use Rattle.control.specs.declared.Context.{Context}
-use Rattle.control.specs.declared.Resolved.{Resolved}
-use Rattle.control.specs.Abstraction.{resolvedOf}
+use Rattle.survey.specs.declared.Aim.{Aim}
+use Rattle.survey.specs.Abstraction.{aimOf}
 use Rattle.rows.specs.Rows.{Holds}
 use Rattle.rows.specs.Stack.{pushed}
 use Rattle.plan.specs.declared.Stage.{Stage}
@@ -30,49 +31,49 @@ use Rattle.plan.specs.Planned.{Seen, Fitting}
 
 -- ---- jumps
 
--- what is known of the stack's search at a block that ends so
-abbrev pub Resolves : Terminal → definition.Context → Option definition.Resolution → Type 0
-Resolves absent cx found = Unit {0}
-Resolves unreachable cx found = Unit {0}
-Resolves (throw value) cx found = Unit {0}
-Resolves (return value) cx found = Unit {0}
-Resolves (goto target Break) cx found = found ≡ getBreakTarget cx target
-Resolves (goto target Continue) cx found = found ≡ getContinueTarget cx target
-Resolves (goto target Try) cx found = Unit {0}
-Resolves (if test consequent alternate fallthrough) cx found = Unit {0}
-Resolves (branch test consequent alternate) cx found = isScheduled cx consequent ≡ true → found ≡ getBreakTarget cx consequent
-Resolves (switch test first number fallthrough) cx found = Unit {0}
-Resolves (do-while loop test fallthrough) cx found = Unit {0}
-Resolves (while test loop fallthrough) cx found = Unit {0}
-Resolves (for init test update loop fallthrough) cx found = Unit {0}
-Resolves (for-of init test loop fallthrough) cx found = Unit {0}
-Resolves (for-in init loop fallthrough) cx found = Unit {0}
-Resolves (logical operator test fallthrough) cx found = Unit {0}
-Resolves (ternary test fallthrough) cx found = Unit {0}
-Resolves (optional chain test fallthrough) cx found = Unit {0}
-Resolves (label body fallthrough) cx found = Unit {0}
-Resolves (sequence body fallthrough) cx found = Unit {0}
-Resolves (maybe-throw continuation) cx found = Unit {0}
-Resolves (try body handler fallthrough binding) cx found = Unit {0}
-Resolves (scope pruned body fallthrough number) cx found = Unit {0}
+-- what is known of the jump's goal at a block that ends so
+abbrev pub Resolves : Terminal → Around → definition.Context → Option Goal → Type 0
+Resolves absent around cx aim = Unit {0}
+Resolves unreachable around cx aim = Unit {0}
+Resolves (throw value) around cx aim = Unit {0}
+Resolves (return value) around cx aim = Unit {0}
+Resolves (goto target Break) around cx aim = aim ≡ goals (breakGoal around) (getBreakTarget cx target)
+Resolves (goto target Continue) around cx aim = aim ≡ goals (continueGoal around) (getContinueTarget cx target)
+Resolves (goto target Try) around cx aim = Unit {0}
+Resolves (if test consequent alternate fallthrough) around cx aim = Unit {0}
+Resolves (branch test consequent alternate) around cx aim = isScheduled cx consequent ≡ true → aim ≡ goals (breakGoal around) (getBreakTarget cx consequent)
+Resolves (switch test first number fallthrough) around cx aim = Unit {0}
+Resolves (do-while loop test fallthrough) around cx aim = Unit {0}
+Resolves (while test loop fallthrough) around cx aim = Unit {0}
+Resolves (for init test update loop fallthrough) around cx aim = Unit {0}
+Resolves (for-of init test loop fallthrough) around cx aim = Unit {0}
+Resolves (for-in init loop fallthrough) around cx aim = Unit {0}
+Resolves (logical operator test fallthrough) around cx aim = Unit {0}
+Resolves (ternary test fallthrough) around cx aim = Unit {0}
+Resolves (optional chain test fallthrough) around cx aim = Unit {0}
+Resolves (label body fallthrough) around cx aim = Unit {0}
+Resolves (sequence body fallthrough) around cx aim = Unit {0}
+Resolves (maybe-throw continuation) around cx aim = Unit {0}
+Resolves (try body handler fallthrough binding) around cx aim = Unit {0}
+Resolves (scope pruned body fallthrough number) around cx aim = Unit {0}
 
 -- ---- what a planner is shown
 
--- a Context of which a planner sees the sets, the visits, and what the block's jump found on the stack
-pub record Shown (words : List ℕ) (emittedSet scheduledSet handlerSet scopeSet : Flags) (p : Position) (resolved : Resolved) (cx : definition.Context) : Type 0 where
+-- a Context of which a planner sees the sets, the visits, and the goal of the block's jump
+pub record Shown (words : List ℕ) (emittedSet scheduledSet handlerSet scopeSet : Flags) (p : Position) (aim : Aim) (around : Around) (cx : definition.Context) : Type 0 where
   pub emitted : cx .emitted ≡ emittedSet
   pub scheduled : cx .scheduled ≡ scheduledSet
   pub handlers : cx .catchHandlers ≡ handlerSet
   pub scopes : cx .scopeFallthroughs ≡ scopeSet
   pub visits : cx .visits ≡ p .visits
   pub wide : length scheduledSet ≡ 1024
-  pub jump : p .stage ≡ Visit → Resolves (terminalAt (tableOf words) (p .block)) cx (resolvedOf resolved)
+  pub jump : p .stage ≡ Visit → Resolves (terminalAt (tableOf words) (p .block)) around cx (aimOf aim)
 
 -- the same at the terminal of a block that is entered
-pub record AtTerminal (words : List ℕ) (scheduledSet handlerSet scopeSet : Flags) (p : Position) (resolved : Resolved) (cx : definition.Context) : Type 0 where
+pub record AtTerminal (words : List ℕ) (scheduledSet handlerSet scopeSet : Flags) (p : Position) (aim : Aim) (around : Around) (cx : definition.Context) : Type 0 where
   pub seen : Seen scheduledSet handlerSet (p .visits) cx
   pub scopes : cx .scopeFallthroughs ≡ scopeSet
-  pub jump : Resolves (terminalAt (tableOf words) (p .block)) cx (resolvedOf resolved)
+  pub jump : Resolves (terminalAt (tableOf words) (p .block)) around cx (aimOf aim)
 
 -- what holds of a position where a block is visited
 pub record Visits (words : List ℕ) (p : Position) : Type 0 where
@@ -125,11 +126,12 @@ emitting Choose block cx = cx
 emitting Pop block cx = cx
 emitting Halt block cx = cx
 
--- the plan, applied, is the machine's step
-pub record PlannedTurn (words : List ℕ) (On : definition.Context → Type 0) (p : Position) (frame : Frame) (buffer : List ℕ) (plan : Plan) (buffer′ : List ℕ) : Type 0 where
+-- the plan, applied, is the machine's step over the frames that are around
+pub record PlannedTurn (words : List ℕ) (around : Around) (On : definition.Context → Type 0) (p : Position) (frame : Frame) (buffer : List ℕ) (plan : Plan) (buffer′ : List ℕ) : Type 0 where
   pub out : List Row
   pub held : plan .code ≡ 0 → (before : List Row) → Holds buffer (p .rows) (pushed before []) → Holds buffer′ (plan .position .rows) (pushed (before ++ out) [])
-  pub same : (frames : List machine.Frame) (before : List Row) (cx : definition.Context) → length (inHand (p .stage) (p .depth) frame ++ frames) ≡ p .depth → On cx
-      → step (tableOf words) (stateAt (p .stage) (p .block) (inHand (p .stage) (p .depth) frame ++ frames) before (p .count) cx)
+  pub same : (frames : List machine.Frame) (before : List Row) (cx : definition.Context) → length (inHand (p .stage) (p .depth) frame ++ frames) ≡ p .depth
+      → enclosings (tableOf words) (inHand (p .stage) (p .depth) frame ++ frames) ≡ around .statements → On cx
+      → step (around .rule) (tableOf words) (stateAt (p .stage) (p .block) (inHand (p .stage) (p .depth) frame ++ frames) before (p .count) cx)
       ≡ applied plan (inHand (p .stage) (p .depth) frame ++ frames) (before ++ out) (emitting (p .stage) (p .block) cx)
   pub fitting : plan .code ≡ 0 → Fitting (inHand (p .stage) (p .depth) frame) (p .depth) plan

@@ -42,6 +42,7 @@ use Rattle.plan.specs.declared.Change.the-variants.{Nothing, Schedule}
 use Rattle.plan.specs.declared.Plan.{Plan}
 use Rattle.plan.specs.Plans.{frameOf, stateAt, second, unlessRefused, applied, refusing, nesting, choosingNext, accepting}
 use Rattle.plan.specs.Planned.{Seen, Fitting, Planned}
+use Rattle.definition.specs.Around.{Around}
 use Rattle.plan.specs.Turn.{inHand, FrameFits, StageFits, Ready, emitting, PlannedTurn}
 use Rattle.resume.specs.Resume.{oneBuilt, leftLess, alternating, Closing, Resuming, Choosing, Begun, closeStep, resumeStep, chooseStep, PlannedClose, PlannedOn, PlannedResume, PlannedChoice}
 use Rattle.plan.proofs.PlanLaws.{within-rest, visits-same, refuse-applied, nest-applied, choose-asked, choose-applied, accept-applied}
@@ -383,22 +384,22 @@ hand-pop (suc depth) frame h = refl
 
 module _ (w : List ℕ) (p : Position) (frame : Frame) where
   -- a plan for the frame in hand is one for the turn
-  pub turn-planned : {On : definition.Context → Type 0} {buffer buffer′ : List ℕ} {plan : Plan} {next : List machine.Frame → List Row → definition.Context → Result State} (stage : Stage) (top : List machine.Frame)
+  pub turn-planned : {around : Around} {On : definition.Context → Type 0} {buffer buffer′ : List ℕ} {plan : Plan} {next : List machine.Frame → List Row → definition.Context → Result State} (stage : Stage) (top : List machine.Frame)
       → p .stage ≡ stage → inHand stage (p .depth) frame ≡ top
-      → ((F : List machine.Frame) (R : List Row) (C : definition.Context) → length (top ++ F) ≡ p .depth → step (tableOf w) (stateAt stage (p .block) (top ++ F) R (p .count) C) ≡ turn (next F R C))
+      → ((F : List machine.Frame) (R : List Row) (C : definition.Context) → length (top ++ F) ≡ p .depth → step (around .rule) (tableOf w) (stateAt stage (p .block) (top ++ F) R (p .count) C) ≡ turn (next F R C))
       → ((C : definition.Context) → emitting stage (p .block) C ≡ C)
-      → Planned next On top (p .depth) (p .rows) buffer plan buffer′ → PlannedTurn w On p frame buffer plan buffer′
+      → Planned next On top (p .depth) (p .rows) buffer plan buffer′ → PlannedTurn w around On p frame buffer plan buffer′
   turn-planned {plan = plan} stage top e h steps still m = record {
     out = m .out;
     held = m .held;
-    same = λ F R C. rw (e, h) (λ l o. steps F R C l ∙ m .same F R C l o ∙ ap (λ (D : definition.Context). applied plan (top ++ F) (R ++ m .out) D) (sym (still C)));
+    same = λ F R C. rw (e, h) (λ l _ o. steps F R C l ∙ m .same F R C l o ∙ ap (λ (D : definition.Context). applied plan (top ++ F) (R ++ m .out) D) (sym (still C)));
     fitting = λ z. rw (e, h) (m .fitting z);
   }
 
   -- of a Context of which more is known
-  pub turn-on : {On On′ : definition.Context → Type 0} {buffer buffer′ : List ℕ} {plan : Plan} → ((C : definition.Context) → On′ C → On C)
-      → PlannedTurn w On p frame buffer plan buffer′ → PlannedTurn w On′ p frame buffer plan buffer′
-  turn-on on m = record { out = m .out; held = m .held; same = λ F R C l o. m .same F R C l (on C o); fitting = m .fitting }
+  pub turn-on : {around : Around} {On On′ : definition.Context → Type 0} {buffer buffer′ : List ℕ} {plan : Plan} → ((C : definition.Context) → On′ C → On C)
+      → PlannedTurn w around On p frame buffer plan buffer′ → PlannedTurn w around On′ p frame buffer plan buffer′
+  turn-on on m = record { out = m .out; held = m .held; same = λ F R C l inside o. m .same F R C l inside (on C o); fitting = m .fitting }
 
   -- ---- an entry is taken off
 
@@ -407,7 +408,7 @@ module _ (w : List ℕ) (p : Position) (frame : Frame) where
       let at : StageFits w Pop p frame = subst (λ (s : Stage). StageFits w s p frame) e (ready .stage) in
       record { promise = ready .promise; block = rw (length-blocks w) at (at .1 .framed .block); depth = at .0; rows = omega (arith, ready .rows); count = at .1 .count }
 
-  pub popped : {buffer buffer′ : List ℕ} {plan : Plan} → Ready w p frame → p .stage ≡ Pop → PlannedClose w p frame buffer plan buffer′ → PlannedTurn w (Begun (p .visits)) p frame buffer plan buffer′
+  pub popped : {around : Around} {buffer buffer′ : List ℕ} {plan : Plan} → Ready w p frame → p .stage ≡ Pop → PlannedClose w p frame buffer plan buffer′ → PlannedTurn w around (Begun (p .visits)) p frame buffer plan buffer′
   unfolding step
   popped ready e m = turn-planned Pop (frameOf frame ∷ []) e (hand-pop (p .depth) frame (closing-at-pop ready e .depth)) (λ F R C l. sym (turn-ok _)) (λ C. refl) m
 
@@ -434,13 +435,13 @@ module _ (w : List ℕ) (p : Position) (frame : Frame) where
       }
 
   -- the root
-  pub ended-root : (plan : Plan) (On : definition.Context → Type 0) (buffer buffer′ : List ℕ) (rows : ℕ) → p .stage ≡ Ended → p .depth ≡ 0 → ((C : definition.Context) → On C → C .visits ≡ p .visits)
-      → Written buffer (p .rows) (row 9 (p .count) 0 0 0 0) buffer′ rows → plan ≡ accepting rows (p .visits) → PlannedTurn w On p frame buffer plan buffer′
+  pub ended-root : {around : Around} (plan : Plan) (On : definition.Context → Type 0) (buffer buffer′ : List ℕ) (rows : ℕ) → p .stage ≡ Ended → p .depth ≡ 0 → ((C : definition.Context) → On C → C .visits ≡ p .visits)
+      → Written buffer (p .rows) (row 9 (p .count) 0 0 0 0) buffer′ rows → plan ≡ accepting rows (p .visits) → PlannedTurn w around On p frame buffer plan buffer′
   unfolding step
-  ended-root plan On buffer buffer′ rows e z on put q = rw q (record {
+  ended-root {around} plan On buffer buffer′ rows e z on put q = rw q (record {
     out = blockRow (p .count) ∷ [];
     held = λ _ before h. rw (← (push-row-after (blockRow (p .count)) before)) (written-held put (stack.pushed before []) h);
-    same = λ F R C. rw (e, z) (λ l o. root F R C l o);
+    same = λ F R C. rw (e, z) (λ l _ o. root F R C l o);
     fitting =
         λ _. rw (e, z) (record {
           change = tt;
@@ -453,13 +454,13 @@ module _ (w : List ℕ) (p : Position) (frame : Frame) where
   })
     where
       root : (F : List machine.Frame) (R : List Row) (C : definition.Context) → length F ≡ 0 → On C
-          → step (tableOf w) (ended F R (p .count) C) ≡ applied (accepting rows (p .visits)) F (R ++ (blockRow (p .count) ∷ [])) C
+          → step (around .rule) (tableOf w) (ended F R (p .count) C) ≡ applied (accepting rows (p .visits)) F (R ++ (blockRow (p .count) ∷ [])) C
       root [] R C l o = ap (λ (v : ℕ). halt (accepted (R ++ (blockRow (p .count) ∷ [])) v)) (on C o) ∙ sym (accept-applied rows (p .visits) [] (R ++ (blockRow (p .count) ∷ [])) C)
       root (f ∷ F) R C l o = absurd (omega arith)
 
   -- and a nested one
-  pub ended-nested : (plan : Plan) (S H : Flags) (buffer buffer₁ buffer′ : List ℕ) (rows : ℕ) → p .stage ≡ Ended → 1 ≤ p .depth → Written buffer (p .rows) (row 9 (p .count) 0 0 0 0) buffer₁ rows
-      → Planned (resumeStep w p frame) (Seen S H (p .visits)) (frameOf frame ∷ []) (p .depth) rows buffer₁ plan buffer′ → PlannedTurn w (Seen S H (p .visits)) p frame buffer plan buffer′
+  pub ended-nested : {around : Around} (plan : Plan) (S H : Flags) (buffer buffer₁ buffer′ : List ℕ) (rows : ℕ) → p .stage ≡ Ended → 1 ≤ p .depth → Written buffer (p .rows) (row 9 (p .count) 0 0 0 0) buffer₁ rows
+      → Planned (resumeStep w p frame) (Seen S H (p .visits)) (frameOf frame ∷ []) (p .depth) rows buffer₁ plan buffer′ → PlannedTurn w around (Seen S H (p .visits)) p frame buffer plan buffer′
   unfolding step
   ended-nested plan S H buffer buffer₁ buffer′ rows e deep put m =
       turn-planned Ended (frameOf frame ∷ []) e (hand-ended (p .depth) frame deep) (λ F R C l. ap (λ (n : ℕ). turn (resumed n F R C)) (levels F l)) (λ C. refl)
@@ -510,7 +511,7 @@ module _ (w : List ℕ) (p : Position) (frame : Frame) where
         case = omega (arith, length-cases w, here .2 .framed .case (here .1));
       }
 
-  pub chosen-turn : {S H : Flags} {buffer buffer′ : List ℕ} {plan : Plan} → Ready w p frame → p .stage ≡ Choose
-      → PlannedChoice w S H p frame buffer plan buffer′ → PlannedTurn w (Seen S H (p .visits)) p frame buffer plan buffer′
+  pub chosen-turn : {around : Around} {S H : Flags} {buffer buffer′ : List ℕ} {plan : Plan} → Ready w p frame → p .stage ≡ Choose
+      → PlannedChoice w S H p frame buffer plan buffer′ → PlannedTurn w around (Seen S H (p .visits)) p frame buffer plan buffer′
   unfolding step
   chosen-turn ready e m = turn-planned Choose (frameOf frame ∷ []) e (hand-choose (p .depth) frame (choosing-fits ready e .closing .depth)) (λ F R C l. refl) (λ C. refl) m

@@ -55,6 +55,7 @@ ghost use Rattle.definition.specs.Context.{has};
 ghost use Rattle.definition.specs.Tree as tree_rows;
 ghost use Rattle.plan.specs.declared.Stage.the-variants.{Ended, Choose};
 ghost use Rattle.plan.specs.Planned.{Seen};
+ghost use Rattle.definition.specs.Around.{Around};
 ghost use Rattle.plan.specs.Turn.{Ready, PlannedTurn};
 ghost use Rattle.resume.specs.Resume.{rowOf, closingRowAt, unscheduleIf, alternating, Closing, Resuming, PlannedClose, PlannedOn, PlannedResume};
 
@@ -337,7 +338,7 @@ pub fn resume<'a>(
 ) -> Plan
     requires { ⌜ Ready (now words) p frame ⌝ }
     requires { ⌜ p .stage ≡ Ended ⌝ }
-    ensures { λ r. ⌜ PlannedTurn (now (words .entry)) (Seen (now (scheduled .entry)) (now («catch_handlers» .entry)) (p .visits)) p frame (now (tree .entry)) r (now (tree .exit)) ⌝ }
+    ensures { λ r. ⌜ ((around : Around) → PlannedTurn (now (words .entry)) around (Seen (now (scheduled .entry)) (now («catch_handlers» .entry)) (p .visits)) p frame (now (tree .entry)) r (now (tree .exit))) ⌝ }
 {
     let rows = put(tree, p.rows, BLOCK, p.count, 0, 0, 0, 0);
     if p.depth == 0 {
@@ -358,7 +359,7 @@ pub fn choose_case<'a>(
 ) -> Plan
     requires { ⌜ Ready (now words) p frame ⌝ }
     requires { ⌜ p .stage ≡ Choose ⌝ }
-    ensures { λ r. ⌜ PlannedTurn (now (words .entry)) (Seen (now (scheduled .entry)) (now («catch_handlers» .entry)) (p .visits)) p frame (now (tree .entry)) r (now (tree .exit)) ⌝ }
+    ensures { λ r. ⌜ ((around : Around) → PlannedTurn (now (words .entry)) around (Seen (now (scheduled .entry)) (now («catch_handlers» .entry)) (p .visits)) p frame (now (tree .entry)) r (now (tree .exit))) ⌝ }
 {
     if frame.left == 0 {
         return close_statement(words, tree, p, frame);

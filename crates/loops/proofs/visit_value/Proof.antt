@@ -5,15 +5,11 @@ use borrow.Author.Needs.{needs}
 use Rattle.loops.proofs.visit_value.Statement.{statement}
 use Rattle.loops.proofs.visit_value.Tie as tie
 
-block-word-requires : tie.Need-block-word-requires
-block-word-requires c κs = search needs
-
 unless-scheduled-requires : tie.Need-unless-scheduled-requires
 unless-scheduled-requires c κs =
-    let at-entry : tie.Start = search in
-    few-blocks (at-entry .args .words .now) (at-entry .pre .0 .promise) (c .block-word .result)
-    (rw (c .block-word .ensures) (fallthrough-below (at-entry .args .words .now) (at-entry .args .scheduled .now) (at-entry .args .catch-handlers .now)
-    (at-entry .args .p) (at-entry .pre .0) _ (at-entry .pre .1 .1)))
+    let start : tie.Start = search in
+    few-blocks (start .args .words .now) (start .pre .0 .promise) (start .args .fallthrough)
+    (fallthrough-below (start .args .words .now) (start .args .scheduled .now) (start .args .catch-handlers .now) (start .args .p) (start .pre .0) _ (start .pre .1))
 
 span-at-requires : tie.Need-span-at-requires
 span-at-requires c κs = search needs
@@ -41,7 +37,7 @@ returns c =
     let at-slice-known : tie.After-slice-known = search in
     let at-entry : tie.Start = search in
     value-statement-refused (at-entry .args .words .now) (at-entry .args .scheduled .now) (at-entry .args .catch-handlers .now) (at-entry .args .p)
-    (at-entry .pre .0) _ (at-entry .pre .1 .1) (at-visit-value-block-terminal .visit-value-block-terminal .ensures) _ _ (at-if1 .if1 .taken)
+    (at-entry .pre .0) _ (at-entry .pre .1) (at-visit-value-block-terminal .visit-value-block-terminal .ensures) _ _ (at-if1 .if1 .taken)
     (rw (at-advance .advance .ensures) at (c .refuse .ensures))
 
 put-requires : tie.Need-put-requires
@@ -61,11 +57,10 @@ add-leave c =
 schedule-briefly-requires : tie.Need-schedule-briefly-requires
 schedule-briefly-requires c κs =
     let at-unless-scheduled : tie.After-unless-scheduled = search in
-    let at-block-word : tie.After-block-word = search in
     let start : tie.Start = search in
-    let below = fallthrough-below (start .args .words .now) (start .args .scheduled .now) (start .args .catch-handlers .now) (start .args .p) (start .pre .0) _ (start .pre .1 .1) in
-    let few = few-blocks (start .args .words .now) (start .pre .0 .promise) (at-block-word .block-word .result) (rw (at-block-word .block-word .ensures) below) in
-    takes-most (start .args .scheduled .now) (start .args .catch-handlers .now) (at-block-word .block-word .result) (at-unless-scheduled .unless-scheduled .ensures) few
+    let below = fallthrough-below (start .args .words .now) (start .args .scheduled .now) (start .args .catch-handlers .now) (start .args .p) (start .pre .0) _ (start .pre .1) in
+    let few = few-blocks (start .args .words .now) (start .pre .0 .promise) (start .args .fallthrough) below in
+    takes-most (start .args .scheduled .now) (start .args .catch-handlers .now) (start .args .fallthrough) (at-unless-scheduled .unless-scheduled .ensures) few
 
 leave-requires : tie.Need-leave-requires
 leave-requires c κs = search needs
@@ -81,19 +76,17 @@ returns-2 c =
     let at-visit-value-block-terminal : tie.After-visit-value-block-terminal = search in
     let at-span : tie.After-span-at = search in
     let at-unless-scheduled : tie.After-unless-scheduled = search in
-    let at-block-word : tie.After-block-word = search in
     let at-entry : tie.Start = search in
     value-statement-left (at-entry .args .words .now) (at-entry .args .scheduled .now) (at-entry .args .catch-handlers .now) (at-entry .args .p)
-    (at-entry .pre .0) _ (at-entry .pre .1 .1) (at-visit-value-block-terminal .visit-value-block-terminal .ensures)
+    (at-entry .pre .0) _ (at-entry .pre .1) (at-visit-value-block-terminal .visit-value-block-terminal .ensures)
     (at-unless-scheduled .unless-scheduled .result) _ _ _ (at-if1 .if1 .left)
-    (rw (at-block-word .block-word .ensures) at (at-unless-scheduled .unless-scheduled .ensures)) (rw (at-span .span-at .ensures) at (at-put .put .ensures))
+    (at-unless-scheduled .unless-scheduled .ensures) (rw (at-span .span-at .ensures) at (at-put .put .ensures))
     (rw (← (at-schedule-briefly .schedule-briefly .ensures)) (c .leave .ensures))
 
 pub visit-value-spec : {M : Type 1} → statement M
 visit-value-spec =
     tie.close
     (tie.spec
-    block-word-requires
     unless-scheduled-requires
     span-at-requires
     sub-visit-value-block-terminal

@@ -14,7 +14,7 @@ same-length : tie.Need-same-length
 same-length c = search needs
 
 returns : tie.Need-returns
-returns c =
+returns c around =
     let closed : tie.After-close-statement = search in
     let if1 : tie.Then1 = search in
     let start : tie.Start = search in
@@ -66,7 +66,7 @@ refuse-requires : tie.Need-refuse-requires
 refuse-requires c κs = search needs
 
 returns-2 : tie.Need-returns-2
-returns-2 c =
+returns-2 c around =
     let if3 : tie.Then3 = search in
     let if2 : tie.Then2 = search in
     let busy : tie.After-scheduled-at = search in
@@ -85,7 +85,7 @@ choose-requires : tie.Need-choose-requires
 choose-requires c κs = search needs
 
 returns-3 : tie.Need-returns-3
-returns-3 c =
+returns-3 c around =
     let if3 : tie.Else3 = search in
     let if2 : tie.Then2 = search in
     let busy : tie.After-scheduled-at = search in
@@ -105,7 +105,7 @@ traverse-block-requires : tie.Need-traverse-block-requires
 traverse-block-requires c κs = search needs
 
 returns-4 : tie.Need-returns-4
-returns-4 c =
+returns-4 c around =
     let if2 : tie.Else2 = search in
     let busy : tie.After-scheduled-at = search in
     let counted : tie.After-with-counts = search in

@@ -15,7 +15,7 @@ same-length : tie.Need-same-length
 same-length c = search needs
 
 returns : tie.Need-returns
-returns c =
+returns c around =
     let at-if1 : tie.Then1 = search in
     let at-put : tie.After-put = search in
     let at-entry : tie.Start = search in
@@ -38,7 +38,7 @@ same-length-2 : tie.Need-same-length-2
 same-length-2 c = search needs
 
 returns-2 : tie.Need-returns-2
-returns-2 c =
+returns-2 c around =
     let at-resume-statement : tie.After-resume-statement = search in
     let at-advance : tie.After-advance = search in
     let at-if1 : tie.Else1 = search in
