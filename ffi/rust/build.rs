@@ -21,6 +21,9 @@ fn main() {
     if env::var_os("CARGO_FEATURE_DOT").is_some() {
         link(&folder, "dot");
     }
+    if env::var_os("CARGO_FEATURE_ORDER").is_some() {
+        link(&folder, "order");
+    }
     if env::var_os("CARGO_FEATURE_TREE_CHECK").is_some() {
         link(&folder, "treerows");
     }

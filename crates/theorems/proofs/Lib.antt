@@ -1,2 +1,3 @@
 pub mod Language
 pub mod Theorems
+pub mod WalkingOrder

@@ -4,6 +4,8 @@
 pub mod dot;
 #[cfg(feature = "table-text")]
 pub mod table_text;
+#[cfg(feature = "order")]
+pub mod order;
 #[cfg(feature = "tree-check")]
 pub mod tree_check;
 #[cfg(feature = "tree-lookup")]

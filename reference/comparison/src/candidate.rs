@@ -9,6 +9,7 @@
 use crate::model::Outcome;
 use crate::model::convert::Placed;
 use crate::model::dot::Drawn;
+use crate::model::order::Moved;
 
 pub type Candidate = fn(&[u32], &mut [u32]) -> Outcome;
 
@@ -24,6 +25,8 @@ pub struct CandidateTexts {
     pub old_to_new: fn(&[u8], &mut [u8]) -> Placed,
     pub new_to_old: fn(&[u8], &mut [u8]) -> Placed,
 }
+/// The rearrangement, and the inverse.
+pub type CandidateOrder = (fn(&[u32], &mut [u32], &mut [u32]) -> Moved, fn(&[u32], &[u32], &mut [u32]) -> Moved);
 
 #[cfg(not(feature = "candidate"))]
 pub const CANDIDATE: Option<Candidate> = None;
@@ -133,4 +136,22 @@ pub const CANDIDATE_TEXTS: Option<CandidateTexts> = Some(CandidateTexts {
 fn placed(placed: reactive_build::table_text::Placed) -> Placed {
     let reactive_build::table_text::Placed { code, at, length } = placed;
     Placed { code, at, length }
+}
+
+#[cfg(not(feature = "candidate-order"))]
+pub const CANDIDATE_ORDER: Option<CandidateOrder> = None;
+
+#[cfg(feature = "candidate-order")]
+pub const CANDIDATE_ORDER: Option<CandidateOrder> = Some((rearrange, restore));
+
+#[cfg(feature = "candidate-order")]
+fn rearrange(words: &[u32], new_words: &mut [u32], old_numbers: &mut [u32]) -> Moved {
+    let reactive_build::order::Moved { code, at } = reactive_build::order::rearrange(words, new_words, old_numbers);
+    Moved { code, at }
+}
+
+#[cfg(feature = "candidate-order")]
+fn restore(words: &[u32], old_numbers: &[u32], first_words: &mut [u32]) -> Moved {
+    let reactive_build::order::Moved { code, at } = reactive_build::order::restore(words, old_numbers, first_words);
+    Moved { code, at }
 }

@@ -25,7 +25,7 @@ pub fn text(table: &Table) -> String {
 }
 
 /// The blocks that a row names, by column; a Switch's cases before its fallthrough.
-fn named(table: &Table, row: u32) -> Vec<u32> {
+pub fn named(table: &Table, row: u32) -> Vec<u32> {
     let [_, _, code, a, b, c, d, e, ..] = *table.block(row);
     match code {
         4 | 18 => vec![a],

@@ -7,6 +7,7 @@ mod context;
 pub mod convert;
 pub mod dot;
 pub mod index;
+pub mod order;
 mod statements;
 pub mod table;
 pub mod text;

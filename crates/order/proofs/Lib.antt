@@ -1,0 +1,5 @@
+pub mod QueueLaws
+pub mod WalkLaws
+pub mod ListLaws
+pub mod WriteLaws
+pub mod EntryLaws

@@ -1,0 +1,16 @@
+pub mod Alike
+pub mod Contexts
+pub mod Arounds
+pub mod Tables
+pub mod Values
+pub mod Trees
+pub mod Walk
+pub mod WordLaws
+pub mod Checks
+pub mod FromWords
+pub mod Theorem
+pub mod Permutations
+pub mod OrderLaws
+pub mod Samples
+pub mod Canonical
+pub mod Operations

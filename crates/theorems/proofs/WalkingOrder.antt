@@ -1,0 +1,69 @@
+-- M-111: the final theorems, statements only, each by the lemma that proves it.
+use Prim.Native.Nat.{ℕ}
+use mathlib.Core.Path.{_≡_}
+use mathlib.Core.List.{List}
+use mathlib.Core.Bool.{true}
+use lib.ListN.{length}
+use Rattle.table.specs.Words.{entryWord, blockCount}
+use Rattle.table.specs.Check.{accepted, checked}
+use Rattle.table.specs.Table.{tableOf}
+use Rattle.table.proofs.PromiseLaws.{promised}
+use Rattle.definition.specs.Around.{Rule}
+use Rattle.definition.specs.Build.{built}
+use Rattle.renaming.specs.Renaming.{Renaming, renamed, renamedOutcome}
+use Rattle.renaming.specs.Order.{isPermutation, newNumber, walkingOrder, rearranged, rearrangement, restoration}
+use Rattle.renaming.proofs.Theorem.{built-renamed}
+use Rattle.renaming.proofs.OrderLaws.{walking-order, rearranged-checked, rearranged-entry, rearranged-built, round-trip}
+use Rattle.renaming.proofs.Canonical.{AllNamed, one-rearrangement}
+use Rattle.order.proofs.rearrange.Statement as rearrange-stated
+use Rattle.order.proofs.rearrange.Met as rearrange-proved
+use Rattle.order.proofs.restore.Statement as restore-stated
+use Rattle.order.proofs.restore.Met as restore-proved
+use Rattle.order.proofs.blocks_rearrange.Statement as export-rearrange-stated
+use Rattle.order.proofs.blocks_rearrange.Met as export-rearrange-proved
+use Rattle.order.proofs.blocks_restore.Statement as export-restore-stated
+use Rattle.order.proofs.blocks_restore.Met as export-restore-proved
+
+-- ---- the entries: for any words and buffers they give what the definitions give, every lent word
+
+pub rearrange-meets-its-contract : {M : Type 1} → rearrange-stated.statement M
+rearrange-meets-its-contract = rearrange-proved.met
+
+pub restore-meets-its-contract : {M : Type 1} → restore-stated.statement M
+restore-meets-its-contract = restore-proved.met
+
+pub blocks-rearrange-meets-its-contract : {M : Type 1} → export-rearrange-stated.statement M
+blocks-rearrange-meets-its-contract = export-rearrange-proved.met
+
+pub blocks-restore-meets-its-contract : {M : Type 1} → export-restore-stated.statement M
+blocks-restore-meets-its-contract = export-restore-proved.met
+
+-- ---- the rearrangement
+
+module _ (words : List ℕ) (ok : checked words ≡ accepted) where
+  pub the-list-is-a-permutation : isPermutation (blockCount words) (walkingOrder (tableOf words)) ≡ true
+  the-list-is-a-permutation = walking-order words (promised words ok)
+
+  pub the-rearranged-table-is-accepted : checked (rearranged words) ≡ accepted
+  the-rearranged-table-is-accepted = rearranged-checked words ok
+
+  pub the-entry-becomes-0 : entryWord (rearranged words) ≡ 0
+  the-entry-becomes-0 = rearranged-entry words ok
+
+  -- "The inverse takes both .. and so restores the first table exactly."
+  pub the-inverse-restores-the-first-table : restoration (rearrangement words (length words) (blockCount words) .table) (rearrangement words (length words) (blockCount words) .list) (length words)
+      ≡ record { code = 0; at = 0; table = words }
+  the-inverse-restores-the-first-table = round-trip words ok
+
+  -- "in either entry, with buffers of the same lengths, building the rearranged table gives the same rows, code and visits with every block number renamed, and `at` renamed where it is a block"
+  pub the-rearranged-table-builds-the-same : (rule : Rule) (lent : ℕ) → built rule (rearranged words) lent ≡ renamedOutcome (newNumber (walkingOrder (tableOf words))) (built rule words lent)
+  the-rearranged-table-builds-the-same = rearranged-built words ok
+
+  -- and so does any renumbering of the blocks
+  pub any-renumbering-builds-the-same : (new old : ℕ → ℕ) (rule : Rule) (lent : ℕ) → Renaming (blockCount words) new old
+      → built rule (renamed new old words) lent ≡ renamedOutcome new (built rule words lent)
+  any-renumbering-builds-the-same new old rule lent g = built-renamed new old rule words lent g ok
+
+  -- where the walk names every block, all renumberings of a table have one rearrangement
+  pub all-renumberings-have-one-rearrangement : (new old : ℕ → ℕ) → Renaming (blockCount words) new old → AllNamed (tableOf words) → rearranged (renamed new old words) ≡ rearranged words
+  all-renumberings-have-one-rearrangement new old g all = one-rearrangement new old words ok g all
