@@ -328,13 +328,13 @@ module _ (t : Table) where
     pub data JumpOk (F : List Frame) (g : ℕ) (s : Option Statement) : Type 0 where
       goes-as : (e : Completion) → target F e ≡ some g → ((answers : Answers) → runStatements (followedBy s done) answers ≡ completed [] e answers) → JumpOk F g s
 
-    run-break : (g i : ℕ) (k : Kind) (n : ℕ) (answers : Answers) → runStatements (BREAK g i k n ▸ done) answers ≡ completed [] (jumpCompletion k g break) answers
+    run-break : (g i : ℕ) (k : Kind) (n : ℕ) (answers : Answers) → runStatements (BREAK g i k n ▸ done) answers ≡ completed [] (jumpCompletion k g i break) answers
     unfolding runStatements then thenOn prefix completed jumpCompletion
     run-break g i implicit n answers = refl
     run-break g i labeled n answers = refl
     run-break g i unlabeled n answers = refl
 
-    run-done : (g : ℕ) (answers : Answers) → runStatements done answers ≡ completed [] (jumpCompletion implicit g break) answers
+    run-done : (g : ℕ) (answers : Answers) → runStatements done answers ≡ completed [] (jumpCompletion implicit g 0 break) answers
     unfolding runStatements jumpCompletion
     run-done g answers = refl
 
@@ -343,14 +343,14 @@ module _ (t : Table) where
         → (x ≡ ok s → JumpOk F g s) → JumpOk F g s
     broke g i r s true x p e q n h z = z h
     broke {F} g i r s false x p e q n h z =
-        subst (λ (w : Option Statement). JumpOk F g w) (ok-eq h) (goes-as (jumpCompletion (r .kind) g break) (break-target t (p .framed) g r e n (r .kind) refl) (run-break g i (r .kind) (r .loops)))
+        subst (λ (w : Option Statement). JumpOk F g w) (ok-eq h) (goes-as (jumpCompletion (r .kind) g i break) (break-target t (p .framed) g r e n (r .kind) refl i) (run-break g i (r .kind) (r .loops)))
 
     -- to a scope: no row, as good as an Implicit one
     to-scope : {F : List Frame} (c : Context) (b g : ℕ) (r : Resolution) (s : Option Statement) (k : Kind) → StateOk t F c → breakTargetFrom (c .stack) g true 0 ≡ some r → r .kind ≡ k
         → breakToScope k b (c .visits) ≡ ok s → JumpOk F g s
     unfolding breakToScope jumpCompletion
     to-scope {F} c b g r s implicit p e k h =
-        subst (λ (w : Option Statement). JumpOk F g w) (ok-eq h) (goes-as (jumpCompletion implicit g break) (break-exit t (p .framed) g true 0 r e k) (run-done g))
+        subst (λ (w : Option Statement). JumpOk F g w) (ok-eq h) (goes-as (jumpCompletion implicit g 0 break) (break-exit t (p .framed) g true 0 r e k) (run-done g))
     to-scope c b g r s labeled p e k h = absurd (refused-ok h)
     to-scope c b g r s unlabeled p e k h = absurd (refused-ok h)
 
@@ -366,7 +366,7 @@ module _ (t : Table) where
             → elim (has (c .scopeFallthroughs) g) [ true ↦ breakToScope (r .kind) b (c .visits) | false ↦ ok (some (BREAK g i (r .kind) (r .loops))) ] ≡ ok s
         named z k = subst (λ (n : ℕ). elim (has (c .scopeFallthroughs) n) [ true ↦ breakToScope (r .kind) b (c .visits) | false ↦ ok (some (BREAK n i (r .kind) (r .loops))) ] ≡ ok s) z k
 
-    run-continue : (f i : ℕ) (k : Kind) (n : ℕ) (answers : Answers) → runStatements (CONTINUE f i k n ▸ done) answers ≡ completed [] (jumpCompletion k f continue) answers
+    run-continue : (f i : ℕ) (k : Kind) (n : ℕ) (answers : Answers) → runStatements (CONTINUE f i k n ▸ done) answers ≡ completed [] (jumpCompletion k f i continue) answers
     unfolding runStatements then thenOn prefix completed jumpCompletion
     run-continue f i implicit n answers = refl
     run-continue f i labeled n answers = refl
@@ -378,7 +378,7 @@ module _ (t : Table) where
     continue-ok c g i none s p e h = absurd (refused-ok h)
     continue-ok {F} c g i (some k) s p e h =
         subst (λ (z : Statement). JumpOk F g (some z)) (ok-eq h)
-        (goes-as (jumpCompletion (k .kind) (k .target) continue) (continue-target t pl (p .framed) g (k .target) (k .kind) (k .loops) e) (run-continue (k .target) i (k .kind) (k .loops)))
+        (goes-as (jumpCompletion (k .kind) (k .target) i continue) (continue-target t pl (p .framed) g (k .target) (k .kind) (k .loops) e i) (run-continue (k .target) i (k .kind) (k .loops)))
 
     jump-built : {F : List Frame} (b g : ℕ) (v : Variant) (s : Option Statement) → terminalAt t b ≡ goto g v → JumpOk F g s
         → Built t F b (instructionStatements t (instructionRowsAt t b) (followedBy s done))
