@@ -1,0 +1,9 @@
+pub mod Walk
+pub mod Lays
+pub mod Turns
+pub mod Images
+pub mod RowsRun
+pub mod Measure
+pub mod Appends
+pub mod Linking
+pub mod Samples

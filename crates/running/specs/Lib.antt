@@ -1,0 +1,5 @@
+pub mod Numbered
+pub mod Ran
+pub mod Layout
+pub mod Machine
+pub mod Links
