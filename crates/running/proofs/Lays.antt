@@ -1,5 +1,6 @@
 -- Rows whose links are right lay out the tree that they are read as, with row numbers in it.
 use mathlib.Core.Path.{_≡_, refl, sym, ap, _∙_, subst}
+use mathlib.Core.Logic.{_⊎_, inl, inr}
 use Prim.Native.Nat.{ℕ, zero, suc, _+_, _-_, _≤_, _<_}
 use native.Mathlib.Omega.{arith}
 use native.Mathlib.Nat.{le-refl, le-trans, zero-add, add-zero}
@@ -18,22 +19,35 @@ use Rattle.definition.specs.Completion.{Completion, break, continue, stop}
 use Rattle.definition.specs.TreeRun.{performs, performsAll, performsUpdate, jumpCompletion}
 use Rattle.running.specs.Numbered.{closeValue, endInstructions, endUpdate, closeStatement, endStatements, endCases, numberedValue, numberedInstructions, numberedUpdate, numberedStatement, numbered, numberedCases}
 use Rattle.running.specs.Layout.{Node, an-instr, a-block, an-if, a-case, a-switch, a-loop, a-label, a-scope, a-leaf, Layout, Laid, LaidBlock, LaidList, LaidCases}
-use Rattle.running.specs.Links.{Links, before, partsOf, Parts, no-part, a-part, Linked, isPlain, plainsFrom, plains, firstOf, kindOf, casesBack, ifNode, testEnd, forNode, nodeOf, unlessZero, caseBefore, isCase, nextOf, parentOf, layoutOf}
+use Rattle.running.specs.Links.{Links, before, partsOf, Parts, no-part, a-part, Linked, isPlain, plainsFrom, plains, firstOf, kindOf, jumpAs, casesBack, ifNode, testEnd, forNode, nodeOf, unlessZero, caseBefore, isCase, nextOf, parentOf, layoutOf}
+
+-- a jump's target is a block, and not none
+abbrev pub Targets : Row → Type 0
+Targets (row op a b c d e) = (op ≡ 24) ⊎ (op ≡ 25) → unlessNone a ≡ some a
+
+jump-as : (k : Kind) (a id : ℕ) (jump : Option ℕ → ℕ → Completion) → unlessNone a ≡ some a → jumpAs k (unlessNone a) id jump ≡ jumpCompletion k a id jump
+unfolding jumpCompletion
+jump-as implicit a id jump e = refl
+jump-as unlabeled a id jump e = refl
+jump-as labeled a id jump e = ap (λ (z : Option ℕ). jump z id) e
 
 module _ (rowAt : ℕ → Row) (t : Links) (number : ℕ) where
   -- these rows stand from row f on, with their links, and they are the last
   pub data Stand : ℕ → List Row → Type 0 where
     at-end : {f : ℕ} → f ≡ number → Stand f []
-    stands : {f : ℕ} {r : Row} {list : List Row} → rowAt f ≡ r → Linked rowAt t f → Stand (suc f) list → Stand f (r ∷ list)
+    stands : {f : ℕ} {r : Row} {list : List Row} → rowAt f ≡ r → Targets r → Linked rowAt t f → Stand (suc f) list → Stand f (r ∷ list)
 
   pub onward : {f : ℕ} {r : Row} {list : List Row} → Stand f (r ∷ list) → Stand (suc f) list
-  onward (stands e k h) = h
+  onward (stands e x k h) = h
 
   pub the-row : {f : ℕ} {r : Row} {list : List Row} → Stand f (r ∷ list) → rowAt f ≡ r
-  the-row (stands e k h) = e
+  the-row (stands e x k h) = e
+
+  targets : {r : Row} {list : List Row} (f : ℕ) → Stand f (r ∷ list) → Targets r
+  targets f (stands e x k h) = x
 
   linked : {r : Row} {list : List Row} (f : ℕ) → Stand f (r ∷ list) → Parts t f (partsOf r) f 0
-  linked f (stands e k h) = subst (λ (z : Row). Parts t f (partsOf z) f 0) e k
+  linked f (stands e x k h) = subst (λ (z : Row). Parts t f (partsOf z) f 0) e k
 
   stand-le : (list : List Row) (f : ℕ) → Stand f list → f ≤ number
   stand-le [] f (at-end h) = omega (arith, h)
@@ -497,9 +511,9 @@ module _ (rowAt : ℕ → Row) (t : Links) (number : ℕ) where
     statement-at (RETURN v i) f after w h = record { begins = whole (linked f h) .0; up = le-refl f; laid = node-is f h; not-case = case-of f h refl; rest = onward h }
     statement-at (THROW v i) f after w h = record { begins = whole (linked f h) .0; up = le-refl f; laid = node-is f h; not-case = case-of f h refl; rest = onward h }
     statement-at (BREAK x i k n) f after w h =
-        record { begins = whole (linked f h) .0; up = le-refl f; laid = node-is f h ∙ ap (λ (z : Kind). a-leaf (jumpCompletion z x f break)) (kind-read k); not-case = case-of f h refl; rest = onward h }
+        record { begins = whole (linked f h) .0; up = le-refl f; laid = node-is f h ∙ (ap (λ (z : Kind). a-leaf (jumpAs z (unlessNone x) f break)) (kind-read k) ∙ ap (λ (z : Completion). a-leaf z) (jump-as k x f break (targets f h (inl refl)))); not-case = case-of f h refl; rest = onward h }
     statement-at (CONTINUE x i k n) f after w h =
-        record { begins = whole (linked f h) .0; up = le-refl f; laid = node-is f h ∙ ap (λ (z : Kind). a-leaf (jumpCompletion z x f continue)) (kind-read k); not-case = case-of f h refl; rest = onward h }
+        record { begins = whole (linked f h) .0; up = le-refl f; laid = node-is f h ∙ (ap (λ (z : Kind). a-leaf (jumpAs z (unlessNone x) f continue)) (kind-read k) ∙ ap (λ (z : Completion). a-leaf z) (jump-as k x f continue (targets f h (inr refl)))); not-case = case-of f h refl; rest = onward h }
 
     pub block-at : (ss : Statements) (f : ℕ) (after : List Row) → WellFormed ss → Stand f (blockRows ss after) → BlockAt f ss after
     block-at done f after w h = record { begins = whole (linked f h) .0; up = le-refl f; laid = node-is f h; rest = onward h }

@@ -6,4 +6,5 @@ pub mod RowsRun
 pub mod Measure
 pub mod Appends
 pub mod Linking
+pub mod ActLaws
 pub mod Samples

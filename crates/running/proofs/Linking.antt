@@ -30,13 +30,13 @@ data Upper (t : Links) (k : ℕ) : (count cursor later : ℕ) → Type 0 where
 
 -- ---- what Parts looks at
 
-abbrev Below : Links → ℕ → Type 0
-Below t k = (j : ℕ) → j < k → t .begin j ≤ j
+abbrev Low : Links → Type 0
+Low t = (j : ℕ) → t .begin j ≤ j
 
-parts-low : {t : Links} {j n cursor later : ℕ} → Below t j → cursor ≤ j → Parts t j n cursor later → t .begin j ≤ cursor
+parts-low : {t : Links} {j n cursor later : ℕ} → Low t → cursor ≤ j → Parts t j n cursor later → t .begin j ≤ cursor
 parts-low {t} {j} low h (no-part e q) = omega (arith, e)
 parts-low {t} {j} low h (a-part {m = m} p q r) =
-    let a : t .begin m ≤ m = low m h in
+    let a : t .begin m ≤ m = low m in
     let b : t .begin j ≤ t .begin m = parts-low low (omega (arith, a, h)) r in
     omega (arith, a, b)
 
@@ -44,17 +44,17 @@ parts-low {t} {j} low h (a-part {m = m} p q r) =
 pub record Agree (t u : Links) (j : ℕ) : Type 0 where
   parents : (m : ℕ) → t .begin j ≤ m → m < j → u .parent m ≡ t .parent m
   nexts : (m : ℕ) → t .begin j ≤ m → m < j → u .next m ≡ t .next m
-  begins : (m : ℕ) → m ≤ j → u .begin m ≡ t .begin m
+  begins : (m : ℕ) → u .begin m ≡ t .begin m
   child : u .child j ≡ t .child j
 
-parts-keep : {t u : Links} {j n cursor later : ℕ} → Below t j → Agree t u j → cursor ≤ j → Parts t j n cursor later → Parts u j n cursor later
-parts-keep {t} {u} {j} low g h (no-part e q) = no-part (g .begins j (le-refl j) ∙ e) (g .child ∙ q)
+parts-keep : {t u : Links} {j n cursor later : ℕ} → Low t → Agree t u j → cursor ≤ j → Parts t j n cursor later → Parts u j n cursor later
+parts-keep {t} {u} {j} low g h (no-part e q) = no-part (g .begins j ∙ e) (g .child ∙ q)
 parts-keep {t} {u} {j} {later = later} low g h (a-part {count = n} {m = m} p q r) =
-    let a : t .begin m ≤ m = low m h in
+    let a : t .begin m ≤ m = low m in
     let c : t .begin m ≤ j = omega (arith, a, h) in
     let b : t .begin j ≤ t .begin m = parts-low low c r in
     let d : t .begin j ≤ m = omega (arith, a, b) in
-    a-part (g .parents m d h ∙ p) (g .nexts m d h ∙ q) (subst (λ (z : ℕ). Parts u j n z m) (sym (g .begins m (omega (arith, h)))) (parts-keep low g c r))
+    a-part (g .parents m d h ∙ p) (g .nexts m d h ∙ q) (subst (λ (z : ℕ). Parts u j n z m) (sym (g .begins m)) (parts-keep low g c r))
 
 upper-parts : {t : Links} {k n cursor later : ℕ} → Upper t k n cursor later → (j : ℕ) → Parts t k j cursor later → Parts t k (n + j) k 0
 upper-parts {t} {k} none-yet j p = subst (λ (z : ℕ). Parts t k z k 0) (sym (zero-add j)) p
@@ -79,7 +79,7 @@ upper-keep {t} {u} {k} a b c (one-more {n = n} {m = m} q r l w) =
 
 module _ (rowAt : ℕ → Row) where
   pub record Linking (t : Links) (k : ℕ) : Type 0 where
-    pub low : (j : ℕ) → j < k → t .begin j ≤ j
+    pub low : (j : ℕ) → t .begin j ≤ j
     pub linked : (j : ℕ) → j < k → Linked rowAt t j
     apart : (c : ℕ) → Boundary t k c → (j : ℕ) → j < k → (c ≤ t .begin j) ⊎ (j < c)
 
@@ -90,8 +90,8 @@ module _ (rowAt : ℕ → Row) where
     upper : Upper t k n cursor later
     pub under : cursor ≤ k
 
-  pub linking-start : (t : Links) → Linking t 0
-  linking-start t = record { low = λ j h. absurd (omega (arith, h)); linked = λ j h. absurd (omega (arith, h)); apart = λ c b j h. absurd (omega (arith, h)) }
+  pub linking-start : (t : Links) → ((j : ℕ) → t .begin j ≤ j) → Linking t 0
+  linking-start t low = record { low = low; linked = λ j h. absurd (omega (arith, h)); apart = λ c b j h. absurd (omega (arith, h)) }
 
   pub taking-start : (t : Links) (k : ℕ) → Linking t k → Taking t k 0 k 0
   taking-start t k h = record { base = h; at = here; upper = none-yet; under = le-refl k }
@@ -104,11 +104,11 @@ module _ (rowAt : ℕ → Row) where
   pub taking-part : (t : Links) (k n m later : ℕ) → Taking t k n (suc m) later → Taking (withPart t k m later) k (suc n) (t .begin m) m
   taking-part t k n m later h =
       let u : suc m ≤ k = h .under in
-      let l : t .begin m ≤ m = h .base .low m u in
+      let l : t .begin m ≤ m = h .base .low m in
       record {
         base = record {
           low = h .base .low;
-          linked = λ j g. parts-keep (λ i q. h .base .low i (omega (arith, q, g))) (agree j g (h .base .apart (suc m) (h .at) j g)) (le-refl j) (h .base .linked j g);
+          linked = λ j g. parts-keep (h .base .low) (agree j g (h .base .apart (suc m) (h .at) j g)) (le-refl j) (h .base .linked j g);
           apart = λ c b j g. h .base .apart c (boundary-part t k m later k b) j g
         };
         at = back at′;
@@ -126,21 +126,21 @@ module _ (rowAt : ℕ → Row) where
       agree j g (inl p) = record {
         parents = λ i a b. put-other (t .parent) m k i (λ z. omega (arith, a, p, z));
         nexts = λ i a b. put-other (t .next) m later i (λ z. omega (arith, a, p, z));
-        begins = λ i a. refl;
+        begins = λ i. refl;
         child = refl
       }
       agree j g (inr p) = record {
         parents = λ i a b. put-other (t .parent) m k i (λ z. omega (arith, b, p, z));
         nexts = λ i a b. put-other (t .next) m later i (λ z. omega (arith, b, p, z));
-        begins = λ i a. refl;
+        begins = λ i. refl;
         child = refl
       }
 
   -- the row has its parts
-  pub taking-end : (t : Links) (k n cursor later : ℕ) → Taking t k n cursor later → n ≡ partsOf (rowAt k) → Linking (withRow t k cursor later) (suc k)
-  taking-end t k n cursor later h e =
+  pub taking-end : (t : Links) (k n cursor later : ℕ) → Taking t k n cursor later → n ≡ partsOf (rowAt k) → t .begin k ≡ cursor → Linking (withRow t k later) (suc k)
+  taking-end t k n cursor later h e z =
       record {
-        low = λ j g. low-at j g (at-or j g);
+        low = h .base .low;
         linked = λ j g. linked-at j g (at-or j g);
         apart = λ c b j g. apart-at c (bounds b) j g (at-or j g)
       }
@@ -151,50 +151,34 @@ module _ (rowAt : ℕ → Row) where
           by : (y : Bool) → eqb j k ≡ y → (j ≡ k) ⊎ (j < k)
           by true q = inl (eqb-true j k q)
           by false q = let n : j ≡ k → ⊥ = eqb-false j k q in inr (omega (arith, g, n))
-      same-begin : (j : ℕ) → j < k → put (t .begin) k cursor j ≡ t .begin j
-      same-begin j g = put-other (t .begin) k cursor j (λ z. omega (arith, g, z))
-      low-at : (j : ℕ) → j < suc k → ((j ≡ k) ⊎ (j < k)) → put (t .begin) k cursor j ≤ j
-      low-at j g (inl q) = let d : cursor ≤ k = h .under in let s : put (t .begin) k cursor j ≡ cursor = ap (λ (z : ℕ). put (t .begin) k cursor z) q ∙ put-there (t .begin) k cursor in omega (arith, d, q, s)
-      low-at j g (inr q) = let s : put (t .begin) k cursor j ≡ t .begin j = same-begin j q in let d : t .begin j ≤ j = h .base .low j q in omega (arith, d, s)
-      agree : (j : ℕ) → j < k → Agree t (withRow t k cursor later) j
-      agree j g = record {
-        parents = λ i a b. refl;
-        nexts = λ i a b. refl;
-        begins = λ i a. same-begin i (omega (arith, a, g));
-        child = put-other (t .child) k later j (λ z. omega (arith, g, z))
-      }
-      linked-at : (j : ℕ) → j < suc k → ((j ≡ k) ⊎ (j < k)) → Linked rowAt (withRow t k cursor later) j
-      linked-at j g (inr q) = parts-keep (λ i s. h .base .low i (omega (arith, s, q))) (agree j q) (le-refl j) (h .base .linked j q)
+      agree : (j : ℕ) → j < k → Agree t (withRow t k later) j
+      agree j g = record { parents = λ i a b. refl; nexts = λ i a b. refl; begins = λ i. refl; child = put-other (t .child) k later j (λ z. omega (arith, g, z)) }
+      linked-at : (j : ℕ) → j < suc k → ((j ≡ k) ⊎ (j < k)) → Linked rowAt (withRow t k later) j
+      linked-at j g (inr q) = parts-keep (h .base .low) (agree j q) (le-refl j) (h .base .linked j q)
       linked-at j g (inl q) =
-          subst (λ (z : ℕ). Linked rowAt (withRow t k cursor later) z) (sym q)
-          (subst (λ (z : ℕ). Parts (withRow t k cursor later) k z k 0) (sums ∙ e)
-          (upper-parts (upper-keep (λ i a b. refl) (λ i a b. refl) (λ i a. same-begin i a) (h .upper)) 0 (no-part (put-there (t .begin) k cursor) (put-there (t .child) k later))))
+          subst (λ (z : ℕ). Linked rowAt (withRow t k later) z) (sym q)
+          (subst (λ (z : ℕ). Parts (withRow t k later) k z k 0) (sums ∙ e)
+          (upper-parts (upper-keep (λ i a b. refl) (λ i a b. refl) (λ i a. refl) (h .upper)) 0 (no-part z (put-there (t .child) k later))))
         where
           sums : n + 0 ≡ n
           sums = omega arith
-      bounds : {c : ℕ} → Boundary (withRow t k cursor later) (suc k) c → (c ≡ suc k) ⊎ ((c ≤ cursor) × Boundary t k c)
+      bounds : {c : ℕ} → Boundary (withRow t k later) (suc k) c → (c ≡ suc k) ⊎ ((c ≤ cursor) × Boundary t k c)
       bounds here = inl refl
       bounds (back {m = m} b) = on m (bounds b)
         where
-          on : (m : ℕ) → ((suc m ≡ suc k) ⊎ ((suc m ≤ cursor) × Boundary t k (suc m))) → (put (t .begin) k cursor m ≡ suc k) ⊎ ((put (t .begin) k cursor m ≤ cursor) × Boundary t k (put (t .begin) k cursor m))
+          on : (m : ℕ) → ((suc m ≡ suc k) ⊎ ((suc m ≤ cursor) × Boundary t k (suc m))) → (t .begin m ≡ suc k) ⊎ ((t .begin m ≤ cursor) × Boundary t k (t .begin m))
           on m (inl q) =
               let r : m ≡ k = omega (arith, q) in
-              let s : put (t .begin) k cursor m ≡ cursor = ap (λ (z : ℕ). put (t .begin) k cursor z) r ∙ put-there (t .begin) k cursor in
+              let s : t .begin m ≡ cursor = ap (t .begin) r ∙ z in
               inr (omega (arith, s), subst (λ (z : ℕ). Boundary t k z) (sym s) (h .at))
           on m (inr q) =
               let g : suc m ≤ cursor = q .0 in
-              let d : cursor ≤ k = h .under in
-              let s : put (t .begin) k cursor m ≡ t .begin m = same-begin m (omega (arith, g, d)) in
-              let l : t .begin m ≤ m = h .base .low m (omega (arith, g, d)) in
-              inr (omega (arith, s, l, g), subst (λ (z : ℕ). Boundary t k z) (sym s) (back (q .1)))
-      apart-at : (c : ℕ) → ((c ≡ suc k) ⊎ ((c ≤ cursor) × Boundary t k c)) → (j : ℕ) → j < suc k → ((j ≡ k) ⊎ (j < k)) → (c ≤ put (t .begin) k cursor j) ⊎ (j < c)
+              let l : t .begin m ≤ m = h .base .low m in
+              inr (omega (arith, l, g), back (q .1))
+      apart-at : (c : ℕ) → ((c ≡ suc k) ⊎ ((c ≤ cursor) × Boundary t k c)) → (j : ℕ) → j < suc k → ((j ≡ k) ⊎ (j < k)) → (c ≤ t .begin j) ⊎ (j < c)
       apart-at c (inl q) j g w = inr (omega (arith, q, g))
       apart-at c (inr q) j g (inl w) =
-          let s : put (t .begin) k cursor j ≡ cursor = ap (λ (z : ℕ). put (t .begin) k cursor z) w ∙ put-there (t .begin) k cursor in
+          let s : t .begin j ≡ cursor = ap (t .begin) w ∙ z in
           let a : c ≤ cursor = q .0 in
           inl (omega (arith, a, s))
-      apart-at c (inr q) j g (inr w) = moved (h .base .apart c (q .1) j w)
-        where
-          moved : ((c ≤ t .begin j) ⊎ (j < c)) → (c ≤ put (t .begin) k cursor j) ⊎ (j < c)
-          moved (inl a) = let s : put (t .begin) k cursor j ≡ t .begin j = same-begin j w in inl (omega (arith, a, s))
-          moved (inr a) = inr a
+      apart-at c (inr q) j g (inr w) = h .base .apart c (q .1) j w

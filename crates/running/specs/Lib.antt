@@ -3,3 +3,4 @@ pub mod Ran
 pub mod Layout
 pub mod Machine
 pub mod Links
+pub mod Acts

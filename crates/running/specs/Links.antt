@@ -10,8 +10,7 @@ use lib.Dec.{eqb}
 use Rattle.table.specs.Table.{unlessNone}
 use Rattle.definition.specs.Tree.{Kind, implicit, labeled, unlabeled, Row, row}
 use Rattle.definition.specs.Run.{returned, threw, not-plain}
-use Rattle.definition.specs.Completion.{Completion, break, continue, stop}
-use Rattle.definition.specs.TreeRun.{jumpCompletion}
+use Rattle.definition.specs.Completion.{Completion, normal, break, continue, stop}
 use Rattle.running.specs.Layout.{Node, an-instr, a-block, an-if, a-case, a-switch, a-loop, a-label, a-scope, a-leaf, Layout}
 
 pub record Links : Type 0 where
@@ -28,10 +27,15 @@ abbrev pub before : ℕ → ℕ
 before zero = zero
 before (suc n) = n
 
+-- one more, where a row's flag says that it is present
+abbrev pub flagged : (flag count : ℕ) → ℕ
+flagged zero count = count
+flagged (suc n) count = suc count
+
 -- how many parts a row takes, by its op
 abbrev pub partsByOp : (a b c : ℕ) → List ℕ
 partsByOp a b c =
-    0 ∷ 0 ∷ 0 ∷ 0 ∷ 1 ∷ suc a ∷ 2 ∷ 3 ∷ 1 ∷ a ∷ suc b ∷ 1 ∷ b ∷ 2 ∷ 2 ∷ suc (suc (suc c)) ∷ 3 ∷ 2 ∷ 1 ∷ 2 ∷ 1 ∷ 1 ∷ 0 ∷ 0 ∷ 0 ∷ 0 ∷ []
+    0 ∷ 0 ∷ 0 ∷ 0 ∷ 1 ∷ suc a ∷ 2 ∷ 3 ∷ 1 ∷ a ∷ flagged b 1 ∷ 1 ∷ b ∷ 2 ∷ 2 ∷ flagged c 3 ∷ 3 ∷ 2 ∷ 1 ∷ 2 ∷ 1 ∷ 1 ∷ 0 ∷ 0 ∷ 0 ∷ 0 ∷ []
 
 unfoldable pub partsOf : Row → ℕ
 partsOf (row op a b c d e) = getD (partsByOp a b c) op 0
@@ -68,6 +72,12 @@ kindOf zero = implicit
 kindOf (suc zero) = labeled
 kindOf (suc (suc n)) = unlabeled
 
+-- `jumpCompletion` of a target that may be none
+abbrev pub jumpAs : Kind → (target : Option ℕ) → (id : ℕ) → (Option ℕ → ℕ → Completion) → Completion
+jumpAs implicit target id jump = normal
+jumpAs unlabeled target id jump = jump none id
+jumpAs labeled target id jump = jump target id
+
 -- the cases of a switch, in source order: from the last row back
 abbrev pub casesBack : Links → (count m : ℕ) → (later : List ℕ) → List ℕ
 casesBack t zero m later = later
@@ -82,10 +92,13 @@ abbrev pub testEnd : Links → (k present : ℕ) → ℕ
 testEnd t k zero = t .begin (before k)
 testEnd t k (suc n) = t .begin (before (t .begin (before k)))
 
+-- its update, and its test again
+abbrev pub forAgain : (ℕ → Row) → Links → (k present : ℕ) → List ℕ
+forAgain rowAt t k present = plains rowAt (testEnd t k present) (t .begin (before k)) ++ plains rowAt (t .begin (before (testEnd t k present))) (testEnd t k present)
+
 abbrev pub forNode : (ℕ → Row) → Links → (k present : ℕ) → Option ℕ → Node
 forNode rowAt t k present label =
-    a-loop label (some (plains rowAt (t .begin k) (testEnd t k present)))
-    (plains rowAt (testEnd t k present) (t .begin (before k)) ++ plains rowAt (t .begin (before (testEnd t k present))) (testEnd t k present)) (before k)
+    a-loop label (some (plains rowAt (t .begin k) (testEnd t k present))) (forAgain rowAt t k present) (before k)
 
 abbrev pub nodesByOp : (ℕ → Row) → Links → (k a b c d : ℕ) → List Node
 nodesByOp rowAt t k a b c d =
@@ -113,8 +126,8 @@ nodesByOp rowAt t k a b c d =
     ∷ a-scope (before k)
     ∷ a-leaf (stop (returned a b))
     ∷ a-leaf (stop (threw a b))
-    ∷ a-leaf (jumpCompletion (kindOf c) a k break)
-    ∷ a-leaf (jumpCompletion (kindOf c) a k continue)
+    ∷ a-leaf (jumpAs (kindOf c) (unlessNone a) k break)
+    ∷ a-leaf (jumpAs (kindOf c) (unlessNone a) k continue)
     ∷ []
 
 unfoldable pub nodeOf : (ℕ → Row) → Links → ℕ → Row → Node
@@ -150,6 +163,6 @@ put f i v j = elim (eqb j i) [ true ↦ v | false ↦ f j ]
 abbrev pub withPart : Links → (k m later : ℕ) → Links
 withPart t k m later = record { begin = t .begin; parent = put (t .parent) m k; next = put (t .next) m later; child = t .child }
 
--- the parts of row k begin at the row `cursor`, and `later` is the first of them
-abbrev pub withRow : Links → (k cursor later : ℕ) → Links
-withRow t k cursor later = record { begin = put (t .begin) k cursor; parent = t .parent; next = t .next; child = put (t .child) k later }
+-- `later` is the first part of row k
+abbrev pub withRow : Links → (k later : ℕ) → Links
+withRow t k later = record { begin = t .begin; parent = t .parent; next = t .next; child = put (t .child) k later }
