@@ -5,12 +5,18 @@ use mathlib.Core.List.{List, [], _∷_, _++_, map}
 use mathlib.Core.Option.{Option, none, some}
 use mathlib.Core.Bool.{Bool, true, false}
 use lib.ListN.{length}
-use Rattle.definition.specs.Tree.{Kind, implicit, labeled, unlabeled, Value, PLAIN, LOAD, UNDEF, SEQ, LOGICAL, COND, OPTIONAL, Instructions, no-instructions, instruction, Statement, INSTR, IF, SWITCH, DOWHILE, WHILE, FOR, FOROF, FORIN, LABEL, TRY, SCOPE, RETURN, THROW, BREAK, CONTINUE, Statements, done, _▸_, Cases, no-cases, CASE, Row, row, instrRow, forOfRow, forInRow, orNone, valueRows, instructionsRows, countInstructions, countStatements, countCases, statementRows, statementsRows, blockRows, casesRows, rows}
+use Rattle.definition.specs.Tree.{Kind, implicit, labeled, unlabeled, Value, PLAIN, LOAD, UNDEF, SEQ, LOGICAL, COND, OPTIONAL, Instructions, no-instructions}
+use Rattle.definition.specs.Tree.{instruction, Statement, INSTR, IF, SWITCH, DOWHILE, WHILE, FOR, FOROF, FORIN, LABEL, TRY, SCOPE, RETURN, THROW, BREAK}
+use Rattle.definition.specs.Tree.{CONTINUE, Statements, done, _▸_, Cases, no-cases, CASE, Row, row, instrRow, forOfRow, forInRow, orNone, valueRows}
+use Rattle.definition.specs.Tree.{instructionsRows, countInstructions, countStatements, countCases, statementRows, statementsRows, blockRows, casesRows, rows}
 use Rattle.definition.specs.Reading.{WellFormedStatement, WellFormed, WellFormedCases}
 use Rattle.definition.specs.Run.{Answers, Reason, no-answer-left, not-plain}
 use Rattle.definition.specs.Completion.{Completion, normal, break, continue, stop, contains, labelSet, loopContinues, breakable, labelled}
-use Rattle.definition.specs.TreeRun.{entryAt, choosePlace, switchEnds, entriesFrom, Completed, completed, completing, prefix, thenOn, then, choose, performs, performsAll, performsUpdate, afterBody, whileRounds, whileLoop, forLoop, doWhileLoop, jumpCompletion, loop, runStatement, runStatements}
-use Rattle.running.specs.Numbered.{closeValue, endInstructions, endUpdate, closeStatement, endStatements, endCases, numberedValue, numberedInstructions, numberedUpdate, numberedStatement, numbered, numberedCases}
+use Rattle.definition.specs.TreeRun.{entryAt, choosePlace, switchEnds, entriesFrom, Completed, completed, completing, prefix, thenOn, then, choose, performs}
+use Rattle.definition.specs.TreeRun.{performsAll, performsUpdate, afterBody, whileRounds, whileLoop, forLoop, doWhileLoop, jumpCompletion, loop, runStatement}
+use Rattle.definition.specs.TreeRun.{runStatements}
+use Rattle.running.specs.Numbered.{closeValue, endInstructions, endUpdate, closeStatement, endStatements, endCases, numberedValue, numberedInstructions}
+use Rattle.running.specs.Numbered.{numberedUpdate, numberedStatement, numbered, numberedCases}
 use Rattle.running.specs.Links.{Links}
 use Rattle.running.proofs.Lays.{Stand, onward, the-row, ValueAt, value-at, instructions-at, statement-at, block-at, list-at}
 
@@ -114,7 +120,8 @@ module _ (rowAt : ℕ → Row) (t : Links) (number : ℕ) where
   after-alike : (l : List ℕ) (o o′ : Completed) (k k′ : Answers → Completed) → Alike o o′ → AlikeRuns k k′ → Alike (afterBody l o k) (afterBody l o′ k′)
   unfolding afterBody
   after-alike l o o′ k k′ h q =
-      subst (λ (y : Bool). Alike (elim (loopContinues (o .completion) l) [ true ↦ prefix (o .rows) (k (o .left)) | false ↦ o ]) (elim y [ true ↦ prefix (o′ .rows) (k′ (o′ .left)) | false ↦ o′ ])) (sym (continues-alike l (h .ends)))
+      subst (λ (y : Bool). Alike (elim (loopContinues (o .completion) l) [ true ↦ prefix (o .rows) (k (o .left)) | false ↦ o ])
+      (elim y [ true ↦ prefix (o′ .rows) (k′ (o′ .left)) | false ↦ o′ ])) (sym (continues-alike l (h .ends)))
       (on (loopContinues (o .completion) l))
     where
       on : (y : Bool) → Alike (elim y [ true ↦ prefix (o .rows) (k (o .left)) | false ↦ o ]) (elim y [ true ↦ prefix (o′ .rows) (k′ (o′ .left)) | false ↦ o′ ])
@@ -127,7 +134,8 @@ module _ (rowAt : ℕ → Row) (t : Links) (number : ℕ) where
     rounds-alike xs xs′ p zero a = record { rows = p; left = refl; ends = both-stop }
     rounds-alike xs xs′ p (suc n) a =
         prefix-alike xs xs′ _ _ p
-        (choose-alike (λ z. afterBody l (body z) (λ z′. whileRounds l xs body n z′)) (λ z. afterBody l (body′ z) (λ z′. whileRounds l xs′ body′ n z′)) (λ z. completed [] normal z) (λ z. completed [] normal z)
+        (choose-alike (λ z. afterBody l (body z) (λ z′. whileRounds l xs body n z′)) (λ z. afterBody l (body′ z) (λ z′. whileRounds l xs′ body′ n z′))
+        (λ z. completed [] normal z) (λ z. completed [] normal z)
         (λ z. after-alike l (body z) (body′ z) (λ z′. whileRounds l xs body n z′) (λ z′. whileRounds l xs′ body′ n z′) (h z) (λ z′. rounds-alike xs xs′ p n z′)) nothing-alike a)
 
     while-alike : (xs xs′ : List ℕ) → Image xs xs′ → AlikeRuns (whileLoop l xs body) (whileLoop l xs′ body′)
@@ -138,8 +146,10 @@ module _ (rowAt : ℕ → Row) (t : Links) (number : ℕ) where
     unfolding forLoop
     for-alike xs xs′ ys ys′ p q a =
         prefix-alike xs xs′ _ _ p
-        (choose-alike (λ z. afterBody l (body z) (λ z′. whileLoop l (ys ++ xs) body z′)) (λ z. afterBody l (body′ z) (λ z′. whileLoop l (ys′ ++ xs′) body′ z′)) (λ z. completed [] normal z) (λ z. completed [] normal z)
-        (λ z. after-alike l (body z) (body′ z) (λ z′. whileLoop l (ys ++ xs) body z′) (λ z′. whileLoop l (ys′ ++ xs′) body′ z′) (h z) (while-alike (ys ++ xs) (ys′ ++ xs′) (image-both q p))) nothing-alike a)
+        (choose-alike (λ z. afterBody l (body z) (λ z′. whileLoop l (ys ++ xs) body z′)) (λ z. afterBody l (body′ z) (λ z′. whileLoop l (ys′ ++ xs′) body′ z′))
+        (λ z. completed [] normal z) (λ z. completed [] normal z)
+        (λ z. after-alike l (body z) (body′ z) (λ z′. whileLoop l (ys ++ xs) body z′) (λ z′. whileLoop l (ys′ ++ xs′) body′ z′) (h z)
+        (while-alike (ys ++ xs) (ys′ ++ xs′) (image-both q p))) nothing-alike a)
 
     do-while-alike : (xs xs′ : List ℕ) → Image xs xs′ → AlikeRuns (doWhileLoop l xs body) (doWhileLoop l xs′ body′)
     unfolding doWhileLoop
@@ -222,7 +232,8 @@ module _ (rowAt : ℕ → Row) (t : Links) (number : ℕ) where
   mutual
     unfolding runStatement runStatements entriesFrom numberedStatement numbered numberedCases WellFormedStatement WellFormed WellFormedCases
 
-    statement-alike : (s : Statement) (f : ℕ) (after : List Row) → WellFormedStatement s → Stand rowAt t number f (statementRows s after) → (a : Answers) → Alike (runStatement s a) (runStatement (numberedStatement f s) a)
+    statement-alike : (s : Statement) (f : ℕ) (after : List Row) → WellFormedStatement s → Stand rowAt t number f (statementRows s after) → (a : Answers)
+        → Alike (runStatement s a) (runStatement (numberedStatement f s) a)
     statement-alike (INSTR i l s v) f after w h a = instr-alike (performs v) _ (value-image v f (instrRow i l s ∷ after) h) a
     statement-alike (IF x i l c true y) f after (wl, wc, wa, we) h a =
         completing-alike (labelled l) (λ c c′ e. labelled-alike l e) _ _
@@ -238,7 +249,9 @@ module _ (rowAt : ℕ → Row) (t : Links) (number : ℕ) where
         loop-alike l _ _ (do-while-alike (labelSet l) (λ z. runStatements b z) _ (λ z. block-alike b f (valueRows x (row 13 i (orNone l) 0 0 0 ∷ after)) wb h z) (performs x) _
         (value-image x (suc (endStatements f b)) (row 13 i (orNone l) 0 0 0 ∷ after) (block-at rowAt t number b f (valueRows x (row 13 i (orNone l) 0 0 0 ∷ after)) wb h .rest)) a)
     statement-alike (WHILE i l x b) f after (wl, wb) h a =
-        loop-alike l _ _ (while-alike (labelSet l) (λ z. runStatements b z) _ (λ z. block-alike b (suc (closeValue f x)) (row 14 i (orNone l) 0 0 0 ∷ after) wb (value-at rowAt t number x f (blockRows b (row 14 i (orNone l) 0 0 0 ∷ after)) h .rest) z)
+        loop-alike l _ _ (while-alike (labelSet l) (λ z. runStatements b z) _
+        (λ z. block-alike b (suc (closeValue f x)) (row 14 i (orNone l) 0 0 0 ∷ after) wb
+        (value-at rowAt t number x f (blockRows b (row 14 i (orNone l) 0 0 0 ∷ after)) h .rest) z)
         (performs x) _ (value-image x f (blockRows b (row 14 i (orNone l) 0 0 0 ∷ after)) h) a)
     statement-alike (FOR i l n x none b) f after (wl, wb) h a =
         let e = blockRows b (row 15 i (orNone l) 0 0 0 ∷ after) in
@@ -253,7 +266,8 @@ module _ (rowAt : ℕ → Row) (t : Links) (number : ℕ) where
         let q = value-at rowAt t number x (suc (closeValue f n)) (valueRows o e) p .rest in
         let r = value-at rowAt t number o (suc (closeValue (suc (closeValue f n)) x)) e q .rest in
         prefix-alike (performs n) _ _ _ (value-image n f (valueRows x (valueRows o e)) h)
-        (loop-alike l _ _ (for-alike (labelSet l) (λ z. runStatements b z) _ (λ z. block-alike b (suc (closeValue (suc (closeValue (suc (closeValue f n)) x)) o)) (row 15 i (orNone l) 1 0 0 ∷ after) wb r z)
+        (loop-alike l _ _ (for-alike (labelSet l) (λ z. runStatements b z) _
+        (λ z. block-alike b (suc (closeValue (suc (closeValue (suc (closeValue f n)) x)) o)) (row 15 i (orNone l) 1 0 0 ∷ after) wb r z)
         (performs x) _ (performs o) _ (value-image x (suc (closeValue f n)) (valueRows o e) p) (value-image o (suc (closeValue (suc (closeValue f n)) x)) e q) a))
     statement-alike (FOROF i l s n x b) f after w h a = leaf-alike _ _ both-stop a
     statement-alike (FORIN i l s n b) f after w h a = leaf-alike _ _ both-stop a
@@ -266,13 +280,16 @@ module _ (rowAt : ℕ → Row) (t : Links) (number : ℕ) where
     statement-alike (BREAK x i k n) f after w h a = leaf-alike _ _ (break-alike k x i f) a
     statement-alike (CONTINUE x i k n) f after w h a = leaf-alike _ _ (continue-alike k x i f) a
 
-    pub block-alike : (ss : Statements) (f : ℕ) (after : List Row) → WellFormed ss → Stand rowAt t number f (blockRows ss after) → (a : Answers) → Alike (runStatements ss a) (runStatements (numbered f ss) a)
+    pub block-alike : (ss : Statements) (f : ℕ) (after : List Row) → WellFormed ss → Stand rowAt t number f (blockRows ss after) → (a : Answers)
+        → Alike (runStatements ss a) (runStatements (numbered f ss) a)
     block-alike done f after w h a = nothing-alike a
     block-alike (s ▸ r) f after (ws, wr) h a =
         then-alike _ _ (λ z. runStatements r z) _ (statement-alike s f (statementsRows r (row 9 (suc (countStatements r)) 0 0 0 0 ∷ after)) ws h a)
-        (λ z. list-alike r (suc (closeStatement f s)) (row 9 (suc (countStatements r)) 0 0 0 0 ∷ after) wr (statement-at rowAt t number s f (statementsRows r (row 9 (suc (countStatements r)) 0 0 0 0 ∷ after)) ws h .rest) z)
+        (λ z. list-alike r (suc (closeStatement f s)) (row 9 (suc (countStatements r)) 0 0 0 0 ∷ after) wr
+        (statement-at rowAt t number s f (statementsRows r (row 9 (suc (countStatements r)) 0 0 0 0 ∷ after)) ws h .rest) z)
 
-    list-alike : (ss : Statements) (f : ℕ) (after : List Row) → WellFormed ss → Stand rowAt t number f (statementsRows ss after) → (a : Answers) → Alike (runStatements ss a) (runStatements (numbered f ss) a)
+    list-alike : (ss : Statements) (f : ℕ) (after : List Row) → WellFormed ss → Stand rowAt t number f (statementsRows ss after) → (a : Answers)
+        → Alike (runStatements ss a) (runStatements (numbered f ss) a)
     list-alike done f after w h a = nothing-alike a
     list-alike (s ▸ r) f after (ws, wr) h a =
         then-alike _ _ (λ z. runStatements r z) _ (statement-alike s f (statementsRows r after) ws h a)
@@ -283,6 +300,7 @@ module _ (rowAt : ℕ → Row) (t : Links) (number : ℕ) where
     cases-alike no-cases f after w h k k′ q es es′ p = p
     cases-alike (CASE x b r) f after (wb, wr) h k k′ q es es′ p =
         let entry : AlikeRuns (λ z. then (runStatements b z) k) (λ z. then (runStatements (numbered f b) z) k′)
-                = λ z. then-alike (runStatements b z) (runStatements (numbered f b) z) k k′ (block-alike b f (row 11 x 0 0 0 0 ∷ casesRows r after) wb h z) q in
+        = λ z. then-alike (runStatements b z) (runStatements (numbered f b) z) k k′ (block-alike b f (row 11 x 0 0 0 0 ∷ casesRows r after) wb h z) q in
         cases-alike r (suc (suc (endStatements f b))) after wr (onward rowAt t number (block-at rowAt t number b f (row 11 x 0 0 0 0 ∷ casesRows r after) wb h .rest))
-        (λ z. then (runStatements b z) k) (λ z. then (runStatements (numbered f b) z) k′) entry ((λ z. then (runStatements b z) k) ∷ es) ((λ z. then (runStatements (numbered f b) z) k′) ∷ es′) (entry, p)
+        (λ z. then (runStatements b z) k) (λ z. then (runStatements (numbered f b) z) k′) entry ((λ z. then (runStatements b z) k) ∷ es)
+        ((λ z. then (runStatements (numbered f b) z) k′) ∷ es′) (entry, p)

@@ -12,14 +12,19 @@ use lib.Dec.{eqb}
 use borrow.Author.Tests.{ne-eqb, eq-eqb}
 use Rattle.table.specs.Words.{largest}
 use Rattle.table.specs.Table.{unlessNone}
-use Rattle.definition.specs.Tree.{Kind, implicit, labeled, unlabeled, Value, PLAIN, LOAD, UNDEF, SEQ, LOGICAL, COND, OPTIONAL, Instructions, no-instructions, instruction, Statement, INSTR, IF, SWITCH, DOWHILE, WHILE, FOR, FOROF, FORIN, LABEL, TRY, SCOPE, RETURN, THROW, BREAK, CONTINUE, Statements, done, _▸_, Cases, no-cases, CASE, Row, row, instrRow, forOfRow, forInRow, orNone, kindNumber, valueRows, instructionsRows, countInstructions, countStatements, countCases, statementRows, statementsRows, blockRows, casesRows, rows}
+use Rattle.definition.specs.Tree.{Kind, implicit, labeled, unlabeled, Value, PLAIN, LOAD, UNDEF, SEQ, LOGICAL, COND, OPTIONAL, Instructions, no-instructions}
+use Rattle.definition.specs.Tree.{instruction, Statement, INSTR, IF, SWITCH, DOWHILE, WHILE, FOR, FOROF, FORIN, LABEL, TRY, SCOPE, RETURN, THROW, BREAK}
+use Rattle.definition.specs.Tree.{CONTINUE, Statements, done, _▸_, Cases, no-cases, CASE, Row, row, instrRow, forOfRow, forInRow, orNone, kindNumber, valueRows}
+use Rattle.definition.specs.Tree.{instructionsRows, countInstructions, countStatements, countCases, statementRows, statementsRows, blockRows, casesRows, rows}
 use Rattle.definition.specs.Reading.{BelowNone, EmptyUnless, WellFormedStatement, WellFormed, WellFormedCases}
 use Rattle.definition.specs.Run.{returned, threw, not-plain}
 use Rattle.definition.specs.Completion.{Completion, break, continue, stop}
 use Rattle.definition.specs.TreeRun.{performs, performsAll, performsUpdate, jumpCompletion}
-use Rattle.running.specs.Numbered.{closeValue, endInstructions, endUpdate, closeStatement, endStatements, endCases, numberedValue, numberedInstructions, numberedUpdate, numberedStatement, numbered, numberedCases}
+use Rattle.running.specs.Numbered.{closeValue, endInstructions, endUpdate, closeStatement, endStatements, endCases, numberedValue, numberedInstructions}
+use Rattle.running.specs.Numbered.{numberedUpdate, numberedStatement, numbered, numberedCases}
 use Rattle.running.specs.Layout.{Node, an-instr, a-block, an-if, a-case, a-switch, a-loop, a-label, a-scope, a-leaf, Layout, Laid, LaidBlock, LaidList, LaidCases}
-use Rattle.running.specs.Links.{Links, before, partsOf, Parts, no-part, a-part, Linked, isPlain, plainsFrom, plains, firstOf, kindOf, jumpAs, casesBack, ifNode, testEnd, forNode, nodeOf, unlessZero, caseBefore, isCase, nextOf, parentOf, layoutOf}
+use Rattle.running.specs.Links.{Links, before, partsOf, Parts, no-part, a-part, Linked, isPlain, plainsFrom, plains, firstOf, kindOf, jumpAs, casesBack}
+use Rattle.running.specs.Links.{ifNode, testEnd, forNode, nodeOf, unlessZero, caseBefore, isCase, nextOf, parentOf, layoutOf}
 
 -- a jump's target is a block, and not none
 abbrev pub Targets : Row → Type 0
@@ -94,7 +99,9 @@ module _ (rowAt : ℕ → Row) (t : Links) (number : ℕ) where
       let n : e - f ≡ (g - f) + (e - g) = omega (arith, u, v) in
       record {
         up = omega (arith, u, v);
-        same = ap (λ (z : ℕ). plainsFrom rowAt f z) n ∙ (split (g - f) (e - g) f g (omega (arith, u)) ∙ (ap (λ (z : List ℕ). z ++ plainsFrom rowAt g (e - g)) (p .same) ∙ ap (λ (z : List ℕ). xs ++ z) (q .same)))
+        same =
+            ap (λ (z : ℕ). plainsFrom rowAt f z) n ∙ (split (g - f) (e - g) f g (omega (arith, u)) ∙
+            (ap (λ (z : List ℕ). z ++ plainsFrom rowAt g (e - g)) (p .same) ∙ ap (λ (z : List ℕ). xs ++ z) (q .same)));
       }
 
   one-row : (f : ℕ) → suc f - f ≡ 1
@@ -150,7 +157,7 @@ module _ (rowAt : ℕ → Row) (t : Links) (number : ℕ) where
         record {
           begins = whole (part (part (linked k (q .rest)) (q .begins) .2) (p .begins) .2) .0;
           performed = no-more (plains-both (p .performed) (q .performed)) (plain-of k (q .rest) refl);
-          rest = onward (q .rest)
+          rest = onward (q .rest);
         }
     value-at (COND x y z) f after h =
         let p = value-at x f (valueRows y (valueRows z (row 7 0 0 0 0 0 ∷ after))) h in
@@ -160,7 +167,7 @@ module _ (rowAt : ℕ → Row) (t : Links) (number : ℕ) where
         record {
           begins = whole (part (part (part (linked k (r .rest)) (r .begins) .2) (q .begins) .2) (p .begins) .2) .0;
           performed = no-more (plains-both (plains-both (p .performed) (q .performed)) (r .performed)) (plain-of k (r .rest) refl);
-          rest = onward (r .rest)
+          rest = onward (r .rest);
         }
     value-at (OPTIONAL g v) f after h =
         let p = value-at v f (row 8 g 0 0 0 0 ∷ after) h in
@@ -179,8 +186,8 @@ module _ (rowAt : ℕ → Row) (t : Links) (number : ℕ) where
           performed = plains-both (no-more (p .performed) (plain-of m (p .rest) refl)) (q .performed);
           rest = q .rest;
           back = λ k j x z.
-            let y = q .back k (suc j) x (subst (λ (n : ℕ). Parts t k n (endInstructions (suc m) r) x) (next-one (countInstructions r) j) z) in
-            (m, part (y .1) b .2)
+              let y = q .back k (suc j) x (subst (λ (n : ℕ). Parts t k n (endInstructions (suc m) r) x) (next-one (countInstructions r) j) z) in
+              (m, part (y .1) b .2);
         }
 
   -- ---- statements
@@ -283,7 +290,8 @@ module _ (rowAt : ℕ → Row) (t : Links) (number : ℕ) where
         → casesBack t (suc (countCases r)) (before e) later ≡ casesBack t (countCases r) (before e) (kc ∷ later)
     one-back e later q = ap (λ (n : ℕ). casesBack t n (before e) later) (one-more (countCases r)) ∙ q 1 later
 
-    back-on : (f e n : ℕ) (later : List ℕ) → t .begin kc ≡ f → ((n : ℕ) (later : List ℕ) → casesBack t (countCases r + n) (before e) later ≡ casesBack t (countCases r) (before e) (casesBack t n kc later))
+    back-on : (f e n : ℕ) (later : List ℕ) → t .begin kc ≡ f
+        → ((n : ℕ) (later : List ℕ) → casesBack t (countCases r + n) (before e) later ≡ casesBack t (countCases r) (before e) (casesBack t n kc later))
         → casesBack t (suc (countCases r) + n) (before e) later ≡ casesBack t (suc (countCases r)) (before e) (casesBack t n (before f) later)
     back-on f e n later b q =
         ap (λ (z : ℕ). casesBack t z (before e) later) (next-one (countCases r) n)
@@ -298,7 +306,8 @@ module _ (rowAt : ℕ → Row) (t : Links) (number : ℕ) where
       (ap (λ (z : List ℕ). z ++ plains rowAt (t .begin (before (t .begin m))) (t .begin m)) (plains-as bm bm (plains-none e))
       ∙ plains-as (ap (λ (z : ℕ). t .begin (before z)) bm ∙ be) bm q) refl
 
-  for-with : (l : Option ℕ) → BelowNone l → (m f g e d : ℕ) (xs ys zs : List ℕ) → t .begin (suc m) ≡ f → t .begin m ≡ d → t .begin (before d) ≡ e → t .begin (before e) ≡ g → Plains f g xs → Plains g e ys → Plains e d zs
+  for-with : (l : Option ℕ) → BelowNone l → (m f g e d : ℕ) (xs ys zs : List ℕ) → t .begin (suc m) ≡ f → t .begin m ≡ d → t .begin (before d) ≡ e
+      → t .begin (before e) ≡ g → Plains f g xs → Plains g e ys → Plains e d zs
       → forNode rowAt t (suc m) 1 (unlessNone (orNone l)) ≡ a-loop l (some (xs ++ ys)) (zs ++ ys) m
   for-with l wl m f g e d xs ys zs bk bm bd be p q r =
       let te : t .begin (before (t .begin m)) ≡ e = ap (λ (z : ℕ). t .begin (before z)) bm ∙ bd in
@@ -319,7 +328,7 @@ module _ (rowAt : ℕ → Row) (t : Links) (number : ℕ) where
           up = plains-up (p .performed);
           laid = node-is k (p .rest) ∙ ap (λ (z : List ℕ). an-instr z) (plains-as b refl (p .performed));
           not-case = case-of k (p .rest) refl;
-          rest = onward (p .rest)
+          rest = onward (p .rest);
         }
     statement-at (IF x i l c true a) f after (wl, wc, wa, we) h =
         let p = block-at c f (blockRows a (row 10 x 1 i (orNone l) 0 ∷ after)) wc h in
@@ -333,9 +342,18 @@ module _ (rowAt : ℕ → Row) (t : Links) (number : ℕ) where
         record {
           begins = whole (z .1) .0;
           up = omega (arith, u, y);
-          laid = (m, n, node-is (suc n) (q .rest) ∙ (ap (λ (e : Option ℕ). an-if e (before (t .begin n)) (some n)) (label-read l wl) ∙ ap (λ (e : ℕ). an-if l (before e) (some n)) (q .begins)), z .0, p .laid, v .0, q .laid);
+          laid = (
+            m,
+            n,
+            node-is (suc n) (q .rest) ∙ (ap (λ (e : Option ℕ). an-if e (before (t .begin n)) (some n)) (label-read l wl) ∙ ap
+                (λ (e : ℕ). an-if l (before e) (some n)) (q .begins)),
+            z .0,
+            p .laid,
+            v .0,
+            q .laid,
+          );
           not-case = case-of (suc n) (q .rest) refl;
-          rest = onward (q .rest)
+          rest = onward (q .rest);
         }
     statement-at (IF x i l c false a) f after (wl, wc, wa, we) h =
         let p = block-at c f (row 10 x 0 i (orNone l) 0 ∷ after) wc h in
@@ -347,7 +365,7 @@ module _ (rowAt : ℕ → Row) (t : Links) (number : ℕ) where
           up = omega (arith, y);
           laid = (m, node-is (suc m) (p .rest) ∙ ap (λ (e : Option ℕ). an-if e m none) (label-read l wl), v .0, p .laid);
           not-case = case-of (suc m) (p .rest) refl;
-          rest = onward (p .rest)
+          rest = onward (p .rest);
         }
     statement-at (SWITCH x i l cs) f after (wl, wc) h =
         let p = cases-at cs f (row 12 x (countCases cs) i (orNone l) 0 ∷ after) wc h in
@@ -357,10 +375,13 @@ module _ (rowAt : ℕ → Row) (t : Links) (number : ℕ) where
         record {
           begins = b;
           up = p .up;
-          laid = (casesBack t (countCases cs) (before k) [], node-is k (p .rest) ∙ ap (λ (e : Option ℕ). a-switch e (casesBack t (countCases cs) (before k) [])) (label-read l wl),
-            z .2 (omega (arith, b)) (casesBack t (countCases cs) (before k) []) [] none (ap (λ (y : Bool). elim y [ true ↦ none | false ↦ some (before f) ]) (eq-eqb f (t .begin k) (sym b))) refl);
+          laid = (
+            casesBack t (countCases cs) (before k) [],
+            node-is k (p .rest) ∙ ap (λ (e : Option ℕ). a-switch e (casesBack t (countCases cs) (before k) [])) (label-read l wl),
+            z .2 (omega (arith, b)) (casesBack t (countCases cs) (before k) []) [] none (ap (λ (y : Bool). elim y [ true ↦ none | false ↦ some (before f) ]) (eq-eqb f (t .begin k) (sym b))) refl,
+          );
           not-case = case-of k (p .rest) refl;
-          rest = onward (p .rest)
+          rest = onward (p .rest);
         }
     statement-at (DOWHILE i l b x) f after (wl, wb) h =
         let p = block-at b f (valueRows x (row 13 i (orNone l) 0 0 0 ∷ after)) wb h in
@@ -376,7 +397,7 @@ module _ (rowAt : ℕ → Row) (t : Links) (number : ℕ) where
           up = omega (arith, u, y);
           laid = (m, node-is (suc n) (q .rest) ∙ loop-same (label-read l wl) refl (plains-as (q .begins) refl (q .performed)) (ap (λ (e : ℕ). before e) (q .begins)), z .0, p .laid);
           not-case = case-of (suc n) (q .rest) refl;
-          rest = onward (q .rest)
+          rest = onward (q .rest);
         }
     statement-at (WHILE i l x b) f after (wl, wb) h =
         let q = value-at x f (blockRows b (row 14 i (orNone l) 0 0 0 ∷ after)) h in
@@ -393,7 +414,7 @@ module _ (rowAt : ℕ → Row) (t : Links) (number : ℕ) where
           up = omega (arith, u, y);
           laid = (m, node-is (suc m) (p .rest) ∙ loop-same (label-read l wl) (ap (λ (z : List ℕ). some z) e) e refl, v .0, p .laid);
           not-case = case-of (suc m) (p .rest) refl;
-          rest = onward (p .rest)
+          rest = onward (p .rest);
         }
     statement-at (FOR i l n x none b) f after (wl, wb) h =
         let q = value-at n f (valueRows x (blockRows b (row 15 i (orNone l) 0 0 0 ∷ after))) h in
@@ -410,9 +431,15 @@ module _ (rowAt : ℕ → Row) (t : Links) (number : ℕ) where
         record {
           begins = bk;
           up = omega (arith, u, u′, y);
-          laid = (m, node-is (suc m) (p .rest) ∙ for-without l wl m f g e (performs (numberedValue f n)) (performs (numberedValue g x)) bk (p .begins) (r .begins) (q .performed) (r .performed), v .0, p .laid);
+          laid = (
+            m,
+            node-is (suc m) (p .rest) ∙ for-without l wl m f g e (performs (numberedValue f n)) (performs
+                (numberedValue g x)) bk (p .begins) (r .begins) (q .performed) (r .performed),
+            v .0,
+            p .laid,
+          );
           not-case = case-of (suc m) (p .rest) refl;
-          rest = onward (p .rest)
+          rest = onward (p .rest);
         }
     statement-at (FOR i l n x (some o) b) f after (wl, wb) h =
         let q = value-at n f (valueRows x (valueRows o (blockRows b (row 15 i (orNone l) 1 0 0 ∷ after)))) h in
@@ -432,9 +459,15 @@ module _ (rowAt : ℕ → Row) (t : Links) (number : ℕ) where
         record {
           begins = bk;
           up = omega (arith, u, u′, u″, y);
-          laid = (m, node-is (suc m) (p .rest) ∙ for-with l wl m f g e d (performs (numberedValue f n)) (performs (numberedValue g x)) (performs (numberedValue e o)) bk (p .begins) (s .begins) (r .begins) (q .performed) (r .performed) (s .performed), v .0, p .laid);
+          laid = (
+            m,
+            node-is (suc m) (p .rest) ∙ for-with l wl m f g e d (performs (numberedValue f n)) (performs (numberedValue g x)) (performs
+                (numberedValue e o)) bk (p .begins) (s .begins) (r .begins) (q .performed) (r .performed) (s .performed),
+            v .0,
+            p .laid,
+          );
           not-case = case-of (suc m) (p .rest) refl;
-          rest = onward (p .rest)
+          rest = onward (p .rest);
         }
     statement-at (FOROF i l s n x b) f after (wl, wb) h =
         let q = value-at n f (valueRows x (blockRows b (forOfRow i (orNone l) s ∷ after))) h in
@@ -452,7 +485,7 @@ module _ (rowAt : ℕ → Row) (t : Links) (number : ℕ) where
           up = omega (arith, u, u′, y);
           laid = node-is (suc m) (p .rest);
           not-case = case-of (suc m) (p .rest) refl;
-          rest = onward (p .rest)
+          rest = onward (p .rest);
         }
     statement-at (FORIN i l s n b) f after (wl, wb) h =
         let q = value-at n f (blockRows b (forInRow i (orNone l) s ∷ after)) h in
@@ -467,7 +500,7 @@ module _ (rowAt : ℕ → Row) (t : Links) (number : ℕ) where
           up = omega (arith, u, y);
           laid = node-is (suc m) (p .rest);
           not-case = case-of (suc m) (p .rest) refl;
-          rest = onward (p .rest)
+          rest = onward (p .rest);
         }
     statement-at (LABEL i l b) f after (wl, wb) h =
         let p = block-at b f (row 18 i (orNone l) 0 0 0 ∷ after) wb h in
@@ -479,7 +512,7 @@ module _ (rowAt : ℕ → Row) (t : Links) (number : ℕ) where
           up = omega (arith, y);
           laid = (m, node-is (suc m) (p .rest) ∙ ap (λ (e : Option ℕ). a-label e m) (label-read l wl), v .0, p .laid);
           not-case = case-of (suc m) (p .rest) refl;
-          rest = onward (p .rest)
+          rest = onward (p .rest);
         }
     statement-at (TRY i l n b c) f after (wl, wn, wb, wc) h =
         let p = block-at b f (blockRows c (row 19 i (orNone l) (orNone n) 0 0 ∷ after)) wb h in
@@ -494,7 +527,7 @@ module _ (rowAt : ℕ → Row) (t : Links) (number : ℕ) where
           up = omega (arith, u, y);
           laid = node-is (suc o) (q .rest);
           not-case = case-of (suc o) (q .rest) refl;
-          rest = onward (q .rest)
+          rest = onward (q .rest);
         }
     statement-at (SCOPE true s b) f after w h =
         let p = block-at b f (row 21 s 0 0 0 0 ∷ after) w h in
@@ -511,9 +544,23 @@ module _ (rowAt : ℕ → Row) (t : Links) (number : ℕ) where
     statement-at (RETURN v i) f after w h = record { begins = whole (linked f h) .0; up = le-refl f; laid = node-is f h; not-case = case-of f h refl; rest = onward h }
     statement-at (THROW v i) f after w h = record { begins = whole (linked f h) .0; up = le-refl f; laid = node-is f h; not-case = case-of f h refl; rest = onward h }
     statement-at (BREAK x i k n) f after w h =
-        record { begins = whole (linked f h) .0; up = le-refl f; laid = node-is f h ∙ (ap (λ (z : Kind). a-leaf (jumpAs z (unlessNone x) f break)) (kind-read k) ∙ ap (λ (z : Completion). a-leaf z) (jump-as k x f break (targets f h (inl refl)))); not-case = case-of f h refl; rest = onward h }
+        record {
+          begins = whole (linked f h) .0;
+          up = le-refl f;
+          laid = node-is f h ∙ (ap (λ (z : Kind). a-leaf (jumpAs z (unlessNone x) f break)) (kind-read k) ∙ ap (λ (z : Completion). a-leaf z)
+              (jump-as k x f break (targets f h (inl refl))));
+          not-case = case-of f h refl;
+          rest = onward h;
+        }
     statement-at (CONTINUE x i k n) f after w h =
-        record { begins = whole (linked f h) .0; up = le-refl f; laid = node-is f h ∙ (ap (λ (z : Kind). a-leaf (jumpAs z (unlessNone x) f continue)) (kind-read k) ∙ ap (λ (z : Completion). a-leaf z) (jump-as k x f continue (targets f h (inr refl)))); not-case = case-of f h refl; rest = onward h }
+        record {
+          begins = whole (linked f h) .0;
+          up = le-refl f;
+          laid = node-is f h ∙ (ap (λ (z : Kind). a-leaf (jumpAs z (unlessNone x) f continue)) (kind-read k) ∙ ap (λ (z : Completion). a-leaf z)
+              (jump-as k x f continue (targets f h (inr refl))));
+          not-case = case-of f h refl;
+          rest = onward h;
+        }
 
     pub block-at : (ss : Statements) (f : ℕ) (after : List Row) → WellFormed ss → Stand f (blockRows ss after) → BlockAt f ss after
     block-at done f after w h = record { begins = whole (linked f h) .0; up = le-refl f; laid = node-is f h; rest = onward h }
@@ -529,9 +576,14 @@ module _ (rowAt : ℕ → Row) (t : Links) (number : ℕ) where
         record {
           begins = whole (v .2) .0;
           up = omega (arith, u, y);
-          laid = (m, node-is k (q .rest) ∙ ap (λ (e : ℕ). a-block (some e)) (whole (v .2) .1), parent-is m k (omega (arith, u)) (inside k (q .rest)) (v .0), p .laid,
-            subst (λ (e : Option ℕ). LaidList L k (numbered (suc m) r) e) (sym (next-is m (z .0) (p .not-case) (v .1))) (z .2));
-          rest = onward (q .rest)
+          laid = (
+            m,
+            node-is k (q .rest) ∙ ap (λ (e : ℕ). a-block (some e)) (whole (v .2) .1),
+            parent-is m k (omega (arith, u)) (inside k (q .rest)) (v .0),
+            p .laid,
+            subst (λ (e : Option ℕ). LaidList L k (numbered (suc m) r) e) (sym (next-is m (z .0) (p .not-case) (v .1))) (z .2),
+          );
+          rest = onward (q .rest);
         }
 
     pub list-at : (ss : Statements) (f : ℕ) (after : List Row) → WellFormed ss → Stand f (statementsRows ss after) → ListAt f ss after
@@ -546,10 +598,18 @@ module _ (rowAt : ℕ → Row) (t : Links) (number : ℕ) where
           up = omega (arith, u, y);
           rest = q .rest;
           lays = λ k j g w v d.
-            let z = q .lays k (suc j) (omega arith) w v (subst (λ (n : ℕ). Parts t k n (endStatements (suc m) r) 0) (next-one (countStatements r) j) d) in
-            let e = part (z .1) (p .begins) in
-            (m, e .2, (m, not-zero m (omega (arith, g, y)), parent-is m k (omega (arith, u, w)) v (e .0), p .laid,
-            subst (λ (o : Option ℕ). LaidList L k (numbered (suc m) r) o) (sym (next-is m (z .0) (p .not-case) (e .1))) (z .2)))
+              let z = q .lays k (suc j) (omega arith) w v (subst (λ (n : ℕ). Parts t k n (endStatements (suc m) r) 0) (next-one (countStatements r) j) d) in
+              let e = part (z .1) (p .begins) in (
+                m,
+                e .2,
+                (
+                  m,
+                  not-zero m (omega (arith, g, y)),
+                  parent-is m k (omega (arith, u, w)) v (e .0),
+                  p .laid,
+                  subst (λ (o : Option ℕ). LaidList L k (numbered (suc m) r) o) (sym (next-is m (z .0) (p .not-case) (e .1))) (z .2),
+                ),
+              );
         }
 
     pub cases-at : (cs : Cases) (f : ℕ) (after : List Row) → WellFormedCases cs → Stand f (casesRows cs after) → CasesAt f cs after
@@ -558,7 +618,7 @@ module _ (rowAt : ℕ → Row) (t : Links) (number : ℕ) where
           up = le-refl f;
           rest = h;
           back = λ n later. ap (λ (z : ℕ). casesBack t z (before f) later) (zero-add n);
-          lays = λ k j x u v p. (x, subst (λ (n : ℕ). Parts t k n f x) (zero-add j) p, λ g all later next e q. q)
+          lays = λ k j x u v p. (x, subst (λ (n : ℕ). Parts t k n f x) (zero-add j) p, λ g all later next e q. q);
         }
     cases-at (CASE x b r) f after (wb, wr) h =
         let p = block-at b f (row 11 x 0 0 0 0 ∷ casesRows r after) wb h in
@@ -574,16 +634,27 @@ module _ (rowAt : ℕ → Row) (t : Links) (number : ℕ) where
           rest = q .rest;
           back = λ n later. back-on r kc f (endCases (suc kc) r) n later bc (q .back);
           lays = λ k j d w v o.
-            let z = q .lays k (suc j) d w v (subst (λ (n : ℕ). Parts t k n (endCases (suc kc) r) d) (next-one (countCases r) j) o) in
-            let e = part (z .1) bc in
-            (kc, e .2, λ g all later next a i.
-              (kc, kb, node-is kc (p .rest), parent-is kc k (omega (arith, u, w)) v (e .0), next-case kc f (t .begin k) (case-of kc (p .rest) refl) bc (ap (λ (s : ℕ). t .begin s) (e .0)) ∙ a, c .0, p .laid,
-              z .2 (omega (arith, g, y)) all (kc ∷ later) (some kc) (not-first kc (t .begin k) (omega (arith, g, y)))
-              (sym (one-back r kc (endCases (suc kc) r) later (q .back)) ∙ i)))
+              let z = q .lays k (suc j) d w v (subst (λ (n : ℕ). Parts t k n (endCases (suc kc) r) d) (next-one (countCases r) j) o) in
+              let e = part (z .1) bc in (
+                kc,
+                e .2,
+                λ g all later next a i. (
+                  kc,
+                  kb,
+                  node-is kc (p .rest),
+                  parent-is kc k (omega (arith, u, w)) v (e .0),
+                  next-case kc f (t .begin k) (case-of kc (p .rest) refl) bc (ap (λ (s : ℕ). t .begin s) (e .0)) ∙ a,
+                  c .0,
+                  p .laid,
+                  z .2 (omega (arith, g, y)) all (kc ∷ later) (some kc) (not-first kc (t .begin k) (omega (arith, g, y)))
+                      (sym (one-back r kc (endCases (suc kc) r) later (q .back)) ∙ i),
+                ),
+              );
         }
 
   -- rows that stand from 0 on lay out the tree that they are read as, and its root has no parent
-  pub root-laid : (root : Statements) → WellFormed root → Stand 0 (rows root) → LaidBlock L (numbered 0 root) (endStatements 0 root) × (L .parent (endStatements 0 root) ≡ none) × (suc (endStatements 0 root) ≡ number)
+  pub root-laid : (root : Statements) → WellFormed root → Stand 0 (rows root)
+      → LaidBlock L (numbered 0 root) (endStatements 0 root) × (L .parent (endStatements 0 root) ≡ none) × (suc (endStatements 0 root) ≡ number)
   unfolding parentOf
   root-laid root w h =
       let p = block-at root 0 [] w h in

@@ -7,4 +7,5 @@ pub mod Measure
 pub mod Appends
 pub mod Linking
 pub mod ActLaws
+pub mod OneOutcome
 pub mod Samples

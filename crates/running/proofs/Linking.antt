@@ -109,31 +109,33 @@ module _ (rowAt : ℕ → Row) where
         base = record {
           low = h .base .low;
           linked = λ j g. parts-keep (h .base .low) (agree j g (h .base .apart (suc m) (h .at) j g)) (le-refl j) (h .base .linked j g);
-          apart = λ c b j g. h .base .apart c (boundary-part t k m later k b) j g
+          apart = λ c b j g. h .base .apart c (boundary-part t k m later k b) j g;
         };
         at = back at′;
         upper = one-more (put-there (t .parent) m k) (put-there (t .next) m later) l
-          (upper-keep (λ i g q. put-other (t .parent) m k i (λ z. omega (arith, g, z))) (λ i g q. put-other (t .next) m later i (λ z. omega (arith, g, z))) (λ i q. refl) (h .upper));
-        under = omega (arith, l, u)
+            (upper-keep (λ i g q. put-other (t .parent) m k i (λ z. omega (arith, g, z))) (λ i g q. put-other (t .next) m later i (λ z. omega (arith, g, z))) (λ i q. refl) (h .upper));
+        under = omega (arith, l, u);
       }
     where
       up-boundary : {c : ℕ} → Boundary t k c → Boundary (withPart t k m later) k c
       up-boundary here = here
       up-boundary (back b) = back (up-boundary b)
+
       at′ : Boundary (withPart t k m later) k (suc m)
       at′ = up-boundary (h .at)
+
       agree : (j : ℕ) → j < k → ((suc m ≤ t .begin j) ⊎ (j < suc m)) → Agree t (withPart t k m later) j
       agree j g (inl p) = record {
         parents = λ i a b. put-other (t .parent) m k i (λ z. omega (arith, a, p, z));
         nexts = λ i a b. put-other (t .next) m later i (λ z. omega (arith, a, p, z));
         begins = λ i. refl;
-        child = refl
+        child = refl;
       }
       agree j g (inr p) = record {
         parents = λ i a b. put-other (t .parent) m k i (λ z. omega (arith, b, p, z));
         nexts = λ i a b. put-other (t .next) m later i (λ z. omega (arith, b, p, z));
         begins = λ i. refl;
-        child = refl
+        child = refl;
       }
 
   -- the row has its parts
@@ -142,7 +144,7 @@ module _ (rowAt : ℕ → Row) where
       record {
         low = h .base .low;
         linked = λ j g. linked-at j g (at-or j g);
-        apart = λ c b j g. apart-at c (bounds b) j g (at-or j g)
+        apart = λ c b j g. apart-at c (bounds b) j g (at-or j g);
       }
     where
       at-or : (j : ℕ) → j < suc k → (j ≡ k) ⊎ (j < k)
@@ -151,8 +153,10 @@ module _ (rowAt : ℕ → Row) where
           by : (y : Bool) → eqb j k ≡ y → (j ≡ k) ⊎ (j < k)
           by true q = inl (eqb-true j k q)
           by false q = let n : j ≡ k → ⊥ = eqb-false j k q in inr (omega (arith, g, n))
+
       agree : (j : ℕ) → j < k → Agree t (withRow t k later) j
       agree j g = record { parents = λ i a b. refl; nexts = λ i a b. refl; begins = λ i. refl; child = put-other (t .child) k later j (λ z. omega (arith, g, z)) }
+
       linked-at : (j : ℕ) → j < suc k → ((j ≡ k) ⊎ (j < k)) → Linked rowAt (withRow t k later) j
       linked-at j g (inr q) = parts-keep (h .base .low) (agree j q) (le-refl j) (h .base .linked j q)
       linked-at j g (inl q) =
@@ -162,6 +166,7 @@ module _ (rowAt : ℕ → Row) where
         where
           sums : n + 0 ≡ n
           sums = omega arith
+
       bounds : {c : ℕ} → Boundary (withRow t k later) (suc k) c → (c ≡ suc k) ⊎ ((c ≤ cursor) × Boundary t k c)
       bounds here = inl refl
       bounds (back {m = m} b) = on m (bounds b)
@@ -175,6 +180,7 @@ module _ (rowAt : ℕ → Row) where
               let g : suc m ≤ cursor = q .0 in
               let l : t .begin m ≤ m = h .base .low m in
               inr (omega (arith, l, g), back (q .1))
+
       apart-at : (c : ℕ) → ((c ≡ suc k) ⊎ ((c ≤ cursor) × Boundary t k c)) → (j : ℕ) → j < suc k → ((j ≡ k) ⊎ (j < k)) → (c ≤ t .begin j) ⊎ (j < c)
       apart-at c (inl q) j g w = inr (omega (arith, q, g))
       apart-at c (inr q) j g (inl w) =

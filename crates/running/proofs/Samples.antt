@@ -4,9 +4,11 @@ use Prim.Native.Nat.{ℕ}
 use mathlib.Core.List.{List, [], _∷_}
 use mathlib.Core.Option.{Option, none, some}
 use mathlib.Core.Bool.{true, false}
-use Rattle.definition.specs.Tree.{Kind, implicit, labeled, unlabeled, Value, PLAIN, LOAD, OPTIONAL, Statement, INSTR, IF, SWITCH, DOWHILE, WHILE, FOR, LABEL, RETURN, BREAK, CONTINUE, Statements, done, _▸_, Cases, no-cases, CASE}
+use Rattle.definition.specs.Tree.{Kind, implicit, labeled, unlabeled, Value, PLAIN, LOAD, OPTIONAL, Statement, INSTR, IF, SWITCH, DOWHILE, WHILE, FOR, LABEL}
+use Rattle.definition.specs.Tree.{RETURN, BREAK, CONTINUE, Statements, done, _▸_, Cases, no-cases, CASE}
 use Rattle.definition.specs.Completion.{loopContinues, breakable, labelled}
-use Rattle.definition.specs.TreeRun.{completed, completing, prefix, thenOn, then, choose, afterBody, whileRounds, whileLoop, forLoop, doWhileLoop, loop, switchEnds, entryAt, choosePlace, jumpCompletion, runStatement, runStatements, reasonOf, treeRun}
+use Rattle.definition.specs.TreeRun.{completed, completing, prefix, thenOn, then, choose, afterBody, whileRounds, whileLoop, forLoop, doWhileLoop, loop}
+use Rattle.definition.specs.TreeRun.{switchEnds, entryAt, choosePlace, jumpCompletion, runStatement, runStatements, reasonOf, treeRun}
 use Rattle.running.specs.Numbered.{numberedStatement}
 use Rattle.running.specs.Ran.{Outcome, refusal, firstNotRun, performedAll, ended, given, afterSorts, ran}
 
@@ -70,5 +72,6 @@ samples :
     × (shown (ran early [] 0) ≡ 0 ∷ 0 ∷ 0 ∷ 1 ∷ [])
     × (shown (ran foreign [] 0) ≡ 64 ∷ 2 ∷ 0 ∷ 0 ∷ [])
     × (shown (ran done [] 0) ≡ 0 ∷ 0 ∷ 0 ∷ 3 ∷ [])
-unfolding ran afterSorts given firstNotRun ended performedAll refusal loopContinues breakable labelled completed completing prefix thenOn then choose afterBody whileRounds whileLoop forLoop doWhileLoop loop switchEnds entryAt choosePlace jumpCompletion runStatement reasonOf treeRun numberedStatement
+unfolding ran afterSorts given firstNotRun ended performedAll refusal loopContinues breakable labelled completed completing prefix thenOn then choose afterBody
+    whileRounds whileLoop forLoop doWhileLoop loop switchEnds entryAt choosePlace jumpCompletion runStatement reasonOf treeRun numberedStatement
 samples = (refl, refl, refl, refl, refl, refl, refl, refl, refl, refl, refl, refl, refl, refl, refl, refl, refl, refl)

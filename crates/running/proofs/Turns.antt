@@ -4,7 +4,9 @@ use native.Mathlib.Omega.{arith}
 use native.Mathlib.Nat.{le-refl}
 use mathlib.Core.Option.{Option, none, some}
 use mathlib.Core.Bool.{Bool, true, false}
-use Rattle.definition.specs.Tree.{Value, PLAIN, LOAD, UNDEF, SEQ, LOGICAL, COND, OPTIONAL, Instructions, no-instructions, instruction, Statement, INSTR, IF, SWITCH, DOWHILE, WHILE, FOR, FOROF, FORIN, LABEL, TRY, SCOPE, RETURN, THROW, BREAK, CONTINUE, Statements, done, _▸_, Cases, no-cases, CASE}
+use Rattle.definition.specs.Tree.{Value, PLAIN, LOAD, UNDEF, SEQ, LOGICAL, COND, OPTIONAL, Instructions, no-instructions, instruction, Statement, INSTR, IF}
+use Rattle.definition.specs.Tree.{SWITCH, DOWHILE, WHILE, FOR, FOROF, FORIN, LABEL, TRY, SCOPE, RETURN, THROW, BREAK, CONTINUE, Statements, done, _▸_, Cases}
+use Rattle.definition.specs.Tree.{no-cases, CASE}
 use Rattle.running.specs.Numbered.{closeValue, endInstructions, endUpdate, closeStatement, endStatements, endCases, numberedStatement, numbered, numberedCases}
 use Rattle.running.specs.Layout.{turnsOf, turnsIn, turnsInCases}
 
@@ -71,7 +73,7 @@ mutual
       let q : f ≤ closeValue f n = value-up n f in
       let r : suc (closeValue f n) ≤ closeValue (suc (closeValue f n)) t = value-up t (suc (closeValue f n)) in
       let p : turnsIn (numbered (suc (closeValue (suc (closeValue f n)) t)) b) + 3 * suc (closeValue (suc (closeValue f n)) t) ≤ 3 * suc (endStatements (suc (closeValue (suc (closeValue f n)) t)) b)
-              = block-turns b (suc (closeValue (suc (closeValue f n)) t)) in
+      = block-turns b (suc (closeValue (suc (closeValue f n)) t)) in
       omega (arith, p, q, r)
   statement-turns (FORIN i l s n b) f =
       let q : f ≤ closeValue f n = value-up n f in
@@ -99,5 +101,6 @@ mutual
   cases-turns no-cases f = omega arith
   cases-turns (CASE t b r) f =
       let p : turnsIn (numbered f b) + 3 * f ≤ 3 * suc (endStatements f b) = block-turns b f in
-      let q : turnsInCases (numberedCases (suc (suc (endStatements f b))) r) + 3 * suc (suc (endStatements f b)) ≤ 3 * endCases (suc (suc (endStatements f b))) r = cases-turns r (suc (suc (endStatements f b))) in
+      let q : turnsInCases (numberedCases (suc (suc (endStatements f b))) r) + 3 * suc (suc (endStatements f b)) ≤ 3 * endCases (suc (suc (endStatements f b)))
+      r = cases-turns r (suc (suc (endStatements f b))) in
       omega (arith, p, q)

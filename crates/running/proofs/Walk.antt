@@ -10,7 +10,8 @@ use lib.ListN.{length}
 use Rattle.definition.specs.Tree.{Statement, INSTR, IF, SWITCH, DOWHILE, WHILE, FOR, FOROF, FORIN, LABEL, TRY, SCOPE, RETURN, THROW, BREAK, CONTINUE, Statements, done, _▸_, Cases, no-cases, CASE}
 use Rattle.definition.specs.Run.{Answers, Reason, no-answer-left, not-plain}
 use Rattle.definition.specs.Completion.{Completion, normal, break, continue, stop, labelSet, loopContinues, breakable, labelled}
-use Rattle.definition.specs.TreeRun.{entryAt, choosePlace, switchEnds, entriesFrom, Completed, completed, completing, prefix, thenOn, then, choose, performs, performsUpdate, afterBody, whileRounds, whileLoop, forLoop, doWhileLoop, jumpCompletion, loop, runStatement, runStatements}
+use Rattle.definition.specs.TreeRun.{entryAt, choosePlace, switchEnds, entriesFrom, Completed, completed, completing, prefix, thenOn, then, choose, performs}
+use Rattle.definition.specs.TreeRun.{performsUpdate, afterBody, whileRounds, whileLoop, forLoop, doWhileLoop, jumpCompletion, loop, runStatement, runStatements}
 use Rattle.definition.proofs.Loops.{Taken, taken-shorter, takes-statements}
 use Rattle.running.specs.Layout.{Node, an-instr, a-block, an-if, a-case, a-switch, a-loop, a-label, a-scope, a-leaf, Layout, Laid, LaidBlock, LaidList, LaidCases, turnsOf, turnsIn, turnsInCases}
 use Rattle.running.specs.Machine.{Place, enter, leave, State, state, Turn, going, halt, orLeave, asked, caseAt, askedPlace, down, onIfNormal, up, upFrom, leaving, step, Gives, halts, goes}
@@ -145,11 +146,10 @@ module _ (L : Layout) where
 
     module _ (l : Option ℕ) (before : Option (List ℕ)) (again : List ℕ) (b k : ℕ) (e : L .node k ≡ a-loop l before again b) (p : L .parent b ≡ some k)
         (body : Answers → Completed) (cost : ℕ) (runs : Runs cost b body) (takes : (a : Answers) → Taken a (body a .left)) (pays : suc cost ≤ W) where
-
       after-on : (m : Bool) (o : Completed) (P : List ℕ) (next : Answers → Completed)
           → Costs 0 (o .left) (asked k b none ((P ++ o .rows) ++ again) (o .left)) (next (o .left) .left) (arrivedBy (ended l) k (P ++ o .rows) (next (o .left)))
           → Costs 0 (o .left) (elim m [ true ↦ asked k b none ((P ++ o .rows) ++ again) (o .left) | false ↦ state (leave k (ended l (o .completion))) (P ++ o .rows) (o .left) ])
-            (afterOn m o next .left) (arrivedBy (ended l) k P (afterOn m o next))
+          (afterOn m o next .left) (arrivedBy (ended l) k P (afterOn m o next))
       unfolding prefix completed
       after-on true o P next h z = same (joined (ended l) k P (o .rows) (next (o .left))) (h z)
       after-on false o P next h z = stays _ (omega arith)
@@ -214,7 +214,8 @@ module _ (L : Layout) where
     place-sim f cost s e (k ∷ ks) (x ∷ es) (h, q) zero P a z = h P a z
     place-sim f cost s e (k ∷ ks) (x ∷ es) (h, q) (suc place) P a z = place-sim f cost s e ks es q place P a z
 
-    places-sim : (f : Completion → Completion) (cost s : ℕ) → f normal ≡ normal → f (stop no-answer-left) ≡ stop no-answer-left → (ks : List ℕ) (es : List (Answers → Completed)) → EntriesAt f cost s ks es
+    places-sim : (f : Completion → Completion) (cost s : ℕ) → f normal ≡ normal → f (stop no-answer-left) ≡ stop no-answer-left
+        → (ks : List ℕ) (es : List (Answers → Completed)) → EntriesAt f cost s ks es
         → (P : List ℕ) (a : Answers) → Costs cost a (askedPlace s ks P a) (choosePlace es a .left) (arrivedBy f s P (choosePlace es a))
     unfolding askedPlace choosePlace completed worth
     places-sim f cost s e q ks es h P [] z = same (ap (λ (z : Completion). state (leave s z) P []) (sym q) ∙ nothing-more (f (stop no-answer-left)) s P []) (stays _ (omega arith))
@@ -265,38 +266,48 @@ module _ (L : Layout) where
     mutual
       unfolding Laid LaidBlock LaidList LaidCases runStatement runStatements entriesFrom completed completing down up loop switchEnds then doWhileLoop forLoop labelled breakable
 
-      statement-sim : (s : Statement) (k : ℕ) → Laid L s k → turnsOf s ≤ W → (P : List ℕ) (a : Answers) → Costs (turnsOf s) a (state (enter k) P a) (runStatement s a .left) (arrived k P (runStatement s a))
+      statement-sim : (s : Statement) (k : ℕ) → Laid L s k → turnsOf s ≤ W → (P : List ℕ) (a : Answers)
+          → Costs (turnsOf s) a (state (enter k) P a) (runStatement s a .left) (arrived k P (runStatement s a))
       statement-sim (INSTR i lv sp v) k e w P a z = enter-on k _ e P a (omega arith)
       statement-sim (IF t i l c true x) k (kc, kx, e, pc, hc, px, hx) w P a z =
           both (enter-on k _ e P a {y = (1 + (turnsIn c + turnsIn x)) + (worth a + z)} (omega arith))
           (choose-sim (labelled l) refl k kc (some kx) P (λ z. runStatements c z) (λ z. runStatements x z) (1 + (turnsIn c + turnsIn x))
-          (λ b y. both (lift (omega arith) (le-refl _) (block-sim c kc hc (omega (arith, w)) P b (suc y))) (leave-on pc e (runStatements c b .completion) (P ++ runStatements c b .rows) (runStatements c b .left) (omega arith)))
-          (λ b y. both (lift (omega arith) (le-refl _) (block-sim x kx hx (omega (arith, w)) P b (suc y))) (leave-on px e (runStatements x b .completion) (P ++ runStatements x b .rows) (runStatements x b .left) (omega arith))) a z)
+          (λ b y. both (lift (omega arith) (le-refl _) (block-sim c kc hc (omega (arith, w)) P b (suc y)))
+          (leave-on pc e (runStatements c b .completion) (P ++ runStatements c b .rows) (runStatements c b .left) (omega arith)))
+          (λ b y. both (lift (omega arith) (le-refl _) (block-sim x kx hx (omega (arith, w)) P b (suc y)))
+          (leave-on px e (runStatements x b .completion) (P ++ runStatements x b .rows) (runStatements x b .left) (omega arith))) a z)
       statement-sim (IF t i l c false x) k (kc, e, pc, hc) w P a z =
           both (enter-on k _ e P a {y = (1 + turnsIn c) + (worth a + z)} (omega arith))
           (choose-sim (labelled l) refl k kc none P (λ z. runStatements c z) (λ z. completed [] normal z) (1 + turnsIn c)
-          (λ b y. both (lift (omega arith) (le-refl _) (block-sim c kc hc (omega (arith, w)) P b (suc y))) (leave-on pc e (runStatements c b .completion) (P ++ runStatements c b .rows) (runStatements c b .left) (omega arith)))
+          (λ b y. both (lift (omega arith) (le-refl _) (block-sim c kc hc (omega (arith, w)) P b (suc y)))
+          (leave-on pc e (runStatements c b .completion) (P ++ runStatements c b .rows) (runStatements c b .left) (omega arith)))
           (λ b y. same (nothing-more normal k P b) (stays _ (omega arith))) a z)
       statement-sim (SWITCH t i l cs) k (ks, e, h) w P a z =
           both (enter-on k _ e P a {y = turnsInCases cs + (worth a + z)} (omega arith))
           (places-sim (ended l) (turnsInCases cs) k refl refl ks (entriesFrom cs (λ z. completed [] normal z) [])
-          (cases-sim cs k ks l e none [] (λ z. completed [] normal z) [] 0 (turnsInCases cs) h (omega (arith, w)) (omega arith) (λ Q b y. same (nothing-more normal k Q b) (stays _ (omega arith))) tt) P a z)
+          (cases-sim cs k ks l e none [] (λ z. completed [] normal z) [] 0 (turnsInCases cs) h (omega (arith, w)) (omega arith)
+          (λ Q b y. same (nothing-more normal k Q b) (stays _ (omega arith))) tt) P a z)
       statement-sim (DOWHILE i l b t) k (kb, e, p, h) w P a z =
           let pays : suc (turnsIn b) ≤ W = omega (arith, w) in
           both (enter-on k _ e P a {y = suc (turnsIn b) + (worth a + z)} (omega arith))
-          (round-sim l none (performs t) kb k e p (λ z. runStatements b z) (turnsIn b) (λ y y′ y″. block-sim b kb h (omega (arith, w)) y y′ y″) (takes-statements b) pays P a (λ z. whileLoop (labelSet l) (performs t) (λ z′. runStatements b z′) z)
-          (while-sim l none (performs t) kb k e p (λ z. runStatements b z) (turnsIn b) (λ y y′ y″. block-sim b kb h (omega (arith, w)) y y′ y″) (takes-statements b) pays (runStatements b a .left) (P ++ runStatements b a .rows)) z)
+          (round-sim l none (performs t) kb k e p (λ z. runStatements b z) (turnsIn b) (λ y y′ y″. block-sim b kb h (omega (arith, w)) y y′ y″)
+          (takes-statements b) pays P a (λ z. whileLoop (labelSet l) (performs t) (λ z′. runStatements b z′) z)
+          (while-sim l none (performs t) kb k e p (λ z. runStatements b z) (turnsIn b) (λ y y′ y″. block-sim b kb h (omega (arith, w)) y y′ y″)
+          (takes-statements b) pays (runStatements b a .left) (P ++ runStatements b a .rows)) z)
       statement-sim (WHILE i l t b) k (kb, e, p, h) w P a z =
           let pays : suc (turnsIn b) ≤ W = omega (arith, w) in
           both (enter-on k _ e P a {y = 0 + (worth a + z)} (omega arith))
           (while-sim l (some (performs t)) (performs t) kb k e p (λ z. runStatements b z) (turnsIn b) (λ y y′ y″. block-sim b kb h (omega (arith, w)) y y′ y″) (takes-statements b) pays a P z)
       statement-sim (FOR i l n t u b) k (kb, e, p, h) w P a z =
           let pays : suc (turnsIn b) ≤ W = omega (arith, w) in
-          let X : Completed = choose (λ z′. afterBody (labelSet l) (runStatements b z′) (λ z″. whileLoop (labelSet l) (performsUpdate u ++ performs t) (λ y. runStatements b y) z″)) (λ z′. completed [] normal z′) a in
+          let X : Completed = choose (λ z′. afterBody (labelSet l) (runStatements b z′)
+          (λ z″. whileLoop (labelSet l) (performsUpdate u ++ performs t) (λ y. runStatements b y) z″)) (λ z′. completed [] normal z′) a in
           both (enter-on k _ e P a {y = suc (turnsIn b) + (worth a + z)} (omega arith))
           (same (ap (λ (z : List ℕ). arrivedBy (ended l) k z X) (sym (append-assoc P (performs n) (performs t)))
-            ∙ (joined (ended l) k (P ++ performs n) (performs t) X ∙ (joined (ended l) k P (performs n) (prefix (performs t) X) ∙ for-end l k P (performs n) (prefix (performs t) X))))
-          (paid z (X .left) _ (for-left l (performs n) (performs t) X) (first-sim l (some (performs n ++ performs t)) (performsUpdate u ++ performs t) kb k e p (λ z. runStatements b z) (turnsIn b) (λ y y′ y″. block-sim b kb h (omega (arith, w)) y y′ y″) (takes-statements b) pays (P ++ (performs n ++ performs t)) a z)))
+          ∙ (joined (ended l) k (P ++ performs n) (performs t) X ∙ (joined (ended l) k P (performs n) (prefix (performs t) X) ∙ for-end l k P (performs n) (prefix (performs t) X))))
+          (paid z (X .left) _ (for-left l (performs n) (performs t) X)
+          (first-sim l (some (performs n ++ performs t)) (performsUpdate u ++ performs t) kb k e p (λ z. runStatements b z) (turnsIn b)
+          (λ y y′ y″. block-sim b kb h (omega (arith, w)) y y′ y″) (takes-statements b) pays (P ++ (performs n ++ performs t)) a z)))
       statement-sim (FOROF i l s n t b) k e w P a z = leaf-sim k _ e P a z
       statement-sim (FORIN i l s n b) k e w P a z = leaf-sim k _ e P a z
       statement-sim (LABEL i l b) k (kb, e, p, h) w P a z =
@@ -311,13 +322,15 @@ module _ (L : Layout) where
       statement-sim (BREAK t i kd n) k e w P a z = leaf-sim k _ e P a z
       statement-sim (CONTINUE t i kd n) k e w P a z = leaf-sim k _ e P a z
 
-      block-sim : (s : Statements) (k : ℕ) → LaidBlock L s k → turnsIn s ≤ W → (P : List ℕ) (a : Answers) → Costs (turnsIn s) a (state (enter k) P a) (runStatements s a .left) (arrived k P (runStatements s a))
+      block-sim : (s : Statements) (k : ℕ) → LaidBlock L s k → turnsIn s ≤ W → (P : List ℕ) (a : Answers)
+          → Costs (turnsIn s) a (state (enter k) P a) (runStatements s a .left) (arrived k P (runStatements s a))
       block-sim done k e w P a z = same (nothing-more normal k P a) (enter-on k _ e P a (omega arith))
       block-sim (s ▸ r) k (m, e, p, h, q) w P a z =
           both (enter-on k _ e P a (omega arith))
           (both (statement-sim s m h (omega (arith, w)) P a (turnsIn r + z))
           (both (leave-on p e (runStatement s a .completion) (P ++ runStatement s a .rows) (runStatement s a .left) (one-of r (worth (runStatement s a .left)) z))
-          (then-sim (λ z. z) (runStatement s a .completion) (runStatement s a) refl (L .next m) k P (λ z. runStatements r z) (less r) (λ y y′ y″. list-sim k (some m) e r (L .next m) q (omega (arith, w)) y y′ y″) z)))
+          (then-sim (λ z. z) (runStatement s a .completion) (runStatement s a) refl (L .next m) k P (λ z. runStatements r z) (less r)
+          (λ y y′ y″. list-sim k (some m) e r (L .next m) q (omega (arith, w)) y y′ y″) z)))
 
       list-sim : (k : ℕ) (f : Option ℕ) → L .node k ≡ a-block f → (s : Statements) (first : Option ℕ) → LaidList L k s first → turnsIn s ≤ W
           → (P : List ℕ) (a : Answers) → Costs (less s) a (state (orLeave first k) P a) (runStatements s a .left) (arrived k P (runStatements s a))
@@ -326,17 +339,21 @@ module _ (L : Layout) where
           rw q
           (both (lift (omega arith) (le-refl _) (statement-sim s m h (omega (arith, w)) P a (turnsIn r + z)))
           (both (leave-on p e (runStatement s a .completion) (P ++ runStatement s a .rows) (runStatement s a .left) (one-of r (worth (runStatement s a .left)) z))
-          (then-sim (λ y. y) (runStatement s a .completion) (runStatement s a) refl (L .next m) k P (λ y. runStatements r y) (less r) (λ y y′ y″. list-sim k f e r (L .next m) o (omega (arith, w)) y y′ y″) z)))
+          (then-sim (λ y. y) (runStatement s a .completion) (runStatement s a) refl (L .next m) k P (λ y. runStatements r y) (less r)
+          (λ y y′ y″. list-sim k f e r (L .next m) o (omega (arith, w)) y y′ y″) z)))
 
-      cases-sim : (cs : Cases) (s : ℕ) (all : List ℕ) (l : Option ℕ) → L .node s ≡ a-switch l all → (after : Option ℕ) (later : List ℕ) (onward : Answers → Completed) (entries : List (Answers → Completed)) (cost total : ℕ)
+      cases-sim : (cs : Cases) (s : ℕ) (all : List ℕ) (l : Option ℕ) → L .node s ≡ a-switch l all
+          → (after : Option ℕ) (later : List ℕ) (onward : Answers → Completed) (entries : List (Answers → Completed)) (cost total : ℕ)
           → LaidCases L s all cs after later → turnsInCases cs ≤ W → cost + turnsInCases cs ≤ total
           → ((P : List ℕ) (a : Answers) → Costs cost a (state (orLeave after s) P a) (onward a .left) (arrivedBy (ended l) s P (onward a)))
           → EntriesAt (ended l) total s later entries → EntriesAt (ended l) total s all (entriesFrom cs onward entries)
       cases-sim no-cases s all l e after later onward entries cost total h w u on z = subst (λ (y : List ℕ). EntriesAt (ended l) total s y entries) h z
       cases-sim (CASE t b earlier) s all l e after later onward entries cost total (k, kb, ek, p, nx, q, hb, hs) w u on z =
-          let entry : (P : List ℕ) (a : Answers) → Costs (3 + (turnsIn b + cost)) a (state (enter k) P a) (then (runStatements b a) onward .left) (arrivedBy (ended l) s P (then (runStatements b a) onward))
-                  = case-sim l all s k kb e ek p q (λ y. runStatements b y) onward (turnsIn b) cost (λ y y′ y″. block-sim b kb hb (omega (arith, w)) y y′ y″) (rw nx on) in
-          cases-sim earlier s all l e (some k) (k ∷ later) (λ y. then (runStatements b y) onward) ((λ y. then (runStatements b y) onward) ∷ entries) (3 + (turnsIn b + cost)) total hs (omega (arith, w)) (omega (arith, u)) entry
+          let entry : (P : List ℕ) (a : Answers) → Costs (3 + (turnsIn b + cost)) a (state (enter k) P a) (then (runStatements b a) onward .left)
+          (arrivedBy (ended l) s P (then (runStatements b a) onward))
+          = case-sim l all s k kb e ek p q (λ y. runStatements b y) onward (turnsIn b) cost (λ y y′ y″. block-sim b kb hb (omega (arith, w)) y y′ y″) (rw nx on) in
+          cases-sim earlier s all l e (some k) (k ∷ later) (λ y. then (runStatements b y) onward) ((λ y. then (runStatements b y) onward) ∷ entries)
+          (3 + (turnsIn b + cost)) total hs (omega (arith, w)) (omega (arith, u)) entry
           ((λ P a y. lift (omega (arith, u)) (le-refl _) (entry P a y)), z)
 
   -- ---- the whole tree

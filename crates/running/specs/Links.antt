@@ -83,22 +83,22 @@ abbrev pub casesBack : Links → (count m : ℕ) → (later : List ℕ) → List
 casesBack t zero m later = later
 casesBack t (suc count) m later = m ∷ casesBack t count (before (t .begin m)) later
 
-abbrev pub ifNode : Links → (k present : ℕ) → Option ℕ → Node
-ifNode t k zero label = an-if label (before k) none
-ifNode t k (suc n) label = an-if label (before (t .begin (before k))) (some (before k))
+abbrev pub ifNode : (begin : ℕ → ℕ) → (k present : ℕ) → Option ℕ → Node
+ifNode begin k zero label = an-if label (before k) none
+ifNode begin k (suc n) label = an-if label (before (begin (before k))) (some (before k))
 
 -- of a FOR: the row after the test, and the test's first row
-abbrev pub testEnd : Links → (k present : ℕ) → ℕ
-testEnd t k zero = t .begin (before k)
-testEnd t k (suc n) = t .begin (before (t .begin (before k)))
+abbrev pub testEnd : (begin : ℕ → ℕ) → (k present : ℕ) → ℕ
+testEnd begin k zero = begin (before k)
+testEnd begin k (suc n) = begin (before (begin (before k)))
 
 -- its update, and its test again
-abbrev pub forAgain : (ℕ → Row) → Links → (k present : ℕ) → List ℕ
-forAgain rowAt t k present = plains rowAt (testEnd t k present) (t .begin (before k)) ++ plains rowAt (t .begin (before (testEnd t k present))) (testEnd t k present)
+abbrev pub forAgain : (ℕ → Row) → (begin : ℕ → ℕ) → (k present : ℕ) → List ℕ
+forAgain rowAt begin k present = plains rowAt (testEnd begin k present) (begin (before k)) ++ plains rowAt (begin (before (testEnd begin k present))) (testEnd begin k present)
 
 abbrev pub forNode : (ℕ → Row) → Links → (k present : ℕ) → Option ℕ → Node
 forNode rowAt t k present label =
-    a-loop label (some (plains rowAt (t .begin k) (testEnd t k present))) (forAgain rowAt t k present) (before k)
+    a-loop label (some (plains rowAt (t .begin k) (testEnd (t .begin) k present))) (forAgain rowAt (t .begin) k present) (before k)
 
 abbrev pub nodesByOp : (ℕ → Row) → Links → (k a b c d : ℕ) → List Node
 nodesByOp rowAt t k a b c d =
@@ -112,7 +112,7 @@ nodesByOp rowAt t k a b c d =
     ∷ a-leaf (stop not-plain)
     ∷ a-leaf (stop not-plain)
     ∷ a-block (firstOf a (t .child k))
-    ∷ ifNode t k b (unlessNone d)
+    ∷ ifNode (t .begin) k b (unlessNone d)
     ∷ a-case (before k)
     ∷ a-switch (unlessNone d) (casesBack t b (before k) [])
     ∷ a-loop (unlessNone b) none (plains rowAt (t .begin (before k)) k) (before (t .begin (before k)))
