@@ -1,5 +1,5 @@
 //! Where the archives are: the folder that REACTIVE_BUILD_DIR names. libbuild.a is always linked, libdot.a with the feature `dot`, libtreerows.a
-//! with `tree-check`.
+//! with `tree-check`, librunner.a with `tree-run`.
 
 use std::env;
 use std::path::{Path, PathBuf};
@@ -24,6 +24,9 @@ fn main() {
     }
     if env::var_os("CARGO_FEATURE_TREE_CHECK").is_some() {
         link(&folder, "treerows");
+    }
+    if env::var_os("CARGO_FEATURE_TREE_RUN").is_some() {
+        link(&folder, "runner");
     }
 }
 

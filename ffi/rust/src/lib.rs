@@ -4,6 +4,8 @@
 pub mod dot;
 #[cfg(feature = "tree-check")]
 pub mod tree_check;
+#[cfg(feature = "tree-run")]
+pub mod tree_run;
 
 use std::ffi::c_uint;
 

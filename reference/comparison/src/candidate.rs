@@ -1,13 +1,14 @@
 //! The seams for the proved libraries. With the feature `candidate` the comparison and the vectors
 //! run the build, with `candidate-check` the comparison runs the check, on every table, and hold
-//! their answers against the reference or the model; with `candidate-dot` and `candidate-tree-check`
-//! their own comparisons run the drawing and the check of trees.
+//! their answers against the reference or the model; with `candidate-dot`, `candidate-tree-check` and `candidate-tree-run`
+//! their own comparisons run the drawing, the check of trees and the runner.
 //!
-//! The archives `libbuild.a`, `libtable.a`, `libdot.a` and `libtreerows.a` are looked for in the folder
+//! The archives `libbuild.a`, `libtable.a`, `libdot.a`, `libtreerows.a` and `librunner.a` are looked for in the folder
 //! that the variable CANDIDATE_DIR names. All but the check are called through the safe wrappers of ffi/rust.
 
 use crate::model::Outcome;
 use crate::model::dot::Drawn;
+use crate::model::tree_run::Ran;
 
 pub type Candidate = fn(&[u32], &mut [u32]) -> Outcome;
 
@@ -15,6 +16,9 @@ pub type Candidate = fn(&[u32], &mut [u32]) -> Outcome;
 pub type CandidateCheck = fn(&[u32]) -> (u32, u32);
 
 pub type CandidateDot = fn(&[u32], &mut [u8]) -> Drawn;
+
+/// Tree, answers, the buffer lent.
+pub type CandidateRun = fn(&[u32], &[u32], &mut [u32]) -> Ran;
 
 #[cfg(not(feature = "candidate"))]
 pub const CANDIDATE: Option<Candidate> = None;
@@ -68,4 +72,16 @@ pub const CANDIDATE_TREE_CHECK: Option<CandidateCheck> = Some(check_tree);
 fn check_tree(tree: &[u32]) -> (u32, u32) {
     let reactive_build::tree_check::Checked { code, at } = reactive_build::tree_check::check(tree);
     (code, at)
+}
+
+#[cfg(not(feature = "candidate-tree-run"))]
+pub const CANDIDATE_TREE_RUN: Option<CandidateRun> = None;
+
+#[cfg(feature = "candidate-tree-run")]
+pub const CANDIDATE_TREE_RUN: Option<CandidateRun> = Some(run_tree);
+
+#[cfg(feature = "candidate-tree-run")]
+fn run_tree(tree: &[u32], answers: &[u32], performed: &mut [u32]) -> Ran {
+    let reactive_build::tree_run::Ran { code, at, number, reason } = reactive_build::tree_run::run(tree, answers, performed);
+    Ran { code, at, number, reason }
 }
