@@ -113,7 +113,7 @@ returns-3 c =
     let t = linksOf (read .read-tree .result .begin) (linked .link-rows .result .parent) (linked .link-rows .result .next) (linked .link-rows .result .child) in
     let all-linked = linked .link-rows .ensures (a .tree .now) (begun (a .tree .now) (read .read-tree .ensures) (good .if1 .left)) in
     run-refused (a .tree .now) tree-read t refl all-linked (a .answers .now) (first .first-not-run .ensures) (none .if2 .left) (walked .walk .ensures)
-    (length (a .performed .now)) (search needs) (bad .if3 .taken) (refused .refuse3 .ensures)
+    (length (a .performed .now)) (omega (arith, walked .walk .kept .1 .1 .1 .1 .1 .1 .0)) (bad .if3 .taken) (refused .refuse3 .ensures)
 
 clear-requires : tie.Need-clear-requires
 clear-requires c κs =
@@ -156,7 +156,7 @@ returns-4 c =
     let t = linksOf (read .read-tree .result .begin) (linked .link-rows .result .parent) (linked .link-rows .result .next) (linked .link-rows .result .child) in
     let all-linked = linked .link-rows .ensures (a .tree .now) (begun (a .tree .now) (read .read-tree .ensures) (good .if1 .left)) in
     run-given (a .tree .now) tree-read t refl all-linked (a .answers .now) (first .first-not-run .ensures) (none .if2 .left) (walked .walk .ensures)
-    (length (a .performed .now)) (search needs) (run .if3 .left) (cleared .clear .ensures)
+    (length (a .performed .now)) (omega (arith, walked .walk .kept .1 .1 .1 .1 .1 .1 .0)) (run .if3 .left) (cleared .clear .ensures)
 
 pub run-tree-spec : {M : Type 1} → statement M
 run-tree-spec =

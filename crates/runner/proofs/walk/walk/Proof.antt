@@ -1,3 +1,4 @@
+use native.Mathlib.Omega.{arith}
 use borrow.Author.Needs.{needs}
 use borrow.Author.Tests.{not-true, not-false}
 use Rattle.runner.specs.Abstraction.{linksOf}
@@ -63,6 +64,8 @@ loop-less c =
     let on : tie.Then1 Inv-loop μ-loop = search in
     let asked : tie.After-halted Inv-loop μ-loop = search in
     let at-loop : tie.At-loop Inv-loop μ-loop = search in
+    let entered : tie.After-enter Inv-loop μ-loop = search in
+    let known : tie.After-shared-slice-known3 Inv-loop μ-loop = search in
     let start : tie.Start Inv-loop μ-loop = search in
     let a = start .args in
     walk-less _ _ _ _ (at-loop .loop .inv) (asked .halted .ensures) (not-true _ (on .if1 .taken)) (decided .decide .result) (decided .decide .ensures) (did .perform-turn .ensures) (fits .if2 .left)
@@ -77,10 +80,12 @@ loop-again c =
     let on : tie.Then1 Inv-loop μ-loop = search in
     let asked : tie.After-halted Inv-loop μ-loop = search in
     let at-loop : tie.At-loop Inv-loop μ-loop = search in
+    let entered : tie.After-enter Inv-loop μ-loop = search in
+    let known : tie.After-shared-slice-known3 Inv-loop μ-loop = search in
     let start : tie.Start Inv-loop μ-loop = search in
     let a = start .args in
     walk-next _ _ _ _ (at-loop .loop .inv) (asked .halted .ensures) (not-true _ (on .if1 .taken)) (decided .decide .result) (decided .decide .ensures) (did .perform-turn .ensures) (fits .if2 .left)
-    (went .go-on .result .place) (went .go-on .result .asked) (went .go-on .ensures (a .parent .now) (a .next .now) (a .child .now)) (search needs)
+    (went .go-on .result .place) (went .go-on .result .asked) (went .go-on .ensures (a .parent .now) (a .next .now) (a .child .now)) (omega (arith, did .perform-turn .kept .1 .1 .0))
 
 ended-requires : tie.Need-ended-requires Inv-loop μ-loop
 ended-requires c κs = search needs
