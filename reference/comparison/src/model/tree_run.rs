@@ -26,6 +26,8 @@ enum Flow {
 
 struct Runner<'r> {
     rows: &'r [Row],
+    /// The first row of the part that closes at each row.
+    firsts: Vec<usize>,
     answers: &'r [u32],
     asked: usize,
     performed: &'r mut [u32],
@@ -45,7 +47,11 @@ fn run_rows(words: &[u32], answers: &[u32], performed: &mut [u32]) -> Result<Ran
     if let Some(at) = rows.iter().position(|row| matches!(row[0], 6 | 7 | 8 | 16 | 17 | 19)) {
         return Err(Refusal { code: 64, at: at as u32 });
     }
-    let mut runner = Runner { rows, answers, asked: 0, performed, number: 0 };
+    let mut runner = Runner { rows, firsts: Vec::new(), answers, asked: 0, performed, number: 0 };
+    for row in 0..rows.len() {
+        let first = runner.parts(row).first().map_or(row, |part| runner.firsts[*part]);
+        runner.firsts.push(first);
+    }
     let reason = match runner.block(rows.len() - 1) {
         Flow::Normal => 3,
         Flow::Stop(reason) => reason,
@@ -102,15 +108,10 @@ impl Runner<'_> {
         let mut end = row;
         for _ in 0..count {
             parts.push(end - 1);
-            end = self.first(end - 1);
+            end = self.firsts[end - 1];
         }
         parts.reverse();
         parts
-    }
-
-    /// The first row of the part that closes here.
-    fn first(&self, row: usize) -> usize {
-        self.parts(row).first().map_or(row, |part| self.first(*part))
     }
 
     fn answer(&mut self) -> Result<u32, Flow> {
