@@ -52,6 +52,11 @@ static inline reactive_span reactive_row_span(const uint32_t *row) {
 uint32_t reactive_build(const uint32_t *words, size_t word_count, uint32_t *tree, size_t tree_length, uint32_t *at, uint32_t *rows,
                         uint32_t *visits);
 
+/* The same by the language's rule (docs/FORMAT.md): a break to a loop is Labeled also where a switch is being built in between, and the label
+ * that a Labeled jump names is there; else the refusal is 29, which reactive_build never gives. */
+uint32_t reactive_build_language(const uint32_t *words, size_t word_count, uint32_t *tree, size_t tree_length, uint32_t *at, uint32_t *rows,
+                                 uint32_t *visits);
+
 #ifdef __cplusplus
 }
 #endif

@@ -1,5 +1,6 @@
 //! Time of the proved build against (a) an ordinary Rust program with vectors and recursion over the
-//! same words and rows, and (b) the Rust that it was translated from; and the stack that it takes.
+//! same words and rows, and (b) the Rust that it was translated from; of the language entry (M-102)
+//! against the first; and the stack that it takes.
 //!
 //! (a) is `plain`: its own check, and the walk of the model of paper 01 (reference/comparison/src/model). (b) runs on its own graph, made
 //! before the clock starts, and its tree is not made into rows; it is watched by the observer that
@@ -29,8 +30,8 @@ fn main() {
         return stack::print();
     }
     reference::install_panic_hook();
-    println!("| table | rows | proved, µs | (a) Rust with vectors, µs | ratio | (b) the Rust, µs | ratio |");
-    println!("|---|---|---|---|---|---|---|");
+    println!("| table | rows | proved, µs | (a) Rust with vectors, µs | ratio | (b) the Rust, µs | ratio | language entry, µs | to the first |");
+    println!("|---|---|---|---|---|---|---|---|---|");
     let mut cases = Vec::new();
     for instructions in [0, 2] {
         cases.push(tables::fallthroughs(1_000, instructions));
@@ -51,6 +52,7 @@ fn measure(case: &Case) {
     let words = &case.words;
     let mut lent = vec![7; 60_000];
     let ours = reactive_build::build(words, &mut lent);
+    assert!(plain::checked_by_rows(words).is_some(), "{}: (a) takes its slow check", case.name);
     let mut theirs_lent = vec![7; 60_000];
     let theirs = plain::build(words, &mut theirs_lent);
     assert_eq!((ours.code, ours.rows, ours.visits), (0, theirs.rows, theirs.visits), "{}", case.name);
@@ -58,18 +60,19 @@ fn measure(case: &Case) {
     // A buffer of just the rows, so that the zeros after them cost nothing.
     lent.truncate(6 * ours.rows as usize);
     let calls = (200_000 / words.len()).clamp(20, 2_000) as u32;
-    let mut least = [Duration::MAX; 3];
+    let mut least = [Duration::MAX; 4];
     for _ in 0..ROUNDS {
         let times = [
             time(calls, || black_box(reactive_build::build(black_box(words), &mut lent)).code),
             time(calls, || black_box(plain::build(black_box(words), &mut lent)).code),
             of_reference(words, calls),
+            time(calls, || black_box(reactive_build::build_language(black_box(words), &mut lent)).code),
         ];
         least = std::array::from_fn(|which| least[which].min(times[which]));
     }
-    let [proved, vectors, original] = least.map(|time| time.as_secs_f64() * 1e6);
-    let (to_a, to_b) = (proved / vectors, proved / original);
-    println!("| {} | {} | {proved:.1} | {vectors:.1} | {to_a:.2} | {original:.1} | {to_b:.2} |", case.name, ours.rows);
+    let [proved, vectors, original, language] = least.map(|time| time.as_secs_f64() * 1e6);
+    let (to_a, to_b, to_first) = (proved / vectors, proved / original, language / proved);
+    println!("| {} | {} | {proved:.1} | {vectors:.1} | {to_a:.2} | {original:.1} | {to_b:.2} | {language:.1} | {to_first:.2} |", case.name, ours.rows);
 }
 
 fn time(calls: u32, mut call: impl FnMut() -> u32) -> Duration {

@@ -2,7 +2,7 @@
 //! time, and looks for the first bad word only where a row is bad; then it walks as the model of paper 01 does.
 
 use comparison::model::check::check;
-use comparison::model::table::{HEAD_WORDS, LIMITS, Table};
+use comparison::model::table::{BlockRow, HEAD_WORDS, InstructionRow, LIMITS, Table};
 use comparison::model::{self, Outcome, Refusal};
 
 const LARGEST: u32 = 65_535;
@@ -35,11 +35,16 @@ fn place(walked: model::Walked, buffer: &mut [u32]) -> Outcome {
 }
 
 fn checked(words: &[u32]) -> Result<Table<'_>, Refusal> {
+    checked_by_rows(words).map_or_else(|| check(words), Ok)
+}
+
+/// The check a row at a time: the table, if it is good.
+pub fn checked_by_rows(words: &[u32]) -> Option<Table<'_>> {
     if words.len() < HEAD_WORDS || (0..5).any(|count| words[1 + count] > LIMITS[count]) {
-        return check(words);
+        return None;
     }
     let table = Table::of(words);
-    if words.len() == table.end && words[0] < words[1] && is_good(&table) { Ok(table) } else { check(words) }
+    (words.len() == table.end && words[0] < words[1] && is_good(&table)).then_some(table)
 }
 
 fn is_good(table: &Table) -> bool {
@@ -53,13 +58,13 @@ fn is_good(table: &Table) -> bool {
         && rows(table.identifiers, table.end).iter().all(|named| *named <= 1)
 }
 
-fn block_row(row: &[u32; 10], blocks: u32, places: u32, instructions: u32, cases: u32) -> bool {
-    let [first, count, code, a, b, c, d, e, id, span] = *row;
+fn block_row(row: &BlockRow, blocks: u32, places: u32, instructions: u32, cases: u32) -> bool {
+    let [first, count, code, a, b, c, d, e, id, from, to] = *row;
     let block = |word: u32| word < blocks;
     let place = |word: u32| word < places;
     let run = |first: u32, count: u32, rows: u32| first <= LARGEST && count <= LARGEST && first + count <= rows;
     let columns = match code {
-        0 => return *row == [0; 10],
+        0 => return *row == BlockRow::default(),
         1 => (a | b | c | d | e) == 0,
         2 | 3 => place(a) && (b | c | d | e) == 0,
         4 => block(a) && b <= 2 && (c | d | e) == 0,
@@ -77,16 +82,20 @@ fn block_row(row: &[u32; 10], blocks: u32, places: u32, instructions: u32, cases
         20 | 21 => block(a) && block(b) && c <= LARGEST && (d | e) == 0,
         _ => false,
     };
-    columns && run(first, count, instructions) && id <= LARGEST && span <= LARGEST
+    columns && run(first, count, instructions) && id <= LARGEST && span(from, to)
 }
 
-fn instruction_row(row: &[u32; 6], places: u32) -> bool {
-    let [id, lvalue, code, p, q, span] = *row;
+fn instruction_row(row: &InstructionRow, places: u32) -> bool {
+    let [id, lvalue, code, p, q, from, to] = *row;
     let operands = match code {
         0 => (p | q) == 0,
         1 => p < places && q == 0,
         2 => p < places && q < places,
         _ => false,
     };
-    operands && lvalue < places && id <= LARGEST && span <= LARGEST
+    operands && lvalue < places && id <= LARGEST && span(from, to)
+}
+
+fn span(from: u32, to: u32) -> bool {
+    from <= to && to <= LARGEST
 }

@@ -22,10 +22,10 @@ use Rattle.control.specs.Abstraction.{targetOf, noEntry, contextOf, resultOf, s
 use Rattle.control.specs.Contract.{Named, Room, Bounded, Last, Scheduled, Unscheduled}
 use Rattle.control.proofs.ContextLaws.{settles}
 use Rattle.definition.specs.Framed.{Below}
-use Rattle.planner.specs.declared.plan.Change.{Change}
-use Rattle.planner.specs.declared.plan.Change.the-variants.{Nothing, Schedule, ScheduleBriefly, Unschedule}
-use Rattle.planner.specs.declared.plan.Plan.{Plan}
-use Rattle.planner.specs.Plans.{changed, handled, scoped}
+use Rattle.plan.specs.declared.Change.{Change}
+use Rattle.plan.specs.declared.Change.the-variants.{Nothing, Schedule, ScheduleBriefly, Unschedule}
+use Rattle.plan.specs.declared.Plan.{Plan}
+use Rattle.plan.specs.Plans.{changed, handled, scoped}
 use Rattle.build.specs.Driver.{marked}
 
 -- ---- what applying a plan asks, and what it leaves
@@ -48,6 +48,23 @@ withMarks visited handler fallthrough cx = record {
   «next_schedule_id» = cx .«next_schedule_id»;
   stack = cx .stack;
 }
+
+-- the three sets as the calls of `mark` leave them
+pub marks-as : (visited handler fallthrough asked : ℕ) (cx : Context) (emitted handlers scopes : Flags) → asked ≡ visited → emitted ≡ marked (unlessNone asked) (cx .emitted)
+    → handlers ≡ marked (unlessNone handler) (cx .«catch_handlers») → scopes ≡ marked (unlessNone fallthrough) (cx .«scope_fallthroughs»)
+    → record {
+      emitted = emitted;
+      «catch_handlers» = handlers;
+      «scope_fallthroughs» = scopes;
+      len = cx .len;
+      scheduled = cx .scheduled;
+      pushed = cx .pushed;
+      pending = cx .pending;
+      refused = cx .refused;
+      «next_schedule_id» = cx .«next_schedule_id»;
+      stack = cx .stack;
+    } ≡ withMarks visited handler fallthrough cx
+marks-as visited handler fallthrough asked cx emitted handlers scopes v e h f = rw (e, h, f, v) refl
 
 -- what a change asks of the Context
 abbrev pub Changeable : Change → Context → Type 0

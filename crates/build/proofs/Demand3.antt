@@ -1,9 +1,10 @@
--- Demand 3 for the entry: what the buffer holds are the rows of one tree, and that tree's run agrees with the block run.
+-- Demand 3 for both entries: what the buffer holds are the rows of one tree, and that tree's run agrees with the block run.
 use Prim.Native.Nat.{ℕ}
 use mathlib.Core.Path.{_≡_, sym, ap, _∙_, subst}
 use mathlib.Core.List.{List}
 use lib.ListN.{length}
 use Rattle.table.specs.Table.{tableOf}
+use Rattle.definition.specs.Around.{Rule}
 use Rattle.definition.specs.Build.{built}
 use Rattle.definition.specs.Build as definition
 use Rattle.definition.specs.Plain.{Plain}
@@ -13,14 +14,14 @@ use Rattle.definition.proofs.Law.{one-tree, run-law}
 use Rattle.build.specs.declared.Outcome.{Outcome}
 use Rattle.build.specs.Entry.{outcome}
 
--- `ensured` is what build_reactive_function ensures
-module _ (words buffer buffer′ : List ℕ) (r : Outcome) (ensured : outcome r buffer′ ≡ built words (length buffer)) (accepted : r .code ≡ 0) where
-  accepts : built words (length buffer) .code ≡ 0
+-- `ensured` is what build_reactive_function ensures by the Rust's rule, and build_language by the language's
+module _ (rule : Rule) (words buffer buffer′ : List ℕ) (r : Outcome) (ensured : outcome r buffer′ ≡ built rule words (length buffer)) (accepted : r .code ≡ 0) where
+  accepts : built rule words (length buffer) .code ≡ 0
   accepts = sym (ap (λ (o : definition.Outcome). o .code) ensured) ∙ accepted
 
   -- of any accepted table, plain or not
   pub entry-tree : OneTree (outcome r buffer′)
-  entry-tree = subst OneTree (sym ensured) (one-tree words (length buffer) accepts)
+  entry-tree = subst OneTree (sym ensured) (one-tree rule words (length buffer) accepts)
 
   pub entry-law : Plain (tableOf words) → RunLaw words (outcome r buffer′)
-  entry-law plain = subst (λ (o : definition.Outcome). RunLaw words o) (sym ensured) (run-law words (length buffer) accepts plain)
+  entry-law plain = subst (λ (o : definition.Outcome). RunLaw words o) (sym ensured) (run-law rule words (length buffer) accepts plain)

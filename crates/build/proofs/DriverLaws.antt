@@ -19,7 +19,9 @@ use Rattle.definition.proofs.Steps.{true-false}
 use Rattle.definition.specs.Build.{Report, accepted, rejected, report}
 use Rattle.definition.specs.Context.{emit, withVisits}
 use Rattle.definition.specs.Context as definition
-use Rattle.definition.specs.Machine.{State, visiting, ended, choosing, popping, going, halt, step}
+use Rattle.definition.specs.Machine.{enclosings, aroundOf, State, visiting, ended, choosing, popping, going, halt, step}
+use Rattle.definition.specs.Around.{Rule, Around}
+use Rattle.definition.specs.Goal.{Goal}
 use Rattle.definition.specs.Machine as machine
 use Rattle.definition.specs.Result.{ok, refused}
 use Rattle.definition.specs.Tree.{Row}
@@ -28,6 +30,8 @@ use Rattle.definition.proofs.Invariant.{Checked, Sound, Going, going-start, goi
 use Rattle.definition.proofs.Invariant as invariant
 use Rattle.control.specs.declared.Context.{Context}
 use Rattle.control.specs.declared.Resolved.{Resolved}
+use Rattle.survey.specs.declared.Aim.{Aim}
+use Rattle.survey.specs.Abstraction.{aimOf, FoundBelow}
 use Rattle.control.specs.declared.Entry.{Entry}
 use Rattle.control.specs.declared.Resolved.the-variants as resolved
 use Rattle.control.specs.Abstraction as control
@@ -38,20 +42,19 @@ use Rattle.control.proofs.ContextLaws.{stack-length, named-block}
 use Rattle.rows.specs.Rows.{Holds}
 use Rattle.rows.specs.Stack.{pushed}
 use Rattle.rows.proofs.StackLaws.{length-pushed}
-use Rattle.planner.specs.declared.plan.Stage.{Stage}
-use Rattle.planner.specs.declared.plan.Stage.the-variants.{Visit, Ended, Choose, Pop, Halt}
-use Rattle.planner.specs.declared.plan.Position.{Position}
-use Rattle.planner.specs.declared.plan.Frame.{Frame}
-use Rattle.planner.specs.declared.plan.Change.{Change}
-use Rattle.planner.specs.declared.plan.Change.the-variants.{Nothing, Schedule, ScheduleBriefly, Unschedule}
-use Rattle.planner.specs.declared.plan.Plan.{Plan}
+use Rattle.plan.specs.declared.Stage.{Stage}
+use Rattle.plan.specs.declared.Stage.the-variants.{Visit, Ended, Choose, Pop, Halt}
+use Rattle.plan.specs.declared.Position.{Position}
+use Rattle.plan.specs.declared.Frame.{Frame}
+use Rattle.plan.specs.declared.Change.{Change}
+use Rattle.plan.specs.declared.Change.the-variants.{Nothing, Schedule, ScheduleBriefly, Unschedule}
+use Rattle.plan.specs.declared.Plan.{Plan}
 use Rattle.build.specs.declared.search.Jump.{Jump}
 use Rattle.build.specs.declared.search.Jump.the-variants as search
-use Rattle.planner.specs.Plans.{frameOf, noFrame, framesOf, stateAt, changed, handled, scoped, within, kept, contextAfter, onward, applied}
-use Rattle.planner.specs.Planned.{NamedChange, entriesOnTop, deepest, Nested, Fitting}
-use Rattle.planner.specs.Jumps.{FoundBelow}
-use Rattle.planner.specs.Turn.{Resolves, Shown, inHand, FrameFits, StageFits, Ready, emitting, PlannedTurn}
-use Rattle.build.specs.Driver.{foundBy, Searches, visitedBlock, slot, isHalt, planEnds, startingAt, walkedBy, blockedBy, Reported}
+use Rattle.plan.specs.Plans.{frameOf, noFrame, framesOf, stateAt, changed, handled, scoped, within, kept, contextAfter, onward, applied}
+use Rattle.plan.specs.Planned.{NamedChange, entriesOnTop, deepest, Nested, Fitting}
+use Rattle.plan.specs.Turn.{Resolves, Shown, inHand, FrameFits, StageFits, Ready, emitting, PlannedTurn}
+use Rattle.build.specs.Driver.{foundBy, goalBy, Searches, visitedBlock, slot, isHalt, planEnds, startingAt, walkedBy, blockedBy, Reported}
 use Rattle.build.proofs.ApplyLaws.{emitted, withMarks, Whole, Changeable, Blocked, Applicable, Applied, marks}
 use Rattle.build.proofs.CheckedLaws.{checked-table}
 
@@ -100,6 +103,20 @@ frames-kept A n d false f deep next room = frames-within A n d next ∙ sym (fra
 kept-length : (A : List Frame) (n d : ℕ) (keep : Bool) (f : Frame) → (keep ≡ true → 1 ≤ d) → d ≤ deepest keep n → length (kept keep f d (framesOf A n)) ≡ d
 kept-length A n d true f deep next = let one : 1 ≤ d = deep refl in rw (frames-within A n (d - 1) (omega arith), frames-length A (d - 1)) (omega arith)
 kept-length A n d false f deep next = rw (frames-within A n d next) (frames-length A d)
+
+-- the blocks of the frames in use
+frame-or : (t : Table) (A : List Frame) (k n : ℕ) → getD A n noFrame .block < length (t .blocks) → (k < n → getD A k noFrame .block < length (t .blocks)) → k < suc n
+    → getD A k noFrame .block < length (t .blocks)
+frame-or t A k n last more l = by (eqb k n) refl
+  where
+    by : (y : Bool) → eqb k n ≡ y → getD A k noFrame .block < length (t .blocks)
+    by true e = rw (eqb-true k n e) last
+    by false e = let other : k ≡ n → ⊥ = eqb-false k n e in more (omega (arith, l, other))
+
+frames-each : (t : Table) (A : List Frame) (k n : ℕ) → invariant.Frames t (framesOf A n) → k < n → getD A k noFrame .block < length (t .blocks)
+unfolding framesOf
+frames-each t A k zero fs l = absurd (omega arith)
+frames-each t A k (suc n) fs l = frame-or t A k n (fs .0 .block) (λ h. frames-each t A k n (fs .1) h) l
 
 -- the frame in hand, and the frames below it
 abbrev restOf : List Frame → Stage → ℕ → List machine.Frame
@@ -184,9 +201,9 @@ no-rows Halt b F R m C = refl
 
 -- ---- what holds at each turn of the loop
 
-pub record Walking (w : List ℕ) (buffer : List ℕ) (cx : Context) (A : List Frame) (p : Position) : Type 0 where
+pub record Walking (rule : Rule) (w : List ℕ) (buffer : List ℕ) (cx : Context) (A : List Frame) (p : Position) : Type 0 where
   pub rows : List Row
-  pub going : Going (tableOf w) (stateOf p A rows cx)
+  pub going : Going rule (tableOf w) (stateOf p A rows cx)
   pub held : Holds buffer (p .rows) (pushed rows [])
   pub live : Live (p .stage) (p .depth)
   pub whole : Whole cx
@@ -212,12 +229,15 @@ scheduled-start cx e = ap (λ (C : definition.Context). length (C .scheduled)) e
 abbrev pub beyond : Frame
 beyond = record { block = 0; label = 0; entries = 0; left = 0; built = 0; count = 0; second = false }
 
--- what the search of the stack found
-pub found-jump : (w : List ℕ) (cx : Context) (p : Position) (jump : Jump) (found : Resolved) → (p .stage ≡ Visit → Searches w (cx .scheduled) (cx .«catch_handlers») (p .block) jump)
-    → ((visits : ℕ) → resolvedOf found ≡ foundBy jump (contextOf visits cx)) → p .stage ≡ Visit → Resolves (terminalAt (tableOf w) (p .block)) (contextOf (p .visits) cx) (resolvedOf found)
+-- where the jump goes
+pub found-jump : (rule : Rule) (w : List ℕ) (cx : Context) (A : List Frame) (p : Position) (jump : Jump) (aim : Aim)
+    → (p .stage ≡ Visit → Searches w (cx .scheduled) (cx .«catch_handlers») (p .block) jump)
+    → ((visits : ℕ) → aimOf aim ≡ goalBy jump (aroundOf rule (tableOf w) (framesOf A (p .depth))) (foundBy jump (contextOf visits cx)))
+    → p .stage ≡ Visit → Resolves (terminalAt (tableOf w) (p .block)) (aroundOf rule (tableOf w) (framesOf A (p .depth))) (contextOf (p .visits) cx) (aimOf aim)
 unfolding contextOf
-found-jump w cx p jump found S R e =
-    subst (λ (z : Option definition.Resolution). Resolves (terminalAt (tableOf w) (p .block)) (contextOf (p .visits) cx) z) (sym (R (p .visits))) (S e .resolves (contextOf (p .visits) cx) refl refl)
+found-jump rule w cx A p jump aim S R e =
+    subst (λ (z : Option Goal). Resolves (terminalAt (tableOf w) (p .block)) (aroundOf rule (tableOf w) (framesOf A (p .depth))) (contextOf (p .visits) cx) z)
+    (sym (R (p .visits))) (S e .resolves (aroundOf rule (tableOf w) (framesOf A (p .depth))) (contextOf (p .visits) cx) refl refl)
 
 -- its target is one of the 1,024 blocks, as every entry's is
 break-below : (entries : List Entry) (n b : ℕ) (top : Bool) (above : ℕ) → ((k : ℕ) → k < n → Named (getD entries k noEntry .target))
@@ -274,15 +294,15 @@ found-below cx search.Nothing (resolved.Found r) h e = absurd (none-some (sym (e
 found-below cx (search.Break b) (resolved.Found r) h e = break-below (cx .stack) (cx .len) b true 0 (h .bounded .named) (resolutionOf r) (sym (rw (h .settled) at (e 0)))
 found-below cx (search.Continue b) (resolved.Found r) h e = continue-below (cx .stack) (cx .len) b true 0 (h .bounded .named) (resolutionOf r) (sym (rw (h .settled) at (e 0)))
 
-module _ (w : List ℕ) (pr : Promise w) (ck : Checked (tableOf w)) where
+module _ (rule : Rule) (w : List ℕ) (pr : Promise w) (ck : Checked (tableOf w)) where
   -- where the loop begins
-  pub walking-start : (buffer : List ℕ) (cx : Context) (A : List Frame) (p : Position) → Created cx → length A ≡ 129 → p ≡ startingAt (entryWord w) → Walking w buffer cx A p
+  pub walking-start : (buffer : List ℕ) (cx : Context) (A : List Frame) (p : Position) → Created cx → length A ≡ 129 → p ≡ startingAt (entryWord w) → Walking rule w buffer cx A p
   unfolding framesOf pushed
   walking-start buffer cx A p new l q = rw q (record {
     rows = [];
     going =
-        subst (λ (C : definition.Context). Going (tableOf w) (visiting (entryWord w) [] [] 0 C)) (sym (new .context))
-        (subst (λ (b : ℕ). Going (tableOf w) (visiting b [] [] 0 definition.start)) entry-word (going-start (tableOf w) ck));
+        subst (λ (C : definition.Context). Going rule (tableOf w) (visiting (entryWord w) [] [] 0 C)) (sym (new .context))
+        (subst (λ (b : ℕ). Going rule (tableOf w) (visiting b [] [] 0 definition.start)) entry-word (going-start rule (tableOf w) ck));
     held = record { count = refl; rows = tt };
     live = tt;
     whole = record { settled = new .settled; bounded = new .bounded; wide = flags; tall = ap length (new .stack) ∙ length-replicate 1152 noEntry };
@@ -320,7 +340,7 @@ module _ (w : List ℕ) (pr : Promise w) (ck : Checked (tableOf w)) where
 
   -- ---- a turn
 
-  module _ (buffer : List ℕ) (cx : Context) (A : List Frame) (p : Position) (I : Walking w buffer cx A p) where
+  module _ (buffer : List ℕ) (cx : Context) (A : List Frame) (p : Position) (I : Walking rule w buffer cx A p) where
     abbrev C : definition.Context
     C = contextOf (p .visits) cx
 
@@ -350,10 +370,31 @@ module _ (w : List ℕ) (pr : Promise w) (ck : Checked (tableOf w)) where
     pub visit-below : p .stage ≡ Visit → p .block < blockCount w
     visit-below e = rw (← (length-blocks w)) (subst (λ (s : Stage). Sound (tableOf w) (stateAt s (p .block) (framesOf A (p .depth)) (I .rows) (p .count) C)) e (I .going .sound) .0)
 
-    module _ (f : Frame) (read : f ≡ getD A (p .depth - 1) noFrame) (found : Resolved) (buffer′ : List ℕ) (plan : Plan)
-        (T : PlannedTurn w (Shown w (cx .emitted) (cx .scheduled) (cx .«catch_handlers») (cx .«scope_fallthroughs») p found) p f buffer plan buffer′)
-        (J : p .stage ≡ Visit → Resolves (terminalAt (tableOf w) (p .block)) C (resolvedOf found)) where
-      shown : Shown w (cx .emitted) (cx .scheduled) (cx .«catch_handlers») (cx .«scope_fallthroughs») p found C
+    -- the frames' blocks, which a jump asks what they are
+    pub frame-block : (k : ℕ) → k < p .depth → getD A k noFrame .block < blockCount w
+    unfolding framesOf
+    frame-block k h = rw (← (length-blocks w)) (at (p .stage) (p .depth) (I .going .sound) (I .live) h)
+      where
+        at : (s : Stage) (n : ℕ) → Sound (tableOf w) (stateAt s (p .block) (framesOf A n) (I .rows) (p .count) C) → Live s n → k < n → getD A k noFrame .block < length (tableOf w .blocks)
+        at Visit n h v l = frames-each (tableOf w) A k n (h .1) l
+        at Ended n h v l = frames-each (tableOf w) A k n (h .0) l
+        at Choose zero h v l = absurd (omega arith)
+        at Choose (suc n) h v l = frame-or (tableOf w) A k n (h .1 .block) (λ l. frames-each (tableOf w) A k n (h .2) l) l
+        at Pop zero h v l = absurd (omega arith)
+        at Pop (suc n) h v l = frame-or (tableOf w) A k n (h .0 .block) (λ l. frames-each (tableOf w) A k n (h .1) l) l
+        at Halt n h v l = absurd v
+
+    -- one of them, as the code reads it
+    pub frame-at : (k : ℕ) → k < p .depth → getD A k beyond ≡ getD A k noFrame
+    frame-at k h = getD-any A k beyond noFrame (omega (arith, I .frames, shallow))
+
+    abbrev pub inside : Around
+    inside = aroundOf rule (tableOf w) (framesOf A (p .depth))
+
+    module _ (f : Frame) (read : f ≡ getD A (p .depth - 1) noFrame) (aim : Aim) (buffer′ : List ℕ) (plan : Plan)
+        (T : PlannedTurn w inside (Shown w (cx .emitted) (cx .scheduled) (cx .«catch_handlers») (cx .«scope_fallthroughs») p aim inside) p f buffer plan buffer′)
+        (J : p .stage ≡ Visit → Resolves (terminalAt (tableOf w) (p .block)) inside C (aimOf aim)) where
+      shown : Shown w (cx .emitted) (cx .scheduled) (cx .«catch_handlers») (cx .«scope_fallthroughs») p aim inside C
       unfolding contextOf
       shown = record { emitted = refl; scheduled = refl; handlers = refl; scopes = refl; visits = refl; wide = I .whole .wide; jump = J }
 
@@ -366,19 +407,19 @@ module _ (w : List ℕ) (pr : Promise w) (ck : Checked (tableOf w)) where
       entering : definition.Context
       entering = emitting (p .stage) (p .block) C
 
-      stepped : step (tableOf w) (stateOf p A (I .rows) cx) ≡ applied plan (framesOf A (p .depth)) after entering
+      stepped : step rule (tableOf w) (stateOf p A (I .rows) cx) ≡ applied plan (framesOf A (p .depth)) after entering
       unfolding after entering
       stepped =
-          subst (λ (F : List machine.Frame). step (tableOf w) (stateAt (p .stage) (p .block) F (I .rows) (p .count) C) ≡ applied plan F (I .rows ++ T .out)
+          subst (λ (F : List machine.Frame). step rule (tableOf w) (stateAt (p .stage) (p .block) F (I .rows) (p .count) C) ≡ applied plan F (I .rows ++ T .out)
           (emitting (p .stage) (p .block) C)) together
-          (T .same (restOf A (p .stage) (p .depth)) (I .rows) C (ap length together ∙ frames-length A (p .depth)) shown)
+          (T .same (restOf A (p .stage) (p .depth)) (I .rows) C (ap length together ∙ frames-length A (p .depth)) (ap (enclosings (tableOf w)) together) shown)
 
       -- a refusal
-      refused-report : (plan .code ≡ 0 → ⊥) → report (tableOf w) ≡ rejected (plan .code) (plan .at) (plan .position .visits)
+      refused-report : (plan .code ≡ 0 → ⊥) → report rule (tableOf w) ≡ rejected (plan .code) (plan .at) (plan .position .visits)
       unfolding applied
-      refused-report z = going-halt (tableOf w) (stateOf p A (I .rows) cx) _ (I .going) (stepped ∙ rw (ne-eqb (plan .code) 0 z, applied))
+      refused-report z = going-halt rule (tableOf w) (stateOf p A (I .rows) cx) _ (I .going) (stepped ∙ rw (ne-eqb (plan .code) 0 z, applied))
 
-      refused-reported : (plan .code ≡ 0 → ⊥) → Reported (report (tableOf w)) (walkedBy plan) buffer′
+      refused-reported : (plan .code ≡ 0 → ⊥) → Reported (report rule (tableOf w)) (walkedBy plan) buffer′
       refused-reported z = subst (λ (a : Report). Reported a (walkedBy plan) buffer′) (sym (refused-report z)) (refl, z, refl, refl)
 
       module _ (fine : plan .code ≡ 0) where
@@ -394,8 +435,8 @@ module _ (w : List ℕ) (pr : Promise w) (ck : Checked (tableOf w)) where
         rows-held = T .held fine (I .rows) (I .held)
 
         -- the end
-        accepted-report : isHalt (plan .position .stage) ≡ true → report (tableOf w) ≡ accepted after (plan .position .visits)
-        accepted-report z = going-halt (tableOf w) (stateOf p A (I .rows) cx) _ (I .going) (stepped ∙ ahead ∙ at (plan .position .stage) z)
+        accepted-report : isHalt (plan .position .stage) ≡ true → report rule (tableOf w) ≡ accepted after (plan .position .visits)
+        accepted-report z = going-halt rule (tableOf w) (stateOf p A (I .rows) cx) _ (I .going) (stepped ∙ ahead ∙ at (plan .position .stage) z)
           where
             at : (s : Stage) → isHalt s ≡ true → onward s plan (framesOf A (p .depth)) after (contextAfter plan entering) ≡ halt (accepted after (plan .position .visits))
             at Visit e = absurd (true-false (sym e))
@@ -404,7 +445,7 @@ module _ (w : List ℕ) (pr : Promise w) (ck : Checked (tableOf w)) where
             at Pop e = absurd (true-false (sym e))
             at Halt e = refl
 
-        accepted-reported : isHalt (plan .position .stage) ≡ true → Reported (report (tableOf w)) (walkedBy plan) buffer′
+        accepted-reported : isHalt (plan .position .stage) ≡ true → Reported (report rule (tableOf w)) (walkedBy plan) buffer′
         accepted-reported z = subst (λ (a : Report). Reported a (walkedBy plan) buffer′) (sym (accepted-report z)) (fine, refl, rows-held)
 
         -- the turn leads on
@@ -505,8 +546,8 @@ module _ (w : List ℕ) (pr : Promise w) (ck : Checked (tableOf w)) where
           -- ---- a change that is refused
 
           module _ (code at : ℕ) (E : Blocked (plan .change) (withMarks visited (plan .handler) (plan .scope) cx) code at) where
-            blocked-report : report (tableOf w) ≡ rejected code at (plan .position .visits)
-            blocked-report = going-halt (tableOf w) (stateOf p A (I .rows) cx) _ (I .going)
+            blocked-report : report rule (tableOf w) ≡ rejected code at (plan .position .visits)
+            blocked-report = going-halt rule (tableOf w) (stateOf p A (I .rows) cx) _ (I .going)
                 (stepped ∙ ahead ∙ ap (onward (plan .position .stage) plan (framesOf A (p .depth)) after) (marked-context ∙ E .context (plan .position .visits)) ∙ ends (plan .position .stage) on)
               where
                 ends : (s : Stage) → isHalt s ≡ false → onward s plan (framesOf A (p .depth)) after (refused code at (plan .position .visits)) ≡ halt (rejected code at (plan .position .visits))
@@ -516,7 +557,7 @@ module _ (w : List ℕ) (pr : Promise w) (ck : Checked (tableOf w)) where
                 ends Pop e = refl
                 ends Halt e = absurd (true-false e)
 
-            pub blocked-reported : Reported (report (tableOf w)) (blockedBy code at (plan .position)) buffer′
+            pub blocked-reported : Reported (report rule (tableOf w)) (blockedBy code at (plan .position)) buffer′
             blocked-reported = subst (λ (a : Report). Reported a (blockedBy code at (plan .position)) buffer′) (sym blocked-report) (refl, E .refuses, refl, refl)
 
           -- ---- and the next turn
@@ -528,7 +569,7 @@ module _ (w : List ℕ) (pr : Promise w) (ck : Checked (tableOf w)) where
             next : State
             next = stateAt (plan .position .stage) (plan .position .block) K after (plan .position .count) (contextOf (plan .position .visits) r)
 
-            leads : step (tableOf w) (stateOf p A (I .rows) cx) ≡ going next
+            leads : step rule (tableOf w) (stateOf p A (I .rows) cx) ≡ going next
             unfolding next K
             leads =
                 stepped ∙ ahead ∙ ap (onward (plan .position .stage) plan (framesOf A (p .depth)) after) (marked-context ∙ E .context (plan .position .visits))
@@ -553,18 +594,18 @@ module _ (w : List ℕ) (pr : Promise w) (ck : Checked (tableOf w)) where
                 at Pop e l = ap going (pop-same K (omega (arith, kept-deep)))
                 at Halt e l = absurd (true-false e)
 
-            next-going : Going (tableOf w) next
-            next-going = going-step (tableOf w) ck (stateOf p A (I .rows) cx) next (I .going) leads
+            next-going : Going rule (tableOf w) next
+            next-going = going-step rule (tableOf w) ck (stateOf p A (I .rows) cx) next (I .going) leads
 
             arrived : next ≡ stateOf (plan .position) A′ after r
             unfolding next K
             arrived = ap (λ (F : List machine.Frame). stateAt (plan .position .stage) (plan .position .block) F after (plan .position .count) (contextOf (plan .position .visits) r))
                 (frames-kept A (p .depth) (plan .position .depth) (plan .keep) (plan .frame) (fit .deep) (fit .next) (rw (I .frames) slot-below))
 
-            pub walking-again : Walking w buffer′ r A′ (plan .position)
+            pub walking-again : Walking rule w buffer′ r A′ (plan .position)
             walking-again = record {
               rows = after;
-              going = subst (λ (z : State). Going (tableOf w) z) arrived next-going;
+              going = subst (λ (z : State). Going rule (tableOf w) z) arrived next-going;
               held = rows-held;
               live = next-live;
               whole = E .whole;
@@ -573,7 +614,7 @@ module _ (w : List ℕ) (pr : Promise w) (ck : Checked (tableOf w)) where
 
             pub turns-lower : turnsLeft (plan .position) A′ r < turnsLeft p A cx
             turns-lower =
-                let lower : potential (stateOf (plan .position) A′ after r) < potential (stateOf p A (I .rows) cx) = going-lower (tableOf w) ck
+                let lower : potential (stateOf (plan .position) A′ after r) < potential (stateOf p A (I .rows) cx) = going-lower rule (tableOf w) ck
                 (stateOf p A (I .rows) cx) _ (I .going) (leads ∙ ap going arrived) in
                 omega (
                   arith,
@@ -584,26 +625,26 @@ module _ (w : List ℕ) (pr : Promise w) (ck : Checked (tableOf w)) where
 
 -- ---- a turn that is planned, in one piece
 
-pub record AtTurn (w buffer : List ℕ) (cx : Context) (A : List Frame) (p : Position) (buffer′ : List ℕ) (plan : Plan) : Type 0 where
+pub record AtTurn (rule : Rule) (w buffer : List ℕ) (cx : Context) (A : List Frame) (p : Position) (buffer′ : List ℕ) (plan : Plan) : Type 0 where
   pub promise : Promise w
-  pub walking : Walking w buffer cx A p
+  pub walking : Walking rule w buffer cx A p
   pub frame : Frame
   pub read : frame ≡ getD A (p .depth - 1) noFrame
-  pub found : Resolved
-  pub planned : PlannedTurn w (Shown w (cx .emitted) (cx .scheduled) (cx .«catch_handlers») (cx .«scope_fallthroughs») p found) p frame buffer plan buffer′
-  pub jump : p .stage ≡ Visit → Resolves (terminalAt (tableOf w) (p .block)) (contextOf (p .visits) cx) (resolvedOf found)
+  pub aim : Aim
+  pub planned : (around : Around) → PlannedTurn w around (Shown w (cx .emitted) (cx .scheduled) (cx .«catch_handlers») (cx .«scope_fallthroughs») p aim around) p frame buffer plan buffer′
+  pub jump : p .stage ≡ Visit → Resolves (terminalAt (tableOf w) (p .block)) (aroundOf rule (tableOf w) (framesOf A (p .depth))) (contextOf (p .visits) cx) (aimOf aim)
 
-module _ {w buffer : List ℕ} {cx : Context} {A : List Frame} {p : Position} {buffer′ : List ℕ} {plan : Plan} (t : AtTurn w buffer cx A p buffer′ plan) where
+module _ {rule : Rule} {w buffer : List ℕ} {cx : Context} {A : List Frame} {p : Position} {buffer′ : List ℕ} {plan : Plan} (t : AtTurn rule w buffer cx A p buffer′ plan) where
   ck : Checked (tableOf w)
   ck = checked-table w (t .promise)
 
   -- refused, or accepted
-  pub turn-ends : planEnds plan ≡ true → Reported (report (tableOf w)) (walkedBy plan) buffer′
+  pub turn-ends : planEnds plan ≡ true → Reported (report rule (tableOf w)) (walkedBy plan) buffer′
   turn-ends e = at (eqb (plan .code) 0) refl e
     where
-      at : (y : Bool) → eqb (plan .code) 0 ≡ y → elim y [ true ↦ isHalt (plan .position .stage) | false ↦ true ] ≡ true → Reported (report (tableOf w)) (walkedBy plan) buffer′
-      at true q h = accepted-reported w (t .promise) ck buffer cx A p (t .walking) (t .frame) (t .read) (t .found) buffer′ plan (t .planned) (t .jump) (eqb-true _ _ q) h
-      at false q h = refused-reported w (t .promise) ck buffer cx A p (t .walking) (t .frame) (t .read) (t .found) buffer′ plan (t .planned) (t .jump) (eqb-false _ _ q)
+      at : (y : Bool) → eqb (plan .code) 0 ≡ y → elim y [ true ↦ isHalt (plan .position .stage) | false ↦ true ] ≡ true → Reported (report rule (tableOf w)) (walkedBy plan) buffer′
+      at true q h = accepted-reported rule w (t .promise) ck buffer cx A p (t .walking) (t .frame) (t .read) (t .aim) buffer′ plan (t .planned _) (t .jump) (eqb-true _ _ q) h
+      at false q h = refused-reported rule w (t .promise) ck buffer cx A p (t .walking) (t .frame) (t .read) (t .aim) buffer′ plan (t .planned _) (t .jump) (eqb-false _ _ q)
 
   -- or the walk goes on
   module _ (on : planEnds plan ≡ false) where
@@ -615,18 +656,18 @@ module _ {w buffer : List ℕ} {cx : Context} {A : List Frame} {p : Position} {b
         at false q h = absurd (true-false h)
 
     pub turn-applicable : Applicable (visitedBlock (p .stage) (p .block)) plan cx
-    turn-applicable = applicable w (t .promise) ck buffer cx A p (t .walking) (t .frame) (t .read) (t .found) buffer′ plan (t .planned) (t .jump) (fine-on .0) (fine-on .1)
+    turn-applicable = applicable rule w (t .promise) ck buffer cx A p (t .walking) (t .frame) (t .read) (t .aim) buffer′ plan (t .planned _) (t .jump) (fine-on .0) (fine-on .1)
 
     pub turn-slot : slot (plan .keep) (plan .position .depth) < 129
-    turn-slot = slot-below w (t .promise) ck buffer cx A p (t .walking) (t .frame) (t .read) (t .found) buffer′ plan (t .planned) (t .jump) (fine-on .0) (fine-on .1)
+    turn-slot = slot-below rule w (t .promise) ck buffer cx A p (t .walking) (t .frame) (t .read) (t .aim) buffer′ plan (t .planned _) (t .jump) (fine-on .0) (fine-on .1)
 
     pub turn-blocked : {code at : ℕ} → Blocked (plan .change) (withMarks (visitedBlock (p .stage) (p .block)) (plan .handler) (plan .scope) cx) code at
-        → Reported (report (tableOf w)) (blockedBy code at (plan .position)) buffer′
-    turn-blocked {code} {at} E = blocked-reported w (t .promise) ck buffer cx A p (t .walking) (t .frame) (t .read) (t .found) buffer′ plan (t .planned) (t .jump) (fine-on .0) (fine-on .1) code at E
+        → Reported (report rule (tableOf w)) (blockedBy code at (plan .position)) buffer′
+    turn-blocked {code} {at} E = blocked-reported rule w (t .promise) ck buffer cx A p (t .walking) (t .frame) (t .read) (t .aim) buffer′ plan (t .planned _) (t .jump) (fine-on .0) (fine-on .1) code at E
 
     module _ {r : Context} (E : Applied (visitedBlock (p .stage) (p .block)) plan cx r) {i : ℕ} (stored : i ≡ slot (plan .keep) (plan .position .depth)) where
-      pub turn-again : Walking w buffer′ r (set A i (plan .frame)) (plan .position)
-      turn-again = rw stored (walking-again w (t .promise) ck buffer cx A p (t .walking) (t .frame) (t .read) (t .found) buffer′ plan (t .planned) (t .jump) (fine-on .0) (fine-on .1) r E)
+      pub turn-again : Walking rule w buffer′ r (set A i (plan .frame)) (plan .position)
+      turn-again = rw stored (walking-again rule w (t .promise) ck buffer cx A p (t .walking) (t .frame) (t .read) (t .aim) buffer′ plan (t .planned _) (t .jump) (fine-on .0) (fine-on .1) r E)
 
       pub turn-lower : turnsLeft (plan .position) (set A i (plan .frame)) r < turnsLeft p A cx
-      turn-lower = rw stored (turns-lower w (t .promise) ck buffer cx A p (t .walking) (t .frame) (t .read) (t .found) buffer′ plan (t .planned) (t .jump) (fine-on .0) (fine-on .1) r E)
+      turn-lower = rw stored (turns-lower rule w (t .promise) ck buffer cx A p (t .walking) (t .frame) (t .read) (t .aim) buffer′ plan (t .planned _) (t .jump) (fine-on .0) (fine-on .1) r E)

@@ -11,6 +11,7 @@ use Rattle.table.specs.Check as check
 use Rattle.table.specs.Table.{tableOf}
 use Rattle.table.specs.Answer.{codeOf, placeOf, isAccepted}
 use Rattle.definition.proofs.Steps.{true-false}
+use Rattle.definition.specs.Around.{Rule}
 use Rattle.definition.specs.Build.{Report, accepted, rejected, report, refusal, wordsOf, placed, outcomeOf, afterCheck, built}
 use Rattle.definition.specs.Build as definition
 use Rattle.definition.specs.Tree.{Row}
@@ -70,17 +71,17 @@ accepted-outcome walked buffer buffer′ z l e (rejected code at visits) h = abs
 
 -- ---- the whole
 
-pub unchecked-built : (words : List ℕ) (lent : ℕ) (o : definition.Outcome) (verdict : Verdict) → verdict ≡ checked words → isAccepted verdict ≡ false
-    → o ≡ refusal (codeOf verdict) (placeOf verdict) 0 0 lent → o ≡ built words lent
+pub unchecked-built : (rule : Rule) (words : List ℕ) (lent : ℕ) (o : definition.Outcome) (verdict : Verdict) → verdict ≡ checked words → isAccepted verdict ≡ false
+    → o ≡ refusal (codeOf verdict) (placeOf verdict) 0 0 lent → o ≡ built rule words lent
 unfolding built afterCheck
-unchecked-built words lent o check.accepted v z e = absurd (true-false z)
-unchecked-built words lent o (check.refused code at) v z e = rw (← v) e
+unchecked-built rule words lent o check.accepted v z e = absurd (true-false z)
+unchecked-built rule words lent o (check.refused code at) v z e = rw (← v) e
 
-pub checked-built : (words : List ℕ) (lent lent′ : ℕ) (o : definition.Outcome) (verdict : Verdict) → verdict ≡ checked words → isAccepted verdict ≡ true
-    → lent′ ≡ lent → o ≡ outcomeOf lent′ (report (tableOf words)) → o ≡ built words lent
+pub checked-built : (rule : Rule) (words : List ℕ) (lent lent′ : ℕ) (o : definition.Outcome) (verdict : Verdict) → verdict ≡ checked words → isAccepted verdict ≡ true
+    → lent′ ≡ lent → o ≡ outcomeOf lent′ (report rule (tableOf words)) → o ≡ built rule words lent
 unfolding built afterCheck
-checked-built words lent lent′ o check.accepted v z l e = rw (← v) (rw l at e)
-checked-built words lent lent′ o (check.refused code at) v z l e = absurd (true-false (sym z))
+checked-built rule words lent lent′ o check.accepted v z l e = rw (← v) (rw l at e)
+checked-built rule words lent lent′ o (check.refused code at) v z l e = absurd (true-false (sym z))
 
 pub accepted-checked : (words : List ℕ) (verdict : Verdict) → verdict ≡ checked words → isAccepted verdict ≡ true → checked words ≡ check.accepted
 accepted-checked words check.accepted v z = sym v

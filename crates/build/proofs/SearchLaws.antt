@@ -5,7 +5,8 @@ use mathlib.Core.Path.{_≡_, refl, sym, ap, _∙_, subst}
 use mathlib.Core.Bool.{Bool, true, false, _||_}
 use mathlib.Core.List.{List}
 use mathlib.Core.Option.{Option, none}
-use borrow.Author.Tests.{eqb-true, eqb-false}
+use lib.Dec.{eqb}
+use borrow.Author.Tests.{eq-eqb, ne-eqb, eqb-true, eqb-false}
 use Rattle.table.specs.Words.{blockCount, placeCount, caseCount, blockWord}
 use Rattle.table.specs.Promise.{Promise, InRange}
 use Rattle.table.specs.Table.{Terminal, absent, unreachable, throw, return, goto, if, branch, switch, do-while, while, for, for-of, for-in, logical, ternary}
@@ -14,6 +15,8 @@ use Rattle.table.proofs.RangeLaws.{in-range}
 use Rattle.table.proofs.BlockLaws.{end-by, code-at, goto-at, branch-at, try-variant}
 use Rattle.definition.specs.Context.{Flags, has, isScheduled, loopsOf, breakTargetFrom, continueTargetFrom, getBreakTarget, getContinueTarget}
 use Rattle.definition.specs.Context as definition
+use Rattle.definition.specs.Around.{Around}
+use Rattle.definition.specs.Goal.{Goal, breakGoal, continueGoal, goals}
 use Rattle.control.specs.declared.Context.{Context}
 use Rattle.control.specs.declared.Entry.{Entry}
 use Rattle.control.specs.Abstraction.{stackOf, contextOf}
@@ -21,32 +24,32 @@ use Rattle.control.proofs.SearchLaws.{lastTarget, break-none, break-found, brea
 use Rattle.build.specs.declared.search.Jump.{Jump}
 use Rattle.build.specs.declared.search.Jump.the-variants.{Nothing}
 use Rattle.build.specs.declared.search.Jump.the-variants as jump
-use Rattle.planner.specs.Turn.{Resolves}
+use Rattle.plan.specs.Turn.{Resolves}
 use Rattle.build.specs.Driver.{foundBy, searchedFrom, isMet, resolvedAt, Searches}
 
 -- a terminal that is no jump
-quiet : (e : Terminal) (cx : definition.Context) (found : Option definition.Resolution) → (codeOf e ≡ 4 → ⊥) → (codeOf e ≡ 6 → ⊥) → Resolves e cx found
-quiet absent cx found f g = tt
-quiet unreachable cx found f g = tt
-quiet (throw value) cx found f g = tt
-quiet (return value) cx found f g = tt
-quiet (goto target variant) cx found f g = absurd (f refl)
-quiet (if test consequent alternate fallthrough) cx found f g = tt
-quiet (branch test consequent alternate) cx found f g = absurd (g refl)
-quiet (switch test first number fallthrough) cx found f g = tt
-quiet (do-while loop test fallthrough) cx found f g = tt
-quiet (while test loop fallthrough) cx found f g = tt
-quiet (for init test update loop fallthrough) cx found f g = tt
-quiet (for-of init test loop fallthrough) cx found f g = tt
-quiet (for-in init loop fallthrough) cx found f g = tt
-quiet (logical operator test fallthrough) cx found f g = tt
-quiet (ternary test fallthrough) cx found f g = tt
-quiet (optional chain test fallthrough) cx found f g = tt
-quiet (label body fallthrough) cx found f g = tt
-quiet (sequence body fallthrough) cx found f g = tt
-quiet (maybe-throw continuation) cx found f g = tt
-quiet (try body handler fallthrough binding) cx found f g = tt
-quiet (scope pruned body fallthrough number) cx found f g = tt
+quiet : (e : Terminal) (around : Around) (cx : definition.Context) (aim : Option Goal) → (codeOf e ≡ 4 → ⊥) → (codeOf e ≡ 6 → ⊥) → Resolves e around cx aim
+quiet absent around cx aim f g = tt
+quiet unreachable around cx aim f g = tt
+quiet (throw value) around cx aim f g = tt
+quiet (return value) around cx aim f g = tt
+quiet (goto target variant) around cx aim f g = absurd (f refl)
+quiet (if test consequent alternate fallthrough) around cx aim f g = tt
+quiet (branch test consequent alternate) around cx aim f g = absurd (g refl)
+quiet (switch test first number fallthrough) around cx aim f g = tt
+quiet (do-while loop test fallthrough) around cx aim f g = tt
+quiet (while test loop fallthrough) around cx aim f g = tt
+quiet (for init test update loop fallthrough) around cx aim f g = tt
+quiet (for-of init test loop fallthrough) around cx aim f g = tt
+quiet (for-in init loop fallthrough) around cx aim f g = tt
+quiet (logical operator test fallthrough) around cx aim f g = tt
+quiet (ternary test fallthrough) around cx aim f g = tt
+quiet (optional chain test fallthrough) around cx aim f g = tt
+quiet (label body fallthrough) around cx aim f g = tt
+quiet (sequence body fallthrough) around cx aim f g = tt
+quiet (maybe-throw continuation) around cx aim f g = tt
+quiet (try body handler fallthrough binding) around cx aim f g = tt
+quiet (scope pruned body fallthrough number) around cx aim f g = tt
 
 module _ (w : List ℕ) (b : ℕ) (pr : Promise w) (below : b < blockCount w) where
   pub goto-target : blockWord w b 2 ≡ 4 → blockWord w b 3 < 1024
@@ -64,35 +67,41 @@ module _ (w : List ℕ) (b : ℕ) (pr : Promise w) (below : b < blockCount w) wh
 
 module _ (w : List ℕ) (S H : Flags) (b : ℕ) (pr : Promise w) (below : b < blockCount w) where
   pub no-jump : (blockWord w b 2 ≡ 4 → ⊥) → (blockWord w b 2 ≡ 6 → ⊥) → Searches w S H b Nothing
-  no-jump f g = record { resolves = λ cx s h. quiet (terminalAt (tableOf w) b) cx none (λ e. f (sym (code-at w b pr below) ∙ e)) (λ e. g (sym (code-at w b pr below) ∙ e)) }
+  no-jump f g = record { resolves = λ around cx s h. quiet (terminalAt (tableOf w) b) around cx none (λ e. f (sym (code-at w b pr below) ∙ e)) (λ e. g (sym (code-at w b pr below) ∙ e)) }
 
   -- ---- Goto
 
   module _ (code : blockWord w b 2 ≡ 4) where
     pub goto-breaks : (n : ℕ) → n ≡ blockWord w b 3 → blockWord w b 4 ≡ 0 → Searches w S H b (jump.Break n)
     unfolding variantOf
-    goto-breaks n s e = record { resolves = λ cx _ _. subst (λ (z : Terminal). Resolves z cx (getBreakTarget cx n)) (sym (goto-at w b below code Break (ap variantOf e))) (ap (getBreakTarget cx) s) }
+    goto-breaks n s e = record {
+      resolves = λ around cx _ _. subst (λ (z : Terminal). Resolves z around cx (goals (breakGoal around) (getBreakTarget cx n))) (sym (goto-at w b below code Break (ap variantOf e)))
+          (ap (λ (k : ℕ). goals (breakGoal around) (getBreakTarget cx k)) s);
+    }
 
     pub goto-continues : (n : ℕ) → n ≡ blockWord w b 3 → blockWord w b 4 ≡ 1 → Searches w S H b (jump.Continue n)
     unfolding variantOf
     goto-continues n s e =
         record {
-          resolves = λ cx _ _. subst (λ (z : Terminal). Resolves z cx (getContinueTarget cx n)) (sym
-              (goto-at w b below code Continue (ap variantOf e))) (ap (getContinueTarget cx) s);
+          resolves = λ around cx _ _. subst (λ (z : Terminal). Resolves z around cx (goals (continueGoal around) (getContinueTarget cx n)))
+              (sym (goto-at w b below code Continue (ap variantOf e))) (ap (λ (k : ℕ). goals (continueGoal around) (getContinueTarget cx k)) s);
         }
 
     pub goto-tries : (blockWord w b 4 ≡ 0 → ⊥) → (blockWord w b 4 ≡ 1 → ⊥) → Searches w S H b Nothing
-    goto-tries f g = record { resolves = λ cx _ _. subst (λ (z : Terminal). Resolves z cx none) (sym (goto-at w b below code Try (try-variant (blockWord w b 4) f g))) tt }
+    goto-tries f g = record { resolves = λ around cx _ _. subst (λ (z : Terminal). Resolves z around cx none) (sym (goto-at w b below code Try (try-variant (blockWord w b 4) f g))) tt }
 
   -- ---- Branch
 
   module _ (code : blockWord w b 2 ≡ 6) where
     pub branch-breaks : (n : ℕ) → n ≡ blockWord w b 4 → Searches w S H b (jump.Break n)
-    branch-breaks n s = record { resolves = λ cx _ _. subst (λ (z : Terminal). Resolves z cx (getBreakTarget cx n)) (sym (branch-at w b below code)) (λ _. ap (getBreakTarget cx) s) }
+    branch-breaks n s = record {
+      resolves = λ around cx _ _. subst (λ (z : Terminal). Resolves z around cx (goals (breakGoal around) (getBreakTarget cx n))) (sym (branch-at w b below code))
+          (λ _. ap (λ (k : ℕ). goals (breakGoal around) (getBreakTarget cx k)) s);
+    }
 
     pub branch-goes : has S (blockWord w b 4) || has H (blockWord w b 4) ≡ false → Searches w S H b Nothing
     unfolding isScheduled
-    branch-goes e = record { resolves = λ cx s h. subst (λ (z : Terminal). Resolves z cx none) (sym (branch-at w b below code)) (λ q. absurd (differ (sym q ∙ rw (s, h) e))) }
+    branch-goes e = record { resolves = λ around cx s h. subst (λ (z : Terminal). Resolves z around cx none) (sym (branch-at w b below code)) (λ q. absurd (differ (sym q ∙ rw (s, h) e))) }
       where
         differ : _≡_ {A = Bool} true false → ⊥
         differ e = let o : _≡_ {A = ℕ} 0 1 = ap (λ (y : Bool). elim y [ true ↦ 0 | false ↦ 1 ]) e in omega arith
@@ -104,33 +113,38 @@ foundAmong Nothing entries top loopsAbove = none
 foundAmong (jump.Break block) entries top loopsAbove = breakTargetFrom entries block top loopsAbove
 foundAmong (jump.Continue block) entries top loopsAbove = continueTargetFrom entries block top loopsAbove
 
--- the first so many entries give what all give
-pub record Searching (sought : Jump) (cx : Context) (at : ℕ) (top : Bool) (loopsAbove : ℕ) : Type 0 where
+-- the first so many entries give what all give; the innermost is the last of all
+pub record Searching (sought : Jump) (cx : Context) (at : ℕ) (loopsAbove : ℕ) : Type 0 where
   pub settled : cx .pending ≡ false
   pub within : loopsAbove + at ≤ cx .len
-  pub rest : foundAmong sought (stackOf (cx .stack) (cx .len)) true 0 ≡ foundAmong sought (stackOf (cx .stack) at) top loopsAbove
+  pub rest : foundAmong sought (stackOf (cx .stack) (cx .len)) true 0 ≡ foundAmong sought (stackOf (cx .stack) at) (eqb at (cx .len)) loopsAbove
 
-pub search-start : (sought : Jump) (cx : Context) (n : ℕ) → cx .pending ≡ false → n ≡ searchedFrom sought (cx .len) → Searching sought cx n true 0
+pub search-start : (sought : Jump) (cx : Context) (n : ℕ) → cx .pending ≡ false → n ≡ searchedFrom sought (cx .len) → Searching sought cx n 0
 search-start Nothing cx n s e = record { settled = s; within = omega (arith, e); rest = refl }
-search-start (jump.Break b) cx n s e = record { settled = s; within = omega (arith, e); rest = rw e refl }
-search-start (jump.Continue b) cx n s e = record { settled = s; within = omega (arith, e); rest = rw e refl }
+search-start (jump.Break b) cx n s e = record { settled = s; within = omega (arith, e); rest = rw (eq-eqb n (cx .len) e, e) refl }
+search-start (jump.Continue b) cx n s e = record { settled = s; within = omega (arith, e); rest = rw (eq-eqb n (cx .len) e, e) refl }
 
-module _ (cx : Context) (at : ℕ) (top : Bool) (above : ℕ) where
+module _ (cx : Context) (at : ℕ) (above : ℕ) where
+  below-top : (sought : Jump) → Searching sought cx at above → (at ≡ 0 → ⊥) → eqb (at - 1) (cx .len) ≡ false
+  below-top sought h f = ne-eqb (at - 1) (cx .len) (λ (q : at - 1 ≡ cx .len). omega (arith, h .within, f, q))
+
   -- one entry further down, with the loops counted
-  pub search-on : {counted : ℕ} (sought : Jump) → Searching sought cx at top above → (at ≡ 0 → ⊥) → isMet sought (lastTarget (cx .stack) at) ≡ false
-      → (counted ≡ loopsOf (lastTarget (cx .stack) at) + above) × (counted ≤ above + 1) → Searching sought cx (at - 1) false counted
+  pub search-on : {counted : ℕ} (sought : Jump) → Searching sought cx at above → (at ≡ 0 → ⊥) → isMet sought (lastTarget (cx .stack) at) ≡ false
+      → (counted ≡ loopsOf (lastTarget (cx .stack) at) + above) × (counted ≤ above + 1) → Searching sought cx (at - 1) counted
   search-on Nothing h f m (e, one) = record { settled = h .settled; within = omega (arith, h .within, one); rest = refl }
-  search-on (jump.Break b) h f m (e, one) = record { settled = h .settled; within = omega (arith, h .within, one); rest = h .rest ∙ rw e (break-missed _ _ _ _ _ f (eqb-false _ _ m)) }
-  search-on (jump.Continue b) h f m (e, one) = record { settled = h .settled; within = omega (arith, h .within, one); rest = h .rest ∙ rw e (continue-missed _ _ _ _ _ f m) }
+  search-on (jump.Break b) h f m (e, one) =
+      record { settled = h .settled; within = omega (arith, h .within, one); rest = h .rest ∙ rw (e, below-top _ h f) (break-missed _ _ _ _ _ f (eqb-false _ _ m)) }
+  search-on (jump.Continue b) h f m (e, one) =
+      record { settled = h .settled; within = omega (arith, h .within, one); rest = h .rest ∙ rw (e, below-top _ h f) (continue-missed _ _ _ _ _ f m) }
 
-  pub search-none : (sought : Jump) → Searching sought cx at top above → at ≡ 0 → (visits : ℕ) → none ≡ foundBy sought (contextOf visits cx)
+  pub search-none : (sought : Jump) → Searching sought cx at above → at ≡ 0 → (visits : ℕ) → none ≡ foundBy sought (contextOf visits cx)
   unfolding getBreakTarget getContinueTarget contextOf
   search-none Nothing h e visits = refl
   search-none (jump.Break b) h e visits = rw (h .settled) (sym (h .rest ∙ break-none _ _ _ _ _ e))
   search-none (jump.Continue b) h e visits = rw (h .settled) (sym (h .rest ∙ continue-none _ _ _ _ _ e))
 
-  pub search-found : (sought : Jump) → Searching sought cx at top above → (at ≡ 0 → ⊥) → isMet sought (lastTarget (cx .stack) at) ≡ true → (visits : ℕ)
-      → resolvedAt sought (lastTarget (cx .stack) at) top above ≡ foundBy sought (contextOf visits cx)
+  pub search-found : (sought : Jump) → Searching sought cx at above → (at ≡ 0 → ⊥) → isMet sought (lastTarget (cx .stack) at) ≡ true → (visits : ℕ)
+      → resolvedAt sought (lastTarget (cx .stack) at) (eqb at (cx .len)) above ≡ foundBy sought (contextOf visits cx)
   unfolding getBreakTarget getContinueTarget contextOf
   search-found Nothing h f m visits = refl
   search-found (jump.Break b) h f m visits = rw (h .settled) (sym (h .rest ∙ break-found _ _ _ _ _ f (eqb-true _ _ m)))

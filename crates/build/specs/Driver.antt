@@ -9,15 +9,18 @@ use Rattle.table.specs.Table.{Break, Continue, tableOf, terminalAt}
 use Rattle.definition.specs.Build.{Report, accepted, rejected}
 use Rattle.definition.specs.Context.{Flags, add, targetBlock, continuesAt, getBreakTarget, getContinueTarget}
 use Rattle.definition.specs.Context as definition
+use Rattle.definition.specs.Around.{Rule, Around}
+use Rattle.definition.specs.Survey.{Survey}
+use Rattle.definition.specs.Goal.{Goal, breakGoal, continueGoal, goals, surveyedBreak, surveyedContinue}
 use Rattle.control.specs.declared.Context.{Context}
 use Rattle.control.specs.Contract.{breakTo, continueTo}
 use Rattle.rows.specs.Rows.{Holds}
 use Rattle.rows.specs.Stack.{pushed}
-use Rattle.planner.specs.Turn.{Resolves}
-use Rattle.planner.specs.declared.plan.Stage.{Stage}
-use Rattle.planner.specs.declared.plan.Stage.the-variants.{Visit, Ended, Choose, Pop, Halt}
-use Rattle.planner.specs.declared.plan.Position.{Position}
-use Rattle.planner.specs.declared.plan.Plan.{Plan}
+use Rattle.plan.specs.Turn.{Resolves}
+use Rattle.plan.specs.declared.Stage.{Stage}
+use Rattle.plan.specs.declared.Stage.the-variants.{Visit, Ended, Choose, Pop, Halt}
+use Rattle.plan.specs.declared.Position.{Position}
+use Rattle.plan.specs.declared.Plan.{Plan}
 use Rattle.build.specs.declared.search.Jump.{Jump}
 use Rattle.build.specs.declared.search.Jump.the-variants.{Nothing}
 use Rattle.build.specs.declared.search.Jump.the-variants as jump
@@ -46,9 +49,20 @@ resolvedAt Nothing found top loopsAbove = none
 resolvedAt (jump.Break block) found top loopsAbove = some (breakTo found top loopsAbove)
 resolvedAt (jump.Continue block) found top loopsAbove = some (continueTo found top loopsAbove)
 
+-- where the jump goes, by what is around; and the same from what a pass over it has seen
+abbrev pub goalBy : Jump → Around → Option definition.Resolution → Option Goal
+goalBy Nothing around found = none
+goalBy (jump.Break block) around found = goals (breakGoal around) found
+goalBy (jump.Continue block) around found = goals (continueGoal around) found
+
+abbrev pub surveyedBy : Jump → Rule → Survey → Option definition.Resolution → Option Goal
+surveyedBy Nothing rule seen found = none
+surveyedBy (jump.Break block) rule seen found = goals (surveyedBreak rule seen) found
+surveyedBy (jump.Continue block) rule seen found = goals (surveyedContinue rule seen) found
+
 -- a search that finds what the block's terminal looks for
 pub record Searches (words : List ℕ) (scheduledSet handlerSet : Flags) (block : ℕ) (found : Jump) : Type 0 where
-  pub resolves : (cx : definition.Context) → cx .scheduled ≡ scheduledSet → cx .catchHandlers ≡ handlerSet → Resolves (terminalAt (tableOf words) block) cx (foundBy found cx)
+  pub resolves : (around : Around) (cx : definition.Context) → cx .scheduled ≡ scheduledSet → cx .catchHandlers ≡ handlerSet → Resolves (terminalAt (tableOf words) block) around cx (goalBy found around (foundBy found cx))
 
 -- ---- a plan
 

@@ -1,4 +1,5 @@
 // The loop over the Context by value and the frames: each turn is planned, and its plan applied.
+use crate::search::aim_at;
 use crate::search::jump_at;
 use crate::search::meets;
 use crate::search::resolve;
@@ -8,14 +9,20 @@ use control::ControlFlowTarget;
 use control::Resolved;
 use control::count_loop;
 use control::insert;
-use planner::fallthrough::narrow;
-use planner::plan::Change;
-use planner::plan::NONE;
-use planner::plan::Plan;
-use planner::plan::Position;
-use planner::plan::Stage;
-use planner::plan::no_frame;
+use plan::Change;
+use plan::NONE;
+use plan::Plan;
+use plan::Position;
+use plan::Stage;
+use plan::fallthrough::narrow;
+use plan::no_frame;
 use planner::turn::plan_turn;
+use survey::Rule;
+use survey::asks;
+use survey::pass;
+use survey::pass_from;
+use survey::target_of;
+use survey::unseen;
 use table::words::entry;
 ghost use mathlib.Core.Path.{_≡_};
 ghost use Prim.Native.Nat.{_-_};
@@ -26,6 +33,7 @@ ghost use Rattle.definition.specs.Build.{report};
 ghost use Rattle.definition.specs.Framed.{Below};
 ghost use Rattle.definition.specs.Context.{blockAsked};
 ghost use Rattle.control.specs.Abstraction.{targetOf};
+ghost use Rattle.survey.specs.Abstraction.{ruleOf};
 ghost use Rattle.build.specs.Driver.{visitedBlock, marked, startingAt, planEnds, isHalt, slot, walkedBy, blockedBy, Reported};
 
 // Where the walk ended: a refusal, or the rows that are out.
@@ -142,10 +150,11 @@ fn frame_slot(keep: bool, depth: u32) -> usize
 }
 
 // The one function over 40 lines: a function that is handed the Context by value and indexes its entries copies it, 18 KB a turn (docs/PERFORMANCE.md).
-// So the search of the stack (the Rust's `get_break_target` and `get_continue_target`) and the plan's change stand in the loop, each method called once.
-pub fn walk(words: &[u32], tree: &mut [u32]) -> Walked
+// So the search of the stack (the Rust's `get_break_target` and `get_continue_target`), the pass over the frames (M-102, in the language entry alone) and the
+// plan's change stand in the loop, each method called once.
+pub fn walk(rule: Rule, words: &[u32], tree: &mut [u32]) -> Walked
     requires { ⌜ Promise (now words) ⌝ }
-    ensures { λ r. ⌜ Reported (report (tableOf (now (words .entry)))) r (now (tree .exit)) ⌝ }
+    ensures { λ r. ⌜ Reported (report (ruleOf rule) (tableOf (now (words .entry)))) r (now (tree .exit)) ⌝ }
 {
     let mut cx = Context::new();
     let none = no_frame();
@@ -155,12 +164,12 @@ pub fn walk(words: &[u32], tree: &mut [u32]) -> Walked
         let frame = frames[innermost(p.depth)];
         let jump = jump_at(words, &cx.scheduled, &cx.catch_handlers, p);
         let mut at = search_from(jump, cx.len);
-        let mut top = true;
         let mut loops: u32 = 0;
-        let resolved = loop {
+        let found = loop {
             if at == 0 {
                 break Resolved::Nothing;
             }
+            let top = at == cx.len;
             at -= 1;
             let entry = cx.stack[at];
             let target = entry.target;
@@ -168,8 +177,16 @@ pub fn walk(words: &[u32], tree: &mut [u32]) -> Walked
                 break resolve(jump, entry, top, loops);
             }
             loops = count_loop(loops, target);
-            top = false;
         };
+        let target = target_of(found);
+        let mut left = pass_from(asks(rule, found), p.depth);
+        let mut seen = unseen(found);
+        while left > 0 {
+            left -= 1;
+            let around = frames[left];
+            seen = pass(words, target, around.block, around.label, seen);
+        }
+        let aim = aim_at(rule, jump, found, seen);
         let plan = plan_turn(
             words,
             tree,
@@ -179,7 +196,7 @@ pub fn walk(words: &[u32], tree: &mut [u32]) -> Walked
             &cx.scope_fallthroughs,
             p,
             frame,
-            resolved,
+            aim,
         );
         if ends(plan) {
             return answer(plan);

@@ -2,10 +2,13 @@
 use crate::driver::Walked;
 use crate::driver::walk;
 use rows::clear;
+use survey::Rule;
 use table::check;
 ghost use mathlib.Core.Path.{_≡_};
 ghost use lib.ListN.{length};
+ghost use Rattle.definition.specs.Around.{rust, language};
 ghost use Rattle.definition.specs.Build.{Report, refusal, outcomeOf, built};
+ghost use Rattle.survey.specs.Abstraction.{ruleOf};
 ghost use Rattle.build.specs.Driver.{Reported};
 ghost use Rattle.build.specs.Entry.{outcome};
 
@@ -53,15 +56,29 @@ fn finish(tree: &mut [u32], walked: Walked) -> Outcome
     }
 }
 
-pub fn build_reactive_function(words: &[u32], tree: &mut [u32]) -> Outcome
-    ensures { λ r. ⌜ outcome r (now (tree .exit)) ≡ built (now (words .entry)) (length (now (tree .entry))) ⌝ }
+// By either entry's rule.
+pub fn build(rule: Rule, words: &[u32], tree: &mut [u32]) -> Outcome
+    ensures { λ r. ⌜ outcome r (now (tree .exit)) ≡ built (ruleOf rule) (now (words .entry)) (length (now (tree .entry))) ⌝ }
 {
     let checked = check(words);
     if checked.is_accepted() {
-        let walked = walk(words, tree);
+        let walked = walk(rule, words, tree);
         return finish(tree, walked);
     }
     refuse(tree, checked.code(), checked.place(), 0, 0)
+}
+
+pub fn build_reactive_function(words: &[u32], tree: &mut [u32]) -> Outcome
+    ensures { λ r. ⌜ outcome r (now (tree .exit)) ≡ built rust (now (words .entry)) (length (now (tree .entry))) ⌝ }
+{
+    build(Rule::Rust, words, tree)
+}
+
+// M-102, the language entry: a break leaves the nearest loop or switch, and a label that a jump names is there, or 29.
+pub fn build_language(words: &[u32], tree: &mut [u32]) -> Outcome
+    ensures { λ r. ⌜ outcome r (now (tree .exit)) ≡ built language (now (words .entry)) (length (now (tree .entry))) ⌝ }
+{
+    build(Rule::Language, words, tree)
 }
 
 // The same for callers in C or Rust: the code, and the other three words by reference.
@@ -73,9 +90,26 @@ pub extern "C" fn reactive_build(
     rows: &mut u32,
     visits: &mut u32,
 ) -> u32
-    ensures { λ r. ⌜ record { code = r; at = now (at .exit); rows = now (rows .exit); visits = now (visits .exit); buffer = now (tree .exit) } ≡ built (now (words .entry)) (length (now (tree .entry))) ⌝ }
+    ensures { λ r. ⌜ record { code = r; at = now (at .exit); rows = now (rows .exit); visits = now (visits .exit); buffer = now (tree .exit) } ≡ built rust (now (words .entry)) (length (now (tree .entry))) ⌝ }
 {
     let built = build_reactive_function(words, tree);
+    *at = built.at;
+    *rows = built.rows;
+    *visits = built.visits;
+    built.code
+}
+
+#[no_mangle]
+pub extern "C" fn reactive_build_language(
+    words: &[u32],
+    tree: &mut [u32],
+    at: &mut u32,
+    rows: &mut u32,
+    visits: &mut u32,
+) -> u32
+    ensures { λ r. ⌜ record { code = r; at = now (at .exit); rows = now (rows .exit); visits = now (visits .exit); buffer = now (tree .exit) } ≡ built language (now (words .entry)) (length (now (tree .entry))) ⌝ }
+{
+    let built = build_language(words, tree);
     *at = built.at;
     *rows = built.rows;
     *visits = built.visits;

@@ -1,22 +1,30 @@
-// What a block's jump looks for on the stack, and what it finds at an entry. The driver searches before a turn is planned: a planner does not see the stack.
+// What a block's jump looks for on the stack, what it finds at an entry, and where it goes. The driver searches before a turn is planned: a planner sees
+// neither the stack nor the statements around.
 use control::ControlFlowTarget;
 use control::Entry;
 use control::Resolved;
 use control::break_to;
 use control::continue_to;
-use planner::fallthrough::narrow;
-use planner::fallthrough::scheduled_at;
-use planner::plan::Position;
-use planner::plan::Stage;
+use plan::Position;
+use plan::Stage;
+use plan::fallthrough::narrow;
+use plan::fallthrough::scheduled_at;
+use survey::Aim;
+use survey::Rule;
+use survey::Survey;
+use survey::break_goal;
+use survey::continue_goal;
 use table::words::block_word;
 ghost use mathlib.Core.Path.{_≡_};
 ghost use Prim.Native.Nat.{_<_};
 ghost use Rattle.table.specs.Words.{blockCount, blockWord};
 ghost use Rattle.table.specs.Promise.{Promise};
 ghost use Rattle.definition.specs.Context.{Flags};
+ghost use Rattle.definition.specs.Goal.{goals, surveyedBreak, surveyedContinue};
 ghost use Rattle.control.specs.Abstraction.{targetOf, resolvedOf};
-ghost use Rattle.planner.specs.declared.plan.Stage.the-variants.{Visit};
-ghost use Rattle.build.specs.Driver.{searchedFrom, isMet, resolvedAt, Searches};
+ghost use Rattle.survey.specs.Abstraction.{ruleOf, surveyOf, aimOf};
+ghost use Rattle.plan.specs.declared.Stage.the-variants.{Visit};
+ghost use Rattle.build.specs.Driver.{searchedFrom, isMet, resolvedAt, surveyedBy, Searches};
 
 pub enum Jump {
     Nothing,
@@ -54,6 +62,35 @@ pub fn resolve(jump: Jump, found: Entry, top: bool, loops: u32) -> Resolved
         Jump::Nothing => Resolved::Nothing,
         Jump::Break(_) => Resolved::Found(break_to(found, top, loops)),
         Jump::Continue(_) => Resolved::Found(continue_to(found, top, loops)),
+    }
+}
+
+fn break_aim(rule: Rule, found: Resolved, seen: Survey) -> Aim
+    ensures { λ r. ⌜ aimOf r ≡ goals (surveyedBreak (ruleOf rule) (surveyOf seen)) (resolvedOf found) ⌝ }
+{
+    match found {
+        Resolved::Nothing => Aim::Nothing,
+        Resolved::Found(resolution) => Aim::At(break_goal(rule, resolution, seen)),
+    }
+}
+
+fn continue_aim(rule: Rule, found: Resolved, seen: Survey) -> Aim
+    ensures { λ r. ⌜ aimOf r ≡ goals (surveyedContinue (ruleOf rule) (surveyOf seen)) (resolvedOf found) ⌝ }
+{
+    match found {
+        Resolved::Nothing => Aim::Nothing,
+        Resolved::Found(resolution) => Aim::At(continue_goal(rule, resolution, seen)),
+    }
+}
+
+// Where the jump goes, by what was seen of the statements around.
+pub fn aim_at(rule: Rule, jump: Jump, found: Resolved, seen: Survey) -> Aim
+    ensures { λ r. ⌜ aimOf r ≡ surveyedBy jump (ruleOf rule) (surveyOf seen) (resolvedOf found) ⌝ }
+{
+    match jump {
+        Jump::Nothing => Aim::Nothing,
+        Jump::Break(_) => break_aim(rule, found, seen),
+        Jump::Continue(_) => continue_aim(rule, found, seen),
     }
 }
 

@@ -10,6 +10,7 @@ use Rattle.table.specs.Check.{Verdict, checked}
 use Rattle.table.specs.Check as check
 use Rattle.table.specs.Table.{tableOf}
 use Rattle.definition.specs.Tree.{Row, row, rows}
+use Rattle.definition.specs.Around.{Rule}
 use Rattle.definition.specs.Result.{Result, ok, refused}
 use Rattle.definition.specs.Statement.{BlockResult, buildTree}
 use Rattle.definition.specs.Build.{Outcome, refusal, wordsOf, placed, reported, report, outcomeOf, afterCheck, built}
@@ -17,12 +18,12 @@ use Rattle.definition.proofs.Steps.{ofPaper}
 use Rattle.definition.proofs.Never.{never}
 use Rattle.definition.proofs.Checked.{ofCheck, Coded, coded}
 
-pub record Accepted (words : List ℕ) (lent : ℕ) : Type 0 where
+pub record Accepted (rule : Rule) (words : List ℕ) (lent : ℕ) : Type 0 where
   pub root : BlockResult
   pub checks : checked words ≡ check.accepted
-  pub builds : buildTree (tableOf words) ≡ ok root
-  pub number : built words lent .rows ≡ length (rows (root .statements))
-  pub held : built words lent .buffer ≡ wordsOf (rows (root .statements)) ++ replicate (lent - length (rows (root .statements)) * 6) 0
+  pub builds : buildTree rule (tableOf words) ≡ ok root
+  pub number : built rule words lent .rows ≡ length (rows (root .statements))
+  pub held : built rule words lent .buffer ≡ wordsOf (rows (root .statements)) ++ replicate (lent - length (rows (root .statements)) * 6) 0
 
 -- no refusal has the code 0
 not-zero : (code : ℕ) → T (ofCheck code) → code ≡ 0 → ⊥
@@ -34,10 +35,10 @@ of-paper-zero code h e = subst (λ (n : ℕ). T (ofPaper n)) e h
 forty-zero : _≡_ {A = ℕ} 40 0 → ⊥
 forty-zero e = omega (arith, e)
 
-module _ (words : List ℕ) (lent : ℕ) where
-  placed-of : (root : BlockResult) (fits : Bool) → checked words ≡ check.accepted → buildTree (tableOf words) ≡ ok root
-      → leb (length (rows (root .statements))) (lent / 6) ≡ fits → built words lent ≡ placed lent (rows (root .statements)) (root .context .visits) → built words lent .code ≡ 0
-      → Accepted words lent
+module _ (rule : Rule) (words : List ℕ) (lent : ℕ) where
+  placed-of : (root : BlockResult) (fits : Bool) → checked words ≡ check.accepted → buildTree rule (tableOf words) ≡ ok root
+      → leb (length (rows (root .statements))) (lent / 6) ≡ fits → built rule words lent ≡ placed lent (rows (root .statements)) (root .context .visits) → built rule words lent .code ≡ 0
+      → Accepted rule words lent
   unfolding placed refusal
   placed-of root true c b f o h = record {
     root = root;
@@ -61,18 +62,19 @@ module _ (words : List ℕ) (lent : ℕ) where
       full : placed lent list (root .context .visits) ≡ refusal 40 0 (length list) (root .context .visits) lent
       full = rw (f, placed)
 
-  built-of : (result : Result BlockResult) → checked words ≡ check.accepted → buildTree (tableOf words) ≡ result → built words lent ≡ outcomeOf lent (reported result) → built words lent .code ≡ 0
-      → Accepted words lent
+  built-of : (result : Result BlockResult) → checked words ≡ check.accepted → buildTree rule (tableOf words) ≡ result
+      → built rule words lent ≡ outcomeOf lent (reported result) → built rule words lent .code ≡ 0
+      → Accepted rule words lent
   unfolding outcomeOf reported refusal
   built-of (ok root) c b o h = placed-of root (leb (length (rows (root .statements))) (lent / 6)) c b refl o h
-  built-of (refused code at visits) c b o h = absurd (of-paper-zero code (never (tableOf words) code at visits b) (sym (ap (λ (z : Outcome). z .code) o) ∙ h))
+  built-of (refused code at visits) c b o h = absurd (of-paper-zero code (never rule (tableOf words) code at visits b) (sym (ap (λ (z : Outcome). z .code) o) ∙ h))
 
-  checked-of : (verdict : Verdict) → checked words ≡ verdict → built words lent ≡ afterCheck lent verdict words → built words lent .code ≡ 0 → Accepted words lent
+  checked-of : (verdict : Verdict) → checked words ≡ verdict → built rule words lent ≡ afterCheck rule lent verdict words → built rule words lent .code ≡ 0 → Accepted rule words lent
   unfolding afterCheck refusal report
-  checked-of check.accepted c o h = built-of (buildTree (tableOf words)) c refl o h
+  checked-of check.accepted c o h = built-of (buildTree rule (tableOf words)) c refl o h
   checked-of (check.refused code at) c o h = absurd (not-zero code (subst Coded c (coded words)) (sym (ap (λ (z : Outcome). z .code) o) ∙ h))
 
-  pub accepted-of : built words lent .code ≡ 0 → Accepted words lent
+  pub accepted-of : built rule words lent .code ≡ 0 → Accepted rule words lent
   unfolding built
   accepted-of h = checked-of (checked words) refl refl h
 
@@ -88,10 +90,11 @@ take-front [] ys n e = ap (λ (k : ℕ). take k ys) (sym e)
 take-front (x ∷ xs) ys zero e = absurd (omega (arith, e))
 take-front (x ∷ xs) ys (suc n) e = ap (λ (z : List ℕ). x ∷ z) (take-front xs ys n (omega (arith, e)))
 
-pub rows-of-buffer : (words : List ℕ) (lent : ℕ) (a : Accepted words lent) → take (built words lent .rows * 6) (built words lent .buffer) ≡ wordsOf (rows (a .root .statements))
-rows-of-buffer words lent a =
-    ap (λ (z : List ℕ). take (built words lent .rows * 6) z) (a .held)
-    ∙ take-front (wordsOf (rows (a .root .statements))) _ (built words lent .rows * 6) (omega (arith, words-length (rows (a .root .statements)), a .number))
+pub rows-of-buffer : (rule : Rule) (words : List ℕ) (lent : ℕ) (a : Accepted rule words lent)
+    → take (built rule words lent .rows * 6) (built rule words lent .buffer) ≡ wordsOf (rows (a .root .statements))
+rows-of-buffer rule words lent a =
+    ap (λ (z : List ℕ). take (built rule words lent .rows * 6) z) (a .held)
+    ∙ take-front (wordsOf (rows (a .root .statements))) _ (built rule words lent .rows * 6) (omega (arith, words-length (rows (a .root .statements)), a .number))
 
 nil-cons : {x : ℕ} {xs : List ℕ} → [] ≡ x ∷ xs → ⊥
 nil-cons e = let z : _≡_ {A = ℕ} 0 1 = cc in omega arith

@@ -12,6 +12,7 @@ use Rattle.definition.specs.Result.{Result, refused, _>>=_, refuseIf}
 use Rattle.definition.specs.Tree.{Statement}
 use Rattle.definition.specs.Context.{Context, emit, withVisits}
 use Rattle.definition.specs.Value.{mostVisits, beginVisit, visitValueBlock}
+use Rattle.definition.specs.Around.{Around}
 use Rattle.definition.specs.Statement.{TraverseBlock, TerminalResult, enterBlock, visitTerminal, thenNext, visitBlock, traverseBlock}
 use Rattle.definition.proofs.Steps.{Good, good-bind, good-unless, good-same, counted-good, fine-good}
 use Rattle.definition.proofs.ValueWalk.{begin-visit-took}
@@ -34,12 +35,12 @@ enter-more t block cx =
 abbrev Least : ℕ → ℕ → Type 0
 Least low visits = low ≤ visits
 
-module _ (t : Table) (depthLeft : ℕ) where
+module _ (t : Table) (around : Around) (depthLeft : ℕ) where
   unfoldable blocks : ℕ → TraverseBlock
-  blocks n = visitBlock t (visitValueBlock t depthLeft) (traverseBlock t depthLeft) n
+  blocks n = visitBlock t (visitValueBlock t depthLeft) (traverseBlock t depthLeft) around n
 
   unfoldable terminal : (block : ℕ) → Context → Result TerminalResult
-  terminal block cx = visitTerminal t (visitValueBlock t depthLeft) (traverseBlock t depthLeft) (terminalAt t block) block (blockAt t block) cx
+  terminal block cx = visitTerminal t (visitValueBlock t depthLeft) (traverseBlock t depthLeft) around (terminalAt t block) block (blockAt t block) cx
 
   next-same : (at : ℕ) (statement : Option Statement) (next : Option ℕ) (cx : Context) (f g : TraverseBlock) → ((block : ℕ) → f block cx ≡ g block cx)
       → thenNext t at f statement next cx ≡ thenNext t at g statement next cx
@@ -53,7 +54,7 @@ module _ (t : Table) (depthLeft : ℕ) where
   terminal-more block cx low h =
       counted-good (Least low) (λ (r : TerminalResult). r .context .visits) (terminal block cx)
       (terminal-counted (Least low) (λ _ _ h. omega (arith, h)) t (visitValueBlock t depthLeft) (value-counted (Least low) (λ _ _ h. omega (arith, h)) t depthLeft)
-      (traverseBlock t depthLeft) (statements-counted (Least low) (λ _ _ h. omega (arith, h)) t depthLeft) (terminalAt t block) block (blockAt t block) cx h)
+      (traverseBlock t depthLeft) (statements-counted (Least low) (λ _ _ h. omega (arith, h)) t depthLeft) around (terminalAt t block) block (blockAt t block) cx h)
 
   one-more : (n block : ℕ) (cx : Context) → mostVisits ≤ n + cx .visits → blocks (suc n) block cx ≡ blocks n block cx
   unfolding blocks terminal visitBlock _>>=_
@@ -65,7 +66,7 @@ module _ (t : Table) (depthLeft : ℕ) where
 
   -- with 8,193 blocks and any number more the walk at a depth gives what the definition gives
   pub blocks-enough : (more block : ℕ) (cx : Context)
-      → visitBlock t (visitValueBlock t depthLeft) (traverseBlock t depthLeft) (more + suc mostVisits) block cx ≡ traverseBlock t (suc depthLeft) block cx
+      → visitBlock t (visitValueBlock t depthLeft) (traverseBlock t depthLeft) around (more + suc mostVisits) block cx ≡ traverseBlock t (suc depthLeft) around block cx
   unfolding blocks traverseBlock
   blocks-enough zero block cx = refl
   blocks-enough (suc more) block cx = rw suc-add (one-more (more + suc mostVisits) block cx (omega arith) ∙ blocks-enough more block cx)

@@ -21,6 +21,7 @@ use Rattle.definition.specs.Statement.{breakToScope, breakResolved, visi
 use Rattle.definition.specs.Statement.{traverseAlternate, traverseConsequent, traverseEnclosed, loopIsTaken, traverseLoop, visitUpdate, casesLastFirst}
 use Rattle.definition.specs.Statement.{traverseCases, unscheduleAll, visitValueStatement, visitTerminal, instructionStatements, thenNext, visitBlock}
 use Rattle.definition.specs.Statement.{traverseBlock, buildTree}
+use Rattle.definition.specs.Around.{Rule, rust, language, switchInside, kindBy, breakKindIn, isLabel, namesStatement, namesLoop, unnamed, breakUnnamed, continueUnnamed}
 use Rattle.definition.specs.Build.{reported, report, refusal, wordsOf, placed, outcomeOf, afterCheck, built}
 use Rattle.definition.specs.Tree.{Statements, done}
 use Rattle.definition.specs.Result.{Result, ok, refused}
@@ -84,21 +85,21 @@ treeOf (ok root) = root .statements
 treeOf (refused code at visits) = done
 
 -- over these answers, both runs
-abbrev Both : (words : List ℕ) → Answers → Run → Type 0
-Both words answers run = (blockRun (tableOf words) 40 0 answers ≡ run) × (treeRun (treeOf (buildTree (tableOf words))) answers ≡ run)
+abbrev Both : Rule → (words : List ℕ) → Answers → Run → Type 0
+Both rule words answers run = (blockRun (tableOf words) 40 0 answers ≡ run) × (treeRun (treeOf (buildTree rule (tableOf words))) answers ≡ run)
 
-abbrev WRuns : Type 0
-WRuns =
-    Both W (1 ∷ 7 ∷ 0 ∷ []) (stopped (0 ∷ 1 ∷ 2 ∷ 3 ∷ 1 ∷ 2 ∷ 3 ∷ 1 ∷ 2 ∷ 4 ∷ []) [] (returned 0 4))
-    × Both W (0 ∷ 1 ∷ 1 ∷ []) (stopped (0 ∷ 1 ∷ 2 ∷ 4 ∷ []) (1 ∷ 1 ∷ []) (returned 0 4))
-    × Both W (1 ∷ []) (stopped (0 ∷ 1 ∷ 2 ∷ 3 ∷ 1 ∷ 2 ∷ []) [] no-answer-left)
+abbrev WRuns : Rule → Type 0
+WRuns rule =
+    Both rule W (1 ∷ 7 ∷ 0 ∷ []) (stopped (0 ∷ 1 ∷ 2 ∷ 3 ∷ 1 ∷ 2 ∷ 3 ∷ 1 ∷ 2 ∷ 4 ∷ []) [] (returned 0 4))
+    × Both rule W (0 ∷ 1 ∷ 1 ∷ []) (stopped (0 ∷ 1 ∷ 2 ∷ 4 ∷ []) (1 ∷ 1 ∷ []) (returned 0 4))
+    × Both rule W (1 ∷ []) (stopped (0 ∷ 1 ∷ 2 ∷ 3 ∷ 1 ∷ 2 ∷ []) [] no-answer-left)
 
 -- yes, yes, yes: the outer loop is continued from the inner; then its inner loop ends, and then the outer
-abbrev LoopsRun : Type 0
-LoopsRun = Both loops (1 ∷ 1 ∷ 1 ∷ 1 ∷ 0 ∷ 0 ∷ 5 ∷ []) (stopped (0 ∷ 1 ∷ 2 ∷ 4 ∷ 5 ∷ 1 ∷ 2 ∷ 4 ∷ 6 ∷ 1 ∷ 3 ∷ []) (5 ∷ []) (threw 0 9))
+abbrev LoopsRun : Rule → Type 0
+LoopsRun rule = Both rule loops (1 ∷ 1 ∷ 1 ∷ 1 ∷ 0 ∷ 0 ∷ 5 ∷ []) (stopped (0 ∷ 1 ∷ 2 ∷ 4 ∷ 5 ∷ 1 ∷ 2 ∷ 4 ∷ 6 ∷ 1 ∷ 3 ∷ []) (5 ∷ []) (threw 0 9))
 
 -- what computation shows: the runs, and that both tables are accepted
-computed : WRuns × LoopsRun × (built W 600 .code ≡ 0) × (built loops 600 .code ≡ 0)
+computed : (rule : Rule) → WRuns rule × LoopsRun rule × (built rule W 600 .code ≡ 0) × (built rule loops 600 .code ≡ 0)
 unfolding word entryWord blockCount instructionCount caseCount placeCount identifierCount blocksBegin instructionsBegin casesBegin placesBegin identifiersBegin
     wordsNeeded blockWord instructionWord caseWord placeWord identifierWord unlessNone variantOf terminalOf blockOf operationOf instructionOf caseOf tabulate
     tableOf fits block block-or-none place place-or-none terminalRules blockRules operandRules instructionRules caseRules placeRules identifierRules andThen
@@ -107,17 +108,19 @@ unfolding word entryWord blockCount instructionCount caseCount placeCount identi
     getContinueTarget beginVisit instructionsOf wrapWithSequence finalValue finalPlace storedToNamed allButLast last extractValueBlockResult extractOrRefuse
     testBlockEnded visitTestBlock visitValueBlockTerminal thenFallthrough branchValue isEmptyGoto maybeThrowValue visitValueBlockAt visitValueBlock appended
     sameIdentifier unlessSame valueBlockResultToSequence enterBlock unlessScheduled unlessUnreachable scheduleIf scheduleSwitch unscheduleIf
-    markScopeFallthroughIf breakToScope breakResolved visitBreak continueResolved visitContinue visitGoto traverseUnscheduled traverseAlternate
+    markScopeFallthroughIf switchInside kindBy breakKindIn isLabel namesStatement namesLoop unnamed breakUnnamed continueUnnamed breakToScope breakResolved
+    visitBreak continueResolved visitContinue visitGoto traverseUnscheduled traverseAlternate
     traverseConsequent traverseEnclosed loopIsTaken traverseLoop visitUpdate casesLastFirst traverseCases unscheduleAll visitValueStatement visitTerminal
     instructionStatements thenNext visitBlock traverseBlock buildTree reported report refusal wordsOf placed outcomeOf afterCheck built performing move byAnswer
     blockRun loopContinues breakable labelled completed completing prefix thenOn then choose afterBody whileRounds whileLoop loop jumpCompletion runStatement
     reasonOf treeRun
-computed = (((refl, refl), (refl, refl), (refl, refl)), (refl, refl), refl, refl)
+computed rust = (((refl, refl), (refl, refl), (refl, refl)), (refl, refl), refl, refl)
+computed language = (((refl, refl), (refl, refl), (refl, refl)), (refl, refl), refl, refl)
 
 -- ---- the law
 
-pub W-law : RunLaw W (built W 600)
-W-law = run-law W 600 (computed .2) (both-plain .0)
+pub W-law : (rule : Rule) → RunLaw W (built rule W 600)
+W-law rule = run-law rule W 600 (computed rule .2) (both-plain .0)
 
-pub loops-law : RunLaw loops (built loops 600)
-loops-law = run-law loops 600 (computed .3) (both-plain .1)
+pub loops-law : (rule : Rule) → RunLaw loops (built rule loops 600)
+loops-law rule = run-law rule loops 600 (computed rule .3) (both-plain .1)

@@ -19,11 +19,12 @@ use Rattle.definition.specs.Framed.{Below, isSwitch, Framed}
 use Rattle.definition.specs.Context.{getBreakTarget, getContinueTarget, Resolution, Flags, has, add, ControlFlowTarget, target-if, target-switch}
 use Rattle.definition.specs.Context.{target-case, target-loop, blockedCode, blockAsked, Entry, Context, start, isScheduled, emit, withVisits}
 use Rattle.definition.specs.Context.{scheduleCatchHandler, markScopeFallthrough, pushed, schedule, target-loop, popped}
-use Rattle.definition.specs.Machine.{Frame, State, visiting, ended, choosing, popping, Turn, going, halt, turn, leave, blockRow, valueOut, updateOut}
+use Rattle.definition.specs.Machine.{Frame, aroundOf, State, visiting, ended, choosing, popping, Turn, going, halt, turn, leave, blockRow, valueOut, updateOut}
 use Rattle.definition.specs.Machine.{statementOut, jumpOut, added, instructionsOut, closingRow, scheduledIf, scheduledSwitch, unscheduledTop, unscheduled}
 use Rattle.definition.specs.Machine.{unscheduledIf, opens, frameOf, secondPart, withLeft, caseBuilt, into, intoLoop, closeBy, close, caseAt}
 use Rattle.definition.specs.Machine.{numberOfCases, chooseCase, switchColumns, resumeAt, resume, branchTurn, valueTurn, terminalTurn, depthLeft}
 use Rattle.definition.specs.Machine.{visitTurn, step, begin, Gives, run}
+use Rattle.definition.specs.Around.{Rule, Around, breakKindIn}
 use Rattle.definition.specs.Result.{refused, Result, ok, refuseIf}
 use Rattle.definition.specs.Statement.{breakToScope, visitBreak, visitContinue, breakResolved, continueResolved, visitUpdate, OptionalValue}
 use Rattle.definition.specs.Statement.{continueBlockOf, TerminalResult, enterBlock, unlessScheduled, unlessUnreachable, markScopeFallthroughIf, visitGoto}
@@ -412,30 +413,32 @@ scope-jump implicit at v = no-jump
 scope-jump labeled at v = tt
 scope-jump unlabeled at v = tt
 
-visitBreak-jump : (b g i : ℕ) (c : Context) → Good Jump (visitBreak b g i c)
+visitBreak-jump : (o : Around) (b g i : ℕ) (c : Context) → Good Jump (visitBreak o b g i c)
 unfolding visitBreak
-visitBreak-jump b g i c = at (getBreakTarget c g)
+visitBreak-jump o b g i c = at (getBreakTarget c g)
   where
-    at : (r : Option Resolution) → Good Jump (breakResolved b g i c r)
+    at : (r : Option Resolution) → Good Jump (breakResolved o b g i c r)
     at none = unfold breakResolved in tt
-    at (some r) = unfold breakResolved in good-pick Jump (has (c .scopeFallthroughs) (r .target)) _ _ (scope-jump (r .kind) b (c .visits)) (break-jump (r .target) i (r .kind) (r .loops))
+    at (some r) =
+        unfold breakResolved in good-pick Jump (has (c .scopeFallthroughs) (r .target)) _ _ (scope-jump (r .kind) b (c .visits))
+        (good-unless Jump _ 29 b (c .visits) _ (λ _. break-jump (r .target) i (breakKindIn o (r .kind)) (r .loops)))
 
-visitContinue-jump : (g i : ℕ) (c : Context) → Good (λ s. Jump (some s)) (visitContinue g i c)
+visitContinue-jump : (o : Around) (b g i : ℕ) (c : Context) → Good (λ s. Jump (some s)) (visitContinue o b g i c)
 unfolding visitContinue
-visitContinue-jump g i c = at (getContinueTarget c g)
+visitContinue-jump o b g i c = at (getContinueTarget c g)
   where
-    at : (r : Option Resolution) → Good (λ s. Jump (some s)) (continueResolved g i c r)
+    at : (r : Option Resolution) → Good (λ s. Jump (some s)) (continueResolved o b g i c r)
     at none = unfold continueResolved in tt
-    at (some r) = unfold continueResolved in continue-jump (r .target) i (r .kind) (r .loops)
+    at (some r) = unfold continueResolved in good-unless (λ s. Jump (some s)) _ 29 b (c .visits) _ (λ _. continue-jump (r .target) i (r .kind) (r .loops))
 
 abbrev Jumped : Context → TerminalResult → Type 0
 Jumped c s = Jump (s .statement) × (s .next ≡ none) × (s .context ≡ c)
 
-goto-jump : (v : Variant) (b g i : ℕ) (c : Context) → Good (Jumped c) (visitGoto v b g i c)
+goto-jump : (o : Around) (v : Variant) (b g i : ℕ) (c : Context) → Good (Jumped c) (visitGoto o v b g i c)
 unfolding visitGoto
-goto-jump Break b g i c = good-bind Jump (Jumped c) _ _ (visitBreak-jump b g i c) (λ s h. (h, refl, refl))
-goto-jump Continue b g i c = good-bind (λ s. Jump (some s)) (Jumped c) _ _ (visitContinue-jump g i c) (λ s h. (h, refl, refl))
-goto-jump Try b g i c = (no-jump, refl, refl)
+goto-jump o Break b g i c = good-bind Jump (Jumped c) _ _ (visitBreak-jump o b g i c) (λ s h. (h, refl, refl))
+goto-jump o Continue b g i c = good-bind (λ s. Jump (some s)) (Jumped c) _ _ (visitContinue-jump o b g i c) (λ s h. (h, refl, refl))
+goto-jump o Try b g i c = (no-jump, refl, refl)
 
 opens-one : (g : Option ℕ) → opens g ≤ 1
 opens-one none = omega arith
@@ -614,36 +617,36 @@ module _ (t : Table) (ck : Checked t) (d : ℕ) where
             (inside-held t (withVisits (w .visits) (pushed (target-if x) c)) {e₁ = 0} 1 y
             (unscheduled-held (withVisits (w .visits) (pushed (target-if x) c)) (entriesOf F) (omega (arith, y .stack))) (omega arith) (omega arith))
 
-    branch-fit : (x y a : ℕ) → isSwitch (terminalAt t b) ≡ false → y < length (t .blocks) → a < length (t .blocks) → Good (Fit t p) (branchTurn b y a (blockAt t b .id) F R m c)
+    branch-fit : (o : Around) (x y a : ℕ) → isSwitch (terminalAt t b) ≡ false → y < length (t .blocks) → a < length (t .blocks) → Good (Fit t p) (branchTurn o b y a (blockAt t b .id) F R m c)
     unfolding branchTurn
-    branch-fit x y a z k l = good-pick (Fit t p) (isScheduled c y) _ _
-        (good-bind Jump (Fit t p) _ _ (visitBreak-jump b y (blockAt t b .id) c) (λ s q.
+    branch-fit o x y a z k l = good-pick (Fit t p) (isScheduled c y) _ _
+        (good-bind Jump (Fit t p) _ _ (visitBreak-jump o b y (blockAt t b .id) c) (λ s q.
         into-fit (secondPart (frameOf b none 0 m)) a 19 b (inside-out t (blockRow (added s 0) ∷ []) m 3 (inside-out t (jumpOut s) m 4 h (omega (arith, q .0)) (omega (arith, h .tallied))) (omega arith)
         (omega (arith, length-append R (jumpOut s), h .tallied))) (omega arith) (omega arith) refl (omega arith) (omega arith) (later (framed b none 0 m below tt (omega arith) z)) f l))
         (push-fit t (frameOf b none 0 m) y h (omega arith) (omega arith) refl (omega arith) (omega arith) (framed b none 0 m below tt (omega arith) z) f k)
 
-    terminal-fit : (e : Terminal) → terminalAt t b ≡ e → NamesBelow (length (t .blocks)) e → Good (Fit t p) (terminalTurn t visit e b (blockAt t b) F R m c)
+    terminal-fit : (around : Around) (e : Terminal) → terminalAt t b ≡ e → NamesBelow (length (t .blocks)) e → Good (Fit t p) (terminalTurn around t visit e b (blockAt t b) F R m c)
     unfolding terminalTurn
-    terminal-fit absent q n = tt
-    terminal-fit unreachable q n = leave-fit t none h (omega arith) (omega arith) (omega arith) f tt
-    terminal-fit (throw x) q n = leaves none _ _ tt (omega arith) (omega (arith, h .tallied))
-    terminal-fit (return x) q n = leaves none _ _ tt (omega arith) (omega (arith, h .tallied))
-    terminal-fit (goto g v) q n = good-bind (Jumped c) (Fit t p) _ _ (goto-jump v b g (blockAt t b .id) c) (λ s k. at s k)
+    terminal-fit around absent q n = tt
+    terminal-fit around unreachable q n = leave-fit t none h (omega arith) (omega arith) (omega arith) f tt
+    terminal-fit around (throw x) q n = leaves none _ _ tt (omega arith) (omega (arith, h .tallied))
+    terminal-fit around (return x) q n = leaves none _ _ tt (omega arith) (omega (arith, h .tallied))
+    terminal-fit around (goto g v) q n = good-bind (Jumped c) (Fit t p) _ _ (goto-jump around v b g (blockAt t b .id) c) (λ s k. at s k)
       where
         at : (s : TerminalResult) → Jumped c s → Fit t p (leave (s .next) F (R ++ jumpOut (s .statement)) (added (s .statement) m) (s .context))
         at s (k, e₁, e₂) = rw (e₁, e₂) (leaves none (jumpOut (s .statement)) (added (s .statement) m) tt (k .0) (omega (arith, k .1 m, h .tallied)))
-    terminal-fit (if x y a g) q n =
+    terminal-fit around (if x y a g) q n =
         good-bind (Below (length (t .blocks))) (Fit t p) _ _ (reach-below c g (n .2))
         (λ l k. enclosed-fit l y 12 y (scheduledIf l c) (if-held l c) k (ap isSwitch q) (n .0))
-    terminal-fit (branch x y a) q n = branch-fit x y a (ap isSwitch q) (n .0) (n .1)
-    terminal-fit (switch x i k g) q n = good-bind (Below (length (t .blocks))) (Fit t p) _ _ (reach-below c g n) (λ l w.
+    terminal-fit around (branch x y a) q n = branch-fit around x y a (ap isSwitch q) (n .0) (n .1)
+    terminal-fit around (switch x i k g) q n = good-bind (Below (length (t .blocks))) (Fit t p) _ _ (reach-below c g n) (λ l w.
         choose-fit t (withLeft (numberOfCases t i k) (frameOf b l (opens l) m)) (inside-held t c 1 h (switch-held l c) (omega arith) (omega (arith, h .stack)))
         (omega (arith, number-below t i k, ck .cases, opens-one l)) (omega arith) refl (omega arith) (omega arith)
         (ap isSwitch q) (record { block = below; label = w; entries = omega (arith, opens-one l); case = λ z. fits (number-below t i k) }) f)
       where
         fits : numberOfCases t i k ≤ length (t .cases) - i → numberOfCases t i k < 1 + (length (t .cases) - switchColumns (terminalAt t b) .first)
         fits u = rw q (omega (arith, u))
-    terminal-fit (do-while l x g) q n = good-bind (Held c 1 (suc (length (c .stack)))) (Fit t p) _ _ (schedule-held (target-loop g x l) c) (λ c₁ k. at c₁ k)
+    terminal-fit around (do-while l x g) q n = good-bind (Held c 1 (suc (length (c .stack)))) (Fit t p) _ _ (schedule-held (target-loop g x l) c) (λ c₁ k. at c₁ k)
       where
         none-out : (c₁ : Context) → Good (Fit t p) (intoLoop b l (loopIsTaken c l g) (c₁ .visits) (frameOf b (unlessScheduled c g) 1 m) F (R ++ []) c₁)
             → Good (Fit t p) (intoLoop b l (loopIsTaken c l g) (c₁ .visits) (frameOf b (unlessScheduled c g) 1 m) F R c₁)
@@ -653,11 +656,11 @@ module _ (t : Table) (ck : Checked t) (d : ℕ) where
         at c₁ k =
             none-out c₁ (loop-fit (unlessScheduled c g) l (loopIsTaken c l g) (c₁ .visits) [] c₁ k (taken-below c g (n .2)) (ap isSwitch q) (n .0) (le-refl _)
             (omega (arith, k .seen, h .visits)) (omega arith))
-    terminal-fit (while x l g) q n = good-bind (Below (length (t .blocks))) (Fit t p) _ _ (reach-below c g (n .2)) (λ o k.
+    terminal-fit around (while x l g) q n = good-bind (Below (length (t .blocks))) (Fit t p) _ _ (reach-below c g (n .2)) (λ o k.
         good-bind (Held c 1 (suc (length (c .stack)))) (Fit t p) _ _ (schedule-held (target-loop g x l) c) (λ c₁ k₁.
         good-bind (BlockTaken (c₁ .visits)) (Fit t p) _ _ (values x none (blockAt t b .span) (c₁ .visits) (omega (arith, k₁ .seen, h .visits))) (λ w u.
         loop-fit o l _ (w .visits) (valueOut (w .value)) c₁ k₁ k (ap isSwitch q) (n .1) (u .0) (u .1) (omega (arith, value-out-size (w .value), u .0, u .2)))))
-    terminal-fit (for i x v l g) q n = good-bind (Held c 1 (suc (length (c .stack)))) (Fit t p) _ _ (schedule-held (target-loop g (continueBlockOf v x) l) c) (λ c₁ k₁.
+    terminal-fit around (for i x v l g) q n = good-bind (Held c 1 (suc (length (c .stack)))) (Fit t p) _ _ (schedule-held (target-loop g (continueBlockOf v x) l) c) (λ c₁ k₁.
         good-bind (BlockTaken (c₁ .visits)) (Fit t p) _ _ (values i none (blockAt t b .span) (c₁ .visits) (omega (arith, k₁ .seen, h .visits))) (λ w u.
         good-bind (BlockTaken (w .visits)) (Fit t p) _ _ (values x none (blockAt t b .span) (w .visits) (u .1)) (λ y u₁.
         good-bind (UpdateTaken (y .visits)) (Fit t p) _ _ (updates v (blockAt t b .span) (y .visits) (u₁ .1)) (λ z u₂.
@@ -685,7 +688,7 @@ module _ (t : Table) (ck : Checked t) (d : ℕ) where
         together A B C c₁ v w =
             subst (λ (z : List Row). Good (Fit t p) (intoLoop b l (loopIsTaken c l g) v (frameOf b (unlessScheduled c g) 1 m) F z c₁))
             (sym (append-assoc (R ++ A) B C ∙ append-assoc R A (B ++ C))) w
-    terminal-fit (for-of i x l g) q n = good-bind (Held c 1 (suc (length (c .stack)))) (Fit t p) _ _ (schedule-held (target-loop g i l) c) (λ c₁ k₁.
+    terminal-fit around (for-of i x l g) q n = good-bind (Held c 1 (suc (length (c .stack)))) (Fit t p) _ _ (schedule-held (target-loop g i l) c) (λ c₁ k₁.
         good-bind (BlockTaken (c₁ .visits)) (Fit t p) _ _ (values i none (blockAt t b .span) (c₁ .visits) (omega (arith, k₁ .seen, h .visits))) (λ w u.
         good-bind (BlockTaken (w .visits)) (Fit t p) _ _ (values x none (blockAt t b .span) (w .visits) (u .1)) (λ y u₁.
         together (valueOut (valueBlockResultToSequence t w (blockAt t b .span))) (valueOut (valueBlockResultToSequence t y (blockAt t b .span))) c₁ (y .visits)
@@ -708,22 +711,24 @@ module _ (t : Table) (ck : Checked t) (d : ℕ) where
         together : (A B : List Row) (c₁ : Context) (v : ℕ) → Good (Fit t p) (intoLoop b l (loopIsTaken c l g) v (frameOf b (unlessScheduled c g) 1 m) F (R ++ (A ++ B)) c₁)
             → Good (Fit t p) (intoLoop b l (loopIsTaken c l g) v (frameOf b (unlessScheduled c g) 1 m) F ((R ++ A) ++ B) c₁)
         together A B c₁ v w = subst (λ (z : List Row). Good (Fit t p) (intoLoop b l (loopIsTaken c l g) v (frameOf b (unlessScheduled c g) 1 m) F z c₁)) (sym (append-assoc R A B)) w
-    terminal-fit (for-in i l g) q n = good-bind (Held c 1 (suc (length (c .stack)))) (Fit t p) _ _ (schedule-held (target-loop g i l) c) (λ c₁ k₁.
+    terminal-fit around (for-in i l g) q n = good-bind (Held c 1 (suc (length (c .stack)))) (Fit t p) _ _ (schedule-held (target-loop g i l) c) (λ c₁ k₁.
         good-bind (BlockTaken (c₁ .visits)) (Fit t p) _ _ (values i none (blockAt t b .span) (c₁ .visits) (omega (arith, k₁ .seen, h .visits))) (λ w u.
         loop-fit (unlessScheduled c g) l (loopIsTaken c l g) (w .visits) (valueOut (valueBlockResultToSequence t w (blockAt t b .span))) c₁ k₁
         (taken-below c g (n .2)) (ap isSwitch q) (n .1) (u .0) (u .1)
         (omega (arith, value-out-size (valueBlockResultToSequence t w (blockAt t b .span)), sequence-size t w (blockAt t b .span), u .0, u .2))))
-    terminal-fit (logical o x g) q n = value-fit (logical o x g) g tt (n .1)
-    terminal-fit (ternary x g) q n = value-fit (ternary x g) g tt (n .1)
-    terminal-fit (optional o x g) q n = value-fit (optional o x g) g tt (n .1)
-    terminal-fit (label x g) q n = good-bind (Below (length (t .blocks))) (Fit t p) _ _ (reach-below c g (n .1)) (λ l k. enclosed-fit l x 17 b (scheduledIf l c) (if-held l c) k (ap isSwitch q) (n .0))
-    terminal-fit (sequence x g) q n = value-fit (sequence x g) g tt (n .1)
-    terminal-fit (maybe-throw x) q n = leave-fit t (unlessScheduled c x) h (omega arith) (omega arith) (omega arith) f (taken-below c x n)
-    terminal-fit (try x y g k) q n = good-bind (Below (length (t .blocks))) (Fit t p) _ _ (reach-below c g (n .2)) (λ l w.
+    terminal-fit around (logical o x g) q n = value-fit (logical o x g) g tt (n .1)
+    terminal-fit around (ternary x g) q n = value-fit (ternary x g) g tt (n .1)
+    terminal-fit around (optional o x g) q n = value-fit (optional o x g) g tt (n .1)
+    terminal-fit around (label x g) q n =
+        good-bind (Below (length (t .blocks))) (Fit t p) _ _ (reach-below c g (n .1))
+        (λ l k. enclosed-fit l x 17 b (scheduledIf l c) (if-held l c) k (ap isSwitch q) (n .0))
+    terminal-fit around (sequence x g) q n = value-fit (sequence x g) g tt (n .1)
+    terminal-fit around (maybe-throw x) q n = leave-fit t (unlessScheduled c x) h (omega arith) (omega arith) (omega arith) f (taken-below c x n)
+    terminal-fit around (try x y g k) q n = good-bind (Below (length (t .blocks))) (Fit t p) _ _ (reach-below c g (n .2)) (λ l w.
         let o : Framed t 0 (frameOf b l (opens l) m) = framed b l (opens l) m below w (opens-one l) (ap isSwitch q) in
         push-fit t (frameOf b l (opens l) m) x (nested (frameOf b l (opens l) m) x (scheduleCatchHandler y (scheduledIf l c)) (caught-held y (if-held l c)) refl
         refl refl (opens-one l) o (n .0)) (omega (arith, opens-one l)) (omega arith) refl (omega arith) (omega arith) o f (n .0))
-    terminal-fit (scope k x g z) q n =
+    terminal-fit around (scope k x g z) q n =
         let l : Option ℕ = unlessScheduled c g in
         let s : Held c 1 (opens l + length (c .stack)) (scheduledIf l c) = if-held l c in
         let r : Held (scheduledIf l c) 0 (length (scheduledIf l c .stack)) (markScopeFallthroughIf l (scheduledIf l c)) = scoped-held l (scheduledIf l c) in
@@ -742,14 +747,15 @@ instr-two t [] = omega arith
 instr-two t (r ∷ rs) = omega (arith, instr-two t rs)
 
 module _ (t : Table) (ck : Checked t) where
-  visit-fit : (b : ℕ) (F : List Frame) (R : List Row) (m : ℕ) (c : Context) → b < length (t .blocks) → Frames t F → Holds 0 F R m c
-      → Good (Fit t (2053 * (8192 - c .visits) + turnsOfAll F)) (visitTurn t b F R m c)
+  visit-fit : (rule : Rule) (b : ℕ) (F : List Frame) (R : List Row) (m : ℕ) (c : Context) → b < length (t .blocks) → Frames t F → Holds 0 F R m c
+      → Good (Fit t (2053 * (8192 - c .visits) + turnsOfAll F)) (visitTurn rule t b F R m c)
   unfolding visitTurn
-  visit-fit b F R m c below f h =
+  visit-fit rule b F R m c below f h =
       good-unless (Fit t p) _ 30 b (c .visits) _ (λ q.
       let deep : length F < 128 = leb-false 128 (length F) q in
       good-bind (Entered c) (Fit t p) _ _ (enter-sound t b c (ck .blocks) (h .flags)) (λ c₁ e.
-      terminal-fit t ck (depthLeft F) b F (R ++ instructionsOut t (instructionRowsAt t b)) (m + length (instructionRowsAt t b)) c₁ below f (inside c₁ deep e) (terminalAt t b) refl (ck .names b)))
+      terminal-fit t ck (depthLeft F) b F (R ++ instructionsOut t (instructionRowsAt t b)) (m + length (instructionRowsAt t b)) c₁ below f (inside c₁ deep e)
+      (aroundOf rule t F) (terminalAt t b) refl (ck .names b)))
     where
       p : ℕ
       p = 2053 * (8192 - c .visits) + turnsOfAll F
@@ -806,20 +812,20 @@ module _ (t : Table) (ck : Checked t) where
     paid = omega (arith, h .paid);
   }
 
-  step-next : (s : State) → Sound t s → Next (potential s) (step t s)
+  step-next : (rule : Rule) (s : State) → Sound t s → Next (potential s) (step rule t s)
   unfolding step
-  step-next (visiting b F R m c) (k, f, h) = next-of _ (visitTurn t b F R m c) (visit-fit b F R m c k f h)
-  step-next (ended [] R m c) h = tt
-  step-next (ended (fr ∷ F) R m c) ((o, f), h) =
+  step-next rule (visiting b F R m c) (k, f, h) = next-of _ (visitTurn rule t b F R m c) (visit-fit rule b F R m c k f h)
+  step-next rule (ended [] R m c) h = tt
+  step-next rule (ended (fr ∷ F) R m c) ((o, f), h) =
       next-of _ (resume t (visitValueBlock t (depthLeft F)) fr F (R ++ (blockRow m ∷ [])) c)
       (resume-fit t ck (depthLeft F) (terminalAt t (fr .block)) fr F (R ++ (blockRow m ∷ [])) c refl (ck .names (fr .block)) (ended-inside fr F R m c h) o f)
-  step-next (choosing fr F R c) (q, o, f, h) =
+  step-next rule (choosing fr F R c) (q, o, f, h) =
       next-of _ (chooseCase t (switchColumns (terminalAt t (fr .block)) .first) (switchColumns (terminalAt t (fr .block)) .fallthrough) (fr .left) fr F R c)
       (case-fit t ck 0 (fr .left) fr F R c refl q (holds-inside (suc (2 * fr .left + fr .entries)) fr F R c h (omega arith)) o f)
-  step-next (popping fr F R c) (o, f, h) = close-fit t fr R c (holds-inside (suc (fr .entries)) fr F R c h (omega arith)) (le-refl _) (omega arith) (le-refl _) (omega arith) o f
+  step-next rule (popping fr F R c) (o, f, h) = close-fit t fr R c (holds-inside (suc (fr .entries)) fr F R c h (omega arith)) (le-refl _) (omega arith) (le-refl _) (omega arith) o f
 
-  pub step-sound : (s s′ : State) → Sound t s → step t s ≡ going s′ → (potential s′ < potential s) × Sound t s′
-  step-sound s s′ h e = let q : Fit t (potential s) s′ = subst (λ (z : Turn). Next (potential s) z) e (step-next s h) in (q .lower, q .sound)
+  pub step-sound : (rule : Rule) (s s′ : State) → Sound t s → step rule t s ≡ going s′ → (potential s′ < potential s) × Sound t s′
+  step-sound rule s s′ h e = let q : Fit t (potential s) s′ = subst (λ (z : Turn). Next (potential s) z) e (step-next rule s h) in (q .lower, q .sound)
 
   pub start-sound : Sound t (begin t)
   unfolding start
@@ -840,31 +846,31 @@ module _ (t : Table) (ck : Checked t) where
 
 -- ---- the loop's invariant, in one record
 
-pub record Going (t : Table) (state : State) : Type 0 where
-  pub gives : Gives t state (report t)
+pub record Going (rule : Rule) (t : Table) (state : State) : Type 0 where
+  pub gives : Gives rule t state (report rule t)
   pub sound : Sound t state
 
-pub going-start : (t : Table) → Checked t → Going t (begin t)
-going-start t ck = record { gives = machine-builds t; sound = start-sound t ck }
+pub going-start : (rule : Rule) (t : Table) → Checked t → Going rule t (begin t)
+going-start rule t ck = record { gives = machine-builds rule t; sound = start-sound t ck }
 
-pub going-step : (t : Table) → Checked t → (s s′ : State) → Going t s → step t s ≡ going s′ → Going t s′
-going-step t ck s s′ g e = record { gives = gives-next t s s′ (report t) (g .gives) e; sound = step-sound t ck s s′ (g .sound) e .1 }
+pub going-step : (rule : Rule) (t : Table) → Checked t → (s s′ : State) → Going rule t s → step rule t s ≡ going s′ → Going rule t s′
+going-step rule t ck s s′ g e = record { gives = gives-next rule t s s′ (report rule t) (g .gives) e; sound = step-sound t ck rule s s′ (g .sound) e .1 }
 
-pub going-lower : (t : Table) → Checked t → (s s′ : State) → Going t s → step t s ≡ going s′ → potential s′ < potential s
-going-lower t ck s s′ g e = step-sound t ck s s′ (g .sound) e .0
+pub going-lower : (rule : Rule) (t : Table) → Checked t → (s s′ : State) → Going rule t s → step rule t s ≡ going s′ → potential s′ < potential s
+going-lower rule t ck s s′ g e = step-sound t ck rule s s′ (g .sound) e .0
 
-pub going-halt : (t : Table) (s : State) (a : Report) → Going t s → step t s ≡ halt a → report t ≡ a
-going-halt t s a g e = gives-halt t s (report t) a (g .gives) e
+pub going-halt : (rule : Rule) (t : Table) (s : State) (a : Report) → Going rule t s → step rule t s ≡ halt a → report rule t ≡ a
+going-halt rule t s a g e = gives-halt rule t s (report rule t) a (g .gives) e
 
 -- ---- bounds in every state that is reached
 
-pub data Reached (t : Table) : State → Type 0 where
-  at-begin : Reached t (begin t)
-  by-turn : {state next : State} → Reached t state → step t state ≡ going next → Reached t next
+pub data Reached (rule : Rule) (t : Table) : State → Type 0 where
+  at-begin : Reached rule t (begin t)
+  by-turn : {state next : State} → Reached rule t state → step rule t state ≡ going next → Reached rule t next
 
-pub reached-going : (t : Table) → Checked t → (s : State) → Reached t s → Going t s
-reached-going t ck s at-begin = going-start t ck
-reached-going t ck s (by-turn {state} h e) = going-step t ck state s (reached-going t ck state h) e
+pub reached-going : (rule : Rule) (t : Table) → Checked t → (s : State) → Reached rule t s → Going rule t s
+reached-going rule t ck s at-begin = going-start rule t ck
+reached-going rule t ck s (by-turn {state} h e) = going-step rule t ck state s (reached-going rule t ck state h) e
 
 abbrev pub contextOf : State → Context
 contextOf (visiting block frames rows count cx) = cx
@@ -913,8 +919,8 @@ sound-small t (popping fr F R c) (o, f, h) =
     record { visits = h .visits; frames = h .depth; stack = omega (arith, light t 0 fr F R 0 c o f h); ids = omega (arith, h .ids); rows = omega (arith, h .paid, h .visits); count = h .tallied }
 
 -- "The stack holds at most 1,152 entries": in every state that is reached. (1,024 is what it comes to.)
-pub stack-bound : (t : Table) → Checked t → (s : State) → Reached t s → length (contextOf s .stack) ≤ 1152
-stack-bound t ck s h = let m : Small s = sound-small t s (reached-going t ck s h .sound) in omega (arith, m .stack)
+pub stack-bound : (rule : Rule) (t : Table) → Checked t → (s : State) → Reached rule t s → length (contextOf s .stack) ≤ 1152
+stack-bound rule t ck s h = let m : Small s = sound-small t s (reached-going rule t ck s h .sound) in omega (arith, m .stack)
 
 -- and inside a turn: in a block that has just been entered, or where a list has ended, one entry more fits
 pub entered-room : (t : Table) → Checked t → (b : ℕ) (F : List Frame) (R : List Row) (m : ℕ) (c d : Context) → Frames t F → Holds 0 F R m c → enterBlock t b c ≡ ok d → length (d .stack) < 1152
@@ -927,16 +933,16 @@ ended-room t F R m c f h = omega (arith, stack-most t 1 F R m c f h)
 
 -- ---- so many turns suffice
 
-within : (t : Table) → Checked t → (n : ℕ) (s : State) → potential s < n → Going t s → run t n s ≡ report t
+within : (rule : Rule) (t : Table) → Checked t → (n : ℕ) (s : State) → potential s < n → Going rule t s → run rule t n s ≡ report rule t
 unfolding run
-within t ck zero s lt g = absurd (omega arith)
-within t ck (suc n) s lt g = at (step t s) refl (λ s′ e. within t ck n s′ (omega (arith, going-lower t ck s s′ g e)) (going-step t ck s s′ g e))
+within rule t ck zero s lt g = absurd (omega arith)
+within rule t ck (suc n) s lt g = at (step rule t s) refl (λ s′ e. within rule t ck n s′ (omega (arith, going-lower rule t ck s s′ g e)) (going-step rule t ck s s′ g e))
   where
-    at : (z : Turn) → step t s ≡ z → ((s′ : State) → step t s ≡ going s′ → run t n s′ ≡ report t) → elim z [ going next ↦ run t n next | halt a ↦ a ] ≡ report t
+    at : (z : Turn) → step rule t s ≡ z → ((s′ : State) → step rule t s ≡ going s′ → run rule t n s′ ≡ report rule t) → elim z [ going next ↦ run rule t n next | halt a ↦ a ] ≡ report rule t
     at (going s′) e again = again s′ e
-    at (halt a) e again = sym (going-halt t s a g e)
+    at (halt a) e again = sym (going-halt rule t s a g e)
 
 -- from the start 16,818,177 turns give the report, and more give the same
-pub machine-turns : (t : Table) → Checked t → (turns : ℕ) → 16818177 ≤ turns → run t turns (begin t) ≡ report t
+pub machine-turns : (rule : Rule) (t : Table) → Checked t → (turns : ℕ) → 16818177 ≤ turns → run rule t turns (begin t) ≡ report rule t
 unfolding start
-machine-turns t ck turns enough = within t ck turns (begin t) (omega (arith, enough)) (going-start t ck)
+machine-turns rule t ck turns enough = within rule t ck turns (begin t) (omega (arith, enough)) (going-start rule t ck)

@@ -8,6 +8,7 @@ use Rattle.definition.specs.Tree.{Value, PLAIN, LOAD, UNDEF, SEQ, LOGICA
 use Rattle.definition.specs.Tree.{IF, SWITCH, DOWHILE, WHILE, FOR, FOROF, FORIN, LABEL, TRY, SCOPE, RETURN, THROW, BREAK, CONTINUE, Statements, done, _▸_}
 use Rattle.definition.specs.Tree.{Cases, no-cases, CASE, Row, row, orNone, valueRows, instructionsRows, updateRows, statementRows, statementsRows}
 use Rattle.definition.specs.Tree.{blockRows, casesRows, rows}
+use Rattle.definition.specs.Around.{Rule}
 use Rattle.definition.specs.Build.{built}
 use Rattle.definition.specs.Reading.{WellFormedStatement, WellFormed, WellFormedCases, JumpsWithin}
 use Rattle.definition.proofs.Law.{one-tree}
@@ -69,5 +70,5 @@ pub rows-within : (root : Statements) → WellFormed root → JumpsWithin (rows 
 rows-within root w = block-within root [] w tt
 
 -- the rows that the build makes
-pub built-within : (words : List ℕ) (lent : ℕ) → (accepts : built words lent .code ≡ 0) → JumpsWithin (rows (one-tree words lent accepts .tree))
-built-within words lent accepts = rows-within _ (one-tree words lent accepts .held .well-formed)
+pub built-within : (rule : Rule) (words : List ℕ) (lent : ℕ) → (accepts : built rule words lent .code ≡ 0) → JumpsWithin (rows (one-tree rule words lent accepts .tree))
+built-within rule words lent accepts = rows-within _ (one-tree rule words lent accepts .held .well-formed)

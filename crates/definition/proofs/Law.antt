@@ -9,6 +9,7 @@ use native.Mathlib.Omega.{arith}
 use Rattle.table.specs.Table.{Table, tableOf, blockAt, terminalAt, instructionRowsAt}
 use Rattle.definition.specs.Tree.{Statements, rows}
 use Rattle.definition.specs.Build.{built}
+use Rattle.definition.specs.Around.{Rule, outermost}
 use Rattle.definition.specs.Result.{ok}
 use Rattle.definition.specs.Context.{start}
 use Rattle.definition.specs.Statement.{BlockResult, buildTree}
@@ -86,45 +87,45 @@ built-agrees : (t : Table) (s : Statements) → Built t [] (t .entry) s → (ans
 built-agrees t s b answers = agree-on t s answers (runStatements s answers .completion) refl (runs t b answers)
 
 -- what an accepted build of a plain table makes
-pub tree-built : (t : Table) → PlainEnough t → Ranged t → (r : BlockResult) → buildTree t ≡ ok r → Built t [] (t .entry) (r .statements)
+pub tree-built : (rule : Rule) (t : Table) → PlainEnough t → Ranged t → (r : BlockResult) → buildTree rule t ≡ ok r → Built t [] (t .entry) (r .statements)
 unfolding buildTree WalkOk
-tree-built t pl rg r e = walk-ok t pl rg 128 [] (t .entry) start r (start-ok t) (pl .entry) e .tree
+tree-built rule t pl rg r e = walk-ok t pl rg 128 (outermost rule) [] (t .entry) start r (start-ok t) (pl .entry) e .tree
 
 -- ---- the tree in the buffer
 
 -- the build's own tree, and no other: one list of rows is read as one tree
-module _ (words : List ℕ) (lent : ℕ) (a : Accepted words lent) where
-  tree-held : TreeOf (built words lent) (a .root .statements)
+module _ (rule : Rule) (words : List ℕ) (lent : ℕ) (a : Accepted rule words lent) where
+  tree-held : TreeOf (built rule words lent) (a .root .statements)
   tree-held = record {
-    well-formed = tree-formed (tableOf words) (ranged words (a .checks)) (a .root) (a .builds);
+    well-formed = tree-formed (tableOf words) (ranged words (a .checks)) rule (a .root) (a .builds);
     number = sym (a .number);
-    held = sym (rows-of-buffer words lent a);
+    held = sym (rows-of-buffer rule words lent a);
   }
 
-  tree-only : (other : Statements) → TreeOf (built words lent) other → other ≡ a .root .statements
+  tree-only : (other : Statements) → TreeOf (built rule words lent) other → other ≡ a .root .statements
   tree-only other o =
       one-reading (rows (a .root .statements)) other (a .root .statements)
-      (record { well-formed = o .well-formed; same-rows = words-rows (rows other) (rows (a .root .statements)) (o .held ∙ rows-of-buffer words lent a) })
+      (record { well-formed = o .well-formed; same-rows = words-rows (rows other) (rows (a .root .statements)) (o .held ∙ rows-of-buffer rule words lent a) })
       (record { well-formed = tree-held .well-formed; same-rows = refl })
 
-  tree-one : OneTree (built words lent)
+  tree-one : OneTree (built rule words lent)
   tree-one = record { tree = a .root .statements; held = tree-held; only = tree-only }
 
 -- whatever table was accepted, plain or not
-pub one-tree : (words : List ℕ) (lent : ℕ) → built words lent .code ≡ 0 → OneTree (built words lent)
-one-tree words lent h = tree-one words lent (accepted-of words lent h)
+pub one-tree : (rule : Rule) (words : List ℕ) (lent : ℕ) → built rule words lent .code ≡ 0 → OneTree (built rule words lent)
+one-tree rule words lent h = tree-one rule words lent (accepted-of rule words lent h)
 
 -- ---- demand 3
 
 -- from less than the paper's plainness: no use is made of "one While" naming each Branch block (proofs/PlainEnough)
-pub run-law-enough : (words : List ℕ) (lent : ℕ) → built words lent .code ≡ 0 → PlainEnough (tableOf words) → RunLaw words (built words lent)
+pub run-law-enough : (rule : Rule) (words : List ℕ) (lent : ℕ) → built rule words lent .code ≡ 0 → PlainEnough (tableOf words) → RunLaw words (built rule words lent)
 unfolding tree-one
-run-law-enough words lent h pl =
-    let a : Accepted words lent = accepted-of words lent h in
+run-law-enough rule words lent h pl =
+    let a : Accepted rule words lent = accepted-of rule words lent h in
     record {
-      one = tree-one words lent a;
-      agree = built-agrees (tableOf words) (a .root .statements) (tree-built (tableOf words) pl (ranged words (a .checks)) (a .root) (a .builds));
+      one = tree-one rule words lent a;
+      agree = built-agrees (tableOf words) (a .root .statements) (tree-built rule (tableOf words) pl (ranged words (a .checks)) (a .root) (a .builds));
     }
 
-pub run-law : (words : List ℕ) (lent : ℕ) → built words lent .code ≡ 0 → Plain (tableOf words) → RunLaw words (built words lent)
-run-law words lent h pl = run-law-enough words lent h (plain-enough (tableOf words) pl)
+pub run-law : (rule : Rule) (words : List ℕ) (lent : ℕ) → built rule words lent .code ≡ 0 → Plain (tableOf words) → RunLaw words (built rule words lent)
+run-law rule words lent h pl = run-law-enough rule words lent h (plain-enough (tableOf words) pl)

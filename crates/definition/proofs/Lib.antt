@@ -2,6 +2,7 @@ pub mod Steps
 pub mod Flags
 pub mod ValueWalk
 pub mod Never
+pub mod RustCodes
 pub mod Visits
 pub mod Enough
 pub mod Rows
@@ -14,6 +15,10 @@ pub mod Outcomes
 pub mod Readings
 pub mod Crossed
 pub mod Formed
+pub mod Labels
+pub mod Surveys
+pub mod Goals
+pub mod Parting
 pub mod PlainEnough
 pub mod Loops
 pub mod Semantics

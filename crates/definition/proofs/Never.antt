@@ -17,9 +17,10 @@ use Rattle.definition.specs.Context.{Flags, has, add, remove, ControlFlo
 use Rattle.definition.specs.Context.{Context, start, isScheduled, emit, withVisits, markScopeFallthrough, scheduleCatchHandler, isBlocked, blockedCode}
 use Rattle.definition.specs.Context.{blockAsked, pushed, schedule, unscheduledBy, popped, unscheduleTop, unschedule, Resolution}
 use Rattle.definition.specs.Build.{rejected, report, reported}
+use Rattle.definition.specs.Around.{Rule, Around, outermost}
 use Rattle.definition.specs.Result.{refused, Result, ok, _>>=_, refuseIf, alreadyScheduled, unscheduleOutOfOrder, maybeThrowInValueTerminal}
 use Rattle.definition.specs.Statement.{breakToScope, visitBreak, visitContinue, breakResolved, continueResolved, TerminalResult, BlockResult}
-use Rattle.definition.specs.Statement.{TraverseBlock, enterBlock, unlessScheduled, unlessUnreachable, scheduleIf, unscheduleIf, markScopeFallthroughIf}
+use Rattle.definition.specs.Statement.{TraverseBlock, TraverseInside, enterBlock, unlessScheduled, unlessUnreachable, scheduleIf, unscheduleIf, markScopeFallthroughIf}
 use Rattle.definition.specs.Statement.{traverseUnscheduled, traverseAlternate, visitGoto, traverseEnclosed, traverseLoop, traverseCases, unscheduleAll}
 use Rattle.definition.specs.Statement.{scheduleSwitch, scheduleIds, casesLastFirst, visitUpdate, traverseConsequent, visitValueStatement, visitTerminal}
 use Rattle.definition.specs.Statement.{thenNext, visitBlock, traverseBlock, buildTree}
@@ -257,26 +258,28 @@ break-to-scope-fine implicit at v = tt
 break-to-scope-fine labeled at v = tt
 break-to-scope-fine unlabeled at v = tt
 
-break-resolved-fine : (b g i : ℕ) (c : Context) (r : Option Resolution) → Fine Any (breakResolved b g i c r)
+break-resolved-fine : (a : Around) (b g i : ℕ) (c : Context) (r : Option Resolution) → Fine Any (breakResolved a b g i c r)
 unfolding breakResolved
-break-resolved-fine b g i c none = tt
-break-resolved-fine b g i c (some r) = fine-pick Any (has (c .scopeFallthroughs) (r .target)) _ _ (λ _. break-to-scope-fine (r .kind) b (c .visits)) (λ _. tt)
+break-resolved-fine a b g i c none = tt
+break-resolved-fine a b g i c (some r) =
+    fine-pick Any (has (c .scopeFallthroughs) (r .target)) _ _ (λ _. break-to-scope-fine (r .kind) b (c .visits))
+    (λ _. fine-unless Any _ 29 b (c .visits) _ tt (λ _. tt))
 
-continue-resolved-fine : (g i : ℕ) (c : Context) (k : Option Resolution) → Fine Any (continueResolved g i c k)
+continue-resolved-fine : (a : Around) (b g i : ℕ) (c : Context) (k : Option Resolution) → Fine Any (continueResolved a b g i c k)
 unfolding continueResolved
-continue-resolved-fine g i c none = tt
-continue-resolved-fine g i c (some k) = tt
+continue-resolved-fine a b g i c none = tt
+continue-resolved-fine a b g i c (some k) = fine-unless Any _ 29 b (c .visits) _ tt (λ _. tt)
 
 abbrev pub StepAfter : Context → TerminalResult → Type 0
 StepAfter c s = After c (s .context)
 
-goto-fine : (v : Variant) (b g i : ℕ) (c : Context) → Fine (StepAfter c) (visitGoto v b g i c)
+goto-fine : (a : Around) (v : Variant) (b g i : ℕ) (c : Context) → Fine (StepAfter c) (visitGoto a v b g i c)
 unfolding visitGoto visitBreak visitContinue
-goto-fine Break b g i c = fine-bind Any (StepAfter c) _ _ (break-resolved-fine b g i c _) (λ s _. after-refl c)
-goto-fine Continue b g i c = fine-bind Any (StepAfter c) _ _ (continue-resolved-fine g i c _) (λ s _. after-refl c)
-goto-fine Try b g i c = after-refl c
+goto-fine a Break b g i c = fine-bind Any (StepAfter c) _ _ (break-resolved-fine a b g i c _) (λ s _. after-refl c)
+goto-fine a Continue b g i c = fine-bind Any (StepAfter c) _ _ (continue-resolved-fine a b g i c _) (λ s _. after-refl c)
+goto-fine a Try b g i c = after-refl c
 
-module _ (t : Table) (values : VisitValueBlock) (took : VisitTook t values) (inner : TraverseBlock) (wf : WalkFine inner) where
+module _ (inner : TraverseBlock) (wf : WalkFine inner) where
   unscheduled-fine : (b code at : ℕ) (c : Context) → T (ofPaper code) → Fine (λ r. After c (r .context)) (traverseUnscheduled inner b code at c)
   unfolding traverseUnscheduled WalkFine
   unscheduled-fine b code at c h = fine-unless (λ r. After c (r .context)) _ code at (c .visits) _ h (λ _. wf b c)
@@ -315,12 +318,13 @@ module _ (t : Table) (values : VisitValueBlock) (took : VisitTook t values) (inn
       (cases-fine b f c₀ ks (r .context .nextId ∷ ids) d (r .context, target-case (k .block), case-one-block (k .block), o, tower-after c₀ ids c (r .context) p q))
       (λ z u. u))))
 
-  consequent-fine : (b y i : ℕ) (c : Context) → Fine (λ r. After c (r .context)) (traverseConsequent inner b y i c)
+  consequent-fine : (a : Around) (b y i : ℕ) (c : Context) → Fine (λ r. After c (r .context)) (traverseConsequent a inner b y i c)
   unfolding traverseConsequent WalkFine visitBreak
-  consequent-fine b y i c =
+  consequent-fine a b y i c =
       fine-pick (λ r. After c (r .context)) (isScheduled c y) _ _
-      (λ _. fine-bind Any (λ r. After c (r .context)) _ _ (break-resolved-fine b y i c _) (λ s _. after-refl c)) (λ _. wf y c)
+      (λ _. fine-bind Any (λ r. After c (r .context)) _ _ (break-resolved-fine a b y i c _) (λ s _. after-refl c)) (λ _. wf y c)
 
+module _ (t : Table) (values : VisitValueBlock) (took : VisitTook t values) (inner : TraverseInside) (wf : (a : Around) → WalkFine (inner a)) where
   value-fine : (x : ℕ) (ft : Option ℕ) (span : Span) (v : ℕ) → Fine Any (values x ft span v)
   unfolding VisitTook
   value-fine x ft span v = fine-map (BlockTook t v) Any (values x ft span v) (λ _ _. tt) (took x ft span v)
@@ -339,65 +343,65 @@ module _ (t : Table) (values : VisitValueBlock) (took : VisitTook t values) (inn
       (unschedule-if-fine (unlessScheduled c f) c (withVisits (r .visits) d) (on-if-after (unlessScheduled c f) c p (to-visited (r .visits) (after-refl d))))
       (λ e q. q)))
 
-  pub terminal-fine : (m : Terminal) (b : ℕ) (k : Block) (c : Context) → isAbsent m ≡ false → Fine (StepAfter c) (visitTerminal t values inner m b k c)
+  pub terminal-fine : (a : Around) (m : Terminal) (b : ℕ) (k : Block) (c : Context) → isAbsent m ≡ false → Fine (StepAfter c) (visitTerminal t values inner a m b k c)
   unfolding visitTerminal WalkFine
-  terminal-fine absent b k c h = absurd (true-false h)
-  terminal-fine unreachable b k c h = after-refl c
-  terminal-fine (throw x) b k c h = after-refl c
-  terminal-fine (return x) b k c h = after-refl c
-  terminal-fine (goto g v) b k c h = goto-fine v b g (k .id) c
-  terminal-fine (if x y a f) b k c h =
+  terminal-fine a absent b k c h = absurd (true-false h)
+  terminal-fine a unreachable b k c h = after-refl c
+  terminal-fine a (throw x) b k c h = after-refl c
+  terminal-fine a (return x) b k c h = after-refl c
+  terminal-fine a (goto g v) b k c h = goto-fine a v b g (k .id) c
+  terminal-fine o (if x y a f) b k c h =
       fine-bind (λ g. Free g c) (StepAfter c) _ _ (reached-fine t c f) (λ g fr.
       fine-bind (λ d. OnIf g c d) (StepAfter c) _ _ (schedule-if-fine g c fr) (λ d p.
-      fine-bind (λ r. After d (r .context)) (StepAfter c) _ _ (unscheduled-fine y 12 y d tt) (λ r q.
-      fine-bind (λ s. After (r .context) (s .context)) (StepAfter c) _ _ (alternate-fine a f (r .context)) (λ s q₁.
+      fine-bind (λ r. After d (r .context)) (StepAfter c) _ _ (unscheduled-fine _ (wf _) y 12 y d tt) (λ r q.
+      fine-bind (λ s. After (r .context) (s .context)) (StepAfter c) _ _ (alternate-fine _ (wf _) a f (r .context)) (λ s q₁.
       fine-bind (λ e. After c e) (StepAfter c) _ _ (unschedule-if-fine g c (s .context) (on-if-after g c (on-if-after g c p q) q₁)) (λ e q₂. q₂)))))
-  terminal-fine (branch x y a) b k c h =
-      fine-bind (λ r. After c (r .context)) (StepAfter c) _ _ (consequent-fine b y (k .id) c) (λ r q.
-      fine-bind (λ s. After (r .context) (s .context)) (StepAfter c) _ _ (unscheduled-fine a 19 b (r .context) tt) (λ s q₁. after-trans q q₁))
-  terminal-fine (switch x i n f) b k c h =
+  terminal-fine o (branch x y a) b k c h =
+      fine-bind (λ r. After c (r .context)) (StepAfter c) _ _ (consequent-fine _ (wf _) o b y (k .id) c) (λ r q.
+      fine-bind (λ s. After (r .context) (s .context)) (StepAfter c) _ _ (unscheduled-fine _ (wf _) a 19 b (r .context) tt) (λ s q₁. after-trans q q₁))
+  terminal-fine a (switch x i n f) b k c h =
       fine-bind (λ g. Free g c) (StepAfter c) _ _ (reached-fine t c f) (λ g fr.
       fine-bind (λ d. Tower c (scheduleIds g (c .nextId)) d) (StepAfter c) _ _ (schedule-switch-fine g c fr) (λ d p.
-      fine-bind (λ r. Tower c (r .ids) (r .context)) (StepAfter c) _ _ (cases-fine b f c (casesLastFirst t i n) (scheduleIds g (c .nextId)) d p) (λ r q.
+      fine-bind (λ r. Tower c (r .ids) (r .context)) (StepAfter c) _ _ (cases-fine _ (wf _) b f c (casesLastFirst t i n) (scheduleIds g (c .nextId)) d p) (λ r q.
       fine-bind (λ e. After c e) (StepAfter c) _ _ (unschedule-all-fine c (r .ids) (r .context) q) (λ e q₁. q₁))))
-  terminal-fine (do-while l x f) b k c h =
+  terminal-fine a (do-while l x f) b k c h =
       fine-bind (λ d. InLoop f x l c d) (StepAfter c) _ _ (schedule-loop-fine f x l c) (λ d p.
-      fine-unless (StepAfter c) _ 16 b (d .visits) _ tt (λ _. fine-bind (λ r. After d (r .context)) (StepAfter c) _ _ (wf l d) (λ r q.
+      fine-unless (StepAfter c) _ 16 b (d .visits) _ tt (λ _. fine-bind (λ r. After d (r .context)) (StepAfter c) _ _ (wf _ l d) (λ r q.
       fine-bind Any (StepAfter c) _ _ (value-fine x none (k .span) (r .context .visits)) (λ v _.
       fine-bind (λ e. After c e) (StepAfter c) _ _ (unschedule-loop-fine f x l c (withVisits (v .visits) (r .context)) (loop-after p (to-visited (v .visits) q))) (λ e q₁. q₁)))))
-  terminal-fine (while x l f) b k c h =
+  terminal-fine a (while x l f) b k c h =
       fine-bind (λ g. Free g c) (StepAfter c) _ _ (reached-fine t c f) (λ g fr.
       fine-bind (λ d. InLoop f x l c d) (StepAfter c) _ _ (schedule-loop-fine f x l c) (λ d p.
-      fine-bind Any (StepAfter c) _ _ (value-fine x none (k .span) (d .visits)) (λ v _. loop-fine b l f x _ (v .visits) c d g _ p)))
-  terminal-fine (for i x u l f) b k c h =
+      fine-bind Any (StepAfter c) _ _ (value-fine x none (k .span) (d .visits)) (λ v _. loop-fine _ (wf _) b l f x _ (v .visits) c d g _ p)))
+  terminal-fine a (for i x u l f) b k c h =
       fine-bind (λ d. InLoop f _ l c d) (StepAfter c) _ _ (schedule-loop-fine f _ l c) (λ d p.
       fine-bind Any (StepAfter c) _ _ (value-fine i none (k .span) (d .visits)) (λ n _.
       fine-bind Any (StepAfter c) _ _ (value-fine x none (k .span) (n .visits)) (λ v _.
-      fine-bind Any (StepAfter c) _ _ (update-fine u (k .span) (v .visits)) (λ w _. loop-fine b l f _ _ (w .visits) c d _ _ p))))
-  terminal-fine (for-of i x l f) b k c h =
+      fine-bind Any (StepAfter c) _ _ (update-fine u (k .span) (v .visits)) (λ w _. loop-fine _ (wf _) b l f _ _ (w .visits) c d _ _ p))))
+  terminal-fine a (for-of i x l f) b k c h =
       fine-bind (λ d. InLoop f i l c d) (StepAfter c) _ _ (schedule-loop-fine f i l c) (λ d p.
       fine-bind Any (StepAfter c) _ _ (value-fine i none (k .span) (d .visits)) (λ n _.
-      fine-bind Any (StepAfter c) _ _ (value-fine x none (k .span) (n .visits)) (λ v _. loop-fine b l f i _ (v .visits) c d _ _ p)))
-  terminal-fine (for-in i l f) b k c h =
+      fine-bind Any (StepAfter c) _ _ (value-fine x none (k .span) (n .visits)) (λ v _. loop-fine _ (wf _) b l f i _ (v .visits) c d _ _ p)))
+  terminal-fine a (for-in i l f) b k c h =
       fine-bind (λ d. InLoop f i l c d) (StepAfter c) _ _ (schedule-loop-fine f i l c) (λ d p.
-      fine-bind Any (StepAfter c) _ _ (value-fine i none (k .span) (d .visits)) (λ n _. loop-fine b l f i _ (n .visits) c d _ _ p))
-  terminal-fine (logical o x f) b k c h = value-statement-fine (logical o x f) b k f c tt
-  terminal-fine (ternary x f) b k c h = value-statement-fine (ternary x f) b k f c tt
-  terminal-fine (optional g x f) b k c h = value-statement-fine (optional g x f) b k f c tt
-  terminal-fine (label x f) b k c h =
+      fine-bind Any (StepAfter c) _ _ (value-fine i none (k .span) (d .visits)) (λ n _. loop-fine _ (wf _) b l f i _ (n .visits) c d _ _ p))
+  terminal-fine a (logical o x f) b k c h = value-statement-fine (logical o x f) b k f c tt
+  terminal-fine a (ternary x f) b k c h = value-statement-fine (ternary x f) b k f c tt
+  terminal-fine a (optional g x f) b k c h = value-statement-fine (optional g x f) b k f c tt
+  terminal-fine a (label x f) b k c h =
       fine-bind (λ g. Free g c) (StepAfter c) _ _ (reached-fine t c f) (λ g fr.
-      fine-bind (λ d. OnIf g c d) (StepAfter c) _ _ (schedule-if-fine g c fr) (λ d p. enclosed-fine x 17 b g c d d _ tt p (λ e q. q)))
-  terminal-fine (sequence x f) b k c h = value-statement-fine (sequence x f) b k f c tt
-  terminal-fine (maybe-throw n) b k c h = after-refl c
-  terminal-fine (try x y f n) b k c h =
+      fine-bind (λ d. OnIf g c d) (StepAfter c) _ _ (schedule-if-fine g c fr) (λ d p. enclosed-fine _ (wf _) x 17 b g c d d _ tt p (λ e q. q)))
+  terminal-fine a (sequence x f) b k c h = value-statement-fine (sequence x f) b k f c tt
+  terminal-fine a (maybe-throw n) b k c h = after-refl c
+  terminal-fine a (try x y f n) b k c h =
       fine-bind (λ g. Free g c) (StepAfter c) _ _ (reached-fine t c f) (λ g fr.
       fine-bind (λ d. OnIf g c d) (StepAfter c) _ _ (schedule-if-fine g c fr) (λ d p.
-      fine-bind (λ r. After (scheduleCatchHandler y d) (r .context)) (StepAfter c) _ _ (wf x (scheduleCatchHandler y d)) (λ r q.
-      fine-bind (λ s. After (r .context) (s .context)) (StepAfter c) _ _ (wf y (r .context)) (λ s q₁.
+      fine-bind (λ r. After (scheduleCatchHandler y d) (r .context)) (StepAfter c) _ _ (wf _ x (scheduleCatchHandler y d)) (λ r q.
+      fine-bind (λ s. After (r .context) (s .context)) (StepAfter c) _ _ (wf _ y (r .context)) (λ s q₁.
       fine-bind (λ e. After c e) (StepAfter c) _ _ (unschedule-if-fine g c (s .context) (on-if-after g c (on-if-after g c p (from-caught y q)) q₁)) (λ e q₂. q₂)))))
-  terminal-fine (scope pr x f s) b k c h =
+  terminal-fine a (scope pr x f s) b k c h =
       fine-bind (λ d. OnIf (unlessScheduled c f) c d) (StepAfter c) _ _ (schedule-if-fine (unlessScheduled c f) c (untaken-free c f))
-      (λ d p. enclosed-fine x 18 b (unlessScheduled c f) c (markScopeFallthroughIf (unlessScheduled c f) d) d _ tt p (λ e q. from-scoped (unlessScheduled c f) q))
+      (λ d p. enclosed-fine _ (wf _) x 18 b (unlessScheduled c f) c (markScopeFallthroughIf (unlessScheduled c f) d) d _ tt p (λ e q. from-scoped (unlessScheduled c f) q))
 
   next-fine : (b : ℕ) (again : TraverseBlock) (c : Context) (s : Option Statement) (n : Option ℕ) (d : Context) → WalkFine again → After c d
       → Fine (λ r. After c (r .context)) (thenNext t b again s n d)
@@ -415,23 +419,23 @@ module _ (t : Table) (values : VisitValueBlock) (took : VisitTook t values) (inn
       fine-bind (λ _. isAbsent (terminalAt t b) ≡ false) (λ d. (isAbsent (terminalAt t b) ≡ false) × After c d) _ _ (begin-present b (c .visits))
       (λ v h. fine-unless (λ d. (isAbsent (terminalAt t b) ≡ false) × After c d) _ 11 b v _ tt (λ _. (h, to-entered c b v)))
 
-  visit-block-fine : (n : ℕ) → WalkFine (visitBlock t values inner n)
+  visit-block-fine : (a : Around) (n : ℕ) → WalkFine (visitBlock t values inner a n)
   unfolding visitBlock WalkFine
-  visit-block-fine zero b c = tt
-  visit-block-fine (suc n) b c =
+  visit-block-fine a zero b c = tt
+  visit-block-fine a (suc n) b c =
       fine-bind (λ d. (isAbsent (terminalAt t b) ≡ false) × After c d) (λ r. After c (r .context)) _ _ (enter-fine b c) (λ d p.
-      fine-bind (StepAfter d) (λ r. After c (r .context)) _ _ (terminal-fine (terminalAt t b) b (blockAt t b) d (p .0)) (λ s q.
-      next-fine b (visitBlock t values inner n) c (s .statement) (s .next) (s .context) (visit-block-fine n) (after-trans (p .1) q)))
+      fine-bind (StepAfter d) (λ r. After c (r .context)) _ _ (terminal-fine a (terminalAt t b) b (blockAt t b) d (p .0)) (λ s q.
+      next-fine b (visitBlock t values inner a n) c (s .statement) (s .next) (s .context) (visit-block-fine a n) (after-trans (p .1) q)))
 
-pub walk-fine : (t : Table) (d : ℕ) → WalkFine (traverseBlock t d)
+pub walk-fine : (t : Table) (d : ℕ) (a : Around) → WalkFine (traverseBlock t d a)
 unfolding traverseBlock WalkFine
-walk-fine t zero b c = tt
-walk-fine t (suc d) b c = visit-block-fine t (visitValueBlock t d) (value-took t d) (traverseBlock t d) (walk-fine t d) 8193 b c
+walk-fine t zero a b c = tt
+walk-fine t (suc d) a b c = visit-block-fine t (visitValueBlock t d) (value-took t d) (traverseBlock t d) (walk-fine t d) a 8193 b c
 
 -- every refusal of a table has one of the paper's codes, so none is a message that never occurs
-pub never : (t : Table) (c p v : ℕ) → buildTree t ≡ refused c p v → T (ofPaper c)
+pub never : (rule : Rule) (t : Table) (c p v : ℕ) → buildTree rule t ≡ refused c p v → T (ofPaper c)
 unfolding buildTree WalkFine
-never t c p v e = subst (λ (r : Result BlockResult). Fine (λ r. After start (r .context)) r) e (walk-fine t 128 (t .entry) start)
+never rule t c p v e = subst (λ (r : Result BlockResult). Fine (λ r. After start (r .context)) r) e (walk-fine t 128 (outermost rule) (t .entry) start)
 
 rejected-is : (y : Result BlockResult) (code at visits : ℕ) → reported y ≡ rejected code at visits → y ≡ refused code at visits
 unfolding reported
@@ -446,12 +450,12 @@ of-paper code h = leb→le code 31 (second (leb 10 code) h)
     second false k = absurd k
 
 -- whatever refuses a table is one of the paper's refusals
-pub never-of-paper : (t : Table) (code at visits : ℕ) → report t ≡ rejected code at visits → T (ofPaper code)
+pub never-of-paper : (rule : Rule) (t : Table) (code at visits : ℕ) → report rule t ≡ rejected code at visits → T (ofPaper code)
 unfolding report
-never-of-paper t code at visits e = never t code at visits (rejected-is (buildTree t) code at visits e)
+never-of-paper rule t code at visits e = never rule t code at visits (rejected-is (buildTree rule t) code at visits e)
 
-pub never-above : (t : Table) (code at visits : ℕ) → report t ≡ rejected code at visits → code ≤ 31
-never-above t code at visits e = of-paper code (never-of-paper t code at visits e)
+pub never-above : (rule : Rule) (t : Table) (code at visits : ℕ) → report rule t ≡ rejected code at visits → code ≤ 31
+never-above rule t code at visits e = of-paper code (never-of-paper rule t code at visits e)
 
 -- "Four Rust messages never occur and are proved so". An unknown target type: every target is one of the four
 pub target-known : (g : ControlFlowTarget)
@@ -462,15 +466,15 @@ target-known (target-switch block) = inr (inl (block, refl))
 target-known (target-case block) = inr (inr (inl (block, refl)))
 target-known (target-loop block continueBlock loopBlock) = inr (inr (inr (block, continueBlock, loopBlock, refl)))
 
-pub never-already-scheduled : (t : Table) (at visits : ℕ) → report t ≡ rejected alreadyScheduled at visits → ⊥
-never-already-scheduled t at visits e = omega (arith, never-above t alreadyScheduled at visits e)
+pub never-already-scheduled : (rule : Rule) (t : Table) (at visits : ℕ) → report rule t ≡ rejected alreadyScheduled at visits → ⊥
+never-already-scheduled rule t at visits e = omega (arith, never-above rule t alreadyScheduled at visits e)
 
-pub never-unschedule-out-of-order : (t : Table) (at visits : ℕ) → report t ≡ rejected unscheduleOutOfOrder at visits → ⊥
-never-unschedule-out-of-order t at visits e = omega (arith, never-above t unscheduleOutOfOrder at visits e)
+pub never-unschedule-out-of-order : (rule : Rule) (t : Table) (at visits : ℕ) → report rule t ≡ rejected unscheduleOutOfOrder at visits → ⊥
+never-unschedule-out-of-order rule t at visits e = omega (arith, never-above rule t unscheduleOutOfOrder at visits e)
 
-pub never-maybe-throw-in-value-terminal : (t : Table) (at visits : ℕ) → report t ≡ rejected maybeThrowInValueTerminal at visits → ⊥
-never-maybe-throw-in-value-terminal t at visits e = omega (arith, never-above t maybeThrowInValueTerminal at visits e)
+pub never-maybe-throw-in-value-terminal : (rule : Rule) (t : Table) (at visits : ℕ) → report rule t ≡ rejected maybeThrowInValueTerminal at visits → ⊥
+never-maybe-throw-in-value-terminal rule t at visits e = omega (arith, never-above rule t maybeThrowInValueTerminal at visits e)
 
 -- 99, the terminal of a block that is not there, is no refusal either: such a block is refused 10 before
-pub never-absent-terminal : (t : Table) (at visits : ℕ) → report t ≡ rejected 99 at visits → ⊥
-never-absent-terminal t at visits e = omega (arith, never-above t 99 at visits e)
+pub never-absent-terminal : (rule : Rule) (t : Table) (at visits : ℕ) → report rule t ≡ rejected 99 at visits → ⊥
+never-absent-terminal rule t at visits e = omega (arith, never-above rule t 99 at visits e)

@@ -144,12 +144,18 @@ module _ (t : Table) where
       (breakTargetFrom S g false (loopsOf (x .target) + above)) (c .target ≡ g) e
       (λ h. sym (ap (λ (z : Resolution). z .target) h)) (λ h. break-names S g false (loopsOf (x .target) + above) c h)
 
+  -- a Labeled break goes to its block, whatever the stack made of its kind
+  pub break-label : {scopes : Flags} {F : List Frame} {S : List Entry} → Framed scopes F S → (g : ℕ) (c : Resolution) → breakTargetFrom S g true 0 ≡ some c
+      → has scopes g ≡ false → (i : ℕ) → target F (jumpCompletion labeled g i break) ≡ some g
+  unfolding jumpCompletion
+  break-label p g c e n i = break-at p g true 0 c n e
+
   -- the break's row goes to its block
   pub break-target : {scopes : Flags} {F : List Frame} {S : List Entry} → Framed scopes F S → (g : ℕ) (c : Resolution) → breakTargetFrom S g true 0 ≡ some c
       → has scopes g ≡ false → (k : Kind) → c .kind ≡ k → (i : ℕ) → target F (jumpCompletion k g i break) ≡ some g
   unfolding jumpCompletion
   break-target p g c e n implicit k i = break-exit p g true 0 c e k
-  break-target p g c e n labeled k i = break-at p g true 0 c n e
+  break-target p g c e n labeled k i = break-label p g c e n i
   break-target p g c e n unlabeled k i = break-out p g true c e k
 
   -- ---- continue

@@ -21,6 +21,7 @@ use Rattle.definition.specs.Statement.{breakToScope, breakResolved, visi
 use Rattle.definition.specs.Statement.{traverseAlternate, traverseConsequent, traverseEnclosed, loopIsTaken, traverseLoop, visitUpdate, casesLastFirst}
 use Rattle.definition.specs.Statement.{traverseCases, unscheduleAll, visitValueStatement, visitTerminal, instructionStatements, thenNext, visitBlock}
 use Rattle.definition.specs.Statement.{traverseBlock, buildTree}
+use Rattle.definition.specs.Around.{Rule, rust, language, switchInside, kindBy, breakKindIn, isLabel, namesStatement, namesLoop, unnamed, breakUnnamed, continueUnnamed}
 use Rattle.definition.specs.Build.{Outcome, reported, report, refusal, wordsOf, placed, outcomeOf, afterCheck, built}
 
 -- ---- the words of a table
@@ -155,10 +156,11 @@ samples =
     ∷ refuses (spanned 0 5 2 1) 24 4 23 0 0
     ∷ []
 
-abbrev pub builtFor : Sample → Outcome
-builtFor sample = built (sample .words) (sample .lent)
+abbrev pub builtFor : Rule → Sample → Outcome
+builtFor rule sample = built rule (sample .words) (sample .lent)
 
-pub the-samples : map builtFor samples ≡ map (λ sample. sample .outcome) samples
+-- by either entry
+pub the-samples : (rule : Rule) → map (builtFor rule) samples ≡ map (λ sample. sample .outcome) samples
 unfolding word entryWord blockCount instructionCount caseCount placeCount identifierCount blocksBegin instructionsBegin casesBegin placesBegin identifiersBegin
     wordsNeeded blockWord instructionWord caseWord placeWord identifierWord unlessNone variantOf terminalOf blockOf operationOf instructionOf caseOf tabulate
     tableOf fits block block-or-none place place-or-none terminalRules blockRules operandRules instructionRules caseRules placeRules identifierRules andThen
@@ -167,10 +169,88 @@ unfolding word entryWord blockCount instructionCount caseCount placeCount identi
     getContinueTarget beginVisit instructionsOf wrapWithSequence finalValue finalPlace storedToNamed allButLast last extractValueBlockResult extractOrRefuse
     testBlockEnded visitTestBlock visitValueBlockTerminal thenFallthrough branchValue isEmptyGoto maybeThrowValue visitValueBlockAt visitValueBlock appended
     sameIdentifier unlessSame valueBlockResultToSequence enterBlock unlessScheduled unlessUnreachable scheduleIf scheduleSwitch unscheduleIf
-    markScopeFallthroughIf breakToScope breakResolved visitBreak continueResolved visitContinue visitGoto traverseUnscheduled traverseAlternate
+    markScopeFallthroughIf switchInside kindBy breakKindIn isLabel namesStatement namesLoop unnamed breakUnnamed continueUnnamed breakToScope breakResolved
+    visitBreak continueResolved visitContinue visitGoto traverseUnscheduled traverseAlternate
     traverseConsequent traverseEnclosed loopIsTaken traverseLoop visitUpdate casesLastFirst traverseCases unscheduleAll visitValueStatement visitTerminal
     instructionStatements thenNext visitBlock traverseBlock buildTree reported report refusal wordsOf placed outcomeOf afterCheck built
-the-samples = refl
+the-samples rust = refl
+the-samples language = refl
 
-pub file-sample : built file 12288 ≡ accepts file 12288 2 1 (RETURN 0 7 ++ BLOCK 1) .outcome
-file-sample = let same = the-samples in cc
+pub file-sample : built rust file 12288 ≡ accepts file 12288 2 1 (RETURN 0 7 ++ BLOCK 1) .outcome
+file-sample = let same = the-samples rust in cc
+
+-- ---- M-102: where the entries part
+
+abbrev Switch : (test first number fallthrough : ℕ) → List ℕ
+Switch test first number fallthrough = 7 ∷ test ∷ first ∷ number ∷ fallthrough ∷ 0 ∷ []
+
+abbrev Label : (body fallthrough : ℕ) → List ℕ
+Label body fallthrough = 16 ∷ body ∷ fallthrough ∷ 0 ∷ 0 ∷ 0 ∷ []
+
+abbrev CASE : (test : ℕ) → List ℕ
+CASE test = 11 ∷ test ∷ 0 ∷ 0 ∷ 0 ∷ 0 ∷ []
+
+abbrev SWITCH : (test cases id label : ℕ) → List ℕ
+SWITCH test cases id label = 12 ∷ test ∷ cases ∷ id ∷ label ∷ 0 ∷ []
+
+-- with one case row, of the test 0 and this block
+abbrev table-case : (number : ℕ) → (blocks : List ℕ) → (case : ℕ) → List ℕ
+table-case number blocks case = 0 ∷ number ∷ 0 ∷ 1 ∷ 1 ∷ 1 ∷ blocks ++ 0 ∷ case ∷ 0 ∷ 1 ∷ []
+
+-- a break out of a loop, in a switch that took its fallthrough 5, and in one that did not, as its fallthrough is the loop's test
+abbrev out-of-switch : (fallthrough : ℕ) → List ℕ
+out-of-switch fallthrough =
+    table-case 6 (empty (While 1 2 3) 1 ++ empty (Branch 0 2 3) 2 ++ empty (Switch 0 0 1 fallthrough) 3 ++ empty (Return 0) 4 ++ empty (Goto 3 Break) 5 ++ empty (Goto 1 Continue) 6) 4
+
+-- the same in a loop that did not take its fallthrough 3, inside of a Label that did
+abbrev label-of-another : List ℕ
+label-of-another =
+    table-case 6 (empty (Label 5 3) 1 ++ empty (Branch 0 2 3) 2 ++ empty (Switch 0 0 1 1) 3 ++ empty (Return 0) 4 ++ empty (Goto 3 Break) 5 ++ empty (While 1 2 3) 6) 4
+
+-- that loop, continued from a loop inside of it
+abbrev unlabelled-loop : List ℕ
+unlabelled-loop =
+    table 8 (empty (Label 5 3) 1 ++ empty (Branch 0 2 3) 2 ++ empty (While 4 6 7) 3 ++ empty (Return 0) 4 ++ empty (Branch 0 6 7) 5 ++ empty (While 1 2 3) 6 ++
+    empty (Goto 1 Continue) 7 ++ empty (Return 0) 8)
+
+abbrev LABEL : (id label : ℕ) → List ℕ
+LABEL id label = 18 ∷ id ∷ label ∷ 0 ∷ 0 ∷ 0 ∷ []
+
+-- the kinds of the jump are 2 (Unlabeled) in the entry that equals the Rust, and 1 (Labeled) in the language entry
+abbrev parting : (kind : ℕ) → List Sample
+parting kind =
+    accepts (out-of-switch 5) 60 10 6 (LOAD 0 ++ BREAK 3 5 kind 0 ++ BLOCK 1 ++ CASE 0 ++ SWITCH 0 1 3 5 ++ CONTINUE 3 6 0 0 ++ BLOCK 2 ++ WHILE 1 3 ++ RETURN 0 4 ++ BLOCK 2)
+    ∷ accepts (out-of-switch 1) 54 9 5 (LOAD 0 ++ BREAK 3 5 kind 0 ++ BLOCK 1 ++ CASE 0 ++ SWITCH 0 1 3 65535 ++ BLOCK 1 ++ WHILE 1 3 ++ RETURN 0 4 ++ BLOCK 2)
+    ∷ accepts label-of-another 66 11 6 (LOAD 0 ++ BREAK 3 5 kind 0 ++ BLOCK 1 ++ CASE 0 ++ SWITCH 0 1 3 65535 ++ BLOCK 1 ++ WHILE 6 65535 ++ BLOCK 1 ++ LABEL 1 3 ++ RETURN 0 4 ++ BLOCK 2)
+    ∷ []
+
+pub the-parting : (map (builtFor rust) (parting 2) ≡ map (λ sample. sample .outcome) (parting 2)) × (map (builtFor language) (parting 1) ≡ map (λ sample. sample .outcome) (parting 1))
+unfolding word entryWord blockCount instructionCount caseCount placeCount identifierCount blocksBegin instructionsBegin casesBegin placesBegin identifiersBegin
+    wordsNeeded blockWord instructionWord caseWord placeWord identifierWord unlessNone variantOf terminalOf blockOf operationOf instructionOf caseOf tabulate
+    tableOf fits block block-or-none place place-or-none terminalRules blockRules operandRules instructionRules caseRules placeRules identifierRules andThen
+    rowVerdict rowsVerdict wordsVerdict countsVerdict checked _>>=_ refuseIf noFlags has add remove start isScheduled emit withVisits markScopeFallthrough
+    scheduleCatchHandler pushed schedule unscheduledBy popped unscheduleTop unschedule breakKind breakTargetFrom getBreakTarget continueKind continueTargetFrom
+    getContinueTarget beginVisit instructionsOf wrapWithSequence finalValue finalPlace storedToNamed allButLast last extractValueBlockResult extractOrRefuse
+    testBlockEnded visitTestBlock visitValueBlockTerminal thenFallthrough branchValue isEmptyGoto maybeThrowValue visitValueBlockAt visitValueBlock appended
+    sameIdentifier unlessSame valueBlockResultToSequence enterBlock unlessScheduled unlessUnreachable scheduleIf scheduleSwitch unscheduleIf
+    markScopeFallthroughIf switchInside kindBy breakKindIn isLabel namesStatement namesLoop unnamed breakUnnamed continueUnnamed breakToScope breakResolved
+    visitBreak continueResolved visitContinue visitGoto traverseUnscheduled traverseAlternate
+    traverseConsequent traverseEnclosed loopIsTaken traverseLoop visitUpdate casesLastFirst traverseCases unscheduleAll visitValueStatement visitTerminal
+    instructionStatements thenNext visitBlock traverseBlock buildTree reported report refusal wordsOf placed outcomeOf afterCheck built
+the-parting = (refl, refl)
+
+-- "a continue the label of the very loop it resolved to"
+pub the-refusal : (built rust unlabelled-loop 6 .code ≡ 40) × (builtFor language (refuses unlabelled-loop 6 29 6 0 6) ≡ refuses unlabelled-loop 6 29 6 0 6 .outcome)
+unfolding word entryWord blockCount instructionCount caseCount placeCount identifierCount blocksBegin instructionsBegin casesBegin placesBegin identifiersBegin
+    wordsNeeded blockWord instructionWord caseWord placeWord identifierWord unlessNone variantOf terminalOf blockOf operationOf instructionOf caseOf tabulate
+    tableOf fits block block-or-none place place-or-none terminalRules blockRules operandRules instructionRules caseRules placeRules identifierRules andThen
+    rowVerdict rowsVerdict wordsVerdict countsVerdict checked _>>=_ refuseIf noFlags has add remove start isScheduled emit withVisits markScopeFallthrough
+    scheduleCatchHandler pushed schedule unscheduledBy popped unscheduleTop unschedule breakKind breakTargetFrom getBreakTarget continueKind continueTargetFrom
+    getContinueTarget beginVisit instructionsOf wrapWithSequence finalValue finalPlace storedToNamed allButLast last extractValueBlockResult extractOrRefuse
+    testBlockEnded visitTestBlock visitValueBlockTerminal thenFallthrough branchValue isEmptyGoto maybeThrowValue visitValueBlockAt visitValueBlock appended
+    sameIdentifier unlessSame valueBlockResultToSequence enterBlock unlessScheduled unlessUnreachable scheduleIf scheduleSwitch unscheduleIf
+    markScopeFallthroughIf switchInside kindBy breakKindIn isLabel namesStatement namesLoop unnamed breakUnnamed continueUnnamed breakToScope breakResolved
+    visitBreak continueResolved visitContinue visitGoto traverseUnscheduled traverseAlternate
+    traverseConsequent traverseEnclosed loopIsTaken traverseLoop visitUpdate casesLastFirst traverseCases unscheduleAll visitValueStatement visitTerminal
+    instructionStatements thenNext visitBlock traverseBlock buildTree reported report refusal wordsOf placed outcomeOf afterCheck built
+the-refusal = (refl, refl)

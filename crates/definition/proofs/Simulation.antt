@@ -18,13 +18,14 @@ use Rattle.definition.specs.Build.{accepted, Report, rejected, reported,
 use Rattle.definition.specs.Context.{has, ControlFlowTarget, target-case, target-loop, isBlocked, blockedCode, blockAsked, Entry, Context, start}
 use Rattle.definition.specs.Context.{isScheduled, emit, withVisits, scheduleCatchHandler, markScopeFallthrough, pushed, schedule, unscheduledBy, popped}
 use Rattle.definition.specs.Context.{unscheduleTop, unschedule}
-use Rattle.definition.specs.Machine.{Frame, State, visiting, ended, choosing, going, halt, turn, leave, blockRow, valueOut, updateOut, statementOut}
+use Rattle.definition.specs.Machine.{Frame, enclosingBy, aroundOf, State, visiting, ended, choosing, going, halt, turn, leave, blockRow, valueOut, updateOut, statementOut}
 use Rattle.definition.specs.Machine.{jumpOut, added, instructionsOut, closingRowOf, closingRow, scheduledIf, scheduledSwitch, unscheduledTop, unscheduled}
 use Rattle.definition.specs.Machine.{unscheduledIf, opens, frameOf, secondPart, withEntries, into, intoLoop, complete, closeBy, close, noCase, caseAt}
 use Rattle.definition.specs.Machine.{numberOfCases, chooseCase, switchColumns, resumeAt, resume, branchTurn, valueTurn, terminalTurn, depthLeft}
 use Rattle.definition.specs.Machine.{visitTurn, step, begin, Gives, halts, goes}
+use Rattle.definition.specs.Around.{Rule, Enclosing, a-switch, another, Around, outermost, within}
 use Rattle.definition.specs.Result.{refused, Result, ok, _>>=_, refuseIf}
-use Rattle.definition.specs.Statement.{visitBreak, visitContinue, OptionalValue, visitUpdate, continueBlockOf, TerminalResult, BlockResult, TraverseBlock}
+use Rattle.definition.specs.Statement.{visitBreak, visitContinue, OptionalValue, visitUpdate, continueBlockOf, TerminalResult, BlockResult, TraverseBlock, TraverseInside}
 use Rattle.definition.specs.Statement.{enterBlock, unlessScheduled, unlessUnreachable, scheduleIf, unscheduleIf, markScopeFallthroughIf}
 use Rattle.definition.specs.Statement.{traverseUnscheduled, AlternateResult, traverseAlternate, visitGoto, traverseEnclosed, loopIsTaken, traverseLoop}
 use Rattle.definition.specs.Statement.{CasesResult, traverseCases, unscheduleAll, scheduleSwitch, scheduleIds, casesLastFirst, traverseConsequent}
@@ -40,14 +41,14 @@ use Rattle.definition.proofs.ValueWalk.{BlockTook, TerminalTook, VisitT
 use Rattle.definition.proofs.Never.{After, WalkFine, walk-fine, Free, untaken-free, reached-fine, schedule-free, or-false, false-of}
 
 -- what the rest of a turn comes to leads to a
-abbrev pub Under : Table → Result State → Report → Type 0
-Under t (ok s) a = Gives t s a
-Under t (refused c q v) a = rejected c q v ≡ a
+abbrev pub Under : Rule → Table → Result State → Report → Type 0
+Under rule t (ok s) a = Gives rule t s a
+Under rule t (refused c q v) a = rejected c q v ≡ a
 
-gives-turn : (t : Table) (s : State) (x : Result State) (a : Report) → step t s ≡ turn x → Under t x a → Gives t s a
+gives-turn : (rule : Rule) (t : Table) (s : State) (x : Result State) (a : Report) → step rule t s ≡ turn x → Under rule t x a → Gives rule t s a
 unfolding turn
-gives-turn t s (ok s′) a e h = goes e h
-gives-turn t s (refused c p v) a e h = halts (e ∙ ap halt h)
+gives-turn rule t s (ok s′) a e h = goes e h
+gives-turn rule t s (refused c p v) a e h = halts (e ∙ ap halt h)
 
 pub bind-assoc : {A B C : Type 0} (m : Result A) (f : A → Result B) (g : B → Result C) → (m >>= f) >>= g ≡ m >>= (λ a. f a >>= g)
 unfolding _>>=_
@@ -55,61 +56,65 @@ bind-assoc (ok a) f g = refl
 bind-assoc (refused c p v) f g = refl
 
 -- the rest of a turn, x, beside the same of the definition, y: the statement's rows are put out and its fallthrough is taken next
-abbrev Beside : Table → (v : ℕ) → List Frame → List Row → ℕ → Result State → Result TerminalResult → Type 0
-Beside t v F R m x (ok s) = (v ≤ s .context .visits) × ((a : Report) → Gives t (leave (s .next) F (R ++ jumpOut (s .statement)) (added (s .statement) m) (s .context)) a → Under t x a)
-Beside t v F R m x (refused c q w) = Under t x (rejected c q w)
+abbrev Beside : Rule → Table → (v : ℕ) → List Frame → List Row → ℕ → Result State → Result TerminalResult → Type 0
+Beside rule t v F R m x (ok s) = (v ≤ s .context .visits) × ((a : Report) → Gives rule t (leave (s .next) F (R ++ jumpOut (s .statement)) (added (s .statement) m) (s .context)) a → Under rule t x a)
+Beside rule t v F R m x (refused c q w) = Under rule t x (rejected c q w)
 
 -- the same as a record, so that its arguments are found
-record Sim (t : Table) (v : ℕ) (F : List Frame) (R : List Row) (n : ℕ) (x : Result State) (y : Result TerminalResult) : Type 0 where
-  raw : Beside t v F R n x y
+record Sim (rule : Rule) (t : Table) (v : ℕ) (F : List Frame) (R : List Row) (n : ℕ) (x : Result State) (y : Result TerminalResult) : Type 0 where
+  raw : Beside rule t v F R n x y
 
 -- a list of statements is walked from the state s
-abbrev Along : Table → State → ℕ → List Frame → List Row → ℕ → Result BlockResult → Type 0
-Along t s v F R m (ok r) = (v < r .context .visits) × ((a : Report) → Gives t (ended F (R ++ statementsOut (r .statements)) (m + countStatements (r .statements)) (r .context)) a → Gives t s a)
-Along t s v F R m (refused c q w) = Gives t s (rejected c q w)
+abbrev Along : Rule → Table → State → ℕ → List Frame → List Row → ℕ → Result BlockResult → Type 0
+Along rule t s v F R m (ok r) =
+    (v < r .context .visits) × ((a : Report) → Gives rule t (ended F (R ++ statementsOut (r .statements)) (m + countStatements (r .statements)) (r .context)) a
+    → Gives rule t s a)
+Along rule t s v F R m (refused c q w) = Gives rule t s (rejected c q w)
 
-unfoldable pub Walks : Table → ℕ → TraverseBlock → Type 0
-Walks t d inner = (b : ℕ) (F : List Frame) (R : List Row) (m : ℕ) (c : Context) → length F + d ≡ 128 → Along t (visiting b F R m c) (c .visits) F R m (inner b c)
+unfoldable pub Walks : Rule → Table → ℕ → TraverseInside → Type 0
+Walks rule t d inner = (b : ℕ) (F : List Frame) (R : List Row) (m : ℕ) (c : Context) → length F + d ≡ 128 → Along rule t (visiting b F R m c) (c .visits) F R m (inner (aroundOf rule t F) b c)
 
-module _ {t : Table} {v : ℕ} {F : List Frame} {R : List Row} {n : ℕ} where
+module _ {rule : Rule} {t : Table} {v : ℕ} {F : List Frame} {R : List Row} {n : ℕ} where
   sim-bind : {A : Type 0} (P : A → Type 0) (m : Result A) (f : A → Result State) (g : A → Result TerminalResult)
-      → Good P m → ((a : A) → P a → Sim t v F R n (f a) (g a)) → Sim t v F R n (m >>= f) (m >>= g)
+      → Good P m → ((a : A) → P a → Sim rule t v F R n (f a) (g a)) → Sim rule t v F R n (m >>= f) (m >>= g)
   unfolding _>>=_
   sim-bind P (ok a) f g h k = k a h
   sim-bind P (refused c q w) f g h k = record { raw = refl }
 
-  sim-go : {A : Type 0} (m : Result A) (f : A → Result State) (g : A → Result TerminalResult) → ((a : A) → Sim t v F R n (f a) (g a)) → Sim t v F R n (m >>= f) (m >>= g)
+  sim-go : {A : Type 0} (m : Result A) (f : A → Result State) (g : A → Result TerminalResult) → ((a : A) → Sim rule t v F R n (f a) (g a)) → Sim rule t v F R n (m >>= f) (m >>= g)
   sim-go m f g k = sim-bind Any m f g (good-any m) (λ a _. k a)
 
-  sim-assoc : {A B : Type 0} {x : Result State} (m : Result A) (f : A → Result B) (g : B → Result TerminalResult) → Sim t v F R n x (m >>= (λ a. f a >>= g)) → Sim t v F R n x ((m >>= f) >>= g)
-  sim-assoc {x = x} m f g h = subst (λ (y : Result TerminalResult). Sim t v F R n x y) (sym (bind-assoc m f g)) h
+  sim-assoc : {A B : Type 0} {x : Result State} (m : Result A) (f : A → Result B) (g : B → Result TerminalResult)
+      → Sim rule t v F R n x (m >>= (λ a. f a >>= g)) → Sim rule t v F R n x ((m >>= f) >>= g)
+  sim-assoc {x = x} m f g h = subst (λ (y : Result TerminalResult). Sim rule t v F R n x y) (sym (bind-assoc m f g)) h
 
-  sim-ok : {A : Type 0} {x : Result State} (a : A) (g : A → Result TerminalResult) → Sim t v F R n x (g a) → Sim t v F R n x (ok a >>= g)
+  sim-ok : {A : Type 0} {x : Result State} (a : A) (g : A → Result TerminalResult) → Sim rule t v F R n x (g a) → Sim rule t v F R n x (ok a >>= g)
   unfolding _>>=_
   sim-ok a g h = h
 
-  sim-bound : {A : Type 0} {x : Result State} (a : A) (g : A → Result TerminalResult) → Sim t v F R n x (ok a >>= g) → Sim t v F R n x (g a)
+  sim-bound : {A : Type 0} {x : Result State} (a : A) (g : A → Result TerminalResult) → Sim rule t v F R n x (ok a >>= g) → Sim rule t v F R n x (g a)
   unfolding _>>=_
   sim-bound a g h = h
 
   -- the definition's next step is known
-  sim-by : {A : Type 0} {x : Result State} {m : Result A} {a : A} (g : A → Result TerminalResult) → m ≡ ok a → Sim t v F R n x (g a) → Sim t v F R n x (m >>= g)
-  sim-by {A} {x} {m} {a} g e h = subst (λ (z : Result A). Sim t v F R n x (z >>= g)) (sym e) (sim-ok a g h)
+  sim-by : {A : Type 0} {x : Result State} {m : Result A} {a : A} (g : A → Result TerminalResult) → m ≡ ok a → Sim rule t v F R n x (g a) → Sim rule t v F R n x (m >>= g)
+  sim-by {A} {x} {m} {a} g e h = subst (λ (z : Result A). Sim rule t v F R n x (z >>= g)) (sym e) (sim-ok a g h)
 
-  sim-map : {A B : Type 0} {x : Result State} (m : Result A) (f : A → B) (g : B → Result TerminalResult) → Sim t v F R n x (m >>= (λ a. g (f a))) → Sim t v F R n x ((m >>= (λ a. ok (f a))) >>= g)
+  sim-map : {A B : Type 0} {x : Result State} (m : Result A) (f : A → B) (g : B → Result TerminalResult) → Sim rule t v F R n x (m >>= (λ a. g (f a)))
+      → Sim rule t v F R n x ((m >>= (λ a. ok (f a))) >>= g)
   unfolding _>>=_
   sim-map (ok a) f g h = h
   sim-map (refused e q w) f g h = h
 
   -- a statement is complete
   sim-leave : {R₁ : List Row} {g : Option ℕ} (s : Statement) {c : Context} → R₁ ≡ R ++ statementOut s → v ≤ c .visits
-      → Sim t v F R n (ok (leave g F R₁ (suc n) c)) (ok (record { statement = some s; next = g; context = c }))
-  sim-leave {R₁} {g} s {c} e h = record { raw = (h, λ a q. subst (λ (z : List Row). Gives t (leave g F z (suc n) c) a) (sym e) q) }
+      → Sim rule t v F R n (ok (leave g F R₁ (suc n) c)) (ok (record { statement = some s; next = g; context = c }))
+  sim-leave {R₁} {g} s {c} e h = record { raw = (h, λ a q. subst (λ (z : List Row). Gives rule t (leave g F z (suc n) c) a) (sym e) q) }
 
   -- one turn more
-  sim-turn : (s : State) (x : Result State) (y : Result TerminalResult) → step t s ≡ turn x → Sim t v F R n x y → Sim t v F R n (ok s) y
-  sim-turn s x (ok r) e h = record { raw = (h .raw .0, λ a q. gives-turn t s x a e (h .raw .1 a q)) }
-  sim-turn s x (refused c q w) e h = record { raw = gives-turn t s x (rejected c q w) e (h .raw) }
+  sim-turn : (s : State) (x : Result State) (y : Result TerminalResult) → step rule t s ≡ turn x → Sim rule t v F R n x y → Sim rule t v F R n (ok s) y
+  sim-turn s x (ok r) e h = record { raw = (h .raw .0, λ a q. gives-turn rule t s x a e (h .raw .1 a q)) }
+  sim-turn s x (refused c q w) e h = record { raw = gives-turn rule t s x (rejected c q w) e (h .raw) }
 
 -- ---- entries on the stack
 
@@ -228,27 +233,28 @@ onto-scheduled g c = good-bind Any (Onto c) _ _ (good-any (refuseIf (isBlocked g
 
 -- ---- closing a statement
 
-closes : (t : Table) (n : ℕ) (fr : Frame) (F : List Frame) (R : List Row) (c : Context) (a : Report) → Gives t (complete t fr F R (popAll n c)) a → Gives t (closeBy n t fr F R c) a
+closes : (rule : Rule) (t : Table) (n : ℕ) (fr : Frame) (F : List Frame) (R : List Row) (c : Context) (a : Report)
+    → Gives rule t (complete t fr F R (popAll n c)) a → Gives rule t (closeBy n t fr F R c) a
 unfolding step close
-closes t zero fr F R c a h = h
-closes t (suc zero) fr F R c a h = h
-closes t (suc (suc n)) fr F R c a h = goes refl (closes t (suc n) (withEntries (suc n) fr) F R (unscheduled c) a h)
+closes rule t zero fr F R c a h = h
+closes rule t (suc zero) fr F R c a h = h
+closes rule t (suc (suc n)) fr F R c a h = goes refl (closes rule t (suc n) (withEntries (suc n) fr) F R (unscheduled c) a h)
 
-sim-close : {t : Table} {v : ℕ} {F : List Frame} {R : List Row} (fr : Frame) (ids : List ℕ) (e : Terminal) (R₁ : List Row) (m : Result Context) (s : Statement) (c : Context)
+sim-close : {rule : Rule} {t : Table} {v : ℕ} {F : List Frame} {R : List Row} (fr : Frame) (ids : List ℕ) (e : Terminal) (R₁ : List Row) (m : Result Context) (s : Statement) (c : Context)
     → terminalAt t (fr .block) ≡ e → m ≡ unscheduleAll ids c → fr .entries ≡ length ids → Tops ids (c .stack)
     → R₁ ++ (closingRowOf e (blockAt t (fr .block)) (fr .second) (fr .label) (fr .built) ∷ []) ≡ R ++ statementOut s → v ≤ c .visits
-    → Sim t v F R (fr .count) (ok (close t fr F R₁ c)) (m >>= λ c1. ok (record { statement = some s; next = fr .label; context = c1 }))
+    → Sim rule t v F R (fr .count) (ok (close t fr F R₁ c)) (m >>= λ c1. ok (record { statement = some s; next = fr .label; context = c1 }))
 unfolding close
-sim-close {t} {v} {F} {R} fr ids e R₁ m s c q o k u r h =
+sim-close {rule} {t} {v} {F} {R} fr ids e R₁ m s c q o k u r h =
     sim-by (λ c1. ok (record { statement = some s; next = fr .label; context = c1 })) (o ∙ pop-all ids c u)
     (record { raw = (rw (popAll-kept (length ids) c) h, λ a g. closing (fr .entries) k a g) })
   where
     row-is : R₁ ++ (closingRow t (fr .block) (fr .second) (fr .label) (fr .built) ∷ []) ≡ R ++ statementOut s
     row-is = ap (λ (z : Terminal). R₁ ++ (closingRowOf z (blockAt t (fr .block)) (fr .second) (fr .label) (fr .built) ∷ [])) q ∙ r
 
-    closing : (z : ℕ) → z ≡ length ids → (a : Report) → Gives t (leave (fr .label) F (R ++ statementOut s) (suc (fr .count)) (popAll (length ids) c)) a → Gives t (closeBy z t fr F R₁ c) a
-    closing z k a g = closes t z fr F R₁ c a
-        (subst₂ (λ (y : List Row) (i : ℕ). Gives t (leave (fr .label) F y (suc (fr .count)) (popAll i c)) a) (sym row-is) (sym k) g)
+    closing : (z : ℕ) → z ≡ length ids → (a : Report) → Gives rule t (leave (fr .label) F (R ++ statementOut s) (suc (fr .count)) (popAll (length ids) c)) a → Gives rule t (closeBy z t fr F R₁ c) a
+    closing z k a g = closes rule t z fr F R₁ c a
+        (subst₂ (λ (y : List Row) (i : ℕ). Gives rule t (leave (fr .label) F y (suc (fr .count)) (popAll i c)) a) (sym row-is) (sym k) g)
 
 -- what a nested walk leaves of the state
 abbrev Past : Context → Context → Type 0
@@ -287,53 +293,60 @@ number-below t i n = omega (arith, length-reverse (take n (drop i (t .cases))), 
     shorter (suc n) [] = omega arith
     shorter (suc n) (x ∷ l) = omega (arith, shorter n l)
 
-module _ (t : Table) (d : ℕ) (inner : TraverseBlock) (ws : Walks t d inner) (wf : WalkFine inner) where
+module _ (rule : Rule) (t : Table) (d : ℕ) (inner : TraverseInside) (ws : Walks rule t d inner) (wf : (a : Around) → WalkFine (inner a)) where
   -- ---- nested lists
 
   abbrev visit : VisitValueBlock
   visit = visitValueBlock t d
 
+  -- the walk inside of a statement that stands within these frames
+  abbrev inside : Enclosing → List Frame → TraverseBlock
+  inside enclosing F = inner (within enclosing (aroundOf rule t F))
+
   -- a nested list ended, the machine resumes its frame
   resumes : (fr : Frame) (F : List Frame) (R : List Row) (n : ℕ) (c : Context) (a : Report) → length F + suc d ≡ 128
-      → Under t (resume t visit fr F (R ++ (blockRow n ∷ [])) c) a → Gives t (ended (fr ∷ F) R (0 + n) c) a
+      → Under rule t (resume t visit fr F (R ++ (blockRow n ∷ [])) c) a → Gives rule t (ended (fr ∷ F) R (0 + n) c) a
   unfolding step
   resumes fr F R n c a size h =
       let e : depthLeft F ≡ d = omega arith in
-      gives-turn t (ended (fr ∷ F) R (0 + n) c) (resume t visit fr F (R ++ (blockRow n ∷ [])) c) a
+      gives-turn rule t (ended (fr ∷ F) R (0 + n) c) (resume t visit fr F (R ++ (blockRow n ∷ [])) c) a
       (ap (λ (z : ℕ). turn (resume t (visitValueBlock t z) fr F (R ++ (blockRow (0 + n) ∷ [])) c)) e
       ∙ ap (λ (z : ℕ). turn (resume t visit fr F (R ++ (blockRow z ∷ [])) c)) (zero-add n)) h
 
   -- the frame awaits a list of a statement with the terminal e: open, visit inside, close
   sim-inner : {v : ℕ} {F : List Frame} {R : List Row} {n : ℕ} (fr : Frame) (e : Terminal) (b : ℕ) (R₁ : List Row) (c : Context) (rest : BlockResult → Result TerminalResult)
       → terminalAt t (fr .block) ≡ e → length F + suc d ≡ 128
-      → ((r : BlockResult) → Past c (r .context) → Sim t v F R n (resumeAt t visit e (blockAt t (fr .block)) fr F (blockOut R₁ (r .statements)) (r .context)) (rest r))
-      → Sim t v F R n (ok (visiting b (fr ∷ F) R₁ 0 c)) (inner b c >>= rest)
+      → ((r : BlockResult) → Past c (r .context) → Sim rule t v F R n (resumeAt t visit e (blockAt t (fr .block)) fr F (blockOut R₁ (r .statements)) (r .context)) (rest r))
+      → Sim rule t v F R n (ok (visiting b (fr ∷ F) R₁ 0 c)) (inside (enclosingBy e (fr .label)) F b c >>= rest)
   unfolding _>>=_ Walks WalkFine
-  sim-inner {v} {F} {R} {n} fr e b R₁ c rest q size k = at (inner b c) (ws b (fr ∷ F) R₁ 0 c (omega arith)) (wf b c)
+  sim-inner {v} {F} {R} {n} fr e b R₁ c rest q size k =
+      at (inside (enclosingBy e (fr .label)) F b c)
+      (subst (λ (z : Terminal). Along rule t (visiting b (fr ∷ F) R₁ 0 c) (c .visits) (fr ∷ F) R₁ 0 (inside (enclosingBy z (fr .label)) F b c)) q (ws b (fr ∷ F) R₁ 0 c (omega arith)))
+      (wf (within (enclosingBy e (fr .label)) (aroundOf rule t F)) b c)
     where
-      under : (r : BlockResult) (a : Report) → Under t (resumeAt t visit e (blockAt t (fr .block)) fr F (blockOut R₁ (r .statements)) (r .context)) a
-          → Under t (resume t visit fr F (blockOut R₁ (r .statements)) (r .context)) a
-      under r a h = subst (λ (z : Terminal). Under t (resumeAt t visit z (blockAt t (fr .block)) fr F (blockOut R₁ (r .statements)) (r .context)) a) (sym q) h
+      under : (r : BlockResult) (a : Report) → Under rule t (resumeAt t visit e (blockAt t (fr .block)) fr F (blockOut R₁ (r .statements)) (r .context)) a
+          → Under rule t (resume t visit fr F (blockOut R₁ (r .statements)) (r .context)) a
+      under r a h = subst (λ (z : Terminal). Under rule t (resumeAt t visit z (blockAt t (fr .block)) fr F (blockOut R₁ (r .statements)) (r .context)) a) (sym q) h
 
       after : (r : BlockResult) (z : Result TerminalResult)
-          → ((a : Report) → Gives t (ended (fr ∷ F) (R₁ ++ statementsOut (r .statements)) (0 + countStatements (r .statements)) (r .context)) a → Gives t (visiting b (fr ∷ F) R₁ 0 c) a)
-          → Beside t v F R n (resumeAt t visit e (blockAt t (fr .block)) fr F (blockOut R₁ (r .statements)) (r .context)) z
-          → Beside t v F R n (ok (visiting b (fr ∷ F) R₁ 0 c)) z
+          → ((a : Report) → Gives rule t (ended (fr ∷ F) (R₁ ++ statementsOut (r .statements)) (0 + countStatements (r .statements)) (r .context)) a → Gives rule t (visiting b (fr ∷ F) R₁ 0 c) a)
+          → Beside rule t v F R n (resumeAt t visit e (blockAt t (fr .block)) fr F (blockOut R₁ (r .statements)) (r .context)) z
+          → Beside rule t v F R n (ok (visiting b (fr ∷ F) R₁ 0 c)) z
       after r (refused x y w) go u = go (rejected x y w) (resumes fr F _ _ (r .context) (rejected x y w) size (under r _ u))
       after r (ok s) go (g, u) = (g, λ a h. go a (resumes fr F _ _ (r .context) a size (under r a (u a h))))
 
-      at : (y : Result BlockResult) → Along t (visiting b (fr ∷ F) R₁ 0 c) (c .visits) (fr ∷ F) R₁ 0 y → Fine (λ r. After c (r .context)) y
-          → Sim t v F R n (ok (visiting b (fr ∷ F) R₁ 0 c)) (y >>= rest)
+      at : (y : Result BlockResult) → Along rule t (visiting b (fr ∷ F) R₁ 0 c) (c .visits) (fr ∷ F) R₁ 0 y → Fine (λ r. After c (r .context)) y
+          → Sim rule t v F R n (ok (visiting b (fr ∷ F) R₁ 0 c)) (y >>= rest)
       at (refused x y w) h _ = record { raw = h }
       at (ok r) (lt, go) f = record { raw = after r (rest r) go (k r (lt, f) .raw) }
 
   sim-into : {v : ℕ} {F : List Frame} {R : List Row} {n : ℕ} (fr : Frame) (e : Terminal) (b code at : ℕ) (R₁ : List Row) (c : Context) (rest : BlockResult → Result TerminalResult)
       → terminalAt t (fr .block) ≡ e → length F + suc d ≡ 128
-      → ((r : BlockResult) → Past c (r .context) → Sim t v F R n (resumeAt t visit e (blockAt t (fr .block)) fr F (blockOut R₁ (r .statements)) (r .context)) (rest r))
-      → Sim t v F R n (into b code at fr F R₁ c) (traverseUnscheduled inner b code at c >>= rest)
+      → ((r : BlockResult) → Past c (r .context) → Sim rule t v F R n (resumeAt t visit e (blockAt t (fr .block)) fr F (blockOut R₁ (r .statements)) (r .context)) (rest r))
+      → Sim rule t v F R n (into b code at fr F R₁ c) (traverseUnscheduled (inside (enclosingBy e (fr .label)) F) b code at c >>= rest)
   unfolding into traverseUnscheduled
-  sim-into fr e b code at R₁ c rest q size k =
-      sim-assoc (refuseIf (isScheduled c b) code at (c .visits)) (λ _. inner b c) rest (sim-go _ _ _ (λ _. sim-inner fr e b R₁ c rest q size k))
+  sim-into {F = F} fr e b code at R₁ c rest q size k =
+      sim-assoc (refuseIf (isScheduled c b) code at (c .visits)) (λ _. inside (enclosingBy e (fr .label)) F b c) rest (sim-go _ _ _ (λ _. sim-inner fr e b R₁ c rest q size k))
 
   -- ---- If and Branch
 
@@ -342,8 +355,8 @@ module _ (t : Table) (d : ℕ) (inner : TraverseBlock) (ws : Walks t d inner) (w
 
   if-else : {v : ℕ} {F : List Frame} {R : List Row} {n : ℕ} (x y a f : ℕ) (g : Option ℕ) (i b : ℕ) (c : Context) (th : Statements)
       → terminalAt t b ≡ if x y a f → length F + suc d ≡ 128 → v ≤ c .visits → Tops (scheduleIds g i) (c .stack)
-      → Sim t v F R n (resumeAt t visit (if x y a f) (blockAt t b) (labelled b g n) F (blockOut R th) c)
-      (traverseAlternate inner a f c >>= λ s. unscheduleIf g i (s .context) >>= λ c2. ok
+      → Sim rule t v F R n (resumeAt t visit (if x y a f) (blockAt t b) (labelled b g n) F (blockOut R th) c)
+      (traverseAlternate (inside (another g) F) a f c >>= λ s. unscheduleIf g i (s .context) >>= λ c2. ok
       (record { statement = some (IF x (blockAt t b .id) g th (s .present) (s .statements)); next = g; context = c2 }))
   unfolding traverseAlternate resumeAt closingRowOf
   if-else {v} {F} {R} {n} x y a f g i b c th q size h u = at (eqb a f)
@@ -351,23 +364,23 @@ module _ (t : Table) (d : ℕ) (inner : TraverseBlock) (ws : Walks t d inner) (w
       K : AlternateResult → Result TerminalResult
       K s = unscheduleIf g i (s .context) >>= λ c2. ok (record { statement = some (IF x (blockAt t b .id) g th (s .present) (s .statements)); next = g; context = c2 })
 
-      at : (y : Bool) → Sim t v F R n
+      at : (y : Bool) → Sim rule t v F R n
           (elim y [ true ↦ ok (close t (labelled b g n) F (blockOut R th) c) | false ↦ into a 13 a (secondPart (labelled b g n)) F (blockOut R th) c ])
           (_>>=_ {A = AlternateResult} (elim y [
             | true ↦ ok (record { present = false; statements = done; context = c })
-            | false ↦ traverseUnscheduled inner a 13 a c >>= λ r. ok (record { present = true; statements = r .statements; context = r .context })
+            | false ↦ traverseUnscheduled (inside (another g) F) a 13 a c >>= λ r. ok (record { present = true; statements = r .statements; context = r .context })
           ]) K)
       at true = sim-ok _ K (sim-close (labelled b g n) (scheduleIds g i) _ _ _ _ c q (off-if g i c) (ids-if g i) u (rows-if R x (blockAt t b .id) g th done) h)
       at false =
-          sim-assoc (traverseUnscheduled inner a 13 a c) _ K (sim-into (secondPart (labelled b g n)) _ a 13 a _ c _ q size (λ r p.
+          sim-assoc (traverseUnscheduled (inside (another g) F) a 13 a c) _ K (sim-into (secondPart (labelled b g n)) _ a 13 a _ c _ q size (λ r p.
           sim-ok _ K (sim-close (secondPart (labelled b g n)) (scheduleIds g i) _ _ _ _ (r .context) q (off-if g i (r .context)) (ids-if g i)
           (tops-same (scheduleIds g i) c (r .context) (p .1 .same) u)
           (rows-else R x (blockAt t b .id) g th (r .statements)) (omega arith))))
 
   other-way : {v : ℕ} {F : List Frame} {R : List Row} {n : ℕ} (x y a b : ℕ) (R₂ : List Row) (c : Context) (th : Statements)
       → terminalAt t b ≡ branch x y a → length F + suc d ≡ 128 → v ≤ c .visits → R₂ ≡ blockOut R th
-      → Sim t v F R n (into a 19 b (secondPart (frameOf b none 0 n)) F R₂ c)
-      (traverseUnscheduled inner a 19 b c >>= λ s. ok (record { statement = some (IF x (blockAt t b .id) none th true (s .statements)); next = none; context = s .context }))
+      → Sim rule t v F R n (into a 19 b (secondPart (frameOf b none 0 n)) F R₂ c)
+      (traverseUnscheduled (inside (another none) F) a 19 b c >>= λ s. ok (record { statement = some (IF x (blockAt t b .id) none th true (s .statements)); next = none; context = s .context }))
   unfolding resumeAt closingRowOf
   other-way {R = R} {n} x y a b R₂ c th q size h e =
       sim-into (secondPart (frameOf b none 0 n)) _ a 19 b _ c _ q size (λ r p.
@@ -375,25 +388,29 @@ module _ (t : Table) (d : ℕ) (inner : TraverseBlock) (ws : Walks t d inner) (w
       (ap (λ (z : List Row). blockOut z (r .statements) ++ (row 10 x 1 (blockAt t b .id) (orNone none) 0 ∷ [])) e ∙ rows-else R x (blockAt t b .id) none th (r .statements)) (omega arith)))
 
   branch-sim : {v : ℕ} {F : List Frame} {R : List Row} {n : ℕ} (x y a b : ℕ) (c : Context) → terminalAt t b ≡ branch x y a → length F + suc d ≡ 128 → v ≤ c .visits
-      → Sim t v F R n (branchTurn b y a (blockAt t b .id) F R n c)
-      (traverseConsequent inner b y (blockAt t b .id) c >>= λ r. traverseUnscheduled inner a 19 b (r .context) >>= λ s.
+      → Sim rule t v F R n (branchTurn (aroundOf rule t F) b y a (blockAt t b .id) F R n c)
+      (traverseConsequent (aroundOf rule t F) (inside (another none) F) b y (blockAt t b .id) c >>= λ r. traverseUnscheduled (inside (another none) F) a 19 b (r .context) >>= λ s.
       ok (record { statement = some (IF x (blockAt t b .id) none (r .statements) true (s .statements)); next = none; context = s .context }))
   unfolding branchTurn traverseConsequent resumeAt
   branch-sim {v} {F} {R} {n} x y a b c q size h = at (isScheduled c y)
     where
       K : BlockResult → Result TerminalResult
       K r =
-          traverseUnscheduled inner a 19 b (r .context) >>= λ s. ok
+          traverseUnscheduled (inside (another none) F) a 19 b (r .context) >>= λ s. ok
           (record { statement = some (IF x (blockAt t b .id) none (r .statements) true (s .statements)); next = none; context = s .context })
 
-      at : (z : Bool) → Sim t v F R n
+      at : (z : Bool) → Sim rule t v F R n
           (elim z [
-            | true ↦ visitBreak b y (blockAt t b .id) c >>= λ s. into a 19 b (secondPart (frameOf b none 0 n)) F ((R ++ jumpOut s) ++ (blockRow (added s 0) ∷ [])) c
+            | true ↦ visitBreak (aroundOf rule t F) b y (blockAt t b .id) c >>= λ s. into a 19 b (secondPart (frameOf b none 0 n)) F ((R ++ jumpOut s) ++ (blockRow (added s 0) ∷ [])) c
             | false ↦ ok (visiting y (frameOf b none 0 n ∷ F) R 0 c)
           ])
-          (_>>=_ {A = BlockResult} (elim z [ true ↦ visitBreak b y (blockAt t b .id) c >>= λ s. ok (record { statements = followedBy s done; context = c }) | false ↦ inner y c ]) K)
+          (_>>=_ {A = BlockResult} (elim z [
+            | true ↦ visitBreak (aroundOf rule t F) b y (blockAt t b .id) c >>= λ s. ok (record
+                { statements = followedBy s done; context = c })
+            | false ↦ inside (another none) F y c
+          ]) K)
       at true =
-          sim-assoc (visitBreak b y (blockAt t b .id) c) _ K (sim-go _ _ _ (λ s. sim-ok _ K (other-way x y a b _ c (followedBy s done) q size h (rows-single R s))))
+          sim-assoc (visitBreak (aroundOf rule t F) b y (blockAt t b .id) c) _ K (sim-go _ _ _ (λ s. sim-ok _ K (other-way x y a b _ c (followedBy s done) q size h (rows-single R s))))
       at false = sim-inner (frameOf b none 0 n) _ y R c K q size (λ r p. other-way x y a b _ (r .context) (r .statements) q size (omega arith) refl)
 
   -- ---- Label and scopes, loops: the last part closes the statement
@@ -404,11 +421,11 @@ module _ (t : Table) (d : ℕ) (inner : TraverseBlock) (ws : Walks t d inner) (w
   enclosed-sim : {v : ℕ} {F : List Frame} {R : List Row} {n : ℕ} (e : Terminal) (b x code at : ℕ) (g : Option ℕ) (c₀ c : Context) (make : Statements → Statement)
       → terminalAt t b ≡ e → Lasts e → length F + suc d ≡ 128 → v ≤ c .visits → Tops (scheduleIds g (c₀ .nextId)) (c .stack)
       → ((s : Statements) → blockOut R s ++ (closingRowOf e (blockAt t b) false g 0 ∷ []) ≡ R ++ statementOut (make s))
-      → Sim t v F R n (into x code at (labelled b g n) F R c) (traverseEnclosed inner x code at g c₀ c make)
+      → Sim rule t v F R n (into x code at (labelled b g n) F R c) (traverseEnclosed (inside (enclosingBy e g) F) x code at g c₀ c make)
   unfolding traverseEnclosed
   enclosed-sim {v} {F} {R} {n} e b x code at g c₀ c make q l size h u o =
       sim-into (labelled b g n) e x code at _ c _ q size (λ r p.
-      subst (λ (z : Result State). Sim t v F R n z
+      subst (λ (z : Result State). Sim rule t v F R n z
       (unscheduleIf g (c₀ .nextId) (r .context) >>= λ c1. ok (record { statement = some (make (r .statements)); next = g; context = c1 }))) (sym (l _ _ _ _ _))
       (sim-close (labelled b g n) (scheduleIds g (c₀ .nextId)) e _ _ _ (r .context) q (off-if g (c₀ .nextId) (r .context)) (ids-if g (c₀ .nextId))
       (tops-same (scheduleIds g (c₀ .nextId)) c (r .context) (p .1 .same) u)
@@ -417,11 +434,11 @@ module _ (t : Table) (d : ℕ) (inner : TraverseBlock) (ws : Walks t d inner) (w
   loop-sim : {v : ℕ} {F : List Frame} {R : List Row} {n : ℕ} (e : Terminal) (b l : ℕ) (bad : Bool) (w i : ℕ) (c : Context) (g : Option ℕ) (R₁ : List Row) (make : Statements → Statement)
       → terminalAt t b ≡ e → Lasts e → length F + suc d ≡ 128 → v ≤ w → Tops (i ∷ []) (c .stack)
       → ((s : Statements) → blockOut R₁ s ++ (closingRowOf e (blockAt t b) false g 0 ∷ []) ≡ R ++ statementOut (make s))
-      → Sim t v F R n (intoLoop b l bad w (frameOf b g 1 n) F R₁ c) (traverseLoop inner b l bad w i c g make)
+      → Sim rule t v F R n (intoLoop b l bad w (frameOf b g 1 n) F R₁ c) (traverseLoop (inside (enclosingBy e g) F) b l bad w i c g make)
   unfolding traverseLoop intoLoop withVisits
   loop-sim {v} {F} {R} {n} e b l bad w i c g R₁ make q la size h u o =
       sim-go _ _ _ (λ _. sim-inner (frameOf b g 1 n) e l R₁ (withVisits w c) _ q size (λ r p.
-      subst (λ (z : Result State). Sim t v F R n z (unschedule i (r .context) >>= λ c1. ok (record { statement = some (make (r .statements)); next = g; context = c1 }))) (sym (la _ _ _ _ _))
+      subst (λ (z : Result State). Sim rule t v F R n z (unschedule i (r .context) >>= λ c1. ok (record { statement = some (make (r .statements)); next = g; context = c1 }))) (sym (la _ _ _ _ _))
       (sim-close (frameOf b g 1 n) (i ∷ []) e _ _ _ (r .context) q (off-loop i (r .context)) refl (tops-same (i ∷ []) c (r .context) (p .1 .same) u) (o (r .statements)) (omega arith))))
 
   -- ---- Switch: what is put out before the cases that are left is R₁, and `make` is given these. `ids` are those of the entries so far
@@ -432,12 +449,13 @@ module _ (t : Table) (d : ℕ) (inner : TraverseBlock) (ws : Walks t d inner) (w
   cases-sim : {v : ℕ} {F : List Frame} {R : List Row} {n : ℕ} (x i m f b : ℕ) (g : Option ℕ) (j : ℕ) (ids : List ℕ) (entries made : ℕ) (R₁ : List Row) (c : Context) (make : Cases → Statement)
       → terminalAt t b ≡ switch x i m f → length F + suc d ≡ 128 → j ≤ length (t .cases) - i → v ≤ c .visits → entries ≡ length ids → Tops ids (c .stack)
       → ((z : Cases) → (R₁ ++ casesOut z) ++ (row 12 x (made + countCases z) (blockAt t b .id) (orNone g) 0 ∷ []) ≡ R ++ statementOut (make z))
-      → Sim t v F R n (ok (choosing (switched b g entries j made n) F R₁ c))
-      (traverseCases inner b f (casesLastFirst t i j) ids c >>= λ r. unscheduleAll (r .ids) (r .context) >>= λ c2. ok (record { statement = some (make (r .cases)); next = g; context = c2 }))
+      → Sim rule t v F R n (ok (choosing (switched b g entries j made n) F R₁ c))
+      (traverseCases (inside (a-switch g) F) b f (casesLastFirst t i j) ids c >>= λ r. unscheduleAll (r .ids) (r .context) >>= λ c2. ok
+      (record { statement = some (make (r .cases)); next = g; context = c2 }))
   unfolding step chooseCase traverseCases resumeAt closingRowOf
   cases-sim {v} {F} {R} {n} x i m f b g zero ids entries made R₁ c make q size few h k u e =
       sim-turn (choosing (switched b g entries 0 made n) F R₁ c) (ok (close t (switched b g entries 0 made n) F R₁ c)) _ refl
-      (subst (λ (l : List Case). Sim t v F R n (ok (close t (switched b g entries 0 made n) F R₁ c)) (traverseCases inner b f l ids c >>= K)) (sym (cases-none t i))
+      (subst (λ (l : List Case). Sim rule t v F R n (ok (close t (switched b g entries 0 made n) F R₁ c)) (traverseCases (inside (a-switch g) F) b f l ids c >>= K)) (sym (cases-none t i))
       (sim-ok _ K (sim-close (switched b g entries 0 made n) ids _ R₁ _ (make no-cases) c q refl k u e₀ h)))
     where
       K : CasesResult → Result TerminalResult
@@ -448,8 +466,8 @@ module _ (t : Table) (d : ℕ) (inner : TraverseBlock) (ws : Walks t d inner) (w
   cases-sim {v} {F} {R} {n} x i m f b g (suc j) ids entries made R₁ c make q size few h k u e =
       sim-turn (choosing (switched b g entries (suc j) made n) F R₁ c) (chooseCase t i f (suc j) (switched b g entries (suc j) made n) F R₁ c) _
       (ap (λ (z : Terminal). turn (chooseCase t (switchColumns z .first) (switchColumns z .fallthrough) (suc j) (switched b g entries (suc j) made n) F R₁ c)) q)
-      (subst (λ (l : List Case). Sim t v F R n (chooseCase t i f (suc j) (switched b g entries (suc j) made n) F R₁ c)
-      (traverseCases inner b f l ids c >>= K make)) (sym (cases-next t i j (omega arith)))
+      (subst (λ (l : List Case). Sim rule t v F R n (chooseCase t i f (suc j) (switched b g entries (suc j) made n) F R₁ c)
+      (traverseCases (inside (a-switch g) F) b f l ids c >>= K make)) (sym (cases-next t i j (omega arith)))
       (at (isScheduled c blk) refl (λ ids′ entries′ made′ R′ c′ make′ h′ k′ u′ e′. cases-sim x i m f b g j ids′ entries′ made′ R′ c′ make′ q size (omega arith) h′ k′ u′ e′)))
     where
       blk : ℕ
@@ -473,51 +491,53 @@ module _ (t : Table) (d : ℕ) (inner : TraverseBlock) (ws : Walks t d inner) (w
       Again : Type 0
       Again = (ids′ : List ℕ) (entries′ made′ : ℕ) (R′ : List Row) (c′ : Context) (make′ : Cases → Statement) → v ≤ c′ .visits → entries′ ≡ length ids′ → Tops ids′ (c′ .stack)
           → ((z : Cases) → (R′ ++ casesOut z) ++ (row 12 x (made′ + countCases z) (blockAt t b .id) (orNone g) 0 ∷ []) ≡ R ++ statementOut (make′ z))
-          → Sim t v F R n (ok (choosing (switched b g entries′ j made′ n) F R′ c′)) (traverseCases inner b f (casesLastFirst t i j) ids′ c′ >>= K make′)
+          → Sim rule t v F R n (ok (choosing (switched b g entries′ j made′ n) F R′ c′)) (traverseCases (inside (a-switch g) F) b f (casesLastFirst t i j) ids′ c′ >>= K make′)
 
       at : (y : Bool) → isScheduled c blk ≡ y → Again
-          → Sim t v F R n
+          → Sim rule t v F R n
           (elim y [
             | true ↦ refuseIf (not (eqb blk f)) 14 b (c .visits) >>= λ _. ok (choosing (switched b g entries j made n) F R₁ c)
             | false ↦ ok (visiting blk (switched b g entries j made n ∷ F) R₁ 0 c)
           ])
           (_>>=_ {A = CasesResult} (elim y [
-            | true ↦ refuseIf (not (eqb blk f)) 14 b (c .visits) >>= λ _. traverseCases inner b f (casesLastFirst t i j) ids c
-            | false ↦ inner blk c >>= λ r. schedule (target-case blk) (r .context) >>= λ c1.
-                traverseCases inner b f (casesLastFirst t i j) (r .context .nextId ∷ ids) c1 >>= λ z. ok (record { cases = CASE tst (r .statements) (z .cases); ids = z .ids; context = z .context })
+            | true ↦ refuseIf (not (eqb blk f)) 14 b (c .visits) >>= λ _. traverseCases (inside (a-switch g) F) b f (casesLastFirst t i j) ids c
+            | false ↦ inside (a-switch g) F blk c >>= λ r. schedule (target-case blk) (r .context) >>= λ c1.
+                traverseCases (inside (a-switch g) F) b f (casesLastFirst t i j) (r .context .nextId ∷ ids) c1 >>= λ z. ok
+                (record { cases = CASE tst (r .statements) (z .cases); ids = z .ids; context = z .context })
           ]) (K make))
       at true o again = sim-assoc (refuseIf (not (eqb blk f)) 14 b (c .visits)) _ (K make) (sim-go _ _ _ (λ _. again ids entries made R₁ c make h k u e))
       at false o again =
-          sim-assoc (inner blk c) _ (K make) (sim-inner (switched b g entries j made n) _ blk R₁ c _ q size (λ r p.
+          sim-assoc (inside (a-switch g) F blk c) _ (K make) (sim-inner (switched b g entries j made n) _ blk R₁ c _ q size (λ r p.
           sim-assoc (schedule (target-case blk) (r .context)) _ (K make) (sim-bind (Onto (r .context)) _ _ _ (onto-scheduled (target-case blk) (r .context)) (λ c1 p₁.
-          sim-map (traverseCases inner b f (casesLastFirst t i j) (r .context .nextId ∷ ids) c1) _ (K make)
+          sim-map (traverseCases (inside (a-switch g) F) b f (casesLastFirst t i j) (r .context .nextId ∷ ids) c1) _ (K make)
           (again (r .context .nextId ∷ ids) (suc entries) (suc made) _ c1 (λ z. make (CASE tst (r .statements) z)) (omega arith) (omega arith)
           (p₁ .1 ids (tops-same ids c (r .context) (p .1 .same) u)) (rows-on r))))))
 
   -- ---- terminals with no nested list
 
   silent : {v : ℕ} {F : List Frame} {R : List Row} {n : ℕ} (g : Option ℕ) (c : Context) → v ≤ c .visits
-      → Sim t v F R n (ok (leave g F R n c)) (ok (record { statement = none; next = g; context = c }))
-  silent {F = F} {R} {n} g c h = record { raw = (h, λ a q. subst (λ (z : List Row). Gives t (leave g F z n c) a) (append-nil R) q) }
+      → Sim rule t v F R n (ok (leave g F R n c)) (ok (record { statement = none; next = g; context = c }))
+  silent {F = F} {R} {n} g c h = record { raw = (h, λ a q. subst (λ (z : List Row). Gives rule t (leave g F z n c) a) (append-nil R) q) }
 
   jumped : {v : ℕ} {F : List Frame} {R : List Row} {n : ℕ} (c : Context) (m : Result TerminalResult) → v ≤ c .visits → Good (λ s. Kept c (s .context)) m
-      → Sim t v F R n (m >>= λ s. ok (leave (s .next) F (R ++ jumpOut (s .statement)) (added (s .statement) n) (s .context))) m
+      → Sim rule t v F R n (m >>= λ s. ok (leave (s .next) F (R ++ jumpOut (s .statement)) (added (s .statement) n) (s .context))) m
   unfolding _>>=_
   jumped c (refused e q w) h k = record { raw = refl }
   jumped c (ok s) h k = record { raw = (omega arith, λ a q. q) }
 
-  jump-kept : (w : Variant) (b g i : ℕ) (c : Context) → Good (λ s. Kept c (s .context)) (visitGoto w b g i c)
+  jump-kept : (o : Around) (w : Variant) (b g i : ℕ) (c : Context) → Good (λ s. Kept c (s .context)) (visitGoto o w b g i c)
   unfolding visitGoto
-  jump-kept Break b g i c = good-bind Any (λ s. Kept c (s .context)) _ _ (good-any (visitBreak b g i c)) (λ s _. refl)
-  jump-kept Continue b g i c = good-bind Any (λ s. Kept c (s .context)) _ _ (good-any (visitContinue g i c)) (λ s _. refl)
-  jump-kept Try b g i c = refl
+  jump-kept o Break b g i c = good-bind Any (λ s. Kept c (s .context)) _ _ (good-any (visitBreak o b g i c)) (λ s _. refl)
+  jump-kept o Continue b g i c = good-bind Any (λ s. Kept c (s .context)) _ _ (good-any (visitContinue o b g i c)) (λ s _. refl)
+  jump-kept o Try b g i c = refl
 
   value-sim : {v : ℕ} {F : List Frame} {R : List Row} {n : ℕ} (e : Terminal) (b : ℕ) (k : Block) (f : ℕ) (c : Context) → T (not (isMaybeThrow e)) → v ≤ c .visits
-      → Sim t v F R n (valueTurn t visit e b k f F R n c) (visitValueStatement t visit e b k f c)
+      → Sim rule t v F R n (valueTurn t visit e b k f F R n c) (visitValueStatement t visit e b k f c)
   unfolding valueTurn visitValueStatement
   value-sim {v} {F} {R} {n} e b k f c m h =
       sim-by _ (opened-if g c (untaken-free c f))
-      (subst (λ (w : ℕ). Sim t v F R n (visitValueBlockTerminal t visit e (k .id) (k .span) (c .visits) b >>= X) (visitValueBlockTerminal t visit e (k .id) (k .span) w b >>= Y)) (sym (kept-if g c))
+      (subst (λ (w : ℕ). Sim rule t v F R n (visitValueBlockTerminal t visit e (k .id) (k .span) (c .visits) b >>= X)
+      (visitValueBlockTerminal t visit e (k .id) (k .span) w b >>= Y)) (sym (kept-if g c))
       (sim-bind (λ r. c .visits ≤ r .visits) _ X Y
       (fine-good (TerminalTook t (c .visits)) (λ r. c .visits ≤ r .visits) (visitValueBlockTerminal t visit e (k .id) (k .span) (c .visits) b) (λ _ z. z .rises)
       (terminal-took t visit (value-took t d) e (k .id) (k .span) (c .visits) b m)) (λ r q.
@@ -560,13 +580,13 @@ module _ (t : Table) (d : ℕ) (inner : TraverseBlock) (ws : Walks t d inner) (w
   -- ---- every terminal
 
   terminal-sim : {v : ℕ} {F : List Frame} {R : List Row} {n : ℕ} (e : Terminal) (b : ℕ) (c : Context) → terminalAt t b ≡ e → length F + suc d ≡ 128 → v ≤ c .visits
-      → Sim t v F R n (terminalTurn t visit e b (blockAt t b) F R n c) (visitTerminal t visit inner e b (blockAt t b) c)
+      → Sim rule t v F R n (terminalTurn (aroundOf rule t F) t visit e b (blockAt t b) F R n c) (visitTerminal t visit inner (aroundOf rule t F) e b (blockAt t b) c)
   unfolding terminalTurn visitTerminal
   terminal-sim absent b c q size h = record { raw = refl }
   terminal-sim unreachable b c q size h = silent none c h
   terminal-sim (throw x) b c q size h = unfold statementOut in sim-leave _ refl h
   terminal-sim (return x) b c q size h = unfold statementOut in sim-leave _ refl h
-  terminal-sim (goto g w) b c q size h = jumped c (visitGoto w b g (blockAt t b .id) c) h (jump-kept w b g (blockAt t b .id) c)
+  terminal-sim {F = F} (goto g w) b c q size h = jumped c (visitGoto (aroundOf rule t F) w b g (blockAt t b .id) c) h (jump-kept (aroundOf rule t F) w b g (blockAt t b .id) c)
   terminal-sim {n = n} (if x y a f) b c q size h =
       sim-bind (λ g. Free g c) _ _ _ (reaches c f) (λ g free. sim-by _ (opened-if g c free)
       (sim-into (labelled b g n) _ y 12 y _ (scheduledIf g c) _ q size (λ r p.
@@ -575,8 +595,8 @@ module _ (t : Table) (d : ℕ) (inner : TraverseBlock) (ws : Walks t d inner) (w
   terminal-sim (branch x y a) b c q size h = branch-sim x y a b c q size h
   terminal-sim {v} {F} {R} {n} (switch x i m f) b c q size h =
       sim-bind (λ g. Free g c) _ _ _ (reaches c f) (λ g free. sim-by _ (opened-switch g c free)
-      (subst (λ (l : List Case). Sim t v F R n (ok (choosing (switched b g (opens g) (numberOfCases t i m) 0 n) F R (scheduledSwitch g c)))
-      (traverseCases inner b f l (scheduleIds g (c .nextId)) (scheduledSwitch g c) >>= K g)) (sym (cases-number t i m))
+      (subst (λ (l : List Case). Sim rule t v F R n (ok (choosing (switched b g (opens g) (numberOfCases t i m) 0 n) F R (scheduledSwitch g c)))
+      (traverseCases (inside (a-switch g) F) b f l (scheduleIds g (c .nextId)) (scheduledSwitch g c) >>= K g)) (sym (cases-number t i m))
       (cases-sim x i m f b g (numberOfCases t i m) (scheduleIds g (c .nextId)) (opens g) 0 R (scheduledSwitch g c) (SWITCH x (blockAt t b .id) g) q size
       (number-below t i m) (omega (arith, kept-switch g c)) (ids-if g (c .nextId)) (tops-switch g c)
       (λ z. ap (λ (k : ℕ). (R ++ casesOut z) ++ (row 12 x k (blockAt t b .id) (orNone g) 0 ∷ [])) (zero-add (countCases z)) ∙ rows-switch R x (blockAt t b .id) g z))))
@@ -654,11 +674,11 @@ module _ (t : Table) (d : ℕ) (inner : TraverseBlock) (ws : Walks t d inner) (w
   OnCount m b o = added o (m + length (instructionRowsAt t b))
 
   chain-on : (S : State) (v : ℕ) (F : List Frame) (R : List Row) (m b : ℕ) (o : Option Statement) (nx : Option ℕ) (c : Context) (again : TraverseBlock) → v < c .visits
-      → ((a : Report) → Gives t (leave nx F (OnRows R b o) (OnCount m b o) c) a → Gives t S a)
-      → ((k : ℕ) → Along t (visiting k F (OnRows R b o) (OnCount m b o) c) (c .visits) F (OnRows R b o) (OnCount m b o) (again k c))
-      → Along t S v F R m (thenNext t b again o nx c)
+      → ((a : Report) → Gives rule t (leave nx F (OnRows R b o) (OnCount m b o) c) a → Gives rule t S a)
+      → ((k : ℕ) → Along rule t (visiting k F (OnRows R b o) (OnCount m b o) c) (c .visits) F (OnRows R b o) (OnCount m b o) (again k c))
+      → Along rule t S v F R m (thenNext t b again o nx c)
   unfolding thenNext
-  chain-on S v F R m b o none c again lt u ih = (lt, λ a q. u a (subst₂ (λ (z : List Row) (y : ℕ). Gives t (ended F z y c) a) e₁ e₂ q))
+  chain-on S v F R m b o none c again lt u ih = (lt, λ a q. u a (subst₂ (λ (z : List Row) (y : ℕ). Gives rule t (ended F z y c) a) e₁ e₂ q))
     where
       e₁ : R ++ statementsOut (instructionStatements t (instructionRowsAt t b) (followedBy o done)) ≡ OnRows R b o
       e₁ = rows-chain R t (instructionRowsAt t b) o done ∙ unfold statementsOut in append-nil (OnRows R b o)
@@ -667,26 +687,26 @@ module _ (t : Table) (d : ℕ) (inner : TraverseBlock) (ws : Walks t d inner) (w
       e₂ = count-chain m t (instructionRowsAt t b) o done ∙ add-zero (OnCount m b o)
   chain-on S v F R m b o (some k) c again lt u ih = at (again k c) (ih k)
     where
-      at : (y : Result BlockResult) → Along t (visiting k F (OnRows R b o) (OnCount m b o) c) (c .visits) F (OnRows R b o) (OnCount m b o) y
-          → Along t S v F R m (y >>= λ r. ok (record { statements = instructionStatements t (instructionRowsAt t b) (followedBy o (r .statements)); context = r .context }))
+      at : (y : Result BlockResult) → Along rule t (visiting k F (OnRows R b o) (OnCount m b o) c) (c .visits) F (OnRows R b o) (OnCount m b o) y
+          → Along rule t S v F R m (y >>= λ r. ok (record { statements = instructionStatements t (instructionRowsAt t b) (followedBy o (r .statements)); context = r .context }))
       at (refused e p w) h = unfold _>>=_ in u (rejected e p w) h
       at (ok r) (lt₂, h) = unfold _>>=_ in (
         omega arith,
         λ a q. u a (h a
-            (subst₂ (λ (z : List Row) (y : ℕ). Gives t (ended F z y (r .context)) a) (rows-chain R t (instructionRowsAt t b) o (r .statements))
+            (subst₂ (λ (z : List Row) (y : ℕ). Gives rule t (ended F z y (r .context)) a) (rows-chain R t (instructionRowsAt t b) o (r .statements))
             (count-chain m t (instructionRowsAt t b) o (r .statements)) q)),
       )
 
   visit-deep : (b : ℕ) (F : List Frame) (R : List Row) (m : ℕ) (c : Context) → length F + suc d ≡ 128
-      → visitTurn t b F R m c ≡ enterBlock t b c >>= λ c1. terminalTurn t (visitValueBlock t d) (terminalAt t b) b (blockAt t b) F
+      → visitTurn rule t b F R m c ≡ enterBlock t b c >>= λ c1. terminalTurn (aroundOf rule t F) t (visitValueBlock t d) (terminalAt t b) b (blockAt t b) F
       (R ++ instructionsOut t (instructionRowsAt t b)) (m + length (instructionRowsAt t b)) c1
   unfolding visitTurn refuseIf _>>=_
   visit-deep b F R m c size =
       let e : depthLeft F ≡ d = omega arith in
       ap (λ (y : Bool). refuseIf y 30 b (c .visits) >>= λ _. enterBlock t b c >>= λ c1.
-      terminalTurn t (visitValueBlock t (depthLeft F)) (terminalAt t b) b (blockAt t b) F (R ++ instructionsOut t (instructionRowsAt t b))
+      terminalTurn (aroundOf rule t F) t (visitValueBlock t (depthLeft F)) (terminalAt t b) b (blockAt t b) F (R ++ instructionsOut t (instructionRowsAt t b))
       (m + length (instructionRowsAt t b)) c1) (lt-leb 128 (length F) (omega arith))
-      ∙ ap (λ (z : ℕ). enterBlock t b c >>= λ c1. terminalTurn t (visitValueBlock t z) (terminalAt t b) b (blockAt t b) F
+      ∙ ap (λ (z : ℕ). enterBlock t b c >>= λ c1. terminalTurn (aroundOf rule t F) t (visitValueBlock t z) (terminalAt t b) b (blockAt t b) F
       (R ++ instructionsOut t (instructionRowsAt t b)) (m + length (instructionRowsAt t b)) c1) e
 
   enter-late : (b : ℕ) (c : Context) → 8192 ≤ c .visits → enterBlock t b c ≡ refused 31 b (c .visits)
@@ -697,15 +717,15 @@ module _ (t : Table) (d : ℕ) (inner : TraverseBlock) (ws : Walks t d inner) (w
       (le-leb 8192 (c .visits) h)
 
   chain-sim : (n b : ℕ) (F : List Frame) (R : List Row) (m : ℕ) (c : Context) → length F + suc d ≡ 128 → 8193 ≤ n + c .visits
-      → Along t (visiting b F R m c) (c .visits) F R m (visitBlock t (visitValueBlock t d) inner n b c)
+      → Along rule t (visiting b F R m c) (c .visits) F R m (visitBlock t (visitValueBlock t d) inner (aroundOf rule t F) n b c)
   unfolding visitBlock step
   chain-sim zero b F R m c size lt =
-      gives-turn t (visiting b F R m c) (refused 31 b (c .visits)) (rejected 31 b (c .visits))
-      (ap turn (visit-deep b F R m c size ∙ ap (λ (z : Result Context). z >>= λ c1. terminalTurn t (visitValueBlock t d) (terminalAt t b) b (blockAt t b) F
+      gives-turn rule t (visiting b F R m c) (refused 31 b (c .visits)) (rejected 31 b (c .visits))
+      (ap turn (visit-deep b F R m c size ∙ ap (λ (z : Result Context). z >>= λ c1. terminalTurn (aroundOf rule t F) t (visitValueBlock t d) (terminalAt t b) b (blockAt t b) F
       (R ++ instructionsOut t (instructionRowsAt t b)) (m + length (instructionRowsAt t b)) c1) (enter-late b c (omega arith)) ∙ gone))
       refl
     where
-      gone : (refused 31 b (c .visits) >>= λ c1. terminalTurn t (visitValueBlock t d) (terminalAt t b) b (blockAt t b) F
+      gone : (refused 31 b (c .visits) >>= λ c1. terminalTurn (aroundOf rule t F) t (visitValueBlock t d) (terminalAt t b) b (blockAt t b) F
           (R ++ instructionsOut t (instructionRowsAt t b)) (m + length (instructionRowsAt t b)) c1) ≡ refused 31 b (c .visits)
       gone = unfold _>>=_ in refl
   chain-sim (suc n) b F R m c size lt =
@@ -715,56 +735,60 @@ module _ (t : Table) (d : ℕ) (inner : TraverseBlock) (ws : Walks t d inner) (w
       S = visiting b F R m c
 
       f : Context → Result State
-      f c1 = terminalTurn t (visitValueBlock t d) (terminalAt t b) b (blockAt t b) F (R ++ instructionsOut t (instructionRowsAt t b)) (m + length (instructionRowsAt t b)) c1
+      f c1 = terminalTurn (aroundOf rule t F) t (visitValueBlock t d) (terminalAt t b) b (blockAt t b) F (R ++ instructionsOut t (instructionRowsAt t b)) (m + length (instructionRowsAt t b)) c1
 
       g : Context → Result BlockResult
-      g c1 = visitTerminal t (visitValueBlock t d) inner (terminalAt t b) b (blockAt t b) c1 >>= λ s. thenNext t b (visitBlock t (visitValueBlock t d) inner n) (s .statement) (s .next) (s .context)
+      g c1 =
+          visitTerminal t (visitValueBlock t d) inner (aroundOf rule t F) (terminalAt t b) b (blockAt t b) c1 >>= λ s. thenNext t b
+          (visitBlock t (visitValueBlock t d) inner (aroundOf rule t F) n) (s .statement) (s .next) (s .context)
 
       Again : Type 0
-      Again = (k : ℕ) (R′ : List Row) (m′ : ℕ) (c′ : Context) → 8193 ≤ n + c′ .visits → Along t (visiting k F R′ m′ c′) (c′ .visits) F R′ m′ (visitBlock t (visitValueBlock t d) inner n k c′)
+      Again =
+          (k : ℕ) (R′ : List Row) (m′ : ℕ) (c′ : Context) → 8193 ≤ n + c′ .visits → Along rule t (visiting k F R′ m′ c′) (c′ .visits) F R′ m′
+          (visitBlock t (visitValueBlock t d) inner (aroundOf rule t F) n k c′)
 
-      after : (c1 : Context) (y : Result TerminalResult) → c1 .visits ≡ suc (c .visits) → step t S ≡ turn (f c1) → Again
-          → Beside t (c1 .visits) F (R ++ instructionsOut t (instructionRowsAt t b)) (m + length (instructionRowsAt t b)) (f c1) y
-          → Along t S (c .visits) F R m (y >>= λ s. thenNext t b (visitBlock t (visitValueBlock t d) inner n) (s .statement) (s .next) (s .context))
-      after c1 (refused e p w) q st again u = unfold _>>=_ in gives-turn t S (f c1) (rejected e p w) st u
+      after : (c1 : Context) (y : Result TerminalResult) → c1 .visits ≡ suc (c .visits) → step rule t S ≡ turn (f c1) → Again
+          → Beside rule t (c1 .visits) F (R ++ instructionsOut t (instructionRowsAt t b)) (m + length (instructionRowsAt t b)) (f c1) y
+          → Along rule t S (c .visits) F R m (y >>= λ s. thenNext t b (visitBlock t (visitValueBlock t d) inner (aroundOf rule t F) n) (s .statement) (s .next) (s .context))
+      after c1 (refused e p w) q st again u = unfold _>>=_ in gives-turn rule t S (f c1) (rejected e p w) st u
       after c1 (ok s) q st again (le, u) = unfold _>>=_ in
-          chain-on S (c .visits) F R m b (s .statement) (s .next) (s .context) (visitBlock t (visitValueBlock t d) inner n) (omega arith)
-          (λ a h. gives-turn t S (f c1) a st (u a h)) (λ k. again k _ _ (s .context) (omega arith))
+          chain-on S (c .visits) F R m b (s .statement) (s .next) (s .context) (visitBlock t (visitValueBlock t d) inner (aroundOf rule t F) n) (omega arith)
+          (λ a h. gives-turn rule t S (f c1) a st (u a h)) (λ k. again k _ _ (s .context) (omega arith))
 
-      at : (y : Result Context) → Good (λ e. (c .visits < 8192) × (e .visits ≡ suc (c .visits))) y → step t S ≡ turn (y >>= f) → Again → Along t S (c .visits) F R m (y >>= g)
-      at (refused e p w) h st again = unfold _>>=_ in gives-turn t S (refused e p w) (rejected e p w) st refl
+      at : (y : Result Context) → Good (λ e. (c .visits < 8192) × (e .visits ≡ suc (c .visits))) y → step rule t S ≡ turn (y >>= f) → Again → Along rule t S (c .visits) F R m (y >>= g)
+      at (refused e p w) h st again = unfold _>>=_ in gives-turn rule t S (refused e p w) (rejected e p w) st refl
       at (ok c1) h st again = unfold _>>=_ in
-          after c1 (visitTerminal t (visitValueBlock t d) inner (terminalAt t b) b (blockAt t b) c1) (h .1) st again
-          (terminal-sim (terminalAt t b) b c1 refl size (le-refl (c1 .visits)) .raw)
+          after c1 (visitTerminal t (visitValueBlock t d) inner (aroundOf rule t F) (terminalAt t b) b (blockAt t b) c1) (h .1) st again
+          (terminal-sim {F = F} (terminalAt t b) b c1 refl size (le-refl (c1 .visits)) .raw)
 
-walk-sim : (t : Table) (d : ℕ) → Walks t d (traverseBlock t d)
+walk-sim : (rule : Rule) (t : Table) (d : ℕ) → Walks rule t d (traverseBlock t d)
 unfolding Walks traverseBlock step
-walk-sim t zero b F R m c size = gives-turn t (visiting b F R m c) (refused 30 b (c .visits)) (rejected 30 b (c .visits)) (ap turn full) refl
+walk-sim rule t zero b F R m c size = gives-turn rule t (visiting b F R m c) (refused 30 b (c .visits)) (rejected 30 b (c .visits)) (ap turn full) refl
   where
-    full : visitTurn t b F R m c ≡ refused 30 b (c .visits)
+    full : visitTurn rule t b F R m c ≡ refused 30 b (c .visits)
     full = unfold visitTurn refuseIf _>>=_ in
         ap (λ (y : Bool). refuseIf y 30 b (c .visits) >>= λ _. enterBlock t b c >>= λ c1.
-        terminalTurn t (visitValueBlock t (depthLeft F)) (terminalAt t b) b (blockAt t b) F (R ++ instructionsOut t (instructionRowsAt t b))
+        terminalTurn (aroundOf rule t F) t (visitValueBlock t (depthLeft F)) (terminalAt t b) b (blockAt t b) F (R ++ instructionsOut t (instructionRowsAt t b))
         (m + length (instructionRowsAt t b)) c1) (le-leb 128 (length F) (omega arith))
-walk-sim t (suc d) b F R m c size = chain-sim t d (traverseBlock t d) (walk-sim t d) (walk-fine t d) 8193 b F R m c size (omega arith)
+walk-sim rule t (suc d) b F R m c size = chain-sim rule t d (traverseBlock t d) (walk-sim rule t d) (walk-fine t d) 8193 b F R m c size (omega arith)
 
 -- the root list has ended
-root-ends : (t : Table) (r : BlockResult)
-    → Gives t (ended [] ([] ++ statementsOut (r .statements)) (0 + countStatements (r .statements)) (r .context))
+root-ends : (rule : Rule) (t : Table) (r : BlockResult)
+    → Gives rule t (ended [] ([] ++ statementsOut (r .statements)) (0 + countStatements (r .statements)) (r .context))
     (accepted (rows (r .statements)) (r .context .visits))
 unfolding step
-root-ends t r =
+root-ends rule t r =
     halts (ap (λ (z : ℕ). halt (accepted (statementsOut (r .statements) ++ (blockRow z ∷ [])) (r .context .visits))) (zero-add (countStatements (r .statements)))
     ∙ ap (λ (z : List Row). halt (accepted z (r .context .visits))) (sym (block-rows (r .statements) [])))
 
 -- the machine gives what the definition gives, for every table
-pub machine-builds : (t : Table) → Gives t (begin t) (report t)
+pub machine-builds : (rule : Rule) (t : Table) → Gives rule t (begin t) (report rule t)
 unfolding report buildTree Walks
-machine-builds t = at (traverseBlock t 128 (t .entry) start) (walk-sim t 128 (t .entry) [] [] 0 start refl)
+machine-builds rule t = at (traverseBlock t 128 (outermost rule) (t .entry) start) (walk-sim rule t 128 (t .entry) [] [] 0 start refl)
   where
-    at : (y : Result BlockResult) → Along t (begin t) (start .visits) [] [] 0 y → Gives t (begin t) (reported y)
+    at : (y : Result BlockResult) → Along rule t (begin t) (start .visits) [] [] 0 y → Gives rule t (begin t) (reported y)
     at (refused e p w) h = unfold reported in h
-    at (ok r) (lt, h) = unfold reported in h (accepted (rows (r .statements)) (r .context .visits)) (root-ends t r)
+    at (ok r) (lt, h) = unfold reported in h (accepted (rows (r .statements)) (r .context .visits)) (root-ends rule t r)
 
 going-halt : {s : State} {a : Report} → going s ≡ halt a → ⊥
 going-halt e = let z : _≡_ {A = ℕ} 0 1 = cc in omega arith
@@ -776,10 +800,10 @@ halt-is : {a a′ : Report} → halt a ≡ halt a′ → a ≡ a′
 halt-is e = cc
 
 -- a turn more, or the end: the machine has one way on
-pub gives-next : (t : Table) (s s′ : State) (a : Report) → Gives t s a → step t s ≡ going s′ → Gives t s′ a
-gives-next t s s′ a (halts e) q = absurd (going-halt (sym q ∙ e))
-gives-next t s s′ a (goes e h) q = subst (λ (z : State). Gives t z a) (going-is (sym e ∙ q)) h
+pub gives-next : (rule : Rule) (t : Table) (s s′ : State) (a : Report) → Gives rule t s a → step rule t s ≡ going s′ → Gives rule t s′ a
+gives-next rule t s s′ a (halts e) q = absurd (going-halt (sym q ∙ e))
+gives-next rule t s s′ a (goes e h) q = subst (λ (z : State). Gives rule t z a) (going-is (sym e ∙ q)) h
 
-pub gives-halt : (t : Table) (s : State) (a a′ : Report) → Gives t s a → step t s ≡ halt a′ → a ≡ a′
-gives-halt t s a a′ (halts e) q = halt-is (sym e ∙ q)
-gives-halt t s a a′ (goes e h) q = absurd (going-halt (sym e ∙ q))
+pub gives-halt : (rule : Rule) (t : Table) (s : State) (a a′ : Report) → Gives rule t s a → step rule t s ≡ halt a′ → a ≡ a′
+gives-halt rule t s a a′ (halts e) q = halt-is (sym e ∙ q)
+gives-halt rule t s a a′ (goes e h) q = absurd (going-halt (sym e ∙ q))

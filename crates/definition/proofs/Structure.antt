@@ -2,6 +2,7 @@
 use mathlib.Core.Path.{_≡_, refl, sym, ap, _∙_, subst}
 use Prim.Native.Nat.{ℕ, zero, suc, _<_}
 use native.Mathlib.Omega.{arith}
+use mathlib.Core.Logic.{_⊎_, inl, inr}
 use mathlib.Core.List.{List, [], _∷_, _++_}
 use mathlib.Core.Option.{Option, none, some}
 use mathlib.Core.Bool.{Bool, true, false}
@@ -14,11 +15,12 @@ use Rattle.table.specs.Table.{Continue, Try, blockAt, terminalAt, instructionAt
 use Rattle.definition.specs.Context.{getBreakTarget, getContinueTarget, Resolution, has, Entry, target-if, target-loop, Context, isScheduled, withVisits}
 use Rattle.definition.specs.Context.{markScopeFallthrough, pushed, schedule, unschedule, breakTargetFrom, continueTargetFrom}
 use Rattle.definition.specs.Plain.{fallthroughOf, plainCodes, isBranch, isStore, endsInStore, NotBranch, otherNames, All}
+use Rattle.definition.specs.Around.{Rule, rust, language, Around, a-loop, another, within, switchInside, kindBy, breakKindIn, breakUnnamed, continueUnnamed}
 use Rattle.definition.specs.Result.{Result, ok, _>>=_, refuseIf}
 use Rattle.definition.specs.Run.{Answers}
 use Rattle.definition.specs.Completion.{contains, Completion, break, continue}
 use Rattle.definition.specs.TreeRun.{performs, performsAll, runStatements, completed, prefix, then, thenOn, jumpCompletion}
-use Rattle.definition.specs.Statement.{breakToScope, visitBreak, visitContinue, TerminalResult, BlockResult, TraverseBlock, enterBlock, unlessScheduled}
+use Rattle.definition.specs.Statement.{breakToScope, visitBreak, visitContinue, TerminalResult, BlockResult, TraverseBlock, TraverseInside, enterBlock, unlessScheduled}
 use Rattle.definition.specs.Statement.{unlessUnreachable, scheduleIf, unscheduleIf, markScopeFallthroughIf, traverseUnscheduled, AlternateResult}
 use Rattle.definition.specs.Statement.{traverseAlternate, breakResolved, continueResolved, visitGoto, traverseEnclosed, loopIsTaken, traverseLoop}
 use Rattle.definition.specs.Statement.{visitTerminal, instructionStatements, followedBy, thenNext, visitBlock, traverseBlock}
@@ -29,7 +31,7 @@ use Rattle.definition.proofs.Semantics.{Frame, in-label, in-scope, in-l
 use Rattle.definition.proofs.Ranged.{Ranged}
 use Rattle.definition.proofs.PlainEnough.{PlainEnough}
 use Rattle.definition.proofs.Steps.{true-false, refused-ok, ok-eq, bind-ok}
-use Rattle.definition.proofs.Resolve.{break-exit, break-names, break-target, continue-target}
+use Rattle.definition.proofs.Resolve.{break-exit, break-names, break-label, break-target, continue-target}
 use Rattle.definition.proofs.State.{Known, fallthrough-of, StateOk, with-visits-ok, Entered, enter-ok, fallthrough-free, untaken-free, push-label-ok}
 use Rattle.definition.proofs.State.{push-scope-ok, push-loop-ok, schedule-ok, schedule-loop-ok, Closed, unschedule-ok}
 
@@ -217,93 +219,97 @@ module _ (t : Table) where
   and-then : {F : List Frame} {S S′ : List Entry} {c : Context} → Closed t F S c → S ≡ S′ → Closed t F S′ c
   and-then p h = record { state = p .state; same = p .same ∙ h }
 
-  module _ (pl : PlainEnough t) (rg : Ranged t) (values : VisitValueBlock) (vo : TestOk t values) (inner : TraverseBlock) (wo : WalkOk inner) where
-    if-ok : {F : List Frame} {c₀ c : Context} (b x y a f : ℕ) (k : Block) (s : TerminalResult) → Entered t b F c₀ c → terminalAt t b ≡ if x y a f
-        → visitTerminal t values inner (if x y a f) b k c ≡ ok s → StepOk F b (c .stack) s
+  module _ (pl : PlainEnough t) (rg : Ranged t) (values : VisitValueBlock) (vo : TestOk t values) (inner : TraverseInside) (wo : (a : Around) → WalkOk (inner a)) where
+    if-ok : {F : List Frame} {c₀ c : Context} (o : Around) (b x y a f : ℕ) (k : Block) (s : TerminalResult) → Entered t b F c₀ c → terminalAt t b ≡ if x y a f
+        → visitTerminal t values inner o (if x y a f) b k c ≡ ok s → StepOk F b (c .stack) s
     unfolding visitTerminal
-    if-ok {F} {c₀} {c} b x y a f k s p e h =
+    if-ok {F} {c₀} {c} o b x y a f k s p e h =
         let (g, h₁, k₁) = bind-ok (unlessUnreachable t c f) _ s h in
         let (c₁, h₂, k₂) = bind-ok (scheduleIf g c) _ s k₁ in
-        let (r, h₃, k₃) = bind-ok (traverseUnscheduled inner y 12 y c₁) _ s k₂ in
-        let (w, h₄, k₄) = bind-ok (traverseAlternate inner a f (r .context)) _ s k₃ in
+        let (r, h₃, k₃) = bind-ok (traverseUnscheduled (inner (within (another g) o)) y 12 y c₁) _ s k₂ in
+        let (w, h₄, k₄) = bind-ok (traverseAlternate (inner (within (another g) o)) a f (r .context)) _ s k₃ in
         let (c₂, h₅, k₅) = bind-ok (unscheduleIf g (c .nextId) (w .context)) _ s k₄ in
         finish g c₁ r w c₂ (reached-ok pl c f g (fallthrough-free t pl b f p (ap fallthroughOf e)) h₁) h₂ h₃ h₄ h₅ k₅
       where
         parts : All (NotBranch t) (otherNames (if x y a f))
         parts = subst (λ (m : Terminal). All (NotBranch t) (otherNames m)) e (pl .names b)
 
-        finish : (g : Option ℕ) (c₁ : Context) (r : BlockResult) (w : AlternateResult) (c₂ : Context) → g ≡ some f → scheduleIf g c ≡ ok c₁ → traverseUnscheduled inner y 12 y c₁ ≡ ok r
-            → traverseAlternate inner a f (r .context) ≡ ok w → unscheduleIf g (c .nextId) (w .context) ≡ ok c₂
+        finish : (g : Option ℕ) (c₁ : Context) (r : BlockResult) (w : AlternateResult) (c₂ : Context) → g ≡ some f → scheduleIf g c ≡ ok c₁
+            → traverseUnscheduled (inner (within (another g) o)) y 12 y c₁ ≡ ok r
+            → traverseAlternate (inner (within (another g) o)) a f (r .context) ≡ ok w → unscheduleIf g (c .nextId) (w .context) ≡ ok c₂
             → ok (record { statement = some (IF x (k .id) g (r .statements) (w .present) (w .statements)); next = g; context = c₂ }) ≡ ok s → StepOk F b (c .stack) s
         finish g c₁ r w c₂ q h₂ h₃ h₄ h₅ k₅ =
-            let o : Opened (in-label f) F c c₁ = opened-label f (p .state) (fallthrough-of b (p .new) (ap fallthroughOf e)) (rw q at h₂) in
-            let m : Made (in-label f ∷ F) y (c₁ .stack) r = unscheduled-ok inner wo (in-label f ∷ F) y 12 y c₁ r (o .state) (parts .0) h₃ in
-            let z : AltOk (in-label f ∷ F) a f (r .context .stack) w = alternate-ok inner wo (in-label f ∷ F) a f (r .context) w (m .left .state) (parts .1 .0) h₄ in
-            let u : Closed t F (c .stack) c₂ = closed-ok f o (and-then (alt-left z) (m .left .same)) (rw q at h₅) in
+            let z₁ : Opened (in-label f) F c c₁ = opened-label f (p .state) (fallthrough-of b (p .new) (ap fallthroughOf e)) (rw q at h₂) in
+            let m : Made (in-label f ∷ F) y (c₁ .stack) r = unscheduled-ok (inner (within (another g) o)) (wo (within (another g) o)) (in-label f ∷ F) y 12 y c₁ r (z₁ .state) (parts .0) h₃ in
+            let z : AltOk (in-label f ∷ F) a f (r .context .stack) w = alternate-ok (inner (within (another g) o)) (wo (within (another g) o)) (in-label f ∷ F)
+            a f (r .context) w (m .left .state) (parts .1 .0) h₄ in
+            let u : Closed t F (c .stack) c₂ = closed-ok f z₁ (and-then (alt-left z) (m .left .same)) (rw q at h₅) in
             subst (λ (v : TerminalResult). StepOk F b (c .stack) v) (ok-eq k₅)
             (rw q (goes-on f refl (parts .1 .1 .0) (if-built F b x y a f (k .id) (r .context .stack) (r .statements) w e (m .tree) z) u))
 
     -- ---- Label and the scopes
 
-    enclosed-ok : {G : Frame} {F : List Frame} {c c₁ : Context} (b x code at f : ℕ) (make : Statements → Statement) (s : TerminalResult) → Opened G F c c₁ → NotBranch t x → NotBranch t f
+    enclosed-ok : {G : Frame} {F : List Frame} {c c₁ : Context} (a : Around) (b x code at f : ℕ) (make : Statements → Statement) (s : TerminalResult) → Opened G F c c₁ → NotBranch t x → NotBranch t f
         → ((s₁ r : Statements) → Built t (G ∷ F) x s₁ → Built t F f r → Built t F b (instructionStatements t (instructionRowsAt t b) (make s₁ ▸ r)))
-        → traverseEnclosed inner x code at (some f) c c₁ make ≡ ok s → StepOk F b (c .stack) s
+        → traverseEnclosed (inner a) x code at (some f) c c₁ make ≡ ok s → StepOk F b (c .stack) s
     unfolding traverseEnclosed
-    enclosed-ok {G} {F} {c} {c₁} b x code at f make s o n nf mk h =
-        let (r, h₁, k₁) = bind-ok (traverseUnscheduled inner x code at c₁) _ s h in
+    enclosed-ok {G} {F} {c} {c₁} a b x code at f make s o n nf mk h =
+        let (r, h₁, k₁) = bind-ok (traverseUnscheduled (inner a) x code at c₁) _ s h in
         let (c₂, h₂, k₂) = bind-ok (unscheduleIf (some f) (c .nextId) (r .context)) _ s k₁ in
-        let m : Made (G ∷ F) x (c₁ .stack) r = unscheduled-ok inner wo (G ∷ F) x code at c₁ r (o .state) n h₁ in
+        let m : Made (G ∷ F) x (c₁ .stack) r = unscheduled-ok (inner a) (wo a) (G ∷ F) x code at c₁ r (o .state) n h₁ in
         subst (λ (v : TerminalResult). StepOk F b (c .stack) v) (ok-eq k₂)
         (goes-on f refl nf (λ r′ q. mk (r .statements) r′ (m .tree) q) (closed-ok f o (m .left) h₂))
 
-    label-ok : {F : List Frame} {c₀ c : Context} (b x f : ℕ) (k : Block) (s : TerminalResult) → Entered t b F c₀ c → terminalAt t b ≡ label x f
-        → visitTerminal t values inner (label x f) b k c ≡ ok s → StepOk F b (c .stack) s
+    label-ok : {F : List Frame} {c₀ c : Context} (o : Around) (b x f : ℕ) (k : Block) (s : TerminalResult) → Entered t b F c₀ c → terminalAt t b ≡ label x f
+        → visitTerminal t values inner o (label x f) b k c ≡ ok s → StepOk F b (c .stack) s
     unfolding visitTerminal
-    label-ok {F} {c₀} {c} b x f k s p e h =
+    label-ok {F} {c₀} {c} o b x f k s p e h =
         let (g, h₁, k₁) = bind-ok (unlessUnreachable t c f) _ s h in
         finish g (reached-ok pl c f g (fallthrough-free t pl b f p (ap fallthroughOf e)) h₁) k₁
       where
         parts : All (NotBranch t) (otherNames (label x f))
         parts = subst (λ (m : Terminal). All (NotBranch t) (otherNames m)) e (pl .names b)
 
-        taken : (scheduleIf (some f) c >>= λ c₁. traverseEnclosed inner x 17 b (some f) c c₁ (LABEL (k .id) (some f))) ≡ ok s → StepOk F b (c .stack) s
+        taken : (scheduleIf (some f) c >>= λ c₁. traverseEnclosed (inner (within (another (some f)) o)) x 17 b (some f) c c₁ (LABEL (k .id) (some f))) ≡ ok s → StepOk F b (c .stack) s
         taken h₁ =
             let (c₁, h₂, k₂) = bind-ok (scheduleIf (some f) c) _ s h₁ in
-            enclosed-ok b x 17 b f (LABEL (k .id) (some f)) s (opened-label f (p .state) (fallthrough-of b (p .new) (ap fallthroughOf e)) h₂) (parts .0) (parts .1 .0)
+            enclosed-ok (within (another (some f)) o) b x 17 b f (LABEL (k .id) (some f)) s (opened-label f (p .state) (fallthrough-of b (p .new) (ap fallthroughOf e)) h₂) (parts .0) (parts .1 .0)
             (λ s₁ r p₁ p₂. built-label x f (k .id) e p₁ p₂) k₂
 
-        finish : (g : Option ℕ) → g ≡ some f → (scheduleIf g c >>= λ c₁. traverseEnclosed inner x 17 b g c c₁ (LABEL (k .id) g)) ≡ ok s → StepOk F b (c .stack) s
+        finish : (g : Option ℕ) → g ≡ some f → (scheduleIf g c >>= λ c₁. traverseEnclosed (inner (within (another g) o)) x 17 b g c c₁ (LABEL (k .id) g)) ≡ ok s → StepOk F b (c .stack) s
         finish g q k₁ = taken (rw q at k₁)
 
-    scope-ok : {F : List Frame} {c₀ c : Context} (b : ℕ) (pr : Bool) (x f n : ℕ) (k : Block) (s : TerminalResult) → Entered t b F c₀ c → terminalAt t b ≡ scope pr x f n
-        → visitTerminal t values inner (scope pr x f n) b k c ≡ ok s → StepOk F b (c .stack) s
+    scope-ok : {F : List Frame} {c₀ c : Context} (o : Around) (b : ℕ) (pr : Bool) (x f n : ℕ) (k : Block) (s : TerminalResult) → Entered t b F c₀ c → terminalAt t b ≡ scope pr x f n
+        → visitTerminal t values inner o (scope pr x f n) b k c ≡ ok s → StepOk F b (c .stack) s
     unfolding visitTerminal
-    scope-ok {F} {c₀} {c} b pr x f n k s p e h = finish (unlessScheduled c f) (untaken-free t c f (fallthrough-free t pl b f p (ap fallthroughOf e))) h
+    scope-ok {F} {c₀} {c} o b pr x f n k s p e h = finish (unlessScheduled c f) (untaken-free t c f (fallthrough-free t pl b f p (ap fallthroughOf e))) h
       where
         parts : All (NotBranch t) (otherNames (scope pr x f n))
         parts = subst (λ (m : Terminal). All (NotBranch t) (otherNames m)) e (pl .names b)
 
-        taken : (scheduleIf (some f) c >>= λ c₁. traverseEnclosed inner x 18 b (some f) c (markScopeFallthroughIf (some f) c₁) (SCOPE pr n)) ≡ ok s → StepOk F b (c .stack) s
+        taken : (scheduleIf (some f) c >>= λ c₁. traverseEnclosed (inner (within (another none) o)) x 18 b (some f) c (markScopeFallthroughIf (some f) c₁)
+            (SCOPE pr n)) ≡ ok s → StepOk F b (c .stack) s
         taken h₁ =
             let (c₁, h₂, k₂) = bind-ok (scheduleIf (some f) c) _ s h₁ in
-            enclosed-ok b x 18 b f (SCOPE pr n) s
+            enclosed-ok (within (another none) o) b x 18 b f (SCOPE pr n) s
             (opened-scope f (omega (arith, rg .fallthroughs b f (ap fallthroughOf e), rg .few)) (p .state) (fallthrough-of b (p .new) (ap fallthroughOf e)) h₂) (parts .0) (parts .1 .0)
             (λ s₁ r p₁ p₂. built-scope pr x f n e p₁ p₂) k₂
 
-        finish : (g : Option ℕ) → g ≡ some f → (scheduleIf g c >>= λ c₁. traverseEnclosed inner x 18 b g c (markScopeFallthroughIf g c₁) (SCOPE pr n)) ≡ ok s → StepOk F b (c .stack) s
+        finish : (g : Option ℕ) → g ≡ some f → (scheduleIf g c >>= λ c₁. traverseEnclosed (inner (within (another none) o)) x 18 b g c
+            (markScopeFallthroughIf g c₁) (SCOPE pr n)) ≡ ok s → StepOk F b (c .stack) s
         finish g q k₁ = taken (rw q at k₁)
 
     -- ---- While
 
-    while-ok : {F : List Frame} {c₀ c : Context} (b x l f : ℕ) (k : Block) (s : TerminalResult) → Entered t b F c₀ c → terminalAt t b ≡ while x l f
-        → visitTerminal t values inner (while x l f) b k c ≡ ok s → StepOk F b (c .stack) s
+    while-ok : {F : List Frame} {c₀ c : Context} (o : Around) (b x l f : ℕ) (k : Block) (s : TerminalResult) → Entered t b F c₀ c → terminalAt t b ≡ while x l f
+        → visitTerminal t values inner o (while x l f) b k c ≡ ok s → StepOk F b (c .stack) s
     unfolding visitTerminal traverseLoop WalkOk TestOk withVisits
-    while-ok {F} {c₀} {c} b x l f k s p e h =
+    while-ok {F} {c₀} {c} o b x l f k s p e h =
         let (g, h₁, k₁) = bind-ok (unlessUnreachable t c f) _ s h in
         let (c₁, h₂, k₂) = bind-ok (schedule (target-loop f x l) c) _ s k₁ in
         let (v, h₃, k₃) = bind-ok (values x none (k .span) (c₁ .visits)) _ s k₂ in
         let (u, h₄, k₄) = bind-ok (refuseIf (loopIsTaken c l f) 16 b (v .visits)) _ s k₃ in
-        let (r, h₅, k₅) = bind-ok (inner l (withVisits (v .visits) c₁)) _ s k₄ in
+        let (r, h₅, k₅) = bind-ok (inner (within (a-loop g) o) l (withVisits (v .visits) c₁)) _ s k₄ in
         let (c₂, h₆, k₆) = bind-ok (unschedule (c .nextId) (r .context)) _ s k₅ in
         finish g c₁ v r c₂ (reached-ok pl c f g (fallthrough-free t pl b f p (ap fallthroughOf e)) h₁) h₂ h₃ h₅ h₆ k₆
       where
@@ -311,16 +317,16 @@ module _ (t : Table) where
         parts = subst (λ (m : Terminal). All (NotBranch t) (otherNames m)) e (pl .names b)
 
         finish : (g : Option ℕ) (c₁ : Context) (v : ValueBlockResult) (r : BlockResult) (c₂ : Context) → g ≡ some f → schedule (target-loop f x l) c ≡ ok c₁
-            → values x none (k .span) (c₁ .visits) ≡ ok v → inner l (withVisits (v .visits) c₁) ≡ ok r → unschedule (c .nextId) (r .context) ≡ ok c₂
+            → values x none (k .span) (c₁ .visits) ≡ ok v → inner (within (a-loop g) o) l (withVisits (v .visits) c₁) ≡ ok r → unschedule (c .nextId) (r .context) ≡ ok c₂
             → ok (record { statement = some (WHILE (k .id) g (v .value) (r .statements)); next = g; context = c₂ }) ≡ ok s → StepOk F b (c .stack) s
         finish g c₁ v r c₂ q h₂ h₃ h₅ h₆ k₆ =
-            let o : Opened (in-loop f x) F c c₁ = opened-loop b x l f (p .state) e (fallthrough-of b (p .new) (ap fallthroughOf e)) h₂ in
-            let m : Made (in-loop f x ∷ F) l (c₁ .stack) r = wo (in-loop f x ∷ F) l (withVisits (v .visits) c₁) r (with-visits-ok t (v .visits) (o .state)) (parts .0) h₅ in
+            let z₁ : Opened (in-loop f x) F c c₁ = opened-loop b x l f (p .state) e (fallthrough-of b (p .new) (ap fallthroughOf e)) h₂ in
+            let m : Made (in-loop f x ∷ F) l (c₁ .stack) r = wo (within (a-loop g) o) (in-loop f x ∷ F) l (withVisits (v .visits) c₁) r (with-visits-ok t (v .visits) (z₁ .state)) (parts .0) h₅ in
             let (y, e₁) = pl .tests b x l f e in
             subst (λ (z : TerminalResult). StepOk F b (c .stack) z) (ok-eq k₆)
             (rw q (goes-on f refl (parts .1 .0)
             (λ r′ p′. built-while x l f y (k .id) (v .value) e e₁ (vo x y l f (k .span) (c₁ .visits) v e₁ (pl .no-store x y l f e₁) h₃) (m .tree) p′)
-            (unschedule-ok t (c .nextId) (o .top) (c .stack) (r .context) c₂ (m .left .state) (m .left .same ∙ o .stack) h₆)))
+            (unschedule-ok t (c .nextId) (z₁ .top) (c .stack) (r .context) c₂ (m .left .state) (m .left .same ∙ z₁ .stack) h₆)))
 
     -- ---- Goto
 
@@ -338,12 +344,34 @@ module _ (t : Table) where
     unfolding runStatements jumpCompletion
     run-done g answers = refl
 
-    broke : {F : List Frame} {c : Context} (g i : ℕ) (r : Resolution) (s : Option Statement) (y : Bool) (x : Result (Option Statement)) → StateOk t F c
-        → breakTargetFrom (c .stack) g true 0 ≡ some r → r .target ≡ g → has (c .scopeFallthroughs) g ≡ y → elim y [ true ↦ x | false ↦ ok (some (BREAK g i (r .kind) (r .loops))) ] ≡ ok s
+    -- under M-102's rule a break's kind stays, or becomes Labeled
+    kind-in : (o : Around) (k : Kind) → (breakKindIn o k ≡ k) ⊎ (breakKindIn o k ≡ labeled)
+    unfolding breakKindIn
+    kind-in o k = at (o .rule) (switchInside (o .statements)) k
+      where
+        at : (rule : Rule) (y : Bool) (k : Kind) → (kindBy rule y k ≡ k) ⊎ (kindBy rule y k ≡ labeled)
+        at rust y k = unfold kindBy in inl refl
+        at language y implicit = unfold kindBy in inl refl
+        at language y labeled = unfold kindBy in inl refl
+        at language true unlabeled = unfold kindBy in inr refl
+        at language false unlabeled = unfold kindBy in inl refl
+
+    break-in : {F : List Frame} {c : Context} (o : Around) (g : ℕ) (r : Resolution) → StateOk t F c → breakTargetFrom (c .stack) g true 0 ≡ some r → has (c .scopeFallthroughs) g ≡ false
+        → (i : ℕ) → target F (jumpCompletion (breakKindIn o (r .kind)) g i break) ≡ some g
+    break-in {F} o g r p e n i = elim (kind-in o (r .kind)) [
+      | inl h ↦ rw h (break-target t (p .framed) g r e n (r .kind) refl i)
+      | inr h ↦ rw h (break-label t (p .framed) g r e n i)
+    ]
+
+    broke : {F : List Frame} {c : Context} (o : Around) (b v g i : ℕ) (r : Resolution) (s : Option Statement) (y : Bool) (x : Result (Option Statement)) → StateOk t F c
+        → breakTargetFrom (c .stack) g true 0 ≡ some r → r .target ≡ g → has (c .scopeFallthroughs) g ≡ y
+        → elim y [ true ↦ x | false ↦ refuseIf (breakUnnamed o r) 29 b v >>= λ _. ok (some (BREAK g i (breakKindIn o (r .kind)) (r .loops))) ] ≡ ok s
         → (x ≡ ok s → JumpOk F g s) → JumpOk F g s
-    broke g i r s true x p e q n h z = z h
-    broke {F} g i r s false x p e q n h z =
-        subst (λ (w : Option Statement). JumpOk F g w) (ok-eq h) (goes-as (jumpCompletion (r .kind) g i break) (break-target t (p .framed) g r e n (r .kind) refl i) (run-break g i (r .kind) (r .loops)))
+    broke o b v g i r s true x p e q n h z = z h
+    broke {F} {c} o b v g i r s false x p e q n h z =
+        let (u, h₁, h₂) = bind-ok (refuseIf (breakUnnamed o r) 29 b v) _ s h in
+        subst (λ (w : Option Statement). JumpOk F g w) (ok-eq h₂)
+        (goes-as (jumpCompletion (breakKindIn o (r .kind)) g i break) (break-in o g r p e n i) (run-break g i (breakKindIn o (r .kind)) (r .loops)))
 
     -- to a scope: no row, as good as an Implicit one
     to-scope : {F : List Frame} (c : Context) (b g : ℕ) (r : Resolution) (s : Option Statement) (k : Kind) → StateOk t F c → breakTargetFrom (c .stack) g true 0 ≡ some r → r .kind ≡ k
@@ -354,17 +382,27 @@ module _ (t : Table) where
     to-scope c b g r s labeled p e k h = absurd (refused-ok h)
     to-scope c b g r s unlabeled p e k h = absurd (refused-ok h)
 
-    break-ok : {F : List Frame} (c : Context) (b g i : ℕ) (r : Option Resolution) (s : Option Statement) → StateOk t F c → breakTargetFrom (c .stack) g true 0 ≡ r
-        → breakResolved b g i c r ≡ ok s → JumpOk F g s
+    break-ok : {F : List Frame} (o : Around) (c : Context) (b g i : ℕ) (r : Option Resolution) (s : Option Statement) → StateOk t F c → breakTargetFrom (c .stack) g true 0 ≡ r
+        → breakResolved o b g i c r ≡ ok s → JumpOk F g s
     unfolding breakResolved
-    break-ok c b g i none s p e h = absurd (refused-ok h)
-    break-ok c b g i (some r) s p e h =
+    break-ok o c b g i none s p e h = absurd (refused-ok h)
+    break-ok o c b g i (some r) s p e h =
         let q : r .target ≡ g = break-names t (c .stack) g true 0 r e in
-        broke g i r s (has (c .scopeFallthroughs) g) (breakToScope (r .kind) b (c .visits)) p e q refl (named q h) (λ z. to-scope c b g r s (r .kind) p e refl z)
+        broke o b (c .visits) g i r s (has (c .scopeFallthroughs) g) (breakToScope (r .kind) b (c .visits)) p e q refl (named q h) (λ z. to-scope c b g r s (r .kind) p e refl z)
       where
-        named : {n : ℕ} → n ≡ g → elim (has (c .scopeFallthroughs) n) [ true ↦ breakToScope (r .kind) b (c .visits) | false ↦ ok (some (BREAK n i (r .kind) (r .loops))) ] ≡ ok s
-            → elim (has (c .scopeFallthroughs) g) [ true ↦ breakToScope (r .kind) b (c .visits) | false ↦ ok (some (BREAK g i (r .kind) (r .loops))) ] ≡ ok s
-        named z k = subst (λ (n : ℕ). elim (has (c .scopeFallthroughs) n) [ true ↦ breakToScope (r .kind) b (c .visits) | false ↦ ok (some (BREAK n i (r .kind) (r .loops))) ] ≡ ok s) z k
+        named : {n : ℕ} → n ≡ g → elim (has (c .scopeFallthroughs) n) [
+          | true ↦ breakToScope (r .kind) b (c .visits)
+          | false ↦ refuseIf (breakUnnamed o r) 29 b (c .visits) >>= λ _. ok (some (BREAK n i (breakKindIn o (r .kind)) (r .loops)))
+        ] ≡ ok s
+            → elim (has (c .scopeFallthroughs) g) [
+              | true ↦ breakToScope (r .kind) b (c .visits)
+              | false ↦ refuseIf (breakUnnamed o r) 29 b (c .visits) >>= λ _. ok (some (BREAK g i (breakKindIn o (r .kind)) (r .loops)))
+            ] ≡ ok s
+        named z k =
+            subst (λ (n : ℕ). elim (has (c .scopeFallthroughs) n) [
+              | true ↦ breakToScope (r .kind) b (c .visits)
+              | false ↦ refuseIf (breakUnnamed o r) 29 b (c .visits) >>= λ _. ok (some (BREAK n i (breakKindIn o (r .kind)) (r .loops)))
+            ] ≡ ok s) z k
 
     run-continue : (f i : ℕ) (k : Kind) (n : ℕ) (answers : Answers) → runStatements (CONTINUE f i k n ▸ done) answers ≡ completed [] (jumpCompletion k f i continue) answers
     unfolding runStatements then thenOn prefix completed jumpCompletion
@@ -372,30 +410,31 @@ module _ (t : Table) where
     run-continue f i labeled n answers = refl
     run-continue f i unlabeled n answers = refl
 
-    continue-ok : {F : List Frame} (c : Context) (g i : ℕ) (k : Option Resolution) (s : Statement) → StateOk t F c → continueTargetFrom (c .stack) g true 0 ≡ k
-        → continueResolved g i c k ≡ ok s → JumpOk F g (some s)
+    continue-ok : {F : List Frame} (o : Around) (c : Context) (b g i : ℕ) (k : Option Resolution) (s : Statement) → StateOk t F c → continueTargetFrom (c .stack) g true 0 ≡ k
+        → continueResolved o b g i c k ≡ ok s → JumpOk F g (some s)
     unfolding continueResolved
-    continue-ok c g i none s p e h = absurd (refused-ok h)
-    continue-ok {F} c g i (some k) s p e h =
-        subst (λ (z : Statement). JumpOk F g (some z)) (ok-eq h)
+    continue-ok o c b g i none s p e h = absurd (refused-ok h)
+    continue-ok {F} o c b g i (some k) s p e h =
+        let (u, h₁, h₂) = bind-ok (refuseIf (continueUnnamed o k) 29 b (c .visits)) _ s h in
+        subst (λ (z : Statement). JumpOk F g (some z)) (ok-eq h₂)
         (goes-as (jumpCompletion (k .kind) (k .target) i continue) (continue-target t pl (p .framed) g (k .target) (k .kind) (k .loops) e i) (run-continue (k .target) i (k .kind) (k .loops)))
 
     jump-built : {F : List Frame} (b g : ℕ) (v : Variant) (s : Option Statement) → terminalAt t b ≡ goto g v → JumpOk F g s
         → Built t F b (instructionStatements t (instructionRowsAt t b) (followedBy s done))
     jump-built b g v s e (goes-as z q r) = built-jump g v z (followedBy s done) e q r
 
-    jump-ok : {F : List Frame} {c₀ c : Context} (b g i : ℕ) (v : Variant) (s : TerminalResult) → Entered t b F c₀ c → terminalAt t b ≡ goto g v
-        → visitGoto v b g i c ≡ ok s → StepOk F b (c .stack) s
+    jump-ok : {F : List Frame} {c₀ c : Context} (o : Around) (b g i : ℕ) (v : Variant) (s : TerminalResult) → Entered t b F c₀ c → terminalAt t b ≡ goto g v
+        → visitGoto o v b g i c ≡ ok s → StepOk F b (c .stack) s
     unfolding visitGoto visitBreak visitContinue getBreakTarget getContinueTarget
-    jump-ok {F} {c₀} {c} b g i Break s p e h =
-        let (o, h₁, k₁) = bind-ok (breakResolved b g i c (breakTargetFrom (c .stack) g true 0)) _ s h in
-        subst (λ (z : TerminalResult). StepOk F b (c .stack) z) (ok-eq k₁)
-        (ends-here refl (jump-built b g Break o e (break-ok c b g i (breakTargetFrom (c .stack) g true 0) o (p .state) refl h₁)) (record { state = p .state; same = refl }))
-    jump-ok {F} {c₀} {c} b g i Continue s p e h =
-        let (o, h₁, k₁) = bind-ok (continueResolved g i c (continueTargetFrom (c .stack) g true 0)) _ s h in
-        subst (λ (z : TerminalResult). StepOk F b (c .stack) z) (ok-eq k₁)
-        (ends-here refl (jump-built b g Continue (some o) e (continue-ok c g i (continueTargetFrom (c .stack) g true 0) o (p .state) refl h₁)) (record { state = p .state; same = refl }))
-    jump-ok b g i Try s p e h = absurd (pl .no-goto-try b g e)
+    jump-ok {F} {c₀} {c} o b g i Break s p e h =
+        let (z, h₁, k₁) = bind-ok (breakResolved o b g i c (breakTargetFrom (c .stack) g true 0)) _ s h in
+        subst (λ (w : TerminalResult). StepOk F b (c .stack) w) (ok-eq k₁)
+        (ends-here refl (jump-built b g Break z e (break-ok o c b g i (breakTargetFrom (c .stack) g true 0) z (p .state) refl h₁)) (record { state = p .state; same = refl }))
+    jump-ok {F} {c₀} {c} o b g i Continue s p e h =
+        let (z, h₁, k₁) = bind-ok (continueResolved o b g i c (continueTargetFrom (c .stack) g true 0)) _ s h in
+        subst (λ (w : TerminalResult). StepOk F b (c .stack) w) (ok-eq k₁)
+        (ends-here refl (jump-built b g Continue (some z) e (continue-ok o c b g i (continueTargetFrom (c .stack) g true 0) z (p .state) refl h₁)) (record { state = p .state; same = refl }))
+    jump-ok o b g i Try s p e h = absurd (pl .no-goto-try b g e)
 
     -- ---- every end
 
@@ -403,45 +442,45 @@ module _ (t : Table) where
     not-plain : {m : Terminal} (b : ℕ) → terminalAt t b ≡ m → contains plainCodes (codeOf m) ≡ false → ⊥
     not-plain b e h = true-false (sym (pl .ends b) ∙ ap (λ (m : Terminal). contains plainCodes (codeOf m)) e ∙ h)
 
-    terminal-ok : {F : List Frame} {c₀ c : Context} (b : ℕ) (m : Terminal) (s : TerminalResult) → Entered t b F c₀ c → NotBranch t b → terminalAt t b ≡ m
-        → visitTerminal t values inner m b (blockAt t b) c ≡ ok s → StepOk F b (c .stack) s
+    terminal-ok : {F : List Frame} {c₀ c : Context} (o : Around) (b : ℕ) (m : Terminal) (s : TerminalResult) → Entered t b F c₀ c → NotBranch t b → terminalAt t b ≡ m
+        → visitTerminal t values inner o m b (blockAt t b) c ≡ ok s → StepOk F b (c .stack) s
     unfolding visitTerminal
-    terminal-ok b absent s p nb e h = absurd (refused-ok h)
-    terminal-ok b unreachable s p nb e h = absurd (not-plain b e refl)
-    terminal-ok {F} {c₀} {c} b (throw v) s p nb e h =
+    terminal-ok o b absent s p nb e h = absurd (refused-ok h)
+    terminal-ok o b unreachable s p nb e h = absurd (not-plain b e refl)
+    terminal-ok {F} {c₀} {c} o b (throw v) s p nb e h =
         subst (λ (z : TerminalResult). StepOk F b (c .stack) z) (ok-eq h) (ends-here refl (built-throw v e) (record { state = p .state; same = refl }))
-    terminal-ok {F} {c₀} {c} b (return v) s p nb e h =
+    terminal-ok {F} {c₀} {c} o b (return v) s p nb e h =
         subst (λ (z : TerminalResult). StepOk F b (c .stack) z) (ok-eq h) (ends-here refl (built-return v e) (record { state = p .state; same = refl }))
-    terminal-ok b (goto g v) s p nb e h = jump-ok b g (blockAt t b .id) v s p e h
-    terminal-ok b (if x y a f) s p nb e h = if-ok b x y a f (blockAt t b) s p e h
-    terminal-ok b (branch x y a) s p nb e h = absurd (true-false (sym (ap isBranch e) ∙ nb))
-    terminal-ok b (switch x i n f) s p nb e h = absurd (not-plain b e refl)
-    terminal-ok b (do-while l x f) s p nb e h = absurd (not-plain b e refl)
-    terminal-ok b (while x l f) s p nb e h = while-ok b x l f (blockAt t b) s p e h
-    terminal-ok b (for i x u l f) s p nb e h = absurd (not-plain b e refl)
-    terminal-ok b (for-of i x l f) s p nb e h = absurd (not-plain b e refl)
-    terminal-ok b (for-in i l f) s p nb e h = absurd (not-plain b e refl)
-    terminal-ok b (logical o x f) s p nb e h = absurd (not-plain b e refl)
-    terminal-ok b (ternary x f) s p nb e h = absurd (not-plain b e refl)
-    terminal-ok b (optional g x f) s p nb e h = absurd (not-plain b e refl)
-    terminal-ok b (label x f) s p nb e h = label-ok b x f (blockAt t b) s p e h
-    terminal-ok b (sequence x f) s p nb e h = absurd (not-plain b e refl)
-    terminal-ok b (maybe-throw n) s p nb e h = absurd (not-plain b e refl)
-    terminal-ok b (try x h′ f n) s p nb e h = absurd (not-plain b e refl)
-    terminal-ok b (scope pr x f n) s p nb e h = scope-ok b pr x f n (blockAt t b) s p e h
+    terminal-ok o b (goto g v) s p nb e h = jump-ok o b g (blockAt t b .id) v s p e h
+    terminal-ok o b (if x y a f) s p nb e h = if-ok o b x y a f (blockAt t b) s p e h
+    terminal-ok o b (branch x y a) s p nb e h = absurd (true-false (sym (ap isBranch e) ∙ nb))
+    terminal-ok o b (switch x i n f) s p nb e h = absurd (not-plain b e refl)
+    terminal-ok o b (do-while l x f) s p nb e h = absurd (not-plain b e refl)
+    terminal-ok o b (while x l f) s p nb e h = while-ok o b x l f (blockAt t b) s p e h
+    terminal-ok o b (for i x u l f) s p nb e h = absurd (not-plain b e refl)
+    terminal-ok o b (for-of i x l f) s p nb e h = absurd (not-plain b e refl)
+    terminal-ok o b (for-in i l f) s p nb e h = absurd (not-plain b e refl)
+    terminal-ok o b (logical op x f) s p nb e h = absurd (not-plain b e refl)
+    terminal-ok o b (ternary x f) s p nb e h = absurd (not-plain b e refl)
+    terminal-ok o b (optional g x f) s p nb e h = absurd (not-plain b e refl)
+    terminal-ok o b (label x f) s p nb e h = label-ok o b x f (blockAt t b) s p e h
+    terminal-ok o b (sequence x f) s p nb e h = absurd (not-plain b e refl)
+    terminal-ok o b (maybe-throw n) s p nb e h = absurd (not-plain b e refl)
+    terminal-ok o b (try x h′ f n) s p nb e h = absurd (not-plain b e refl)
+    terminal-ok o b (scope pr x f n) s p nb e h = scope-ok o b pr x f n (blockAt t b) s p e h
 
-    visit-block-ok : (n : ℕ) → WalkOk (visitBlock t values inner n)
+    visit-block-ok : (o : Around) (n : ℕ) → WalkOk (visitBlock t values inner o n)
     unfolding WalkOk visitBlock
-    visit-block-ok zero F b c r p nb e = absurd (refused-ok e)
-    visit-block-ok (suc n) F b c r p nb e =
+    visit-block-ok o zero F b c r p nb e = absurd (refused-ok e)
+    visit-block-ok o (suc n) F b c r p nb e =
         let (c₁, h₁, k₁) = bind-ok (enterBlock t b c) _ r e in
-        let (s, h₂, k₂) = bind-ok (visitTerminal t values inner (terminalAt t b) b (blockAt t b) c₁) _ r k₁ in
+        let (s, h₂, k₂) = bind-ok (visitTerminal t values inner o (terminalAt t b) b (blockAt t b) c₁) _ r k₁ in
         let q : Entered t b F c c₁ = enter-ok t rg b c₁ p h₁ in
-        let m : Made F b (c₁ .stack) r = next-ok F b (c₁ .stack) (visitBlock t values inner n) s r (visit-block-ok n) (terminal-ok b (terminalAt t b) s q nb refl h₂) k₂ in
+        let m : Made F b (c₁ .stack) r = next-ok F b (c₁ .stack) (visitBlock t values inner o n) s r (visit-block-ok o n) (terminal-ok o b (terminalAt t b) s q nb refl h₂) k₂ in
         record { tree = m .tree; left = and-then (m .left) (q .same) }
 
   module _ (pl : PlainEnough t) (rg : Ranged t) where
-    pub walk-ok : (d : ℕ) → WalkOk (traverseBlock t d)
+    pub walk-ok : (d : ℕ) (o : Around) → WalkOk (traverseBlock t d o)
     unfolding WalkOk traverseBlock
-    walk-ok zero F b c r p nb e = absurd (refused-ok e)
-    walk-ok (suc d) F b c r p nb e = visit-block-ok pl rg (visitValueBlock t d) (value-ok t d) (traverseBlock t d) (walk-ok d) 8193 F b c r p nb e
+    walk-ok zero o F b c r p nb e = absurd (refused-ok e)
+    walk-ok (suc d) o F b c r p nb e = visit-block-ok pl rg (visitValueBlock t d) (value-ok t d) (traverseBlock t d) (walk-ok d) o 8193 F b c r p nb e

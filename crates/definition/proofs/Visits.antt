@@ -22,7 +22,8 @@ use Rattle.definition.specs.Context.{Resolution}
 use Rattle.definition.specs.Value.{mostVisits, beginVisit, VisitValueBlock, ValueBlockResult, Ways, extractValueBlockResult, extractOrRefuse}
 use Rattle.definition.specs.Value.{testBlockEnded, visitTestBlock, visitValueBlockTerminal, thenFallthrough, branchValue, maybeThrowValue}
 use Rattle.definition.specs.Value.{visitValueBlockAt, visitValueBlock}
-use Rattle.definition.specs.Statement.{TraverseBlock, BlockResult, TerminalResult, AlternateResult, CasesResult, enterBlock, unlessScheduled}
+use Rattle.definition.specs.Around.{Rule, Around, outermost}
+use Rattle.definition.specs.Statement.{TraverseBlock, TraverseInside, BlockResult, TerminalResult, AlternateResult, CasesResult, enterBlock, unlessScheduled}
 use Rattle.definition.specs.Statement.{unlessUnreachable, scheduleIf, scheduleSwitch, unscheduleIf, markScopeFallthroughIf, breakToScope, breakResolved}
 use Rattle.definition.specs.Statement.{visitBreak, continueResolved, visitContinue, visitGoto, traverseUnscheduled, traverseAlternate, traverseConsequent}
 use Rattle.definition.specs.Statement.{traverseEnclosed, traverseLoop, visitUpdate, traverseCases, unscheduleAll, casesLastFirst, scheduleIds}
@@ -211,22 +212,27 @@ module _ (Q : ℕ → Type 0) (again : (visits : ℕ) → visits < mostVisits �
   to-scope-counted labeled at visits h = h
   to-scope-counted unlabeled at visits h = h
 
-  break-counted : (at block id : ℕ) (cx : Context) (found : Option Resolution) → In cx → Counted Q (kept (cx .visits)) (breakResolved at block id cx found)
+  break-counted : (around : Around) (at block id : ℕ) (cx : Context) (found : Option Resolution) → In cx
+      → Counted Q (kept (cx .visits)) (breakResolved around at block id cx found)
   unfolding breakResolved
-  break-counted at block id cx none h = h
-  break-counted at block id cx (some found) h =
-      counted-pick Q (kept (cx .visits)) (has (cx .scopeFallthroughs) (found .target)) _ _ (λ _. to-scope-counted (found .kind) at (cx .visits) h) (λ _. h)
+  break-counted around at block id cx none h = h
+  break-counted around at block id cx (some found) h =
+      counted-pick Q (kept (cx .visits)) (has (cx .scopeFallthroughs) (found .target)) _ _ (λ _. to-scope-counted (found .kind) at (cx .visits) h)
+      (λ _. counted-unless Q (kept (cx .visits)) _ 29 at (cx .visits) _ h (λ _. h))
 
-  continue-counted : (block id : ℕ) (cx : Context) (found : Option Resolution) → In cx → Counted Q (kept (cx .visits)) (continueResolved block id cx found)
+  continue-counted : (around : Around) (at block id : ℕ) (cx : Context) (found : Option Resolution) → In cx
+      → Counted Q (kept (cx .visits)) (continueResolved around at block id cx found)
   unfolding continueResolved
-  continue-counted block id cx none h = h
-  continue-counted block id cx (some found) h = h
+  continue-counted around at block id cx none h = h
+  continue-counted around at block id cx (some found) h = counted-unless Q (kept (cx .visits)) _ 29 at (cx .visits) _ h (λ _. h)
 
-  goto-counted : (variant : Variant) (at block id : ℕ) (cx : Context) → In cx → Counted Q (λ r. r .context .visits) (visitGoto variant at block id cx)
+  goto-counted : (around : Around) (variant : Variant) (at block id : ℕ) (cx : Context) → In cx
+      → Counted Q (λ r. r .context .visits) (visitGoto around variant at block id cx)
   unfolding visitGoto visitBreak visitContinue
-  goto-counted Break at block id cx h = counted-bind Q (kept (cx .visits)) (λ r. r .context .visits) _ _ (break-counted at block id cx _ h) (λ _ k. k)
-  goto-counted Continue at block id cx h = counted-bind Q (kept (cx .visits)) (λ r. r .context .visits) _ _ (continue-counted block id cx _ h) (λ _ k. k)
-  goto-counted Try at block id cx h = h
+  goto-counted around Break at block id cx h = counted-bind Q (kept (cx .visits)) (λ r. r .context .visits) _ _ (break-counted around at block id cx _ h) (λ _ k. k)
+  goto-counted around Continue at block id cx h =
+      counted-bind Q (kept (cx .visits)) (λ r. r .context .visits) _ _ (continue-counted around at block id cx _ h) (λ _ k. k)
+  goto-counted around Try at block id cx h = h
 
   -- ---- the statement walk
 
@@ -251,11 +257,12 @@ module _ (Q : ℕ → Type 0) (again : (visits : ℕ) → visits < mostVisits �
         counted-pick Q (λ r. r .context .visits) (eqb alternate fallthrough) _ _ (λ _. h)
         (λ _. counted-bind Q (λ r. r .context .visits) (λ r. r .context .visits) _ _ (unscheduled-counted alternate 13 alternate cx h) (λ _ k. k))
 
-    consequent-counted : (at consequent id : ℕ) (cx : Context) → In cx → Counted Q (λ r. r .context .visits) (traverseConsequent traverse at consequent id cx)
+    consequent-counted : (around : Around) (at consequent id : ℕ) (cx : Context) → In cx
+        → Counted Q (λ r. r .context .visits) (traverseConsequent around traverse at consequent id cx)
     unfolding traverseConsequent visitBreak
-    consequent-counted at consequent id cx h =
+    consequent-counted around at consequent id cx h =
         counted-pick Q (λ r. r .context .visits) (isScheduled cx consequent) _ _
-        (λ _. counted-bind Q (kept (cx .visits)) (λ r. r .context .visits) _ _ (break-counted at consequent id cx _ h) (λ _ k. k)) (λ _. inner consequent cx h)
+        (λ _. counted-bind Q (kept (cx .visits)) (λ r. r .context .visits) _ _ (break-counted around at consequent id cx _ h) (λ _ k. k)) (λ _. inner consequent cx h)
 
     enclosed-counted : (block code at : ℕ) (taken : Option ℕ) (before inside : Context) (make : Statements → Statement) → In inside
         → Counted Q (λ r. r .context .visits) (traverseEnclosed traverse block code at taken before inside make)
@@ -290,71 +297,74 @@ module _ (Q : ℕ → Type 0) (again : (visits : ℕ) → visits < mostVisits �
         counted-bind Q (λ r. r .visits) (λ r. r .context .visits) _ _ (value-terminal-counted t visit visits-counted m (block .id) (block .span) (inside .visits) at a) (λ result b.
         counted-bind Q (λ d. d .visits) (λ r. r .context .visits) _ _ (unschedule-if-counted (unlessScheduled cx fallthrough) (cx .nextId) (withVisits (result .visits) inside) b) (λ _ k. k)))
 
-    pub terminal-counted : (m : Terminal) (at : ℕ) (block : Block) (cx : Context) → In cx → Counted Q (λ r. r .context .visits) (visitTerminal t visit traverse m at block cx)
+  module _ (t : Table) (visit : VisitValueBlock) (visits-counted : VisitCounted visit) (traverse : TraverseInside) (walk-counted : (around : Around) → WalkCounted (traverse around)) where
+    pub terminal-counted : (around : Around) (m : Terminal) (at : ℕ) (block : Block) (cx : Context) → In cx
+        → Counted Q (λ r. r .context .visits) (visitTerminal t visit traverse around m at block cx)
     unfolding visitTerminal scheduleCatchHandler withVisits
-    terminal-counted absent at block cx h = h
-    terminal-counted unreachable at block cx h = h
-    terminal-counted (throw x) at block cx h = h
-    terminal-counted (return x) at block cx h = h
-    terminal-counted (goto target variant) at block cx h = goto-counted variant at target (block .id) cx h
-    terminal-counted (if test consequent alternate fallthrough) at block cx h =
+    terminal-counted around absent at block cx h = h
+    terminal-counted around unreachable at block cx h = h
+    terminal-counted around (throw x) at block cx h = h
+    terminal-counted around (return x) at block cx h = h
+    terminal-counted around (goto target variant) at block cx h = goto-counted around variant at target (block .id) cx h
+    terminal-counted around (if test consequent alternate fallthrough) at block cx h =
         counted-bind Q (kept (cx .visits)) (λ r. r .context .visits) _ _ (reachable-counted t cx fallthrough h) (λ taken _.
         counted-bind Q (λ d. d .visits) (λ r. r .context .visits) _ _ (schedule-if-counted taken cx h) (λ inside a.
-        counted-bind Q (λ r. r .context .visits) (λ r. r .context .visits) _ _ (unscheduled-counted consequent 12 consequent inside a) (λ first b.
-        counted-bind Q (λ r. r .context .visits) (λ r. r .context .visits) _ _ (alternate-counted alternate fallthrough (first .context) b) (λ second c.
+        counted-bind Q (λ r. r .context .visits) (λ r. r .context .visits) _ _ (unscheduled-counted t visit visits-counted _ (walk-counted _) consequent 12 consequent inside a) (λ first b.
+        counted-bind Q (λ r. r .context .visits) (λ r. r .context .visits) _ _ (alternate-counted t visit visits-counted _ (walk-counted _) alternate fallthrough (first .context) b) (λ second c.
         counted-bind Q (λ d. d .visits) (λ r. r .context .visits) _ _ (unschedule-if-counted taken (cx .nextId) (second .context) c) (λ _ k. k)))))
-    terminal-counted (branch test consequent alternate) at block cx h =
-        counted-bind Q (λ r. r .context .visits) (λ r. r .context .visits) _ _ (consequent-counted at consequent (block .id) cx h) (λ first a.
-        counted-bind Q (λ r. r .context .visits) (λ r. r .context .visits) _ _ (unscheduled-counted alternate 19 at (first .context) a) (λ _ k. k))
-    terminal-counted (switch test first number fallthrough) at block cx h =
+    terminal-counted around (branch test consequent alternate) at block cx h =
+        counted-bind Q (λ r. r .context .visits) (λ r. r .context .visits) _ _ (consequent-counted t visit visits-counted _ (walk-counted _) around at consequent (block .id) cx h) (λ first a.
+        counted-bind Q (λ r. r .context .visits) (λ r. r .context .visits) _ _ (unscheduled-counted t visit visits-counted _ (walk-counted _) alternate 19 at (first .context) a) (λ _ k. k))
+    terminal-counted around (switch test first number fallthrough) at block cx h =
         counted-bind Q (kept (cx .visits)) (λ r. r .context .visits) _ _ (reachable-counted t cx fallthrough h) (λ taken _.
         counted-bind Q (λ d. d .visits) (λ r. r .context .visits) _ _ (schedule-switch-counted taken cx h) (λ inside a.
-        counted-bind Q (λ r. r .context .visits) (λ r. r .context .visits) _ _ (cases-counted at fallthrough (casesLastFirst t first number) _ inside a) (λ cases b.
+        counted-bind Q (λ r. r .context .visits) (λ r. r .context .visits) _ _
+        (cases-counted t visit visits-counted _ (walk-counted _) at fallthrough (casesLastFirst t first number) _ inside a) (λ cases b.
         counted-bind Q (λ d. d .visits) (λ r. r .context .visits) _ _ (unschedule-all-counted (cases .ids) (cases .context) b) (λ _ k. k))))
-    terminal-counted (do-while loop test fallthrough) at block cx h =
+    terminal-counted around (do-while loop test fallthrough) at block cx h =
         counted-bind Q (λ d. d .visits) (λ r. r .context .visits) _ _ (schedule-counted (target-loop fallthrough test loop) cx h) (λ inside a.
         counted-unless Q (λ r. r .context .visits) _ 16 at (inside .visits) _ a (λ _.
-        counted-bind Q (λ r. r .context .visits) (λ r. r .context .visits) _ _ (inner loop inside a) (λ body b.
-        counted-bind Q (λ r. r .visits) (λ r. r .context .visits) _ _ (value test (block .span) (body .context .visits) b) (λ tested c.
+        counted-bind Q (λ r. r .context .visits) (λ r. r .context .visits) _ _ (inner t visit visits-counted _ (walk-counted _) loop inside a) (λ body b.
+        counted-bind Q (λ r. r .visits) (λ r. r .context .visits) _ _ (value t visit visits-counted _ (walk-counted around) test (block .span) (body .context .visits) b) (λ tested c.
         counted-bind Q (λ d. d .visits) (λ r. r .context .visits) _ _ (unschedule-counted (cx .nextId) (withVisits (tested .visits) (body .context)) c) (λ _ k. k)))))
-    terminal-counted (while test loop fallthrough) at block cx h =
+    terminal-counted around (while test loop fallthrough) at block cx h =
         counted-bind Q (kept (cx .visits)) (λ r. r .context .visits) _ _ (reachable-counted t cx fallthrough h) (λ taken _.
         counted-bind Q (λ d. d .visits) (λ r. r .context .visits) _ _ (schedule-counted (target-loop fallthrough test loop) cx h) (λ inside a.
-        counted-bind Q (λ r. r .visits) (λ r. r .context .visits) _ _ (value test (block .span) (inside .visits) a) (λ tested b.
-        loop-counted at loop _ (tested .visits) (cx .nextId) inside taken _ b)))
-    terminal-counted (for init test update loop fallthrough) at block cx h =
+        counted-bind Q (λ r. r .visits) (λ r. r .context .visits) _ _ (value t visit visits-counted _ (walk-counted around) test (block .span) (inside .visits) a) (λ tested b.
+        loop-counted t visit visits-counted _ (walk-counted _) at loop _ (tested .visits) (cx .nextId) inside taken _ b)))
+    terminal-counted around (for init test update loop fallthrough) at block cx h =
         counted-bind Q (λ d. d .visits) (λ r. r .context .visits) _ _ (schedule-counted _ cx h) (λ inside a.
-        counted-bind Q (λ r. r .visits) (λ r. r .context .visits) _ _ (value init (block .span) (inside .visits) a) (λ first b.
-        counted-bind Q (λ r. r .visits) (λ r. r .context .visits) _ _ (value test (block .span) (first .visits) b) (λ tested c.
+        counted-bind Q (λ r. r .visits) (λ r. r .context .visits) _ _ (value t visit visits-counted _ (walk-counted around) init (block .span) (inside .visits) a) (λ first b.
+        counted-bind Q (λ r. r .visits) (λ r. r .context .visits) _ _ (value t visit visits-counted _ (walk-counted around) test (block .span) (first .visits) b) (λ tested c.
         counted-bind Q (λ r. r .visits) (λ r. r .context .visits) _ _ (update-counted t visit visits-counted update (block .span) (tested .visits) c) (λ updated d.
-        loop-counted at loop _ (updated .visits) (cx .nextId) inside _ _ d))))
-    terminal-counted (for-of init test loop fallthrough) at block cx h =
+        loop-counted t visit visits-counted _ (walk-counted _) at loop _ (updated .visits) (cx .nextId) inside _ _ d))))
+    terminal-counted around (for-of init test loop fallthrough) at block cx h =
         counted-bind Q (λ d. d .visits) (λ r. r .context .visits) _ _ (schedule-counted (target-loop fallthrough init loop) cx h) (λ inside a.
-        counted-bind Q (λ r. r .visits) (λ r. r .context .visits) _ _ (value init (block .span) (inside .visits) a) (λ first b.
-        counted-bind Q (λ r. r .visits) (λ r. r .context .visits) _ _ (value test (block .span) (first .visits) b) (λ tested c.
-        loop-counted at loop _ (tested .visits) (cx .nextId) inside _ _ c)))
-    terminal-counted (for-in init loop fallthrough) at block cx h =
+        counted-bind Q (λ r. r .visits) (λ r. r .context .visits) _ _ (value t visit visits-counted _ (walk-counted around) init (block .span) (inside .visits) a) (λ first b.
+        counted-bind Q (λ r. r .visits) (λ r. r .context .visits) _ _ (value t visit visits-counted _ (walk-counted around) test (block .span) (first .visits) b) (λ tested c.
+        loop-counted t visit visits-counted _ (walk-counted _) at loop _ (tested .visits) (cx .nextId) inside _ _ c)))
+    terminal-counted around (for-in init loop fallthrough) at block cx h =
         counted-bind Q (λ d. d .visits) (λ r. r .context .visits) _ _ (schedule-counted (target-loop fallthrough init loop) cx h) (λ inside a.
-        counted-bind Q (λ r. r .visits) (λ r. r .context .visits) _ _ (value init (block .span) (inside .visits) a) (λ first b.
-        loop-counted at loop _ (first .visits) (cx .nextId) inside _ _ b))
-    terminal-counted (logical operator test fallthrough) at block cx h = value-statement-counted _ at block fallthrough cx h
-    terminal-counted (ternary test fallthrough) at block cx h = value-statement-counted _ at block fallthrough cx h
-    terminal-counted (optional flag test fallthrough) at block cx h = value-statement-counted _ at block fallthrough cx h
-    terminal-counted (label body fallthrough) at block cx h =
+        counted-bind Q (λ r. r .visits) (λ r. r .context .visits) _ _ (value t visit visits-counted _ (walk-counted around) init (block .span) (inside .visits) a) (λ first b.
+        loop-counted t visit visits-counted _ (walk-counted _) at loop _ (first .visits) (cx .nextId) inside _ _ b))
+    terminal-counted around (logical operator test fallthrough) at block cx h = value-statement-counted t visit visits-counted _ (walk-counted around) _ at block fallthrough cx h
+    terminal-counted around (ternary test fallthrough) at block cx h = value-statement-counted t visit visits-counted _ (walk-counted around) _ at block fallthrough cx h
+    terminal-counted around (optional flag test fallthrough) at block cx h = value-statement-counted t visit visits-counted _ (walk-counted around) _ at block fallthrough cx h
+    terminal-counted around (label body fallthrough) at block cx h =
         counted-bind Q (kept (cx .visits)) (λ r. r .context .visits) _ _ (reachable-counted t cx fallthrough h) (λ taken _.
         counted-bind Q (λ d. d .visits) (λ r. r .context .visits) _ _ (schedule-if-counted taken cx h) (λ inside a.
-        enclosed-counted body 17 at taken cx inside _ a))
-    terminal-counted (sequence body fallthrough) at block cx h = value-statement-counted _ at block fallthrough cx h
-    terminal-counted (maybe-throw continuation) at block cx h = h
-    terminal-counted (try body handler fallthrough binding) at block cx h =
+        enclosed-counted t visit visits-counted _ (walk-counted _) body 17 at taken cx inside _ a))
+    terminal-counted around (sequence body fallthrough) at block cx h = value-statement-counted t visit visits-counted _ (walk-counted around) _ at block fallthrough cx h
+    terminal-counted around (maybe-throw continuation) at block cx h = h
+    terminal-counted around (try body handler fallthrough binding) at block cx h =
         counted-bind Q (kept (cx .visits)) (λ r. r .context .visits) _ _ (reachable-counted t cx fallthrough h) (λ taken _.
         counted-bind Q (λ d. d .visits) (λ r. r .context .visits) _ _ (schedule-if-counted taken cx h) (λ inside a.
-        counted-bind Q (λ r. r .context .visits) (λ r. r .context .visits) _ _ (inner body (scheduleCatchHandler handler inside) a) (λ first b.
-        counted-bind Q (λ r. r .context .visits) (λ r. r .context .visits) _ _ (inner handler (first .context) b) (λ second c.
+        counted-bind Q (λ r. r .context .visits) (λ r. r .context .visits) _ _ (inner t visit visits-counted _ (walk-counted _) body (scheduleCatchHandler handler inside) a) (λ first b.
+        counted-bind Q (λ r. r .context .visits) (λ r. r .context .visits) _ _ (inner t visit visits-counted _ (walk-counted _) handler (first .context) b) (λ second c.
         counted-bind Q (λ d. d .visits) (λ r. r .context .visits) _ _ (unschedule-if-counted taken (cx .nextId) (second .context) c) (λ _ k. k)))))
-    terminal-counted (scope pruned body fallthrough number) at block cx h =
+    terminal-counted around (scope pruned body fallthrough number) at block cx h =
         counted-bind Q (λ d. d .visits) (λ r. r .context .visits) _ _ (schedule-if-counted (unlessScheduled cx fallthrough) cx h) (λ inside a.
-        enclosed-counted body 18 at _ cx _ _ (mark-in (unlessScheduled cx fallthrough) inside a))
+        enclosed-counted t visit visits-counted _ (walk-counted _) body 18 at _ cx _ _ (mark-in (unlessScheduled cx fallthrough) inside a))
 
     next-counted : (at : ℕ) (again : TraverseBlock) (statement : Option Statement) (next : Option ℕ) (cx : Context) → WalkCounted again → In cx
         → Counted Q (λ r. r .context .visits) (thenNext t at again statement next cx)
@@ -368,19 +378,19 @@ module _ (Q : ℕ → Type 0) (again : (visits : ℕ) → visits < mostVisits �
         counted-bind Q (λ begun. begun) (λ d. d .visits) _ _ (begin-counted t block (cx .visits) h) (λ begun a.
         counted-unless Q (λ d. d .visits) _ 11 block begun _ a (λ _. a))
 
-    blocks-counted : (blocksLeft : ℕ) → WalkCounted (visitBlock t visit traverse blocksLeft)
+    blocks-counted : (around : Around) (blocksLeft : ℕ) → WalkCounted (visitBlock t visit traverse around blocksLeft)
     unfolding visitBlock WalkCounted
-    blocks-counted zero block cx h = h
-    blocks-counted (suc blocksLeft) block cx h =
+    blocks-counted around zero block cx h = h
+    blocks-counted around (suc blocksLeft) block cx h =
         counted-bind Q (λ d. d .visits) (λ r. r .context .visits) _ _ (enter-counted block cx h) (λ entered a.
-        counted-bind Q (λ r. r .context .visits) (λ r. r .context .visits) _ _ (terminal-counted (terminalAt t block) block (blockAt t block) entered a) (λ result b.
-        next-counted block (visitBlock t visit traverse blocksLeft) (result .statement) (result .next) (result .context) (blocks-counted blocksLeft) b))
+        counted-bind Q (λ r. r .context .visits) (λ r. r .context .visits) _ _ (terminal-counted around (terminalAt t block) block (blockAt t block) entered a) (λ result b.
+        next-counted block (visitBlock t visit traverse around blocksLeft) (result .statement) (result .next) (result .context) (blocks-counted around blocksLeft) b))
 
-  pub statements-counted : (t : Table) (depthLeft : ℕ) → WalkCounted (traverseBlock t depthLeft)
+  pub statements-counted : (t : Table) (depthLeft : ℕ) (around : Around) → WalkCounted (traverseBlock t depthLeft around)
   unfolding traverseBlock WalkCounted
-  statements-counted t zero block cx h = h
-  statements-counted t (suc depthLeft) block cx h =
-      blocks-counted t (visitValueBlock t depthLeft) (value-counted t depthLeft) (traverseBlock t depthLeft) (statements-counted t depthLeft) (suc mostVisits) block cx h
+  statements-counted t zero around block cx h = h
+  statements-counted t (suc depthLeft) around block cx h =
+      blocks-counted t (visitValueBlock t depthLeft) (value-counted t depthLeft) (traverseBlock t depthLeft) (statements-counted t depthLeft) around (suc mostVisits) block cx h
 
 -- ---- every outcome
 
@@ -406,13 +416,18 @@ abbrev Most : ℕ → Type 0
 Most visits = visits ≤ mostVisits
 
 -- "visits in the result, at most 8,192"
-pub visits-most : (words : List ℕ) (lent : ℕ) → built words lent .visits ≤ mostVisits
+pub visits-most : (rule : Rule) (words : List ℕ) (lent : ℕ) → built rule words lent .visits ≤ mostVisits
 unfolding built afterCheck refusal report buildTree WalkCounted start
-visits-most words lent = at (checked words)
+visits-most rule words lent = at (checked words)
   where
     table : Table
     table = tableOf words
 
-    at : (verdict : Verdict) → afterCheck lent verdict words .visits ≤ mostVisits
+    at : (verdict : Verdict) → afterCheck rule lent verdict words .visits ≤ mostVisits
     at (check.refused code place) = omega arith
-    at check.accepted = omega (arith, outcome-visits lent (report table), reported-counted Most (buildTree table) (statements-counted Most (λ _ h _. h) table 128 (table .entry) start (omega arith)))
+    at check.accepted =
+        omega (
+          arith,
+          outcome-visits lent (report rule table),
+          reported-counted Most (buildTree rule table) (statements-counted Most (λ _ h _. h) table 128 (outermost rule) (table .entry) start (omega arith)),
+        )

@@ -6,6 +6,7 @@ use lib.ListN.{length, replicate}
 use lib.Dec.{leb}
 use Rattle.table.specs.Check.{Verdict, checked}
 use Rattle.table.specs.Table.{Table, tableOf}
+use Rattle.definition.specs.Around.{Rule}
 use Rattle.definition.specs.Result.{Result, ok, refused}
 use Rattle.definition.specs.Statement.{BlockResult, buildTree}
 use Rattle.definition.specs.Tree.{Row, row, rows}
@@ -20,8 +21,8 @@ unfoldable pub reported : Result BlockResult → Report
 reported (ok root) = accepted (rows (root .statements)) (root .context .visits)
 reported (refused code at visits) = rejected code at visits
 
-unfoldable pub report : Table → Report
-report t = reported (buildTree t)
+unfoldable pub report : Rule → Table → Report
+report rule t = reported (buildTree rule t)
 
 -- "Code (0 accepted), at, rows, visits", and what the lent buffer holds
 pub record Outcome : Type 0 where
@@ -52,10 +53,10 @@ unfoldable pub outcomeOf : (lent : ℕ) → Report → Outcome
 outcomeOf lent (accepted rows visits) = placed lent rows visits
 outcomeOf lent (rejected code at visits) = refusal code at 0 visits lent
 
-unfoldable pub afterCheck : (lent : ℕ) → Verdict → List ℕ → Outcome
-afterCheck lent (check.refused code at) words = refusal code at 0 0 lent
-afterCheck lent check.accepted words = outcomeOf lent (report (tableOf words))
+unfoldable pub afterCheck : Rule → (lent : ℕ) → Verdict → List ℕ → Outcome
+afterCheck rule lent (check.refused code at) words = refusal code at 0 0 lent
+afterCheck rule lent check.accepted words = outcomeOf lent (report rule (tableOf words))
 
--- build_reactive_function over words, with a buffer of so many words lent
-unfoldable pub built : (words : List ℕ) → (lent : ℕ) → Outcome
-built words lent = afterCheck lent (checked words) words
+-- build_reactive_function over words, with a buffer of so many words lent: the entry that equals the Rust, or the language entry of M-102
+unfoldable pub built : Rule → (words : List ℕ) → (lent : ℕ) → Outcome
+built rule words lent = afterCheck rule lent (checked words) words

@@ -2,8 +2,12 @@ pub mod Tree
 pub mod Reading
 pub mod Result
 pub mod Context
+pub mod Around
+pub mod Named
+pub mod Survey
 pub mod Value
 pub mod Statement
+pub mod Goal
 pub mod Build
 pub mod Run
 pub mod BlockRun
@@ -13,3 +17,4 @@ pub mod Plain
 pub mod Machine
 pub mod Framed
 pub mod RunLaw
+pub mod Relabeled

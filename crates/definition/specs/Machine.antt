@@ -10,6 +10,7 @@ use lib.Dec.{eqb, leb}
 use Rattle.table.specs.Table.{Table, Block, Case, Terminal, absent, unreachable, throw, return, goto, if, branch, switch, do-while, while, for, for-of, for-in, logical, ternary, optional, sequence, maybe-throw, try, scope, blockAt, terminalAt, instructionAt, instructionRowsAt, label}
 use Rattle.definition.specs.Build.{accepted, Report, rejected}
 use Rattle.definition.specs.Context.{target-if, target-switch, target-case, target-loop, Entry, Context, start, isScheduled, withVisits, scheduleCatchHandler, pushed, schedule, unscheduledBy, popped}
+use Rattle.definition.specs.Around.{Rule, Enclosing, a-loop, a-switch, another, Around}
 use Rattle.definition.specs.Result.{refused, Result, ok, _>>=_, refuseIf}
 use Rattle.definition.specs.Statement.{visitUpdate, continueBlockOf, enterBlock, unlessScheduled, unlessUnreachable, markScopeFallthroughIf, visitBreak, visitGoto, loopIsTaken, casesLastFirst}
 use Rattle.definition.specs.Tree.{Value, Statement, Row, row, orNone, flagOf, updatePresent, valueRows, statementRows, instrRow, forOfRow, forInRow}
@@ -28,6 +29,38 @@ pub record Frame : Type 0 where
   pub left : ℕ
   pub built : ℕ
   pub count : ℕ
+
+-- the statement that a frame stands for, to a jump inside of it (M-102): its terminal says whether it is a loop or a switch
+abbrev pub enclosingBy : Terminal → (label : Option ℕ) → Enclosing
+enclosingBy absent taken = another taken
+enclosingBy unreachable taken = another taken
+enclosingBy (throw value) taken = another taken
+enclosingBy (return value) taken = another taken
+enclosingBy (goto target variant) taken = another taken
+enclosingBy (if test consequent alternate fallthrough) taken = another taken
+enclosingBy (branch test consequent alternate) taken = another taken
+enclosingBy (switch test first number fallthrough) taken = a-switch taken
+enclosingBy (do-while loop test fallthrough) taken = a-loop taken
+enclosingBy (while test loop fallthrough) taken = a-loop taken
+enclosingBy (for init test update loop fallthrough) taken = a-loop taken
+enclosingBy (for-of init test loop fallthrough) taken = a-loop taken
+enclosingBy (for-in init loop fallthrough) taken = a-loop taken
+enclosingBy (logical operator test fallthrough) taken = another taken
+enclosingBy (ternary test fallthrough) taken = another taken
+enclosingBy (optional flag test fallthrough) taken = another taken
+enclosingBy (label body fallthrough) taken = another taken
+enclosingBy (sequence body fallthrough) taken = another taken
+enclosingBy (maybe-throw continuation) taken = another taken
+enclosingBy (try body handler fallthrough binding) taken = another taken
+enclosingBy (scope pruned body fallthrough number) taken = another none
+
+abbrev pub enclosings : Table → List Frame → List Enclosing
+enclosings t [] = []
+enclosings t (frame ∷ frames) = enclosingBy (terminalAt t (frame .block)) (frame .label) ∷ enclosings t frames
+
+-- what is being built around a jump, from the frames
+abbrev pub aroundOf : Rule → Table → List Frame → Around
+aroundOf rule t frames = record { rule = rule; statements = enclosings t frames }
 
 -- In order: a block is to be visited next; the list in hand has ended; a Switch takes its next case; a statement's entries are taken off the stack.
 -- The innermost frame comes first; `rows` are out, in order; `count` statements of the list in hand are out
@@ -276,10 +309,10 @@ resume t visit frame frames rows cx = resumeAt t visit (terminalAt t (frame .blo
 -- ---- the terminal of a block that is entered
 
 -- Branch: a break in place of the consequent where that is scheduled
-unfoldable pub branchTurn : (at consequent alternate id : ℕ) → List Frame → List Row → (count : ℕ) → Context → Result State
-branchTurn at consequent alternate id frames rows count cx =
+unfoldable pub branchTurn : Around → (at consequent alternate id : ℕ) → List Frame → List Row → (count : ℕ) → Context → Result State
+branchTurn around at consequent alternate id frames rows count cx =
     elim (isScheduled cx consequent) [
-      | true ↦ visitBreak at consequent id cx >>= λ statement.
+      | true ↦ visitBreak around at consequent id cx >>= λ statement.
           into alternate 19 at (secondPart (frameOf at none 0 count)) frames ((rows ++ jumpOut statement) ++ (blockRow (added statement 0) ∷ [])) cx
       | false ↦ ok (visiting consequent (frameOf at none 0 count ∷ frames) rows 0 cx)
     ]
@@ -292,31 +325,31 @@ valueTurn t visit terminal at block fallthrough frames rows count cx =
     ok (leave taken frames ((rows ++ valueOut (result .value)) ++ (instrRow (result .id) (result .place) (block .span) ∷ [])) (suc count)
     (unscheduledIf taken (withVisits (result .visits) (scheduledIf taken cx))))
 
-unfoldable pub terminalTurn : Table → VisitValueBlock → Terminal → (at : ℕ) → Block → List Frame → List Row → (count : ℕ) → Context → Result State
-terminalTurn t visit absent at block frames rows count cx = refused 99 at (cx .visits)
-terminalTurn t visit unreachable at block frames rows count cx = ok (ended frames rows count cx)
-terminalTurn t visit (throw value) at block frames rows count cx = ok (ended frames (rows ++ (row 23 value (block .id) 0 0 0 ∷ [])) (suc count) cx)
-terminalTurn t visit (return value) at block frames rows count cx = ok (ended frames (rows ++ (row 22 value (block .id) 0 0 0 ∷ [])) (suc count) cx)
-terminalTurn t visit (goto target variant) at block frames rows count cx =
-    visitGoto variant at target (block .id) cx >>= λ result.
+unfoldable pub terminalTurn : Around → Table → VisitValueBlock → Terminal → (at : ℕ) → Block → List Frame → List Row → (count : ℕ) → Context → Result State
+terminalTurn around t visit absent at block frames rows count cx = refused 99 at (cx .visits)
+terminalTurn around t visit unreachable at block frames rows count cx = ok (ended frames rows count cx)
+terminalTurn around t visit (throw value) at block frames rows count cx = ok (ended frames (rows ++ (row 23 value (block .id) 0 0 0 ∷ [])) (suc count) cx)
+terminalTurn around t visit (return value) at block frames rows count cx = ok (ended frames (rows ++ (row 22 value (block .id) 0 0 0 ∷ [])) (suc count) cx)
+terminalTurn around t visit (goto target variant) at block frames rows count cx =
+    visitGoto around variant at target (block .id) cx >>= λ result.
     ok (leave (result .next) frames (rows ++ jumpOut (result .statement)) (added (result .statement) count) (result .context))
-terminalTurn t visit (if test consequent alternate fallthrough) at block frames rows count cx =
+terminalTurn around t visit (if test consequent alternate fallthrough) at block frames rows count cx =
     unlessUnreachable t cx fallthrough >>= λ taken.
     into consequent 12 consequent (frameOf at taken (opens taken) count) frames rows (scheduledIf taken cx)
-terminalTurn t visit (branch test consequent alternate) at block frames rows count cx = branchTurn at consequent alternate (block .id) frames rows count cx
-terminalTurn t visit (switch test first number fallthrough) at block frames rows count cx =
+terminalTurn around t visit (branch test consequent alternate) at block frames rows count cx = branchTurn around at consequent alternate (block .id) frames rows count cx
+terminalTurn around t visit (switch test first number fallthrough) at block frames rows count cx =
     unlessUnreachable t cx fallthrough >>= λ taken.
     ok (choosing (withLeft (numberOfCases t first number) (frameOf at taken (opens taken) count)) frames rows (scheduledSwitch taken cx))
-terminalTurn t visit (do-while loop test fallthrough) at block frames rows count cx =
+terminalTurn around t visit (do-while loop test fallthrough) at block frames rows count cx =
     let taken : Option ℕ = unlessScheduled cx fallthrough in
     schedule (target-loop fallthrough test loop) cx >>= λ inside.
     intoLoop at loop (loopIsTaken cx loop fallthrough) (inside .visits) (frameOf at taken 1 count) frames rows inside
-terminalTurn t visit (while test loop fallthrough) at block frames rows count cx =
+terminalTurn around t visit (while test loop fallthrough) at block frames rows count cx =
     unlessUnreachable t cx fallthrough >>= λ taken.
     schedule (target-loop fallthrough test loop) cx >>= λ inside.
     visit test none (block .span) (inside .visits) >>= λ tested.
     intoLoop at loop (loopIsTaken cx loop fallthrough) (tested .visits) (frameOf at taken 1 count) frames (rows ++ valueOut (tested .value)) inside
-terminalTurn t visit (for init test update loop fallthrough) at block frames rows count cx =
+terminalTurn around t visit (for init test update loop fallthrough) at block frames rows count cx =
     let taken : Option ℕ = unlessScheduled cx fallthrough in
     schedule (target-loop fallthrough (continueBlockOf update test) loop) cx >>= λ inside.
     visit init none (block .span) (inside .visits) >>= λ first.
@@ -324,30 +357,30 @@ terminalTurn t visit (for init test update loop fallthrough) at block frames row
     visitUpdate visit update (block .span) (tested .visits) >>= λ updated.
     intoLoop at loop (loopIsTaken cx loop fallthrough) (updated .visits) (frameOf at taken 1 count) frames
     (((rows ++ valueOut (valueBlockResultToSequence t first (block .span))) ++ valueOut (tested .value)) ++ updateOut (updated .value)) inside
-terminalTurn t visit (for-of init test loop fallthrough) at block frames rows count cx =
+terminalTurn around t visit (for-of init test loop fallthrough) at block frames rows count cx =
     let taken : Option ℕ = unlessScheduled cx fallthrough in
     schedule (target-loop fallthrough init loop) cx >>= λ inside.
     visit init none (block .span) (inside .visits) >>= λ first.
     visit test none (block .span) (first .visits) >>= λ tested.
     intoLoop at loop (loopIsTaken cx loop fallthrough) (tested .visits) (frameOf at taken 1 count) frames
     ((rows ++ valueOut (valueBlockResultToSequence t first (block .span))) ++ valueOut (valueBlockResultToSequence t tested (block .span))) inside
-terminalTurn t visit (for-in init loop fallthrough) at block frames rows count cx =
+terminalTurn around t visit (for-in init loop fallthrough) at block frames rows count cx =
     let taken : Option ℕ = unlessScheduled cx fallthrough in
     schedule (target-loop fallthrough init loop) cx >>= λ inside.
     visit init none (block .span) (inside .visits) >>= λ first.
     intoLoop at loop (loopIsTaken cx loop fallthrough) (first .visits) (frameOf at taken 1 count) frames (rows ++ valueOut (valueBlockResultToSequence t first (block .span))) inside
-terminalTurn t visit (logical operator test fallthrough) at block frames rows count cx = valueTurn t visit (logical operator test fallthrough) at block fallthrough frames rows count cx
-terminalTurn t visit (ternary test fallthrough) at block frames rows count cx = valueTurn t visit (ternary test fallthrough) at block fallthrough frames rows count cx
-terminalTurn t visit (optional flag test fallthrough) at block frames rows count cx = valueTurn t visit (optional flag test fallthrough) at block fallthrough frames rows count cx
-terminalTurn t visit (label body fallthrough) at block frames rows count cx =
+terminalTurn around t visit (logical operator test fallthrough) at block frames rows count cx = valueTurn t visit (logical operator test fallthrough) at block fallthrough frames rows count cx
+terminalTurn around t visit (ternary test fallthrough) at block frames rows count cx = valueTurn t visit (ternary test fallthrough) at block fallthrough frames rows count cx
+terminalTurn around t visit (optional flag test fallthrough) at block frames rows count cx = valueTurn t visit (optional flag test fallthrough) at block fallthrough frames rows count cx
+terminalTurn around t visit (label body fallthrough) at block frames rows count cx =
     unlessUnreachable t cx fallthrough >>= λ taken.
     into body 17 at (frameOf at taken (opens taken) count) frames rows (scheduledIf taken cx)
-terminalTurn t visit (sequence body fallthrough) at block frames rows count cx = valueTurn t visit (sequence body fallthrough) at block fallthrough frames rows count cx
-terminalTurn t visit (maybe-throw continuation) at block frames rows count cx = ok (leave (unlessScheduled cx continuation) frames rows count cx)
-terminalTurn t visit (try body handler fallthrough binding) at block frames rows count cx =
+terminalTurn around t visit (sequence body fallthrough) at block frames rows count cx = valueTurn t visit (sequence body fallthrough) at block fallthrough frames rows count cx
+terminalTurn around t visit (maybe-throw continuation) at block frames rows count cx = ok (leave (unlessScheduled cx continuation) frames rows count cx)
+terminalTurn around t visit (try body handler fallthrough binding) at block frames rows count cx =
     unlessUnreachable t cx fallthrough >>= λ taken.
     ok (visiting body (frameOf at taken (opens taken) count ∷ frames) rows 0 (scheduleCatchHandler handler (scheduledIf taken cx)))
-terminalTurn t visit (scope pruned body fallthrough number) at block frames rows count cx =
+terminalTurn around t visit (scope pruned body fallthrough number) at block frames rows count cx =
     let taken : Option ℕ = unlessScheduled cx fallthrough in
     into body 18 at (frameOf at taken (opens taken) count) frames rows (markScopeFallthroughIf taken (scheduledIf taken cx))
 
@@ -358,29 +391,29 @@ abbrev pub depthLeft : List Frame → ℕ
 depthLeft frames = 127 - length frames
 
 -- "Order at a visit: 30, 31, 10, then 11". The block's instructions are put out, and then its terminal is looked at
-unfoldable pub visitTurn : Table → (block : ℕ) → List Frame → List Row → (count : ℕ) → Context → Result State
-visitTurn t block frames rows count cx =
+unfoldable pub visitTurn : Rule → Table → (block : ℕ) → List Frame → List Row → (count : ℕ) → Context → Result State
+visitTurn rule t block frames rows count cx =
     refuseIf (leb mostDepth (length frames)) 30 block (cx .visits) >>= λ _.
     enterBlock t block cx >>= λ entered.
-    terminalTurn t (visitValueBlock t (depthLeft frames)) (terminalAt t block) block (blockAt t block) frames
+    terminalTurn (aroundOf rule t frames) t (visitValueBlock t (depthLeft frames)) (terminalAt t block) block (blockAt t block) frames
     (rows ++ instructionsOut t (instructionRowsAt t block)) (count + length (instructionRowsAt t block)) entered
 
-unfoldable pub step : Table → State → Turn
-step t (visiting block frames rows count cx) = turn (visitTurn t block frames rows count cx)
-step t (ended [] rows count cx) = halt (accepted (rows ++ (blockRow count ∷ [])) (cx .visits))
-step t (ended (frame ∷ frames) rows count cx) = turn (resume t (visitValueBlock t (depthLeft frames)) frame frames (rows ++ (blockRow count ∷ [])) cx)
-step t (choosing frame frames rows cx) = turn (chooseCase t (switchColumns (terminalAt t (frame .block)) .first) (switchColumns (terminalAt t (frame .block)) .fallthrough) (frame .left) frame frames rows cx)
-step t (popping frame frames rows cx) = going (close t frame frames rows cx)
+unfoldable pub step : Rule → Table → State → Turn
+step rule t (visiting block frames rows count cx) = turn (visitTurn rule t block frames rows count cx)
+step rule t (ended [] rows count cx) = halt (accepted (rows ++ (blockRow count ∷ [])) (cx .visits))
+step rule t (ended (frame ∷ frames) rows count cx) = turn (resume t (visitValueBlock t (depthLeft frames)) frame frames (rows ++ (blockRow count ∷ [])) cx)
+step rule t (choosing frame frames rows cx) = turn (chooseCase t (switchColumns (terminalAt t (frame .block)) .first) (switchColumns (terminalAt t (frame .block)) .fallthrough) (frame .left) frame frames rows cx)
+step rule t (popping frame frames rows cx) = going (close t frame frames rows cx)
 
 abbrev pub begin : Table → State
 begin t = visiting (t .entry) [] [] 0 start
 
 -- from a state the machine comes to a halt with this report
-pub data Gives (t : Table) : State → Report → Type 0 where
-  halts : {state : State} {report : Report} → step t state ≡ halt report → Gives t state report
-  goes : {state next : State} {report : Report} → step t state ≡ going next → Gives t next report → Gives t state report
+pub data Gives (rule : Rule) (t : Table) : State → Report → Type 0 where
+  halts : {state : State} {report : Report} → step rule t state ≡ halt report → Gives rule t state report
+  goes : {state next : State} {report : Report} → step rule t state ≡ going next → Gives rule t next report → Gives rule t state report
 
 -- the same by so many turns at most; 98 where they do not suffice
-unfoldable pub run : Table → (turns : ℕ) → State → Report
-run t zero state = rejected 98 0 0
-run t (suc turns) state = elim (step t state) [ going next ↦ run t turns next | halt report ↦ report ]
+unfoldable pub run : Rule → Table → (turns : ℕ) → State → Report
+run rule t zero state = rejected 98 0 0
+run rule t (suc turns) state = elim (step rule t state) [ going next ↦ run rule t turns next | halt report ↦ report ]

@@ -8,6 +8,7 @@ use lib.Dec.{eqb}
 use Rattle.table.specs.declared.columns.Span.{Span}
 use Rattle.table.specs.Table.{Table, Block, Case, Terminal, Variant, absent, unreachable, throw, return, goto, if, branch, switch, do-while, while, for, for-of, for-in, logical, ternary, optional, sequence, maybe-throw, try, scope, Break, Continue, Try, isAbsent, isUnreachable, blockAt, terminalAt, instructionAt, instructionRowsAt, label}
 use Rattle.definition.specs.Context.{has, target-if, target-switch, target-case, target-loop, Context, start, isScheduled, emit, withVisits, markScopeFallthrough, scheduleCatchHandler, schedule, unschedule, Resolution, getBreakTarget, getContinueTarget}
+use Rattle.definition.specs.Around.{Rule, Around, a-loop, a-switch, another, outermost, within, breakKindIn, breakUnnamed, continueUnnamed}
 use Rattle.definition.specs.Result.{Result, ok, refused, _>>=_, refuseIf}
 use Rattle.definition.specs.Tree.{Kind, implicit, labeled, unlabeled, Value, PLAIN, Statement, INSTR, IF, SWITCH, DOWHILE, WHILE, FOR, FOROF, FORIN, LABEL, TRY, SCOPE, RETURN, THROW, BREAK, CONTINUE, Statements, done, _▸_, Cases, no-cases, CASE}
 use Rattle.definition.specs.Value.{mostDepth, mostVisits, beginVisit, VisitValueBlock, visitValueBlockTerminal, visitValueBlock, valueBlockResultToSequence}
@@ -23,9 +24,12 @@ pub record TerminalResult : Type 0 where
   pub next : Option ℕ
   pub context : Context
 
--- the statement walk one level deeper
+-- the statement walk one level deeper, where it is known what is being built around it
 abbrev pub TraverseBlock : Type 0
 TraverseBlock = (block : ℕ) → Context → Result BlockResult
+
+abbrev pub TraverseInside : Type 0
+TraverseInside = (around : Around) → TraverseBlock
 
 -- a visit begins; "11 already emitted (named)"
 unfoldable pub enterBlock : Table → (block : ℕ) → Context → Result Context
@@ -71,31 +75,35 @@ breakToScope implicit at visits = ok none
 breakToScope labeled at visits = refused 22 at visits
 breakToScope unlabeled at visits = refused 22 at visits
 
--- a break to `block`, by the terminal with this id of the block `at`. "20 no break target (named)"
-unfoldable pub breakResolved : (at block id : ℕ) → Context → Option Resolution → Result (Option Statement)
-breakResolved at block id cx none = refused 20 block (cx .visits)
-breakResolved at block id cx (some found) =
+-- a break to `block`, by the terminal with this id of the block `at`. "20 no break target (named)". M-102: "29 .. at the jump's block, after 20, 21 and 22"
+unfoldable pub breakResolved : Around → (at block id : ℕ) → Context → Option Resolution → Result (Option Statement)
+breakResolved around at block id cx none = refused 20 block (cx .visits)
+breakResolved around at block id cx (some found) =
     elim (has (cx .scopeFallthroughs) (found .target)) [
       | true ↦ breakToScope (found .kind) at (cx .visits)
-      | false ↦ ok (some (BREAK (found .target) id (found .kind) (found .loops)))
+      | false ↦
+          refuseIf (breakUnnamed around found) 29 at (cx .visits) >>= λ _.
+          ok (some (BREAK (found .target) id (breakKindIn around (found .kind)) (found .loops)))
     ]
 
-unfoldable pub visitBreak : (at block id : ℕ) → Context → Result (Option Statement)
-visitBreak at block id cx = breakResolved at block id cx (getBreakTarget cx block)
+unfoldable pub visitBreak : Around → (at block id : ℕ) → Context → Result (Option Statement)
+visitBreak around at block id cx = breakResolved around at block id cx (getBreakTarget cx block)
 
 -- "21 no continue target (named)"
-unfoldable pub continueResolved : (block id : ℕ) → Context → Option Resolution → Result Statement
-continueResolved block id cx none = refused 21 block (cx .visits)
-continueResolved block id cx (some found) = ok (CONTINUE (found .target) id (found .kind) (found .loops))
+unfoldable pub continueResolved : Around → (at block id : ℕ) → Context → Option Resolution → Result Statement
+continueResolved around at block id cx none = refused 21 block (cx .visits)
+continueResolved around at block id cx (some found) =
+    refuseIf (continueUnnamed around found) 29 at (cx .visits) >>= λ _.
+    ok (CONTINUE (found .target) id (found .kind) (found .loops))
 
-unfoldable pub visitContinue : (block id : ℕ) → Context → Result Statement
-visitContinue block id cx = continueResolved block id cx (getContinueTarget cx block)
+unfoldable pub visitContinue : Around → (at block id : ℕ) → Context → Result Statement
+visitContinue around at block id cx = continueResolved around at block id cx (getContinueTarget cx block)
 
 -- "Goto Try gives no row."
-unfoldable pub visitGoto : Variant → (at block id : ℕ) → Context → Result TerminalResult
-visitGoto Break at block id cx = visitBreak at block id cx >>= λ statement. ok (record { statement = statement; next = none; context = cx })
-visitGoto Continue at block id cx = visitContinue block id cx >>= λ statement. ok (record { statement = some statement; next = none; context = cx })
-visitGoto Try at block id cx = ok (record { statement = none; next = none; context = cx })
+unfoldable pub visitGoto : Around → Variant → (at block id : ℕ) → Context → Result TerminalResult
+visitGoto around Break at block id cx = visitBreak around at block id cx >>= λ statement. ok (record { statement = statement; next = none; context = cx })
+visitGoto around Continue at block id cx = visitContinue around at block id cx >>= λ statement. ok (record { statement = some statement; next = none; context = cx })
+visitGoto around Try at block id cx = ok (record { statement = none; next = none; context = cx })
 
 -- ---- nested blocks
 
@@ -120,11 +128,11 @@ abbrev pub followedBy : Option Statement → Statements → Statements
 followedBy none more = more
 followedBy (some statement) more = statement ▸ more
 
--- a Branch's consequent as a statement: a break where it is scheduled
-unfoldable pub traverseConsequent : TraverseBlock → (at consequent id : ℕ) → Context → Result BlockResult
-traverseConsequent traverse at consequent id cx =
+-- a Branch's consequent as a statement: a break where it is scheduled. (The Branch's own IF is around that break too, and has no label.)
+unfoldable pub traverseConsequent : Around → TraverseBlock → (at consequent id : ℕ) → Context → Result BlockResult
+traverseConsequent around traverse at consequent id cx =
     elim (isScheduled cx consequent) [
-      | true ↦ visitBreak at consequent id cx >>= λ statement. ok (record { statements = followedBy statement done; context = cx })
+      | true ↦ visitBreak around at consequent id cx >>= λ statement. ok (record { statements = followedBy statement done; context = cx })
       | false ↦ traverse consequent cx
     ]
 
@@ -205,84 +213,84 @@ visitValueStatement t visit terminal at block fallthrough cx =
     ok (record { statement = some (INSTR (result .id) (result .place) (block .span) (result .value)); next = taken; context = after })
 
 -- the terminal of the block `at`, which has been entered (so it is present, and 99 is never given). `visit` and `traverse` are the walks one
--- level deeper; the label is the fallthrough taken
-unfoldable pub visitTerminal : Table → VisitValueBlock → TraverseBlock → Terminal → (at : ℕ) → Block → Context → Result TerminalResult
-visitTerminal t visit traverse absent at block cx = refused 99 at (cx .visits)
-visitTerminal t visit traverse unreachable at block cx = ok (record { statement = none; next = none; context = cx })
-visitTerminal t visit traverse (throw value) at block cx = ok (record { statement = some (THROW value (block .id)); next = none; context = cx })
-visitTerminal t visit traverse (return value) at block cx = ok (record { statement = some (RETURN value (block .id)); next = none; context = cx })
-visitTerminal t visit traverse (goto target variant) at block cx = visitGoto variant at target (block .id) cx
-visitTerminal t visit traverse (if test consequent alternate fallthrough) at block cx =
+-- level deeper, inside of this statement; the label is the fallthrough taken
+unfoldable pub visitTerminal : Table → VisitValueBlock → TraverseInside → Around → Terminal → (at : ℕ) → Block → Context → Result TerminalResult
+visitTerminal t visit traverse around absent at block cx = refused 99 at (cx .visits)
+visitTerminal t visit traverse around unreachable at block cx = ok (record { statement = none; next = none; context = cx })
+visitTerminal t visit traverse around (throw value) at block cx = ok (record { statement = some (THROW value (block .id)); next = none; context = cx })
+visitTerminal t visit traverse around (return value) at block cx = ok (record { statement = some (RETURN value (block .id)); next = none; context = cx })
+visitTerminal t visit traverse around (goto target variant) at block cx = visitGoto around variant at target (block .id) cx
+visitTerminal t visit traverse around (if test consequent alternate fallthrough) at block cx =
     unlessUnreachable t cx fallthrough >>= λ label.
     scheduleIf label cx >>= λ inside.
-    traverseUnscheduled traverse consequent 12 consequent inside >>= λ first.
-    traverseAlternate traverse alternate fallthrough (first .context) >>= λ second.
+    traverseUnscheduled (traverse (within (another label) around)) consequent 12 consequent inside >>= λ first.
+    traverseAlternate (traverse (within (another label) around)) alternate fallthrough (first .context) >>= λ second.
     unscheduleIf label (cx .nextId) (second .context) >>= λ after.
     ok (record { statement = some (IF test (block .id) label (first .statements) (second .present) (second .statements)); next = label; context = after })
-visitTerminal t visit traverse (branch test consequent alternate) at block cx =
-    traverseConsequent traverse at consequent (block .id) cx >>= λ first.
-    traverseUnscheduled traverse alternate 19 at (first .context) >>= λ second.
+visitTerminal t visit traverse around (branch test consequent alternate) at block cx =
+    traverseConsequent around (traverse (within (another none) around)) at consequent (block .id) cx >>= λ first.
+    traverseUnscheduled (traverse (within (another none) around)) alternate 19 at (first .context) >>= λ second.
     ok (record { statement = some (IF test (block .id) none (first .statements) true (second .statements)); next = none; context = second .context })
-visitTerminal t visit traverse (switch test first number fallthrough) at block cx =
+visitTerminal t visit traverse around (switch test first number fallthrough) at block cx =
     unlessUnreachable t cx fallthrough >>= λ label.
     scheduleSwitch label cx >>= λ inside.
-    traverseCases traverse at fallthrough (casesLastFirst t first number) (scheduleIds label (cx .nextId)) inside >>= λ built.
+    traverseCases (traverse (within (a-switch label) around)) at fallthrough (casesLastFirst t first number) (scheduleIds label (cx .nextId)) inside >>= λ built.
     unscheduleAll (built .ids) (built .context) >>= λ after.
     ok (record { statement = some (SWITCH test (block .id) label (built .cases)); next = label; context = after })
-visitTerminal t visit traverse (do-while loop test fallthrough) at block cx =
+visitTerminal t visit traverse around (do-while loop test fallthrough) at block cx =
     let label : Option ℕ = unlessScheduled cx fallthrough in
     schedule (target-loop fallthrough test loop) cx >>= λ inside.
     refuseIf (loopIsTaken cx loop fallthrough) 16 at (inside .visits) >>= λ _.
-    traverse loop inside >>= λ body.
+    traverse (within (a-loop label) around) loop inside >>= λ body.
     visit test none (block .span) (body .context .visits) >>= λ tested.
     unschedule (cx .nextId) (withVisits (tested .visits) (body .context)) >>= λ after.
     ok (record { statement = some (DOWHILE (block .id) label (body .statements) (tested .value)); next = label; context = after })
-visitTerminal t visit traverse (while test loop fallthrough) at block cx =
+visitTerminal t visit traverse around (while test loop fallthrough) at block cx =
     unlessUnreachable t cx fallthrough >>= λ label.
     schedule (target-loop fallthrough test loop) cx >>= λ inside.
     visit test none (block .span) (inside .visits) >>= λ tested.
-    traverseLoop traverse at loop (loopIsTaken cx loop fallthrough) (tested .visits) (cx .nextId) inside label (WHILE (block .id) label (tested .value))
-visitTerminal t visit traverse (for init test update loop fallthrough) at block cx =
+    traverseLoop (traverse (within (a-loop label) around)) at loop (loopIsTaken cx loop fallthrough) (tested .visits) (cx .nextId) inside label (WHILE (block .id) label (tested .value))
+visitTerminal t visit traverse around (for init test update loop fallthrough) at block cx =
     let label : Option ℕ = unlessScheduled cx fallthrough in
     schedule (target-loop fallthrough (continueBlockOf update test) loop) cx >>= λ inside.
     visit init none (block .span) (inside .visits) >>= λ first.
     visit test none (block .span) (first .visits) >>= λ tested.
     visitUpdate visit update (block .span) (tested .visits) >>= λ updated.
-    traverseLoop traverse at loop (loopIsTaken cx loop fallthrough) (updated .visits) (cx .nextId) inside label
+    traverseLoop (traverse (within (a-loop label) around)) at loop (loopIsTaken cx loop fallthrough) (updated .visits) (cx .nextId) inside label
     (FOR (block .id) label (valueBlockResultToSequence t first (block .span)) (tested .value) (updated .value))
-visitTerminal t visit traverse (for-of init test loop fallthrough) at block cx =
+visitTerminal t visit traverse around (for-of init test loop fallthrough) at block cx =
     let label : Option ℕ = unlessScheduled cx fallthrough in
     schedule (target-loop fallthrough init loop) cx >>= λ inside.
     visit init none (block .span) (inside .visits) >>= λ first.
     visit test none (block .span) (first .visits) >>= λ tested.
-    traverseLoop traverse at loop (loopIsTaken cx loop fallthrough) (tested .visits) (cx .nextId) inside label
+    traverseLoop (traverse (within (a-loop label) around)) at loop (loopIsTaken cx loop fallthrough) (tested .visits) (cx .nextId) inside label
     (FOROF (block .id) label (block .span) (valueBlockResultToSequence t first (block .span)) (valueBlockResultToSequence t tested (block .span)))
-visitTerminal t visit traverse (for-in init loop fallthrough) at block cx =
+visitTerminal t visit traverse around (for-in init loop fallthrough) at block cx =
     let label : Option ℕ = unlessScheduled cx fallthrough in
     schedule (target-loop fallthrough init loop) cx >>= λ inside.
     visit init none (block .span) (inside .visits) >>= λ first.
-    traverseLoop traverse at loop (loopIsTaken cx loop fallthrough) (first .visits) (cx .nextId) inside label
+    traverseLoop (traverse (within (a-loop label) around)) at loop (loopIsTaken cx loop fallthrough) (first .visits) (cx .nextId) inside label
     (FORIN (block .id) label (block .span) (valueBlockResultToSequence t first (block .span)))
-visitTerminal t visit traverse (logical operator test fallthrough) at block cx = visitValueStatement t visit (logical operator test fallthrough) at block fallthrough cx
-visitTerminal t visit traverse (ternary test fallthrough) at block cx = visitValueStatement t visit (ternary test fallthrough) at block fallthrough cx
-visitTerminal t visit traverse (optional flag test fallthrough) at block cx = visitValueStatement t visit (optional flag test fallthrough) at block fallthrough cx
-visitTerminal t visit traverse (label body fallthrough) at block cx =
+visitTerminal t visit traverse around (logical operator test fallthrough) at block cx = visitValueStatement t visit (logical operator test fallthrough) at block fallthrough cx
+visitTerminal t visit traverse around (ternary test fallthrough) at block cx = visitValueStatement t visit (ternary test fallthrough) at block fallthrough cx
+visitTerminal t visit traverse around (optional flag test fallthrough) at block cx = visitValueStatement t visit (optional flag test fallthrough) at block fallthrough cx
+visitTerminal t visit traverse around (label body fallthrough) at block cx =
     unlessUnreachable t cx fallthrough >>= λ taken.
     scheduleIf taken cx >>= λ inside.
-    traverseEnclosed traverse body 17 at taken cx inside (LABEL (block .id) taken)
-visitTerminal t visit traverse (sequence body fallthrough) at block cx = visitValueStatement t visit (sequence body fallthrough) at block fallthrough cx
-visitTerminal t visit traverse (maybe-throw continuation) at block cx = ok (record { statement = none; next = unlessScheduled cx continuation; context = cx })
-visitTerminal t visit traverse (try body handler fallthrough binding) at block cx =
+    traverseEnclosed (traverse (within (another taken) around)) body 17 at taken cx inside (LABEL (block .id) taken)
+visitTerminal t visit traverse around (sequence body fallthrough) at block cx = visitValueStatement t visit (sequence body fallthrough) at block fallthrough cx
+visitTerminal t visit traverse around (maybe-throw continuation) at block cx = ok (record { statement = none; next = unlessScheduled cx continuation; context = cx })
+visitTerminal t visit traverse around (try body handler fallthrough binding) at block cx =
     unlessUnreachable t cx fallthrough >>= λ label.
     scheduleIf label cx >>= λ inside.
-    traverse body (scheduleCatchHandler handler inside) >>= λ first.
-    traverse handler (first .context) >>= λ second.
+    traverse (within (another label) around) body (scheduleCatchHandler handler inside) >>= λ first.
+    traverse (within (another label) around) handler (first .context) >>= λ second.
     unscheduleIf label (cx .nextId) (second .context) >>= λ after.
     ok (record { statement = some (TRY (block .id) label binding (first .statements) (second .statements)); next = label; context = after })
-visitTerminal t visit traverse (scope pruned body fallthrough number) at block cx =
+visitTerminal t visit traverse around (scope pruned body fallthrough number) at block cx =
     let taken : Option ℕ = unlessScheduled cx fallthrough in
     scheduleIf taken cx >>= λ inside.
-    traverseEnclosed traverse body 18 at taken cx (markScopeFallthroughIf taken inside) (SCOPE pruned number)
+    traverseEnclosed (traverse (within (another none) around)) body 18 at taken cx (markScopeFallthroughIf taken inside) (SCOPE pruned number)
 
 -- ---- blocks
 
@@ -300,17 +308,17 @@ thenNext t at again statement (some next) cx =
 
 -- visit_block: a block and then the fallthroughs and continuations at the same depth, so many blocks at most. Each is a visit, so that the
 -- count runs out only where 31 is due
-unfoldable pub visitBlock : Table → VisitValueBlock → TraverseBlock → (blocksLeft : ℕ) → TraverseBlock
-visitBlock t visit traverse zero block cx = refused 31 block (cx .visits)
-visitBlock t visit traverse (suc blocksLeft) block cx =
+unfoldable pub visitBlock : Table → VisitValueBlock → TraverseInside → Around → (blocksLeft : ℕ) → TraverseBlock
+visitBlock t visit traverse around zero block cx = refused 31 block (cx .visits)
+visitBlock t visit traverse around (suc blocksLeft) block cx =
     enterBlock t block cx >>= λ entered.
-    visitTerminal t visit traverse (terminalAt t block) block (blockAt t block) entered >>= λ result.
-    thenNext t block (visitBlock t visit traverse blocksLeft) (result .statement) (result .next) (result .context)
+    visitTerminal t visit traverse around (terminalAt t block) block (blockAt t block) entered >>= λ result.
+    thenNext t block (visitBlock t visit traverse around blocksLeft) (result .statement) (result .next) (result .context)
 
 -- traverse_block, with so many levels of depth left
-unfoldable pub traverseBlock : Table → (depthLeft : ℕ) → TraverseBlock
-traverseBlock t zero block cx = refused 30 block (cx .visits)
-traverseBlock t (suc depthLeft) block cx = visitBlock t (visitValueBlock t depthLeft) (traverseBlock t depthLeft) (suc mostVisits) block cx
+unfoldable pub traverseBlock : Table → (depthLeft : ℕ) → TraverseInside
+traverseBlock t zero around block cx = refused 30 block (cx .visits)
+traverseBlock t (suc depthLeft) around block cx = visitBlock t (visitValueBlock t depthLeft) (traverseBlock t depthLeft) around (suc mostVisits) block cx
 
-unfoldable pub buildTree : Table → Result BlockResult
-buildTree t = traverseBlock t mostDepth (t .entry) start
+unfoldable pub buildTree : Rule → Table → Result BlockResult
+buildTree rule t = traverseBlock t mostDepth (outermost rule) (t .entry) start

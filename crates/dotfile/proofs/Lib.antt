@@ -1,3 +1,1 @@
 pub mod DrawingLaws
-pub mod FileLaws
-pub mod OneText

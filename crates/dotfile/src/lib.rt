@@ -3,8 +3,8 @@ ghost use mathlib.Core.Path.{_≡_};
 ghost use mathlib.Core.List.{[]};
 ghost use lib.ListN.{length};
 ghost use Rattle.text.specs.Printed.{printed};
-ghost use Rattle.dot.specs.Dot.{drawn};
-ghost use Rattle.dotfile.specs.Prints.{printedDrawing, WrittenText, FileDrawn};
+ghost use Rattle.text.specs.Prints.{WrittenText};
+ghost use Rattle.dotfile.specs.Prints.{drawingText, FileDrawn};
 use dot::dot;
 use text::read::Answer;
 use text::read::read;
@@ -13,14 +13,14 @@ use text::write::write;
 
 fn write_refusal(out: &mut [u8], code: u32, at: u32) -> Written
     requires { ⌜ (code ≡ 0 → ⊥) ⌝ }
-    ensures { λ r. ⌜ WrittenText (printed code at 0 0 []) (length (now (out .entry))) r (now (out .exit)) ⌝ }
+    ensures { λ r. ⌜ WrittenText 77 (printed code at 0 0 []) (length (now (out .entry))) r (now (out .exit)) ⌝ }
 {
     write(out, code, at, 0, 0, &[])
 }
 
 // Draws a table in the bytes that are printed of it.
 fn draw_words(words: &[u32], out: &mut [u8]) -> Written
-    ensures { λ r. ⌜ WrittenText (printedDrawing (drawn (now (words .entry)) (length (now (out .entry))))) (length (now (out .entry))) r (now (out .exit)) ⌝ }
+    ensures { λ r. ⌜ WrittenText 77 (drawingText (length (now (out .entry))) (now (words .entry))) (length (now (out .entry))) r (now (out .exit)) ⌝ }
 {
     let drawn = dot(words, out);
     if drawn.code != 0 {

@@ -7,28 +7,33 @@ use mathlib.Core.List.{List, [], _++_, append-nil}
 use mathlib.Core.Option.{Option, none, some}
 use lib.Dec.{eqb}
 use borrow.Author.Tests.{eq-eqb, eqb-true}
-use Rattle.table.specs.Words.{blockWord}
-use Rattle.table.specs.Table.{Terminal, tableOf, terminalOf, terminalAt, goto, Variant, Break, Continue, Try, variantOf}
-use Rattle.table.proofs.BlockLaws.{no-number, end-by, id-at, try-variant}
-use Rattle.definition.specs.Context.{Flags, getBreakTarget, getContinueTarget, Resolution}
+use Rattle.table.specs.declared.columns.Span.{Span}
+use Rattle.table.specs.Promise.{Ends, Heads}
+use Rattle.table.specs.Table.{Terminal, tableOf, terminalAt, goto, Variant, Break, Continue, Try, variantOf}
+use Rattle.table.proofs.BlockLaws.{no-number, try-variant}
+use Rattle.definition.specs.Context.{Flags, getBreakTarget, getContinueTarget}
 use Rattle.definition.specs.Context as definition
 use Rattle.definition.specs.Machine.{State, ended, turn, leave, jumpOut, added, terminalTurn}
+use Rattle.definition.specs.Around.{Around}
+use Rattle.definition.specs.Goal.{Goal, breakTo, continueTo}
+use Rattle.definition.proofs.Goals.{break-goal, continue-goal}
 use Rattle.definition.specs.Machine as machine
 use Rattle.definition.specs.Result.{Result, ok, refused, _>>=_}
-use Rattle.definition.specs.Statement.{visitGoto, visitBreak, visitContinue, breakResolved, continueResolved, TerminalResult}
+use Rattle.definition.specs.Statement.{visitGoto, visitBreak, visitContinue, TerminalResult}
 use Rattle.definition.specs.Tree.{Row, Statement}
-use Rattle.control.specs.declared.Resolved.{Resolved}
-use Rattle.control.specs.Abstraction.{resolvedOf}
+use Rattle.survey.specs.declared.Aim.{Aim}
+use Rattle.survey.specs.Abstraction.{aimOf}
 use Rattle.planner.specs.declared.jump.Jumped.{Jumped}
-use Rattle.planner.specs.declared.plan.Position.{Position}
-use Rattle.planner.specs.declared.plan.Change.the-variants.{Nothing}
-use Rattle.planner.specs.declared.plan.Plan.{Plan}
-use Rattle.planner.specs.Plans.{leaving}
+use Rattle.plan.specs.declared.Position.{Position}
+use Rattle.plan.specs.declared.Change.the-variants.{Nothing}
+use Rattle.plan.specs.declared.Plan.{Plan}
+use Rattle.plan.specs.Plans.{leaving}
 use Rattle.planner.specs.Jumps.{JumpSeen, JumpMet, jumpedTo, breakOutcome, continueOutcome, afterJumpBy, afterJump, GotoSeen}
-use Rattle.planner.specs.Planned.{Planned, Entered, terminalStep}
-use Rattle.planner.proofs.PlanLaws.{within-all, visits-same, refuse-applied, leave-applied}
-use Rattle.planner.proofs.StepLaws.{turn-refused, turn-ok}
-use Rattle.planner.proofs.VisitLaws.{step-by}
+use Rattle.plan.specs.Planned.{Planned, terminalStepIn}
+use Rattle.plan.specs.Turn.{Resolves}
+use Rattle.plan.proofs.PlanLaws.{within-all, visits-same, refuse-applied, leave-applied}
+use Rattle.plan.proofs.StepLaws.{turn-refused, turn-ok}
+use Rattle.plan.proofs.PlannedLaws.{step-in}
 
 -- a jump and then the end of the list
 abbrev jumpStep : Position → (definition.Context → Result (Option Statement)) → List machine.Frame → List Row → definition.Context → Result State
@@ -38,12 +43,12 @@ added-count : (s : Option Statement) (n : ℕ) → n + added s 0 ≡ added s n
 added-count none n = omega arith
 added-count (some s) n = omega arith
 
-pub jump-planned : (w : List ℕ) (p : Position) (On : definition.Context → Type 0) (outcome : definition.Context
+pub jump-planned : (around : Around) (w : List ℕ) (p : Position) (On : definition.Context → Type 0) (outcome : definition.Context
     → Result (Option Statement)) (O : Flags) (b : List ℕ) (jump : Jumped) (b′ : List ℕ) (plan : Plan)
-    → ((F : List machine.Frame) (R : List Row) (C : definition.Context) → On C → terminalStep w p F R C ≡ jumpStep p outcome F R C) → ((C : definition.Context) → On C → JumpSeen O (p .visits) C)
-    → JumpMet outcome O (p .visits) (p .rows) b jump b′ → plan ≡ afterJump p jump → Planned (terminalStep w p) On [] (p .depth) (p .rows) b plan b′
+    → ((F : List machine.Frame) (R : List Row) (C : definition.Context) → On C → terminalStepIn around w p F R C ≡ jumpStep p outcome F R C) → ((C : definition.Context) → On C → JumpSeen O (p .visits) C)
+    → JumpMet outcome O (p .visits) (p .rows) b jump b′ → plan ≡ afterJump p jump → Planned (terminalStepIn around w p) On [] (p .depth) (p .rows) b plan b′
 unfolding _>>=_
-jump-planned w p On outcome O b jump b′ plan step seen met e = subst (λ (z : Plan). Planned (terminalStep w p) On [] (p .depth) (p .rows) b z b′) (sym e) (by (eqb (jump .code) 0) refl)
+jump-planned around w p On outcome O b jump b′ plan step seen met e = subst (λ (z : Plan). Planned (terminalStepIn around w p) On [] (p .depth) (p .rows) b z b′) (sym e) (by (eqb (jump .code) 0) refl)
   where
     st : Option Statement
     st = met .statement
@@ -51,7 +56,7 @@ jump-planned w p On outcome O b jump b′ plan step seen met e = subst (λ (z : 
     cnt : eqb (jump .code) 0 ≡ true → p .count + jump .count ≡ added st (p .count)
     cnt q = ap (λ (n : ℕ). p .count + n) (met .count (eqb-true (jump .code) 0 q)) ∙ added-count st (p .count)
 
-    by : (y : Bool) → eqb (jump .code) 0 ≡ y → Planned (terminalStep w p) On [] (p .depth) (p .rows) b (afterJumpBy y p jump) b′
+    by : (y : Bool) → eqb (jump .code) 0 ≡ y → Planned (terminalStepIn around w p) On [] (p .depth) (p .rows) b (afterJumpBy y p jump) b′
     by true q = record {
       out = jumpOut st;
       held = λ _ before h. met .held (eqb-true (jump .code) 0 q) before h;
@@ -85,25 +90,27 @@ jump-count outcome O v n b jump b′ met z = rw (met .count z) (low (met .statem
 
 -- ---- the three variants
 
-module _ (w : List ℕ) (p : Position) (en : Entered w p) (code : blockWord w (p .block) 2 ≡ 4) (O : Flags) (resolved : Resolved) where
+module _ {w : List ℕ} (p : Position) (variant : ℕ) {to first count id : ℕ} {span : Span} (ends : Ends w (p .block) (goto to (variantOf variant)))
+    (heads : Heads w (p .block) first count id span) (O : Flags) (aim : Aim) (around : Around) where
   abbrev here : Terminal → Type 0
   here e = terminalAt (tableOf w) (p .block) ≡ e
 
-  goto-at : here (goto (blockWord w (p .block) 3) (variantOf (blockWord w (p .block) 4)))
-  unfolding terminalOf
-  goto-at = end-by w (p .block) (en .block) 4 code
+  variant-is : (v : Variant) (n : ℕ) → variant ≡ n → variantOf n ≡ v → here (goto to v)
+  variant-is v n e q = ends .is ∙ ap (λ (z : Variant). goto to z) (ap variantOf e ∙ q)
 
-  variant-is : (v : Variant) (n : ℕ) → blockWord w (p .block) 4 ≡ n → variantOf n ≡ v → here (goto (blockWord w (p .block) 3) v)
-  variant-is v n e q = goto-at ∙ ap (λ (z : Variant). goto (blockWord w (p .block) 3) z) (ap variantOf e ∙ q)
+  -- the goal of such a jump
+  found : (v : Variant) (n : ℕ) → variant ≡ n → variantOf n ≡ v → (C : definition.Context) → GotoSeen w p O aim around C → Resolves (goto to v) around C (aimOf aim)
+  found v n e q C o = subst (λ (z : Terminal). Resolves z around C (aimOf aim)) (variant-is v n e q) (o .jump)
 
-  pub goto-break : (target id : ℕ) (b : List ℕ) (jump : Jumped) (b′ : List ℕ) (plan : Plan) → blockWord w (p .block) 4 ≡ 0 → target ≡ blockWord w (p .block) 3 → id ≡ blockWord w (p .block) 8
-      → JumpMet (breakOutcome (p .block) target id resolved) O (p .visits) (p .rows) b jump b′ → plan ≡ afterJump p jump
-      → Planned (terminalStep w p) (GotoSeen w p O resolved) [] (p .depth) (p .rows) b plan b′
+  pub goto-break : (b : List ℕ) (jump : Jumped) (b′ : List ℕ) (plan : Plan) → variant ≡ 0
+      → JumpMet (breakOutcome (p .block) to id aim) O (p .visits) (p .rows) b jump b′ → plan ≡ afterJump p jump
+      → Planned (terminalStepIn around w p) (GotoSeen w p O aim around) [] (p .depth) (p .rows) b plan b′
   unfolding terminalTurn visitGoto visitBreak variantOf _>>=_
-  goto-break target id b jump b′ plan v t i met e = jump-planned w p (GotoSeen w p O resolved) (breakOutcome (p .block) target id resolved) O b jump b′ plan
-      (λ F R C o. step-by w p _ F R C (variant-is Break 0 v refl) ∙ rw (id-at w (p .block) (en .block), sym i, sym t)
-      (ap (λ (z : Option Resolution). after F R C (breakResolved (p .block) target id C z)) (sym (o .breaks v ∙ ap (getBreakTarget C) (sym t))) ∙ moved F R C
-      (breakOutcome (p .block) target id resolved C))) (λ C o. o .seen) met e
+  goto-break b jump b′ plan v met e = jump-planned around w p (GotoSeen w p O aim around) (breakOutcome (p .block) to id aim) O b jump b′ plan
+      (λ F R C o. step-in around w p _ F R C (variant-is Break 0 v refl) ∙ rw (heads .is-id)
+      (ap (after F R C) (break-goal around (p .block) to id C (getBreakTarget C to))
+      ∙ ap (λ (z : Option Goal). after F R C (breakTo (p .block) to id C z)) (sym (found Break 0 v refl C o))
+      ∙ moved F R C (breakOutcome (p .block) to id aim C))) (λ C o. o .seen) met e
     where
       after : List machine.Frame → List Row → definition.Context → Result (Option Statement) → Result State
       after F R C m =
@@ -114,14 +121,15 @@ module _ (w : List ℕ) (p : Position) (en : Entered w p) (code : blockWord w (p
       moved F R C (ok s) = refl
       moved F R C (refused a c v) = refl
 
-  pub goto-continue : (target id : ℕ) (b : List ℕ) (jump : Jumped) (b′ : List ℕ) (plan : Plan) → blockWord w (p .block) 4 ≡ 1 → target ≡ blockWord w (p .block) 3 → id ≡ blockWord w (p .block) 8
-      → JumpMet (continueOutcome target id resolved) O (p .visits) (p .rows) b jump b′ → plan ≡ afterJump p jump
-      → Planned (terminalStep w p) (GotoSeen w p O resolved) [] (p .depth) (p .rows) b plan b′
+  pub goto-continue : (b : List ℕ) (jump : Jumped) (b′ : List ℕ) (plan : Plan) → variant ≡ 1
+      → JumpMet (continueOutcome (p .block) to id aim) O (p .visits) (p .rows) b jump b′ → plan ≡ afterJump p jump
+      → Planned (terminalStepIn around w p) (GotoSeen w p O aim around) [] (p .depth) (p .rows) b plan b′
   unfolding terminalTurn visitGoto visitContinue variantOf _>>=_
-  goto-continue target id b jump b′ plan v t i met e = jump-planned w p (GotoSeen w p O resolved) (continueOutcome target id resolved) O b jump b′ plan
-      (λ F R C o. step-by w p _ F R C (variant-is Continue 1 v refl) ∙ rw (id-at w (p .block) (en .block), sym i, sym t)
-      (ap (λ (z : Option Resolution). after F R C (continueResolved target id C z)) (sym (o .continues v ∙ ap (getContinueTarget C) (sym t))) ∙ moved F R C
-      (continueResolved target id C (resolvedOf resolved)))) (λ C o. o .seen) met e
+  goto-continue b jump b′ plan v met e = jump-planned around w p (GotoSeen w p O aim around) (continueOutcome (p .block) to id aim) O b jump b′ plan
+      (λ F R C o. step-in around w p _ F R C (variant-is Continue 1 v refl) ∙ rw (heads .is-id)
+      (ap (after F R C) (continue-goal around (p .block) to id C (getContinueTarget C to))
+      ∙ ap (λ (z : Option Goal). after F R C (continueTo (p .block) to id C z)) (sym (found Continue 1 v refl C o))
+      ∙ moved F R C (continueTo (p .block) to id C (aimOf aim)))) (λ C o. o .seen) met e
     where
       after : List machine.Frame → List Row → definition.Context → Result Statement → Result State
       after F R C m =
@@ -133,13 +141,13 @@ module _ (w : List ℕ) (p : Position) (en : Entered w p) (code : blockWord w (p
       moved F R C (ok s) = refl
       moved F R C (refused a c v) = refl
 
-  pub goto-try : (b : List ℕ) (plan : Plan) → (blockWord w (p .block) 4 ≡ 0 → ⊥) → (blockWord w (p .block) 4 ≡ 1 → ⊥) → plan ≡ leaving 65535 (p .depth) (p .count) (p .rows) (p .visits) Nothing
-      → Planned (terminalStep w p) (GotoSeen w p O resolved) [] (p .depth) (p .rows) b plan b
+  pub goto-try : (b : List ℕ) (plan : Plan) → (variant ≡ 0 → ⊥) → (variant ≡ 1 → ⊥) → plan ≡ leaving 65535 (p .depth) (p .count) (p .rows) (p .visits) Nothing
+      → Planned (terminalStepIn around w p) (GotoSeen w p O aim around) [] (p .depth) (p .rows) b plan b
   unfolding terminalTurn visitGoto variantOf _>>=_
-  goto-try b plan n₀ n₁ e = subst (λ (z : Plan). Planned (terminalStep w p) (GotoSeen w p O resolved) [] (p .depth) (p .rows) b z b) (sym e) (record {
+  goto-try b plan n₀ n₁ e = subst (λ (z : Plan). Planned (terminalStepIn around w p) (GotoSeen w p O aim around) [] (p .depth) (p .rows) b z b) (sym e) (record {
     out = [];
     held = λ _ before h. rw (append-nil before) h;
-    same = λ F R C d o. ap turn (step-by w p _ F R C (variant-is Try (blockWord w (p .block) 4) refl (try-variant (blockWord w (p .block) 4) n₀ n₁))) ∙ turn-ok _
+    same = λ F R C d o. ap turn (step-in around w p _ F R C (variant-is Try variant refl (try-variant variant n₀ n₁))) ∙ turn-ok _
         ∙ sym (leave-applied 65535 (p .depth) (p .count) (p .rows) (p .visits) Nothing F (R ++ []) C _ refl ∙ rw (no-number, visits-same (p .visits) C (o .seen .visits), within-all (p .depth) F d));
     fitting = λ _. record { change = tt; handler = rw no-number tt; scope = rw no-number tt; deep = λ z. absurd (let o : _≡_ {A = ℕ} 0 1 = cc in omega arith); next = omega arith; nested = tt };
   })

@@ -8,13 +8,14 @@ use mathlib.Core.Option.{none, some}
 use lib.ListN.{getD}
 use Rattle.definition.specs.Context.{Flags, has}
 use Rattle.definition.specs.Context as definition
+use Rattle.definition.specs.Goal.{breakTo, continueTo}
 use Rattle.definition.specs.Machine.{statementOut}
-use Rattle.definition.specs.Result.{ok, refused, _>>=_}
-use Rattle.definition.specs.Statement.{breakResolved, breakToScope, continueResolved}
+use Rattle.definition.specs.Result.{ok, refused, refuseIf, _>>=_}
+use Rattle.definition.specs.Statement.{breakToScope}
 use Rattle.definition.specs.Tree.{Row, row, Kind, implicit, labeled, unlabeled, kindNumber, BREAK, CONTINUE}
-use Rattle.control.specs.declared.Resolution.{Resolution}
-use Rattle.control.specs.declared.Resolved.the-variants.{Nothing, Found}
-use Rattle.control.specs.Abstraction.{kindOf, foundBlock}
+use Rattle.control.specs.Abstraction.{kindOf}
+use Rattle.survey.specs.declared.Goal.{Goal}
+use Rattle.survey.specs.declared.Aim.the-variants.{Nothing, At}
 use Rattle.rows.specs.Rows.{Holds, Written}
 use Rattle.rows.specs.Stack as stack
 use Rattle.planner.specs.declared.jump.Jumped.{Jumped}
@@ -26,77 +27,101 @@ bare : (n : ℕ) (b : List ℕ) → (before : List Row) → Holds b n (stack.pus
 bare n b before h = rw (append-nil before) h
 
 pub break-none : (at block id : ℕ) (O : Flags) (v n : ℕ) (b : List ℕ) (r : Jumped) → r ≡ refusingJump 20 block n → JumpMet (breakOutcome at block id Nothing) O v n b r b
-unfolding breakResolved
+unfolding breakTo
 break-none at block id O v n b r e = subst (λ (z : Jumped). JumpMet (breakOutcome at block id Nothing) O v n b z b) (sym e)
     (record { statement = none; same = λ C s. ap (λ (k : ℕ). refused 20 block k) (s .visits); held = λ z. absurd (omega (arith, z)); count = λ z. absurd (omega (arith, z)); most = omega arith })
 
-scoped-break : (at id : ℕ) (O : Flags) (v : ℕ) (found : Resolution) (block : ℕ) (C : definition.Context) → getD O (foundBlock found) false ≡ true → JumpSeen O v C
-    → breakOutcome at block id (Found found) C ≡ breakToScope (kindOf (found .kind)) at (C .visits)
-unfolding breakResolved has
-scoped-break at id O v found block C h s =
-    ap (λ (y : Bool). elim y [
-      | true ↦ breakToScope (kindOf (found .kind)) at (C .visits)
-      | false ↦ ok (some (BREAK (foundBlock found) id (kindOf (found .kind)) (found .loops)))
-    ])
-    (ap (λ (l : Flags). getD l (foundBlock found) false) (s .scopeFallthroughs) ∙ h)
-
-pub break-scope : (at id : ℕ) (O : Flags) (v n : ℕ) (found : Resolution) (b : List ℕ) (r : Jumped) → getD O (foundBlock found) false ≡ true → kindNumber (kindOf (found .kind)) ≡ 0
-    → r ≡ record { code = 0; at = 0; rows = n; count = 0 } → (block : ℕ) → JumpMet (breakOutcome at block id (Found found)) O v n b r b
-break-scope at id O v n found b r h k e block = subst (λ (z : Jumped). JumpMet (breakOutcome at block id (Found found)) O v n b z b) (sym e)
-    (record { statement = none; same = λ C s. scoped-break at id O v found block C h s ∙ silent (kindOf (found .kind)) (C .visits) k; held = λ _. bare n b; count = λ _. refl; most = omega arith })
-  where
-    silent : (k : Kind) (w : ℕ) → kindNumber k ≡ 0 → breakToScope k at w ≡ ok none
-    silent implicit w q = unfold breakToScope in refl
-    silent labeled w q = absurd (omega (arith, q))
-    silent unlabeled w q = absurd (omega (arith, q))
-
-pub break-out : (at id : ℕ) (O : Flags) (v n : ℕ) (found : Resolution) (b : List ℕ) (r : Jumped) → getD O (foundBlock found) false ≡ true → (kindNumber (kindOf (found .kind)) ≡ 0 → ⊥)
-    → r ≡ refusingJump 22 at n → (block : ℕ) → JumpMet (breakOutcome at block id (Found found)) O v n b r b
-break-out at id O v n found b r h k e block = subst (λ (z : Jumped). JumpMet (breakOutcome at block id (Found found)) O v n b z b) (sym e)
-    (record {
-      statement = none;
-      same = λ C s. scoped-break at id O v found block C h s ∙ loud (kindOf (found .kind)) (C .visits) k ∙ ap (λ (w : ℕ). refused 22
-          at w) (s .visits);
-      held = λ z. absurd (omega (arith, z));
-      count = λ z. absurd (omega (arith, z));
-      most = omega arith;
-    })
-  where
-    loud : (k : Kind) (w : ℕ) → (kindNumber k ≡ 0 → ⊥) → breakToScope k at w ≡ refused 22 at w
-    loud implicit w q = absurd (q refl)
-    loud labeled w q = unfold breakToScope in refl
-    loud unlabeled w q = unfold breakToScope in refl
-
-pub break-row : (at id : ℕ) (O : Flags) (v n n′ : ℕ) (found : Resolution) (op target number : ℕ) (b b′ : List ℕ) (r : Jumped) → getD O (foundBlock found) false ≡ false
-    → op ≡ 24 → target ≡ foundBlock found → number ≡ kindNumber (kindOf (found .kind)) → Written b n (row op target id number (found .loops) 0) b′ n′
-    → r ≡ record { code = 0; at = 0; rows = n′; count = 1 } → (block : ℕ) → JumpMet (breakOutcome at block id (Found found)) O v n b r b′
-unfolding breakResolved has statementOut
-break-row at id O v n n′ found op target number b b′ r h o t k w e block = subst (λ (z : Jumped). JumpMet (breakOutcome at block id (Found found)) O v n b z b′) (sym e) (record {
-  statement = some (BREAK (foundBlock found) id (kindOf (found .kind)) (found .loops));
-  same =
-      λ C s. ap (λ (y : Bool). elim y [
-        | true ↦ breakToScope (kindOf (found .kind)) at (C .visits)
-        | false ↦ ok (some (BREAK (foundBlock found) id (kindOf (found .kind)) (found .loops)))
+module _ (at id : ℕ) (O : Flags) (v n : ℕ) (goal : Goal) where
+  -- whether the target is a scope's end
+  scope-asked : (y : Bool) → getD O (goal .target) false ≡ y → (block : ℕ) (C : definition.Context) → JumpSeen O v C
+      → breakOutcome at block id (At goal) C ≡ elim y [
+        | true ↦ breakToScope (kindOf (goal .kind)) at (C .visits)
+        | false ↦ refuseIf (goal .unnamed) 29 at (C .visits) >>= λ _. ok (some (BREAK (goal .target) id (kindOf (goal .kind)) (goal .loops)))
+      ]
+  unfolding breakTo has
+  scope-asked y h block C s =
+      ap (λ (y : Bool). elim y [
+        | true ↦ breakToScope (kindOf (goal .kind)) at (C .visits)
+        | false ↦ refuseIf (goal .unnamed) 29 at (C .visits) >>= λ _. ok (some (BREAK (goal .target) id (kindOf (goal .kind)) (goal .loops)))
       ])
-      (ap (λ (l : Flags). getD l (foundBlock found) false) (s .scopeFallthroughs) ∙ h);
-  held = λ _. row-held b b′ n n′ (row 24 (foundBlock found) id (kindNumber (kindOf (found .kind))) (found .loops) 0) (rw (o, t, k) at w);
-  count = λ _. refl;
-  most = omega (arith, w .count);
-})
+      (ap (λ (l : Flags). getD l (goal .target) false) (s .scopeFallthroughs) ∙ h)
 
-pub continue-none : (block id : ℕ) (n : ℕ) (b : List ℕ) (r : Jumped) → r ≡ refusingJump 21 block n → (v : ℕ) (O : Flags) → JumpMet (continueOutcome block id Nothing) O v n b r b
-unfolding continueResolved _>>=_
-continue-none block id n b r e v O = subst (λ (z : Jumped). JumpMet (continueOutcome block id Nothing) O v n b z b) (sym e)
+  pub break-scope : (b : List ℕ) (r : Jumped) → getD O (goal .target) false ≡ true → kindNumber (kindOf (goal .kind)) ≡ 0
+      → r ≡ record { code = 0; at = 0; rows = n; count = 0 } → (block : ℕ) → JumpMet (breakOutcome at block id (At goal)) O v n b r b
+  break-scope b r h k e block = subst (λ (z : Jumped). JumpMet (breakOutcome at block id (At goal)) O v n b z b) (sym e)
+      (record { statement = none; same = λ C s. scope-asked true h block C s ∙ silent (kindOf (goal .kind)) (C .visits) k; held = λ _. bare n b; count = λ _. refl; most = omega arith })
+    where
+      silent : (k : Kind) (w : ℕ) → kindNumber k ≡ 0 → breakToScope k at w ≡ ok none
+      silent implicit w q = unfold breakToScope in refl
+      silent labeled w q = absurd (omega (arith, q))
+      silent unlabeled w q = absurd (omega (arith, q))
+
+  pub break-out : (b : List ℕ) (r : Jumped) → getD O (goal .target) false ≡ true → (kindNumber (kindOf (goal .kind)) ≡ 0 → ⊥)
+      → r ≡ refusingJump 22 at n → (block : ℕ) → JumpMet (breakOutcome at block id (At goal)) O v n b r b
+  break-out b r h k e block = subst (λ (z : Jumped). JumpMet (breakOutcome at block id (At goal)) O v n b z b) (sym e)
+      (record {
+        statement = none;
+        same = λ C s. scope-asked true h block C s ∙ loud (kindOf (goal .kind)) (C .visits) k ∙ ap (λ (w : ℕ). refused 22 at w) (s .visits);
+        held = λ z. absurd (omega (arith, z));
+        count = λ z. absurd (omega (arith, z));
+        most = omega arith;
+      })
+    where
+      loud : (k : Kind) (w : ℕ) → (kindNumber k ≡ 0 → ⊥) → breakToScope k at w ≡ refused 22 at w
+      loud implicit w q = absurd (q refl)
+      loud labeled w q = unfold breakToScope in refl
+      loud unlabeled w q = unfold breakToScope in refl
+
+  pub break-unnamed : (b : List ℕ) (r : Jumped) → getD O (goal .target) false ≡ false → goal .unnamed ≡ true → r ≡ refusingJump 29 at n
+      → (block : ℕ) → JumpMet (breakOutcome at block id (At goal)) O v n b r b
+  unfolding refuseIf _>>=_
+  break-unnamed b r h u e block = subst (λ (z : Jumped). JumpMet (breakOutcome at block id (At goal)) O v n b z b) (sym e)
+      (record {
+        statement = none;
+        same = λ C s. scope-asked false h block C s ∙ rw u (ap (λ (w : ℕ). refused 29 at w) (s .visits));
+        held = λ z. absurd (omega (arith, z));
+        count = λ z. absurd (omega (arith, z));
+        most = omega arith;
+      })
+
+  pub break-row : (n′ op number : ℕ) (b b′ : List ℕ) (r : Jumped) → getD O (goal .target) false ≡ false → goal .unnamed ≡ false
+      → op ≡ 24 → number ≡ kindNumber (kindOf (goal .kind)) → Written b n (row op (goal .target) id number (goal .loops) 0) b′ n′
+      → r ≡ record { code = 0; at = 0; rows = n′; count = 1 } → (block : ℕ) → JumpMet (breakOutcome at block id (At goal)) O v n b r b′
+  unfolding refuseIf _>>=_ statementOut
+  break-row n′ op number b b′ r h u o k w e block = subst (λ (z : Jumped). JumpMet (breakOutcome at block id (At goal)) O v n b z b′) (sym e) (record {
+    statement = some (BREAK (goal .target) id (kindOf (goal .kind)) (goal .loops));
+    same = λ C s. scope-asked false h block C s ∙ rw u refl;
+    held = λ _. row-held b b′ n n′ (row 24 (goal .target) id (kindNumber (kindOf (goal .kind))) (goal .loops) 0) (rw (o, k) at w);
+    count = λ _. refl;
+    most = omega (arith, w .count);
+  })
+
+pub continue-none : (at block id : ℕ) (n : ℕ) (b : List ℕ) (r : Jumped) → r ≡ refusingJump 21 block n → (v : ℕ) (O : Flags) → JumpMet (continueOutcome at block id Nothing) O v n b r b
+unfolding continueTo _>>=_
+continue-none at block id n b r e v O = subst (λ (z : Jumped). JumpMet (continueOutcome at block id Nothing) O v n b z b) (sym e)
     (record { statement = none; same = λ C s. ap (λ (k : ℕ). refused 21 block k) (s .visits); held = λ z. absurd (omega (arith, z)); count = λ z. absurd (omega (arith, z)); most = omega arith })
 
-pub continue-row : (id n n′ : ℕ) (found : Resolution) (op target number : ℕ) (b b′ : List ℕ) (r : Jumped)
-    → op ≡ 25 → target ≡ foundBlock found → number ≡ kindNumber (kindOf (found .kind)) → Written b n (row op target id number (found .loops) 0) b′ n′
-    → r ≡ record { code = 0; at = 0; rows = n′; count = 1 } → (block v : ℕ) (O : Flags) → JumpMet (continueOutcome block id (Found found)) O v n b r b′
-unfolding continueResolved _>>=_ statementOut
-continue-row id n n′ found op target number b b′ r o t k w e block v O = subst (λ (z : Jumped). JumpMet (continueOutcome block id (Found found)) O v n b z b′) (sym e) (record {
-  statement = some (CONTINUE (foundBlock found) id (kindOf (found .kind)) (found .loops));
-  same = λ C s. refl;
-  held = λ _. row-held b b′ n n′ (row 25 (foundBlock found) id (kindNumber (kindOf (found .kind))) (found .loops) 0) (rw (o, t, k) at w);
-  count = λ _. refl;
-  most = omega (arith, w .count);
-})
+module _ (at id n : ℕ) (goal : Goal) where
+  pub continue-unnamed : (b : List ℕ) (r : Jumped) → goal .unnamed ≡ true → r ≡ refusingJump 29 at n
+      → (block v : ℕ) (O : Flags) → JumpMet (continueOutcome at block id (At goal)) O v n b r b
+  unfolding continueTo refuseIf _>>=_
+  continue-unnamed b r u e block v O = subst (λ (z : Jumped). JumpMet (continueOutcome at block id (At goal)) O v n b z b) (sym e)
+      (record {
+        statement = none;
+        same = λ C s. rw u (ap (λ (w : ℕ). refused 29 at w) (s .visits));
+        held = λ z. absurd (omega (arith, z));
+        count = λ z. absurd (omega (arith, z));
+        most = omega arith;
+      })
+
+  pub continue-row : (n′ op number : ℕ) (b b′ : List ℕ) (r : Jumped) → goal .unnamed ≡ false
+      → op ≡ 25 → number ≡ kindNumber (kindOf (goal .kind)) → Written b n (row op (goal .target) id number (goal .loops) 0) b′ n′
+      → r ≡ record { code = 0; at = 0; rows = n′; count = 1 } → (block v : ℕ) (O : Flags) → JumpMet (continueOutcome at block id (At goal)) O v n b r b′
+  unfolding continueTo refuseIf _>>=_ statementOut
+  continue-row n′ op number b b′ r u o k w e block v O = subst (λ (z : Jumped). JumpMet (continueOutcome at block id (At goal)) O v n b z b′) (sym e) (record {
+    statement = some (CONTINUE (goal .target) id (kindOf (goal .kind)) (goal .loops));
+    same = λ C s. rw u refl;
+    held = λ _. row-held b b′ n n′ (row 25 (goal .target) id (kindNumber (kindOf (goal .kind))) (goal .loops) 0) (rw (o, k) at w);
+    count = λ _. refl;
+    most = omega (arith, w .count);
+  })

@@ -1,11 +1,6 @@
-pub mod PlanLaws
-pub mod StepLaws
 pub mod VisitLaws
 pub mod RowPlanLaws
 pub mod JumpLaws
 pub mod GotoLaws
 pub mod BranchLaws
-pub mod LoopLaws
-pub mod CloseLaws
-pub mod ResumeLaws
 pub mod TerminalLaws

@@ -26,15 +26,16 @@ use Rattle.rows.specs.Rows.{Holds, Written}
 use Rattle.rows.specs.Stack as stack
 use Rattle.rows.proofs.RowLaws.{written-held}
 use Rattle.rows.proofs.StackLaws.{push-row-after}
-use Rattle.planner.specs.declared.plan.Position.{Position}
-use Rattle.planner.specs.declared.plan.Frame.{Frame}
-use Rattle.planner.specs.declared.plan.Change.the-variants.{Nothing}
-use Rattle.planner.specs.declared.plan.Plan.{Plan}
-use Rattle.planner.specs.Plans.{frameOf, scoped, contextAfter, applied, onward, openFrame, leaving, unlessTaken, entriesIf, scheduleIf, scheduledWith, enclosing, withScope}
-use Rattle.planner.specs.Planned.{Seen, Fitting, Planned, PlannedBare, Entered, terminalStep, SameVisits}
-use Rattle.planner.proofs.PlanLaws.{within-all, visits-same, leave-applied, nest-applied, Label, no-label, free-label, label-taken, label-entries, label-if}
-use Rattle.planner.proofs.StepLaws.{label-scheduled, into-busy, into-free, turn-refused, turn-ok, busy-with}
-use Rattle.planner.proofs.VisitLaws.{bare-planned, step-by, named-if, Takes}
+use Rattle.plan.specs.declared.Position.{Position}
+use Rattle.plan.specs.declared.Frame.{Frame}
+use Rattle.plan.specs.declared.Change.the-variants.{Nothing}
+use Rattle.plan.specs.declared.Plan.{Plan}
+use Rattle.plan.specs.Plans.{frameOf, scoped, contextAfter, applied, onward, openFrame, leaving, unlessTaken, entriesIf, scheduleIf, scheduledWith, enclosing, withScope}
+use Rattle.plan.specs.Planned.{Seen, Fitting, Planned, PlannedBare, Entered, terminalStep, SameVisits}
+use Rattle.plan.proofs.PlanLaws.{within-all, visits-same, leave-applied, nest-applied, Label, no-label, free-label, label-taken, label-entries, label-if}
+use Rattle.plan.proofs.StepLaws.{label-scheduled, into-busy, into-free, turn-refused, turn-ok, busy-with}
+use Rattle.plan.proofs.PlannedLaws.{bare-planned, step-by, Takes}
+use Rattle.planner.proofs.VisitLaws.{named-if}
 
 -- ---- scopes
 

@@ -1,78 +1,36 @@
 -- What each terminal that puts out no row has to show: its plan is the machine's turn.
 use Prim.Native.Nat.{ℕ, zero, suc, _+_, _-_, _≤_, _<_}
 use native.Mathlib.Omega.{arith}
-use mathlib.Core.Path.{_≡_, refl, sym, ap, _∙_, subst}
+use mathlib.Core.Path.{_≡_, refl, sym, ap, _∙_}
 use mathlib.Core.Bool.{Bool, true, false, _||_}
-use mathlib.Core.List.{List, [], _∷_, append-nil}
+use mathlib.Core.List.{List, [], _∷_}
 use mathlib.Core.Option.{Option, none, some}
 use lib.Dec.{eqb}
 use lib.ListN.{length, take, drop, length-drop, length-reverse}
-use Rattle.table.specs.Words.{blockCount, placeCount, caseCount, blockWord, codeAt}
-use Rattle.table.specs.Promise.{Promise, InRange, Ends}
-use Rattle.table.specs.Table.{Case, Terminal, tableOf, terminalOf, terminalAt, blockAt, unlessNone, if, switch, label, maybe-throw, try}
+use Rattle.table.specs.Words.{blockCount, caseCount, codeAt}
+use Rattle.table.specs.Promise.{Ends}
+use Rattle.table.specs.Table.{Case, Terminal, tableOf, terminalOf, unlessNone, if, switch, label, maybe-throw, try}
 use Rattle.table.proofs.TableLaws.{length-cases}
-use Rattle.table.proofs.RangeLaws.{in-range}
 use Rattle.table.proofs.BlockLaws.{no-number, some-number, end-by}
-use Rattle.definition.specs.Build.{rejected}
 use Rattle.definition.specs.Context.{Flags, has, pushed, scheduleCatchHandler}
 use Rattle.definition.specs.Context as definition
-use Rattle.definition.specs.Machine.{State, visiting, choosing, going, halt, turn, leave, into, opens, scheduledIf, scheduledSwitch, withLeft, numberOfCases, terminalTurn}
+use Rattle.definition.specs.Machine.{visiting, choosing, going, turn, leave, into, scheduledIf, scheduledSwitch, withLeft, numberOfCases, terminalTurn}
 use Rattle.definition.specs.Machine as machine
-use Rattle.definition.specs.Result.{Result, ok, _>>=_}
-use Rattle.definition.specs.Statement.{unlessUnreachable, casesLastFirst}
+use Rattle.definition.specs.Result.{ok}
+use Rattle.definition.specs.Statement.{casesLastFirst}
 use Rattle.definition.specs.Tree.{Row}
-use Rattle.definition.specs.Value.{visitValueBlock}
-use Rattle.planner.specs.declared.plan.Position.{Position}
-use Rattle.planner.specs.declared.plan.Frame.{Frame}
-use Rattle.planner.specs.declared.plan.Change.{Change}
-use Rattle.planner.specs.declared.plan.Change.the-variants.{Nothing}
-use Rattle.planner.specs.declared.plan.Plan.{Plan}
-use Rattle.planner.specs.Plans.{frameOf, applied, openFrame, refusing, leaving, nesting, choosingNext, unlessTaken, entriesIf, scheduleIf, scheduleSwitch, scheduledWith, enclosing, withHandler}
-use Rattle.planner.specs.Planned.{Seen, NamedChange, Fitting, PlannedBare, Entered, terminalStep}
-use Rattle.planner.proofs.PlanLaws.{within-all, visits-same, refuse-applied, leave-applied, leave-nested, nest-applied, choose-applied, Label}
-use Rattle.planner.proofs.PlanLaws.{label-taken, label-most, label-below, label-entries, label-if, label-switch}
-use Rattle.planner.proofs.StepLaws.{label-scheduled, label-missing, label-reached, enclose-same, turn-refused, turn-ok}
+use Rattle.plan.specs.declared.Position.{Position}
+use Rattle.plan.specs.declared.Frame.{Frame}
+use Rattle.plan.specs.declared.Change.{Change}
+use Rattle.plan.specs.declared.Change.the-variants.{Nothing}
+use Rattle.plan.specs.declared.Plan.{Plan}
+use Rattle.plan.specs.Plans.{applied, openFrame, refusing, leaving, nesting, choosingNext, entriesIf, scheduleIf, scheduleSwitch, scheduledWith, enclosing, withHandler}
+use Rattle.plan.specs.Planned.{Seen, NamedChange, Fitting, PlannedBare, Entered}
+use Rattle.plan.proofs.PlanLaws.{within-all, visits-same, leave-applied, leave-nested, nest-applied, choose-applied, Label, label-below, label-entries, label-if, label-switch}
+use Rattle.plan.proofs.StepLaws.{label-scheduled, enclose-same, turn-ok}
+use Rattle.plan.proofs.PlannedLaws.{bare-planned, step-by, Rest, Asks, Reached, Takes, here, reached-missing, reached-same, reached-label}
 
--- ---- a planner with no row
-
-pub bare-planned : (w : List ℕ) (S H : Flags) (p : Position) (plan : Plan) → (plan .code ≡ 0 → plan .position .rows ≡ p .rows)
-    → ((F : List machine.Frame) (R : List Row) (C : definition.Context) → length F ≡ p .depth → Seen S H (p .visits) C → turn (terminalStep w p F R C) ≡ applied plan F R C)
-    → (plan .code ≡ 0 → Fitting [] (p .depth) plan) → PlannedBare w S H p plan
-bare-planned w S H p plan rows same fit buffer = record {
-  out = [];
-  held = λ z before h. rw (append-nil before, rows z) h;
-  same = λ F R C d seen. rw (append-nil R) (same F R C d seen);
-  fitting = fit;
-}
-
-pub step-by : (w : List ℕ) (p : Position) (e : Terminal) (F : List machine.Frame) (R : List Row) (C : definition.Context) → terminalAt (tableOf w) (p .block) ≡ e
-    → terminalStep w p F R C ≡ terminalTurn (tableOf w) (visitValueBlock (tableOf w) (127 - p .depth)) e (p .block) (blockAt (tableOf w) (p .block)) F R (p .count) C
-step-by w p e F R C q = ap (λ (z : Terminal). terminalTurn (tableOf w) (visitValueBlock (tableOf w) (127 - p .depth)) z (p .block) (blockAt (tableOf w) (p .block)) F R (p .count) C) q
-
-refuse-fits : (p : Position) (code at : ℕ) → (code ≡ 0 → ⊥) → code ≡ 0 → Fitting [] (p .depth) (refusing p code at)
-refuse-fits p code at h e = absurd (h e)
-
--- a fallthrough that is not there
-missing-same : (w : List ℕ) (S H : Flags) (p : Position) → Promise w → (f : ℕ) → f < blockCount w → blockWord w f 2 ≡ 0 → (k : definition.Context → Option ℕ → Result State)
-    → (F : List machine.Frame) (R : List Row) (C : definition.Context) → Seen S H (p .visits) C → turn (unlessUnreachable (tableOf w) C f >>= k C) ≡ applied (refusing p 10 f) F R C
-unfolding _>>=_
-missing-same w S H p pr f h e k F R C seen =
-    ap (λ (z : Result (Option ℕ)). turn (z >>= k C)) (label-missing w pr S H (p .visits) C seen f h e) ∙ turn-refused 10 f (C .visits) ∙ ap (λ (v : ℕ). halt (rejected 10 f v)) (seen .visits)
-    ∙ sym (refuse-applied p 10 f F R C (λ z. omega arith))
-
-pub reach-same : (w : List ℕ) (S H : Flags) (p : Position) → Promise w → (f n : ℕ) → f < blockCount w → f < 1024 → (blockWord w f 2 ≡ 0 → ⊥)
-    → n ≡ unlessTaken (eqb (blockWord w f 2) 1 || (has S f || has H f)) f → (k : Option ℕ → Result State) (C : definition.Context) → Seen S H (p .visits) C
-    → turn (unlessUnreachable (tableOf w) C f >>= k) ≡ turn (k (unlessNone n))
-unfolding _>>=_
-reach-same w S H p pr f n h u e q k C seen = ap (λ (z : Result (Option ℕ)). turn (z >>= k)) (label-reached w pr S H (p .visits) C seen f h u e) ∙ ap (λ (z : ℕ). turn (k (unlessNone z))) (sym q)
-
--- ---- ranges
-
-pub few-blocks : (w : List ℕ) → Promise w → (b : ℕ) → b < blockCount w → b < 1024
-few-blocks w pr b h = omega (arith, pr .sized .limited .blocks)
-
-pub ranges : (w : List ℕ) → Promise w → (b : ℕ) → b < blockCount w → (e : Terminal) → terminalAt (tableOf w) b ≡ e → InRange (blockCount w) (placeCount w) (caseCount w) e
-ranges w pr b h e q = subst (λ (z : Terminal). InRange (blockCount w) (placeCount w) (caseCount w) z) q (in-range w pr b h)
+-- ---- plans that enclose
 
 pub named-if : {S : Flags} (n : ℕ) → Label S n → NamedChange 0 (scheduleIf (eqb n 65535) n)
 named-if n l = at (eqb n 65535) (λ e. label-below l e)
@@ -90,50 +48,8 @@ enclosing-rows : (y : Bool) (p : Position) (n block code at : ℕ) → enclosing
 enclosing-rows true p n block code at = refl
 enclosing-rows false p n block code at = refl
 
--- ---- terminals that ask whether their fallthrough is reachable
+-- ---- terminals that ask whether their fallthrough is reachable, and then have one nested block
 
-abbrev Rest : Type 0
-Rest = List machine.Frame → List Row → definition.Context → Option ℕ → Result State
-
--- the terminal's turn looks at the fallthrough f first
-abbrev Asks : List ℕ → Position → Terminal → ℕ → Rest → Type 0
-Asks w p e f k = (F : List machine.Frame) (R : List Row) (C : definition.Context)
-    → terminalTurn (tableOf w) (visitValueBlock (tableOf w) (127 - p .depth)) e (p .block) (blockAt (tableOf w) (p .block)) F R (p .count) C ≡ unlessUnreachable (tableOf w) C f >>= k F R C
-
--- the label that the code takes
-abbrev pub Reached : List ℕ → Flags → Flags → (f n : ℕ) → Type 0
-Reached w S H f n = n ≡ unlessTaken (eqb (codeAt w f) 1 || (has S f || has H f)) f
-
-abbrev pub Takes : Flags → Flags → (f n : ℕ) → Type 0
-Takes S H f n = n ≡ unlessTaken (has S f || has H f) f
-
-abbrev here : Position → Option ℕ → machine.Frame
-here p taken = machine.frameOf (p .block) taken (opens taken) (p .count)
-
--- a label is a block's number, or 65,535
-pub reached-most : (w : List ℕ) (S H : Flags) (f : ℕ) {n : ℕ} → Reached w S H f n → f < 1024 → n ≤ 65535
-reached-most w S H f q h = rw q (label-most _ (label-taken S H (eqb (codeAt w f) 1) f h))
-
-pub takes-most : (S H : Flags) (f : ℕ) {n : ℕ} → Takes S H f n → f < 1024 → n ≤ 65535
-takes-most S H f q h = rw q (label-most _ (label-taken S H false f h))
-
-module _ (w : List ℕ) (S H : Flags) (p : Position) (en : Entered w p) (e : Terminal) (f : ℕ) (k : Rest) (ends : Ends w (p .block) e) (asks : Asks w p e f k) (h : f < blockCount w) where
-  pub reached-missing : (plan : Plan) → codeAt w f ≡ 0 → plan ≡ refusing p 10 f → PlannedBare w S H p plan
-  reached-missing plan z r = rw r (bare-planned w S H p (refusing p 10 f) (λ _. refl) (λ F R C d seen.
-      ap turn (step-by w p e F R C (ends .is) ∙ asks F R C) ∙ missing-same w S H p (en .promise) f h z (λ D taken. k F R D taken) F R C seen)
-      (refuse-fits p 10 f (λ y. omega arith)))
-
-  reached-same : (n : ℕ) (plan : Plan) → (codeAt w f ≡ 0 → ⊥) → Reached w S H f n
-      → (plan .code ≡ 0 → plan .position .rows ≡ p .rows) → (plan .code ≡ 0 → Fitting [] (p .depth) plan)
-      → ((F : List machine.Frame) (R : List Row) (C : definition.Context) → length F ≡ p .depth → Seen S H (p .visits) C → turn (k F R C (unlessNone n)) ≡ applied plan F R C)
-      → PlannedBare w S H p plan
-  reached-same n plan z r rows fit same = bare-planned w S H p plan rows (λ F R C d seen.
-      ap turn (step-by w p e F R C (ends .is) ∙ asks F R C) ∙ reach-same w S H p (en .promise) f n h (omega (arith, h, ends .few)) z r (k F R C) C seen ∙ same F R C d seen) fit
-
-  reached-label : (n : ℕ) → Reached w S H f n → Label S n
-  reached-label n q = rw q (label-taken S H (eqb (codeAt w f) 1) f (omega (arith, h, ends .few)))
-
--- and then have one nested block
 module _ (w : List ℕ) (S H : Flags) (p : Position) (en : Entered w p) (e : Terminal) (f x code at : ℕ) (ends : Ends w (p .block) e)
     (asks : Asks w p e f (λ F R C taken. into x code at (here p taken) F R (scheduledIf taken C))) (h : f < blockCount w) (u : x < blockCount w) (nz : code ≡ 0 → ⊥) where
   reached-enclosed : (n : ℕ) (plan : Plan) → (codeAt w f ≡ 0 → ⊥) → Reached w S H f n → plan ≡ enclosing (scheduledWith (has S x || has H x) n x) p n x code at → PlannedBare w S H p plan

@@ -1,33 +1,29 @@
 -- Jumps: what is looked for on the stack, and what a jump comes to.
-use Prim.Native.Nat.{ℕ, _+_, _≤_, _<_}
+use Prim.Native.Nat.{ℕ, _+_, _≤_}
 use mathlib.Core.Path.{_≡_}
 use mathlib.Core.Bool.{Bool, true, false}
 use mathlib.Core.List.{List, [], _++_}
 use mathlib.Core.Option.{Option, some}
 use lib.Dec.{eqb}
-use Rattle.definition.specs.Context.{Flags, isScheduled, getBreakTarget, getContinueTarget}
+use Rattle.definition.specs.Context.{Flags}
 use Rattle.definition.specs.Context as definition
 use Rattle.definition.specs.Machine.{jumpOut, added}
 use Rattle.definition.specs.Result.{Result, ok, refused, _>>=_}
-use Rattle.definition.specs.Statement.{breakResolved, continueResolved}
+use Rattle.definition.specs.Around.{Around}
+use Rattle.definition.specs.Goal.{breakTo, continueTo}
 use Rattle.definition.specs.Tree.{Row, Statement}
-use Rattle.control.specs.declared.Resolved.{Resolved}
-use Rattle.control.specs.declared.Resolved.the-variants.{Nothing, Found}
-use Rattle.control.specs.Abstraction.{foundBlock, resolvedOf}
+use Rattle.survey.specs.declared.Aim.{Aim}
+use Rattle.survey.specs.Abstraction.{aimOf}
 use Rattle.rows.specs.Rows.{Holds}
 use Rattle.rows.specs.Stack.{pushed}
-use Rattle.table.specs.Words.{blockWord}
+use Rattle.table.specs.Table.{tableOf, terminalAt}
 use Rattle.planner.specs.declared.jump.Jumped.{Jumped}
-use Rattle.planner.specs.declared.plan.Position.{Position}
-use Rattle.planner.specs.declared.plan.Plan.{Plan}
-use Rattle.planner.specs.declared.plan.Change.the-variants as plan
-use Rattle.planner.specs.Plans.{leaving, refusing}
-use Rattle.planner.specs.Planned.{Seen}
-
--- the target that was found is one of the 1,024 blocks
-abbrev pub FoundBelow : Resolved → Type 0
-FoundBelow Nothing = Unit {0}
-FoundBelow (Found found) = foundBlock found < 1024
+use Rattle.plan.specs.declared.Position.{Position}
+use Rattle.plan.specs.declared.Plan.{Plan}
+use Rattle.plan.specs.declared.Change.the-variants as plan
+use Rattle.plan.specs.Plans.{leaving, refusing}
+use Rattle.plan.specs.Planned.{Seen}
+use Rattle.plan.specs.Turn.{Resolves}
 
 abbrev pub jumpedTo : Bool → Jumped → Option Statement → (visits : ℕ) → Result (Option Statement)
 jumpedTo true jump statement visits = ok statement
@@ -50,11 +46,11 @@ pub record JumpMet (outcome : definition.Context → Result (Option Statement)) 
   pub most : jump .rows ≤ rows + 1
 
 -- a break of the block `at`, whose terminal has this id
-abbrev pub breakOutcome : (at block id : ℕ) → Resolved → definition.Context → Result (Option Statement)
-breakOutcome at block id resolved cx = breakResolved at block id cx (resolvedOf resolved)
+abbrev pub breakOutcome : (at block id : ℕ) → Aim → definition.Context → Result (Option Statement)
+breakOutcome at block id aim cx = breakTo at block id cx (aimOf aim)
 
-abbrev pub continueOutcome : (block id : ℕ) → Resolved → definition.Context → Result (Option Statement)
-continueOutcome block id resolved cx = continueResolved block id cx (resolvedOf resolved) >>= λ statement. ok (some statement)
+abbrev pub continueOutcome : (at block id : ℕ) → Aim → definition.Context → Result (Option Statement)
+continueOutcome at block id aim cx = continueTo at block id cx (aimOf aim) >>= λ statement. ok (some statement)
 
 -- ---- Goto and Branch
 
@@ -65,14 +61,13 @@ afterJumpBy false p jump = refusing p (jump .code) (jump .at)
 abbrev pub afterJump : Position → Jumped → Plan
 afterJump p jump = afterJumpBy (eqb (jump .code) 0) p jump
 
--- what a Goto sees: the search found what the stack has
-pub record GotoSeen (words : List ℕ) (p : Position) (scopes : Flags) (resolved : Resolved) (cx : definition.Context) : Type 0 where
+-- what a Goto sees: its goal is what the stack has, by what is around
+pub record GotoSeen (words : List ℕ) (p : Position) (scopes : Flags) (aim : Aim) (around : Around) (cx : definition.Context) : Type 0 where
   pub seen : JumpSeen scopes (p .visits) cx
-  pub breaks : blockWord words (p .block) 4 ≡ 0 → resolvedOf resolved ≡ getBreakTarget cx (blockWord words (p .block) 3)
-  pub continues : blockWord words (p .block) 4 ≡ 1 → resolvedOf resolved ≡ getContinueTarget cx (blockWord words (p .block) 3)
+  pub jump : Resolves (terminalAt (tableOf words) (p .block)) around cx (aimOf aim)
 
--- what a Branch sees: where its consequent is scheduled, the search found what the stack has
-pub record BranchSeen (words : List ℕ) (p : Position) (scheduledSet handlerSet scopes : Flags) (resolved : Resolved) (cx : definition.Context) : Type 0 where
+-- what a Branch sees: the same, where its consequent is scheduled
+pub record BranchSeen (words : List ℕ) (p : Position) (scheduledSet handlerSet scopes : Flags) (aim : Aim) (around : Around) (cx : definition.Context) : Type 0 where
   pub seen : JumpSeen scopes (p .visits) cx
   pub sets : Seen scheduledSet handlerSet (p .visits) cx
-  pub breaks : isScheduled cx (blockWord words (p .block) 4) ≡ true → resolvedOf resolved ≡ getBreakTarget cx (blockWord words (p .block) 4)
+  pub jump : Resolves (terminalAt (tableOf words) (p .block)) around cx (aimOf aim)

@@ -1,6 +1,1 @@
-pub mod Plans
-pub mod Planned
 pub mod Jumps
-pub mod Loops
-pub mod Resume
-pub mod Turn

@@ -1,16 +1,16 @@
-// The Rust's visit_break and visit_continue. The driver has searched the stack for the target.
-use crate::plan::Position;
-use control::Resolution;
-use control::Resolved;
+// The Rust's visit_break and visit_continue. The driver has searched the stack for the target, and asked the statements around.
+use plan::Position;
 use rows::BREAK;
 use rows::CONTINUE;
 use rows::put;
+use survey::Aim;
+use survey::Goal;
 ghost use mathlib.Core.Path.{_≡_};
 ghost use Prim.Native.Nat.{ℕ, _<_};
 ghost use Rattle.definition.specs.Context.{Flags};
-ghost use Rattle.control.specs.declared.Resolved.the-variants.{Found};
-ghost use Rattle.control.specs.Abstraction.{foundBlock};
-ghost use Rattle.planner.specs.Jumps.{FoundBelow, refusingJump, JumpMet, breakOutcome, continueOutcome};
+ghost use Rattle.survey.specs.declared.Aim.the-variants.{At};
+ghost use Rattle.survey.specs.Abstraction.{AimBelow};
+ghost use Rattle.planner.specs.Jumps.{refusingJump, JumpMet, breakOutcome, continueOutcome};
 
 // A jump's rows and statements, or its refusal.
 pub struct Jumped {
@@ -31,23 +31,15 @@ fn refuse_jump(code: u32, at: u32, rows: u32) -> Jumped
     }
 }
 
-// A break to a scope fallthrough gives no row if Implicit, else 22.
-fn break_to_found(
-    tree: &mut [u32],
-    scopes: &[bool; 1024],
-    p: Position,
-    id: u32,
-    found: Resolution,
-) -> Jumped
-    requires { ⌜ foundBlock found < 1024 ⌝ }
+// A break to a scope fallthrough gives no row if Implicit, else 22. A Labeled one that finds no such label is 29.
+fn break_to(tree: &mut [u32], scopes: &[bool; 1024], p: Position, id: u32, goal: Goal) -> Jumped
+    requires { ⌜ goal .target < 1024 ⌝ }
     requires { ⌜ p .rows < 1000000000 ⌝ }
-    ensures { λ r. ⌜ ((block : ℕ) → JumpMet (breakOutcome (p .block) block id (Found found)) (now (scopes .entry)) (p .visits) (p .rows) (now (tree .entry)) r (now (tree .exit))) ⌝ }
+    ensures { λ r. ⌜ ((block : ℕ) → JumpMet (breakOutcome (p .block) block id (At goal)) (now (scopes .entry)) (p .visits) (p .rows) (now (tree .entry)) r (now (tree .exit))) ⌝ }
 {
-    let target = found.block();
-    let kind = found.kind;
+    let kind = goal.kind;
     let number = kind.number();
-    let loops = found.loops;
-    let place = target as usize;
+    let place = goal.target as usize;
     if scopes[place] {
         if number == 0 {
             return Jumped {
@@ -59,7 +51,10 @@ fn break_to_found(
         }
         return refuse_jump(22, p.block, p.rows);
     }
-    let after = put(tree, p.rows, BREAK, target as u32, id, number, loops, 0);
+    if goal.unnamed {
+        return refuse_jump(29, p.block, p.rows);
+    }
+    let after = put(tree, p.rows, BREAK, goal.target, id, number, goal.loops, 0);
     Jumped {
         code: 0,
         at: 0,
@@ -74,27 +69,37 @@ pub fn visit_break(
     p: Position,
     target: u32,
     id: u32,
-    resolved: Resolved,
+    aim: Aim,
 ) -> Jumped
-    requires { ⌜ FoundBelow resolved ⌝ }
+    requires { ⌜ AimBelow aim ⌝ }
     requires { ⌜ p .rows < 1000000000 ⌝ }
-    ensures { λ r. ⌜ JumpMet (breakOutcome (p .block) target id resolved) (now (scopes .entry)) (p .visits) (p .rows) (now (tree .entry)) r (now (tree .exit)) ⌝ }
+    ensures { λ r. ⌜ JumpMet (breakOutcome (p .block) target id aim) (now (scopes .entry)) (p .visits) (p .rows) (now (tree .entry)) r (now (tree .exit)) ⌝ }
 {
-    match resolved {
-        Resolved::Nothing => refuse_jump(20, target, p.rows),
-        Resolved::Found(found) => break_to_found(tree, scopes, p, id, found),
+    match aim {
+        Aim::Nothing => refuse_jump(20, target, p.rows),
+        Aim::At(goal) => break_to(tree, scopes, p, id, goal),
     }
 }
 
-fn continue_to_found(tree: &mut [u32], rows: u32, id: u32, found: Resolution) -> Jumped
-    requires { ⌜ rows < 1000000000 ⌝ }
-    ensures { λ r. ⌜ ((block visits : ℕ) (scopes : Flags) → JumpMet (continueOutcome block id (Found found)) scopes visits rows (now (tree .entry)) r (now (tree .exit))) ⌝ }
+fn continue_to(tree: &mut [u32], p: Position, id: u32, goal: Goal) -> Jumped
+    requires { ⌜ p .rows < 1000000000 ⌝ }
+    ensures { λ r. ⌜ ((block visits : ℕ) (scopes : Flags) → JumpMet (continueOutcome (p .block) block id (At goal)) scopes visits (p .rows) (now (tree .entry)) r (now (tree .exit))) ⌝ }
 {
-    let target = found.block();
-    let kind = found.kind;
+    if goal.unnamed {
+        return refuse_jump(29, p.block, p.rows);
+    }
+    let kind = goal.kind;
     let number = kind.number();
-    let loops = found.loops;
-    let after = put(tree, rows, CONTINUE, target as u32, id, number, loops, 0);
+    let after = put(
+        tree,
+        p.rows,
+        CONTINUE,
+        goal.target,
+        id,
+        number,
+        goal.loops,
+        0,
+    );
     Jumped {
         code: 0,
         at: 0,
@@ -103,18 +108,12 @@ fn continue_to_found(tree: &mut [u32], rows: u32, id: u32, found: Resolution) ->
     }
 }
 
-pub fn visit_continue(
-    tree: &mut [u32],
-    rows: u32,
-    target: u32,
-    id: u32,
-    resolved: Resolved,
-) -> Jumped
-    requires { ⌜ rows < 1000000000 ⌝ }
-    ensures { λ r. ⌜ ((visits : ℕ) (scopes : Flags) → JumpMet (continueOutcome target id resolved) scopes visits rows (now (tree .entry)) r (now (tree .exit))) ⌝ }
+pub fn visit_continue(tree: &mut [u32], p: Position, target: u32, id: u32, aim: Aim) -> Jumped
+    requires { ⌜ p .rows < 1000000000 ⌝ }
+    ensures { λ r. ⌜ ((visits : ℕ) (scopes : Flags) → JumpMet (continueOutcome (p .block) target id aim) scopes visits (p .rows) (now (tree .entry)) r (now (tree .exit))) ⌝ }
 {
-    match resolved {
-        Resolved::Nothing => refuse_jump(21, target, rows),
-        Resolved::Found(found) => continue_to_found(tree, rows, id, found),
+    match aim {
+        Aim::Nothing => refuse_jump(21, target, p.rows),
+        Aim::At(goal) => continue_to(tree, p, id, goal),
     }
 }

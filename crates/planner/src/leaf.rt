@@ -1,9 +1,9 @@
 // Throw and Return.
-use crate::plan::Change;
-use crate::plan::NONE;
-use crate::plan::Plan;
-use crate::plan::Position;
-use crate::plan::leave;
+use plan::Change;
+use plan::NONE;
+use plan::Plan;
+use plan::Position;
+use plan::leave;
 use rows::put;
 use table::columns::block_at;
 use table::terminals::return_at;
@@ -11,7 +11,7 @@ use table::terminals::throw_at;
 ghost use mathlib.Core.Path.{_≡_};
 ghost use mathlib.Core.List.{[]};
 ghost use Rattle.table.specs.Words.{codeAt};
-ghost use Rattle.planner.specs.Planned.{Entered, Planned, terminalStep, SameVisits};
+ghost use Rattle.plan.specs.Planned.{Entered, Planned, terminalStep, SameVisits};
 
 pub fn visit_return(words: &[u32], tree: &mut [u32], p: Position) -> Plan
     requires { ⌜ Entered (now words) p ⌝ }

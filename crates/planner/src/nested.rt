@@ -1,22 +1,22 @@
 // Terminals with nested blocks and no values, and MaybeThrow: what they do is decided by the sets alone.
-use crate::fallthrough::enclose;
-use crate::fallthrough::entries_of;
-use crate::fallthrough::schedule_if;
-use crate::fallthrough::schedule_switch;
-use crate::fallthrough::scheduled_at;
-use crate::fallthrough::unless_scheduled;
-use crate::fallthrough::unless_unreachable;
-use crate::plan::Change;
-use crate::plan::Frame;
-use crate::plan::Plan;
-use crate::plan::Position;
-use crate::plan::choose;
-use crate::plan::frame_of;
-use crate::plan::leave;
-use crate::plan::refuse;
-use crate::plan::traverse_block;
-use crate::plan::with_handler;
-use crate::plan::with_scope;
+use plan::Change;
+use plan::Frame;
+use plan::Plan;
+use plan::Position;
+use plan::choose;
+use plan::fallthrough::enclose;
+use plan::fallthrough::entries_of;
+use plan::fallthrough::schedule_if;
+use plan::fallthrough::schedule_switch;
+use plan::fallthrough::scheduled_at;
+use plan::fallthrough::unless_scheduled;
+use plan::fallthrough::unless_unreachable;
+use plan::frame_of;
+use plan::leave;
+use plan::refuse;
+use plan::traverse_block;
+use plan::with_handler;
+use plan::with_scope;
 use table::columns::code_at;
 use table::terminals::if_at;
 use table::terminals::label_at;
@@ -27,7 +27,7 @@ use table::terminals::try_at;
 ghost use mathlib.Core.Path.{_≡_};
 ghost use Prim.Native.Nat.{_≤_};
 ghost use Rattle.table.specs.Words.{codeAt};
-ghost use Rattle.planner.specs.Planned.{Entered, PlannedBare};
+ghost use Rattle.plan.specs.Planned.{Entered, PlannedBare};
 
 pub fn visit_if<'a>(
     words: &[u32],

@@ -1,16 +1,17 @@
 // A turn of the walk: the visit of a block, the end of a nested list, a Switch's next case, or an entry that comes off the stack.
-use crate::plan::Frame;
-use crate::plan::Plan;
-use crate::plan::Position;
-use crate::plan::Stage;
-use crate::plan::refuse;
-use crate::resume::choose_case;
-use crate::resume::close_statement;
-use crate::resume::resume;
 use crate::visit::visit_block;
-use control::Resolved;
-ghost use Rattle.planner.specs.Jumps.{FoundBelow};
-ghost use Rattle.planner.specs.Turn.{Ready, Shown, PlannedTurn};
+use plan::Frame;
+use plan::Plan;
+use plan::Position;
+use plan::Stage;
+use plan::refuse;
+use resume::choose_case;
+use resume::close_statement;
+use resume::resume;
+use survey::Aim;
+ghost use Rattle.definition.specs.Around.{Around};
+ghost use Rattle.survey.specs.Abstraction.{AimBelow};
+ghost use Rattle.plan.specs.Turn.{Ready, Shown, PlannedTurn};
 
 pub fn plan_turn<'a>(
     words: &[u32],
@@ -21,11 +22,11 @@ pub fn plan_turn<'a>(
     scopes: &'a [bool; 1024],
     p: Position,
     frame: Frame,
-    resolved: Resolved,
+    aim: Aim,
 ) -> Plan
     requires { ⌜ Ready (now words) p frame ⌝ }
-    requires { ⌜ FoundBelow resolved ⌝ }
-    ensures { λ r. ⌜ PlannedTurn (now (words .entry)) (Shown (now (words .entry)) (now (emitted .entry)) (now (scheduled .entry)) (now («catch_handlers» .entry)) (now (scopes .entry)) p resolved) p frame (now (tree .entry)) r (now (tree .exit)) ⌝ }
+    requires { ⌜ AimBelow aim ⌝ }
+    ensures { λ r. ⌜ ((around : Around) → PlannedTurn (now (words .entry)) around (Shown (now (words .entry)) (now (emitted .entry)) (now (scheduled .entry)) (now («catch_handlers» .entry)) (now (scopes .entry)) p aim around) p frame (now (tree .entry)) r (now (tree .exit))) ⌝ }
 {
     let stage = p.stage;
     match stage {
@@ -37,7 +38,7 @@ pub fn plan_turn<'a>(
             catch_handlers,
             scopes,
             p,
-            resolved,
+            aim,
         ),
         Stage::Ended => resume(words, tree, scheduled, catch_handlers, p, frame),
         Stage::Choose => choose_case(words, tree, scheduled, catch_handlers, p, frame),

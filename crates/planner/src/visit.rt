@@ -3,37 +3,42 @@ use crate::branch::visit_branch;
 use crate::branch::visit_goto;
 use crate::leaf::visit_return;
 use crate::leaf::visit_throw;
-use crate::loops::visit_do_while;
-use crate::loops::visit_for;
-use crate::loops::visit_for_in;
-use crate::loops::visit_for_of;
-use crate::loops::visit_value;
-use crate::loops::visit_while;
 use crate::nested::visit_if;
 use crate::nested::visit_label;
 use crate::nested::visit_maybe_throw;
 use crate::nested::visit_scope;
 use crate::nested::visit_switch;
 use crate::nested::visit_try;
-use crate::plan::Change;
-use crate::plan::NONE;
-use crate::plan::Plan;
-use crate::plan::Position;
-use crate::plan::Stage;
-use crate::plan::advance;
-use crate::plan::leave;
-use crate::plan::refuse;
-use control::Resolved;
+use loops::visit_do_while;
+use loops::visit_for;
+use loops::visit_for_in;
+use loops::visit_for_of;
+use loops::visit_value;
+use loops::visit_while;
+use plan::Change;
+use plan::NONE;
+use plan::Plan;
+use plan::Position;
+use plan::Stage;
+use plan::advance;
+use plan::leave;
+use plan::refuse;
+use survey::Aim;
+use table::columns::block_at;
 use table::columns::code_at;
-use table::words::block_word;
+use table::terminals::logical_at;
+use table::terminals::optional_at;
+use table::terminals::sequence_at;
+use table::terminals::ternary_at;
 use value::instructions::put_instructions;
 ghost use mathlib.Core.Path.{_≡_};
 ghost use mathlib.Core.List.{[]};
 ghost use Rattle.table.specs.Words.{codeAt};
-ghost use Rattle.planner.specs.declared.plan.Frame.{Frame};
-ghost use Rattle.planner.specs.Jumps.{FoundBelow};
-ghost use Rattle.planner.specs.Planned.{Entered, Planned, terminalStep};
-ghost use Rattle.planner.specs.Turn.{AtTerminal, Visits, Shown, PlannedTurn};
+ghost use Rattle.plan.specs.declared.Frame.{Frame};
+ghost use Rattle.definition.specs.Around.{Around};
+ghost use Rattle.survey.specs.Abstraction.{AimBelow};
+ghost use Rattle.plan.specs.Planned.{Entered, Planned, terminalStepIn};
+ghost use Rattle.plan.specs.Turn.{AtTerminal, Visits, Shown, PlannedTurn};
 
 fn visit_terminal<'a>(
     words: &[u32],
@@ -42,32 +47,72 @@ fn visit_terminal<'a>(
     catch_handlers: &'a [bool; 1024],
     scopes: &'a [bool; 1024],
     p: Position,
-    resolved: Resolved,
+    aim: Aim,
 ) -> Plan
     requires { ⌜ Entered (now words) p ⌝ }
-    requires { ⌜ FoundBelow resolved ⌝ }
+    requires { ⌜ AimBelow aim ⌝ }
     requires { ⌜ (codeAt (now words) (p .block) ≡ 0 → ⊥) ⌝ }
-    ensures { λ r. ⌜ Planned (terminalStep (now (words .entry)) p) (AtTerminal (now (words .entry)) (now (scheduled .entry)) (now («catch_handlers» .entry)) (now (scopes .entry)) p resolved) [] (p .depth) (p .rows) (now (tree .entry)) r (now (tree .exit)) ⌝ }
+    ensures { λ r. ⌜ ((around : Around) → Planned (terminalStepIn around (now (words .entry)) p) (AtTerminal (now (words .entry)) (now (scheduled .entry)) (now («catch_handlers» .entry)) (now (scopes .entry)) p aim around) [] (p .depth) (p .rows) (now (tree .entry)) r (now (tree .exit))) ⌝ }
 {
     match code_at(words, p.block) {
         0 => refuse(p, 10, p.block), // `visit_block` has refused it
         1 => leave(NONE, p.depth, p.count, p.rows, p.visits, Change::Nothing), // Unreachable
         2 => visit_throw(words, tree, p),
         3 => visit_return(words, tree, p),
-        4 => visit_goto(words, tree, scopes, p, resolved),
+        4 => visit_goto(words, tree, scopes, p, aim),
         5 => visit_if(words, scheduled, catch_handlers, p),
-        6 => visit_branch(words, tree, scheduled, catch_handlers, scopes, p, resolved),
+        6 => visit_branch(words, tree, scheduled, catch_handlers, scopes, p, aim),
         7 => visit_switch(words, scheduled, catch_handlers, p),
         8 => visit_do_while(words, scheduled, catch_handlers, p),
         9 => visit_while(words, tree, scheduled, catch_handlers, p),
         10 => visit_for(words, tree, scheduled, catch_handlers, p),
         11 => visit_for_of(words, tree, scheduled, catch_handlers, p),
         12 => visit_for_in(words, tree, scheduled, catch_handlers, p),
-        13 => visit_value(words, tree, scheduled, catch_handlers, p, 5), // Logical
-        14 => visit_value(words, tree, scheduled, catch_handlers, p, 4), // Ternary
-        15 => visit_value(words, tree, scheduled, catch_handlers, p, 5), // Optional
+        13 => {
+            let terminal = logical_at(words, p.block);
+            visit_value(
+                words,
+                tree,
+                scheduled,
+                catch_handlers,
+                p,
+                terminal.fallthrough,
+            )
+        }
+        14 => {
+            let terminal = ternary_at(words, p.block);
+            visit_value(
+                words,
+                tree,
+                scheduled,
+                catch_handlers,
+                p,
+                terminal.fallthrough,
+            )
+        }
+        15 => {
+            let terminal = optional_at(words, p.block);
+            visit_value(
+                words,
+                tree,
+                scheduled,
+                catch_handlers,
+                p,
+                terminal.fallthrough,
+            )
+        }
         16 => visit_label(words, scheduled, catch_handlers, p),
-        17 => visit_value(words, tree, scheduled, catch_handlers, p, 4), // Sequence
+        17 => {
+            let terminal = sequence_at(words, p.block);
+            visit_value(
+                words,
+                tree,
+                scheduled,
+                catch_handlers,
+                p,
+                terminal.fallthrough,
+            )
+        }
         18 => visit_maybe_throw(words, scheduled, catch_handlers, p),
         19 => visit_try(words, scheduled, catch_handlers, p),
         20 => visit_scope(words, scheduled, catch_handlers, p), // Scope
@@ -85,11 +130,11 @@ pub fn visit_block<'a>(
     catch_handlers: &'a [bool; 1024],
     scopes: &'a [bool; 1024],
     p: Position,
-    resolved: Resolved,
+    aim: Aim,
 ) -> Plan
     requires { ⌜ Visits (now words) p ⌝ }
-    requires { ⌜ FoundBelow resolved ⌝ }
-    ensures { λ r. ⌜ ((frame : Frame) → PlannedTurn (now (words .entry)) (Shown (now (words .entry)) (now (emitted .entry)) (now (scheduled .entry)) (now («catch_handlers» .entry)) (now (scopes .entry)) p resolved) p frame (now (tree .entry)) r (now (tree .exit))) ⌝ }
+    requires { ⌜ AimBelow aim ⌝ }
+    ensures { λ r. ⌜ ((frame : Frame) (around : Around) → PlannedTurn (now (words .entry)) around (Shown (now (words .entry)) (now (emitted .entry)) (now (scheduled .entry)) (now («catch_handlers» .entry)) (now (scopes .entry)) p aim around) p frame (now (tree .entry)) r (now (tree .exit))) ⌝ }
 {
     let block = p.block;
     if p.depth >= 128 {
@@ -100,14 +145,14 @@ pub fn visit_block<'a>(
     }
     let visits = p.visits + 1;
     let begun = advance(p, p.count, p.rows, visits, Stage::Visit);
-    if block_word(words, block, 2) == 0 {
+    if code_at(words, block) == 0 {
         return refuse(begun, 10, block);
     }
     if emitted[block as usize] {
         return refuse(begun, 11, block);
     }
-    let count = block_word(words, block, 1);
-    let rows = put_instructions(words, tree, p.rows, block_word(words, block, 0), count);
-    let p = advance(p, p.count + count, rows, visits, Stage::Visit);
-    visit_terminal(words, tree, scheduled, catch_handlers, scopes, p, resolved)
+    let head = block_at(words, block);
+    let rows = put_instructions(words, tree, p.rows, head.first, head.count);
+    let p = advance(p, p.count + head.count, rows, visits, Stage::Visit);
+    visit_terminal(words, tree, scheduled, catch_handlers, scopes, p, aim)
 }

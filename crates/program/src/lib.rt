@@ -26,7 +26,7 @@ fn read_from(fd: i32, bytes: &mut [u8], from: usize) -> Input
 }
 
 // Reads until the bytes are full, the input ends or a read fails.
-pub fn read_input(fd: i32, bytes: &mut [u8]) -> Input
+fn read_input(fd: i32, bytes: &mut [u8]) -> Input
     ensures { λ r. ⌜ Counts (r .count) (now (bytes .exit)) ⌝ }
 {
     let mut count = 0;

@@ -19,12 +19,13 @@ use Rattle.definition.specs.Context.{has, ControlFlowTarget, target-if, target-
 use Rattle.definition.specs.Context.{Context, start, isScheduled, emit, withVisits, markScopeFallthrough, scheduleCatchHandler, pushed, schedule, blockedCode}
 use Rattle.definition.specs.Context.{popped, unscheduleTop, unschedule, Resolution, breakTargetFrom, getBreakTarget, continueTargetFrom}
 use Rattle.definition.specs.Context.{getContinueTarget}
+use Rattle.definition.specs.Around.{Rule, Around, outermost}
 use Rattle.definition.specs.Value.{beginVisit, ValueBlockResult, ValueTerminalResult, instructionsOf, wrapWithSequence, finalValue, finalPlace}
 use Rattle.definition.specs.Value.{allButLast, last, extractValueBlockResult, extractOrRefuse, VisitValueBlock, branchWays, testBlockEnded}
 use Rattle.definition.specs.Value.{visitTestBlock, visitValueBlockTerminal, thenFallthrough, branchValue, isEmptyGoto, maybeThrowValue}
 use Rattle.definition.specs.Value.{terminalThenFallthrough, visitValueBlockAt, visitValueBlock, appended, sequencedInstructions, innermostValue}
 use Rattle.definition.specs.Value.{unlessSame, valueBlockResultToSequence}
-use Rattle.definition.specs.Statement.{BlockResult, TerminalResult, TraverseBlock, enterBlock, unlessScheduled, unlessUnreachable, scheduleIf, scheduleSwitch}
+use Rattle.definition.specs.Statement.{BlockResult, TerminalResult, TraverseBlock, TraverseInside, enterBlock, unlessScheduled, unlessUnreachable, scheduleIf, scheduleSwitch}
 use Rattle.definition.specs.Statement.{unscheduleIf, markScopeFallthroughIf, breakToScope, breakResolved, visitBreak, continueResolved, visitContinue}
 use Rattle.definition.specs.Statement.{visitGoto, traverseUnscheduled, AlternateResult, traverseAlternate, followedBy, traverseConsequent, traverseEnclosed}
 use Rattle.definition.specs.Statement.{traverseLoop, continueBlockOf, visitUpdate, CasesResult, casesLastFirst, traverseCases, unscheduleAll}
@@ -342,29 +343,31 @@ module _ (t : Table) (nb np ni nc : ℕ) (k : Bounded t nb np ni nc) where
     scope-good labeled at v = tt
     scope-good unlabeled at v = tt
 
-    resolved-good : (at b id : ℕ) (o : Option Resolution) → Found o → id ≤ 65535 → Good RO (breakResolved at b id c o)
+    resolved-good : (o : Around) (at b id : ℕ) (found : Option Resolution) → Found found → id ≤ 65535 → Good RO (breakResolved o at b id c found)
     unfolding breakResolved
-    resolved-good at b id none h i = tt
-    resolved-good at b id (some r) h i = good-pick RO (has (c .scopeFallthroughs) (r .target)) _ _ (scope-good (r .kind) at (c .visits)) (omega (arith, h, k .few-blocks), i)
+    resolved-good o at b id none h i = tt
+    resolved-good o at b id (some r) h i =
+        good-pick RO (has (c .scopeFallthroughs) (r .target)) _ _ (scope-good (r .kind) at (c .visits))
+        (good-unless RO _ 29 at (c .visits) _ (λ _. (omega (arith, h, k .few-blocks), i)))
 
-    break-good : (at b id : ℕ) → b < nb → id ≤ 65535 → Good RO (visitBreak at b id c)
+    break-good : (o : Around) (at b id : ℕ) → b < nb → id ≤ 65535 → Good RO (visitBreak o at b id c)
     unfolding visitBreak getBreakTarget
-    break-good at b id h i = resolved-good at b id (getBreakTarget c b) (break-from (c .stack) b true 0 h) i
+    break-good o at b id h i = resolved-good o at b id (getBreakTarget c b) (break-from (c .stack) b true 0 h) i
 
-    continued-good : (b id : ℕ) (o : Option Resolution) → Found o → id ≤ 65535 → Good RangedStatement (continueResolved b id c o)
+    continued-good : (o : Around) (at b id : ℕ) (found : Option Resolution) → Found found → id ≤ 65535 → Good RangedStatement (continueResolved o at b id c found)
     unfolding continueResolved
-    continued-good b id none h i = tt
-    continued-good b id (some r) h i = (omega (arith, h, k .few-blocks), i)
+    continued-good o at b id none h i = tt
+    continued-good o at b id (some r) h i = good-unless RangedStatement _ 29 at (c .visits) _ (λ _. (omega (arith, h, k .few-blocks), i))
 
-    continue-good : (b id : ℕ) → id ≤ 65535 → Good RangedStatement (visitContinue b id c)
+    continue-good : (o : Around) (at b id : ℕ) → id ≤ 65535 → Good RangedStatement (visitContinue o at b id c)
     unfolding visitContinue getContinueTarget Stacked
-    continue-good b id i = continued-good b id (getContinueTarget c b) (continue-from (c .stack) b true 0 s) i
+    continue-good o at b id i = continued-good o at b id (getContinueTarget c b) (continue-from (c .stack) b true 0 s) i
 
-    goto-good : (w : Variant) (at b id : ℕ) → b < nb → id ≤ 65535 → Good (λ r. RO (r .statement) × Stacked (r .context)) (visitGoto w at b id c)
+    goto-good : (o : Around) (w : Variant) (at b id : ℕ) → b < nb → id ≤ 65535 → Good (λ r. RO (r .statement) × Stacked (r .context)) (visitGoto o w at b id c)
     unfolding visitGoto
-    goto-good Break at b id h i = good-bind RO (λ r. RO (r .statement) × Stacked (r .context)) _ _ (break-good at b id h i) (λ z q. (q, s))
-    goto-good Continue at b id h i = good-bind RangedStatement (λ r. RO (r .statement) × Stacked (r .context)) _ _ (continue-good b id i) (λ z q. (q, s))
-    goto-good Try at b id h i = (tt, s)
+    goto-good o Break at b id h i = good-bind RO (λ r. RO (r .statement) × Stacked (r .context)) _ _ (break-good o at b id h i) (λ z q. (q, s))
+    goto-good o Continue at b id h i = good-bind RangedStatement (λ r. RO (r .statement) × Stacked (r .context)) _ _ (continue-good o at b id i) (λ z q. (q, s))
+    goto-good o Try at b id h i = (tt, s)
 
   -- ---- cases, last first
 
@@ -427,11 +430,36 @@ module _ (t : Table) (nb np ni nc : ℕ) (k : Bounded t nb np ni nc) where
   followed-ranged none more h q = q
   followed-ranged (some z) more h q = (h, q)
 
-  module _ (visit : VisitValueBlock) (vr : VisitRanged visit) (inner : TraverseBlock) (wr : WalkRanged inner) where
+  abbrev SA : AlternateResult → Type 0
+  SA r = RangedStatements (r .statements) × Stacked (r .context)
+
+  abbrev SC : CasesResult → Type 0
+  SC r = RangedCases (r .cases) × Stacked (r .context)
+
+  all-good : (ids : List ℕ) (c : Context) → Stacked c → Good Stacked (unscheduleAll ids c)
+  unfolding unscheduleAll
+  all-good [] c s = s
+  all-good (i ∷ ids) c s = good-bind Stacked Stacked _ _ (unschedule-good c s i) (λ c₁ s₁. all-good ids c₁ s₁)
+
+  module _ (visit : VisitValueBlock) (vr : VisitRanged visit) where
     value-good : (b : ℕ) (f : Option ℕ) (span : Span) (v : ℕ) → Spanned span → Good VB (visit b f span v)
     unfolding VisitRanged
     value-good b f span v h = vr b f span v h
 
+    update-good : (u : Option ℕ) (span : Span) (v : ℕ) → Spanned span → Good (λ r. RangedUpdate (r .value)) (visitUpdate visit u span v)
+    unfolding visitUpdate
+    update-good none span v h = tt
+    update-good (some u) span v h = good-bind VB (λ r. RangedUpdate (r .value)) _ _ (value-good u none span v h) (λ r q. q .0)
+
+    statement-good : (x : Terminal) (at : ℕ) (f : ℕ) (c : Context) → Stacked c → InRange nb np nc x → f < nb → Good ST (visitValueStatement t visit x at (blockAt t at) f c)
+    unfolding visitValueStatement
+    statement-good x at f c s r h =
+        good-bind Stacked ST _ _ (if-good c s (unlessScheduled c f) (taken-below c f h)) (λ c₁ s₁.
+        good-bind VT ST _ _ (end-good visit vr x (blockAt t at .id) (blockAt t at .span) (c₁ .visits) at r (k .id at) (k .span at)) (λ q p.
+        good-bind Stacked ST _ _ (unschedule-if-good (withVisits (q .visits) c₁) (visits-stacked c₁ s₁ (q .visits)) (unlessScheduled c f) (c .nextId)) (λ c₂ s₂.
+        ((p .2, omega (arith, p .1, k .few-places), k .span at, p .0), s₂))))
+
+  module _ (inner : TraverseBlock) (wr : WalkRanged inner) where
     walk-good : (b : ℕ) (c : Context) → Stacked c → Good SB (inner b c)
     unfolding WalkRanged
     walk-good b c s = wr b c s
@@ -440,17 +468,14 @@ module _ (t : Table) (nb np ni nc : ℕ) (k : Bounded t nb np ni nc) where
     unfolding traverseUnscheduled
     unscheduled-good b code at c s = good-unless SB _ code at (c .visits) _ (λ _. walk-good b c s)
 
-    abbrev SA : AlternateResult → Type 0
-    SA r = RangedStatements (r .statements) × Stacked (r .context)
-
     alternate-good : (a f : ℕ) (c : Context) → Stacked c → Good SA (traverseAlternate inner a f c)
     unfolding traverseAlternate
     alternate-good a f c s = good-pick SA (eqb a f) _ _ (tt, s) (good-bind SB SA _ _ (unscheduled-good a 13 a c s) (λ r h. h))
 
-    consequent-good : (at y i : ℕ) (c : Context) → Stacked c → y < nb → i ≤ 65535 → Good SB (traverseConsequent inner at y i c)
+    consequent-good : (o : Around) (at y i : ℕ) (c : Context) → Stacked c → y < nb → i ≤ 65535 → Good SB (traverseConsequent o inner at y i c)
     unfolding traverseConsequent
-    consequent-good at y i c s h q =
-        good-pick SB (isScheduled c y) _ _ (good-bind (RO start start-stacked) SB _ _ (break-good c s at y i h q) (λ z p. (followed-ranged z done p tt, s))) (walk-good y c s)
+    consequent-good o at y i c s h q =
+        good-pick SB (isScheduled c y) _ _ (good-bind (RO start start-stacked) SB _ _ (break-good c s o at y i h q) (λ z p. (followed-ranged z done p tt, s))) (walk-good y c s)
 
     enclosed-good : (b code at : ℕ) (g : Option ℕ) (c c₁ : Context) (make : Statements → Statement) → Stacked c₁ → ((z : Statements) → RangedStatements z → RangedStatement (make z))
         → Good ST (traverseEnclosed inner b code at g c c₁ make)
@@ -465,19 +490,6 @@ module _ (t : Table) (nb np ni nc : ℕ) (k : Bounded t nb np ni nc) where
         good-unless ST y 16 at v _ (λ _.
         good-bind SB ST _ _ (walk-good l (withVisits v c) (visits-stacked c s v)) (λ r h. good-bind Stacked ST _ _ (unschedule-good (r .context) (h .1) i) (λ c₂ s₂. (mk (r .statements) (h .0), s₂))))
 
-    update-good : (u : Option ℕ) (span : Span) (v : ℕ) → Spanned span → Good (λ r. RangedUpdate (r .value)) (visitUpdate visit u span v)
-    unfolding visitUpdate
-    update-good none span v h = tt
-    update-good (some u) span v h = good-bind VB (λ r. RangedUpdate (r .value)) _ _ (value-good u none span v h) (λ r q. q .0)
-
-    all-good : (ids : List ℕ) (c : Context) → Stacked c → Good Stacked (unscheduleAll ids c)
-    unfolding unscheduleAll
-    all-good [] c s = s
-    all-good (i ∷ ids) c s = good-bind Stacked Stacked _ _ (unschedule-good c s i) (λ c₁ s₁. all-good ids c₁ s₁)
-
-    abbrev SC : CasesResult → Type 0
-    SC r = RangedCases (r .cases) × Stacked (r .context)
-
     cases-good : (at f : ℕ) (ks : List Case) (ids : List ℕ) (c : Context) → Stacked c → Cased nb ks → Good SC (traverseCases inner at f ks ids c)
     unfolding traverseCases
     cases-good at f [] ids c s h = (tt, s)
@@ -487,59 +499,52 @@ module _ (t : Table) (nb np ni nc : ℕ) (k : Bounded t nb np ni nc) where
         good-bind Stacked SC _ _ (schedule-good (r .context) (q .1) (target-case (x .block)) (h .1)) (λ c₁ s₁.
         good-bind SC SC _ _ (cases-good at f ks (r .context .nextId ∷ ids) c₁ s₁ (h .2)) (λ z p. ((h .0, q .0, p .0), p .1)))))
 
-    statement-good : (x : Terminal) (at : ℕ) (f : ℕ) (c : Context) → Stacked c → InRange nb np nc x → f < nb → Good ST (visitValueStatement t visit x at (blockAt t at) f c)
-    unfolding visitValueStatement
-    statement-good x at f c s r h =
-        good-bind Stacked ST _ _ (if-good c s (unlessScheduled c f) (taken-below c f h)) (λ c₁ s₁.
-        good-bind VT ST _ _ (end-good visit vr x (blockAt t at .id) (blockAt t at .span) (c₁ .visits) at r (k .id at) (k .span at)) (λ q p.
-        good-bind Stacked ST _ _ (unschedule-if-good (withVisits (q .visits) c₁) (visits-stacked c₁ s₁ (q .visits)) (unlessScheduled c f) (c .nextId)) (λ c₂ s₂.
-        ((p .2, omega (arith, p .1, k .few-places), k .span at, p .0), s₂))))
-
-    terminal-good : (x : Terminal) (at : ℕ) (c : Context) → Stacked c → InRange nb np nc x → Good ST (visitTerminal t visit inner x at (blockAt t at) c)
+  module _ (visit : VisitValueBlock) (vr : VisitRanged visit) (inner : TraverseInside) (wr : (o : Around) → WalkRanged (inner o)) where
+    terminal-good : (o : Around) (x : Terminal) (at : ℕ) (c : Context) → Stacked c → InRange nb np nc x → Good ST (visitTerminal t visit inner o x at (blockAt t at) c)
     unfolding visitTerminal
-    terminal-good absent at c s r = tt
-    terminal-good unreachable at c s r = (tt, s)
-    terminal-good (throw v) at c s r = ((omega (arith, r, k .few-places), k .id at), s)
-    terminal-good (return v) at c s r = ((omega (arith, r, k .few-places), k .id at), s)
-    terminal-good (goto b w) at c s r = goto-good c s w at b (blockAt t at .id) r (k .id at)
-    terminal-good (if x y a f) at c s r =
+    terminal-good o absent at c s r = tt
+    terminal-good o unreachable at c s r = (tt, s)
+    terminal-good o (throw v) at c s r = ((omega (arith, r, k .few-places), k .id at), s)
+    terminal-good o (return v) at c s r = ((omega (arith, r, k .few-places), k .id at), s)
+    terminal-good o (goto b w) at c s r = goto-good c s o w at b (blockAt t at .id) r (k .id at)
+    terminal-good o (if x y a f) at c s r =
         good-bind (Below nb) ST _ _ (reachable-below c f (r .3)) (λ g l.
         good-bind Stacked ST _ _ (if-good c s g l) (λ c₁ s₁.
-        good-bind SB ST _ _ (unscheduled-good y 12 y c₁ s₁) (λ p h.
-        good-bind SA ST _ _ (alternate-good a f (p .context) (h .1)) (λ z q.
+        good-bind SB ST _ _ (unscheduled-good _ (wr _) y 12 y c₁ s₁) (λ p h.
+        good-bind SA ST _ _ (alternate-good _ (wr _) a f (p .context) (h .1)) (λ z q.
         good-bind Stacked ST _ _ (unschedule-if-good (z .context) (q .1) g (c .nextId)) (λ c₂ s₂. ((omega (arith, r .0, k .few-places), k .id at, label-below g l, h .0, q .0), s₂))))))
-    terminal-good (branch x y a) at c s r =
-        good-bind SB ST _ _ (consequent-good at y (blockAt t at .id) c s (r .1) (k .id at)) (λ p h.
-        good-bind SB ST _ _ (unscheduled-good a 19 at (p .context) (h .1)) (λ z q. ((omega (arith, r .0, k .few-places), k .id at, tt, h .0, q .0), q .1)))
-    terminal-good (switch x i n f) at c s r =
+    terminal-good o (branch x y a) at c s r =
+        good-bind SB ST _ _ (consequent-good _ (wr _) o at y (blockAt t at .id) c s (r .1) (k .id at)) (λ p h.
+        good-bind SB ST _ _ (unscheduled-good _ (wr _) a 19 at (p .context) (h .1)) (λ z q. ((omega (arith, r .0, k .few-places), k .id at, tt, h .0, q .0), q .1)))
+    terminal-good o (switch x i n f) at c s r =
         good-bind (Below nb) ST _ _ (reachable-below c f (r .2)) (λ g l.
         good-bind Stacked ST _ _ (switch-good c s g l) (λ c₁ s₁.
-        good-bind SC ST _ _ (cases-good at f (casesLastFirst t i n) (scheduleIds g (c .nextId)) c₁ s₁ (last-first i n)) (λ p h.
+        good-bind SC ST _ _ (cases-good _ (wr _) at f (casesLastFirst t i n) (scheduleIds g (c .nextId)) c₁ s₁ (last-first i n)) (λ p h.
         good-bind Stacked ST _ _ (all-good (p .ids) (p .context) (h .1)) (λ c₂ s₂. ((omega (arith, r .0, k .few-places), k .id at, label-below g l, h .0), s₂)))))
-    terminal-good (do-while l x f) at c s r =
+    terminal-good o (do-while l x f) at c s r =
         good-bind Stacked ST _ _ (schedule-good c s (target-loop f x l) (r .2)) (λ c₁ s₁.
         good-unless ST _ 16 at (c₁ .visits) _ (λ _.
-        good-bind SB ST _ _ (walk-good l c₁ s₁) (λ p h.
-        good-bind VB ST _ _ (value-good x none (blockAt t at .span) (p .context .visits) (k .span at)) (λ v q.
+        good-bind SB ST _ _ (walk-good _ (wr _) l c₁ s₁) (λ p h.
+        good-bind VB ST _ _ (value-good visit vr x none (blockAt t at .span) (p .context .visits) (k .span at)) (λ v q.
         good-bind Stacked ST _ _ (unschedule-good (withVisits (v .visits) (p .context)) (visits-stacked (p .context) (h .1) (v .visits)) (c .nextId)) (λ c₂ s₂.
         ((k .id at, label-below (unlessScheduled c f) (taken-below c f (r .2)), h .0, q .0), s₂))))))
-    terminal-good (while x l f) at c s r =
+    terminal-good o (while x l f) at c s r =
         good-bind (Below nb) ST _ _ (reachable-below c f (r .2)) (λ g z.
         good-bind Stacked ST _ _ (schedule-good c s (target-loop f x l) (r .2)) (λ c₁ s₁.
-        good-bind VB ST _ _ (value-good x none (blockAt t at .span) (c₁ .visits) (k .span at)) (λ v q.
-        body-good at l _ (v .visits) (c .nextId) c₁ g _ s₁ (λ b h. (k .id at, label-below g z, q .0, h)))))
-    terminal-good (for i x u l f) at c s r =
+        good-bind VB ST _ _ (value-good visit vr x none (blockAt t at .span) (c₁ .visits) (k .span at)) (λ v q.
+        body-good _ (wr _) at l _ (v .visits) (c .nextId) c₁ g _ s₁ (λ b h. (k .id at, label-below g z, q .0, h)))))
+    terminal-good o (for i x u l f) at c s r =
         good-bind Stacked ST _ _ (schedule-good c s (target-loop f (continueBlockOf u x) l) (r .4)) (λ c₁ s₁.
-        good-bind VB ST _ _ (value-good i none (blockAt t at .span) (c₁ .visits) (k .span at)) (λ n p.
-        good-bind VB ST _ _ (value-good x none (blockAt t at .span) (n .visits) (k .span at)) (λ v q.
-        good-bind (λ r. RangedUpdate (r .value)) ST _ _ (update-good u (blockAt t at .span) (v .visits) (k .span at)) (λ w z.
-        body-good at l _ (w .visits) (c .nextId) c₁ _ _ s₁
+        good-bind VB ST _ _ (value-good visit vr i none (blockAt t at .span) (c₁ .visits) (k .span at)) (λ n p.
+        good-bind VB ST _ _ (value-good visit vr x none (blockAt t at .span) (n .visits) (k .span at)) (λ v q.
+        good-bind (λ r. RangedUpdate (r .value)) ST _ _ (update-good visit vr u (blockAt t at .span) (v .visits) (k .span at)) (λ w z.
+        body-good _ (wr _) at l _ (w .visits) (c .nextId) c₁ _ _ s₁
         (λ b h. (k .id at, label-below (unlessScheduled c f) (taken-below c f (r .4)), sequence-ranged n (blockAt t at .span) p (k .span at), q .0, z, h))))))
-    terminal-good (for-of i x l f) at c s r =
+    terminal-good o (for-of i x l f) at c s r =
         good-bind Stacked ST _ _ (schedule-good c s (target-loop f i l) (r .3)) (λ c₁ s₁.
-        good-bind VB ST _ _ (value-good i none (blockAt t at .span) (c₁ .visits) (k .span at)) (λ n p.
-        good-bind VB ST _ _ (value-good x none (blockAt t at .span) (n .visits) (k .span at)) (λ v q.
-        body-good at l _ (v .visits) (c .nextId) c₁ _ _ s₁
+        good-bind VB ST _ _ (value-good visit vr i none (blockAt t at .span) (c₁ .visits) (k .span at)) (λ n p.
+        good-bind VB ST _ _ (value-good visit vr x none (blockAt t at .span) (n .visits) (k .span at)) (λ v q.
+        body-good _ (wr _) at l _ (v .visits) (c .nextId) c₁ _ _ s₁
         (λ b h. (
           k .id at,
           label-below (unlessScheduled c f) (taken-below c f (r .3)),
@@ -548,28 +553,28 @@ module _ (t : Table) (nb np ni nc : ℕ) (k : Bounded t nb np ni nc) where
           sequence-ranged v (blockAt t at .span) q (k .span at),
           h,
         )))))
-    terminal-good (for-in i l f) at c s r =
+    terminal-good o (for-in i l f) at c s r =
         good-bind Stacked ST _ _ (schedule-good c s (target-loop f i l) (r .2)) (λ c₁ s₁.
-        good-bind VB ST _ _ (value-good i none (blockAt t at .span) (c₁ .visits) (k .span at)) (λ n p.
-        body-good at l _ (n .visits) (c .nextId) c₁ _ _ s₁
+        good-bind VB ST _ _ (value-good visit vr i none (blockAt t at .span) (c₁ .visits) (k .span at)) (λ n p.
+        body-good _ (wr _) at l _ (n .visits) (c .nextId) c₁ _ _ s₁
         (λ b h. (k .id at, label-below (unlessScheduled c f) (taken-below c f (r .2)), k .span at, sequence-ranged n (blockAt t at .span) p (k .span at), h))))
-    terminal-good (logical o x f) at c s r = statement-good (logical o x f) at f c s r (r .2)
-    terminal-good (ternary x f) at c s r = statement-good (ternary x f) at f c s r (r .1)
-    terminal-good (optional g x f) at c s r = statement-good (optional g x f) at f c s r (r .2)
-    terminal-good (label x f) at c s r =
+    terminal-good o (logical p x f) at c s r = statement-good visit vr (logical p x f) at f c s r (r .2)
+    terminal-good o (ternary x f) at c s r = statement-good visit vr (ternary x f) at f c s r (r .1)
+    terminal-good o (optional g x f) at c s r = statement-good visit vr (optional g x f) at f c s r (r .2)
+    terminal-good o (label x f) at c s r =
         good-bind (Below nb) ST _ _ (reachable-below c f (r .1)) (λ g l.
-        good-bind Stacked ST _ _ (if-good c s g l) (λ c₁ s₁. enclosed-good x 17 at g c c₁ _ s₁ (λ z h. (k .id at, label-below g l, h))))
-    terminal-good (sequence x f) at c s r = statement-good (sequence x f) at f c s r (r .1)
-    terminal-good (maybe-throw x) at c s r = (tt, s)
-    terminal-good (try x y f n) at c s r =
+        good-bind Stacked ST _ _ (if-good c s g l) (λ c₁ s₁. enclosed-good _ (wr _) x 17 at g c c₁ _ s₁ (λ z h. (k .id at, label-below g l, h))))
+    terminal-good o (sequence x f) at c s r = statement-good visit vr (sequence x f) at f c s r (r .1)
+    terminal-good o (maybe-throw x) at c s r = (tt, s)
+    terminal-good o (try x y f n) at c s r =
         good-bind (Below nb) ST _ _ (reachable-below c f (r .2)) (λ g l.
         good-bind Stacked ST _ _ (if-good c s g l) (λ c₁ s₁.
-        good-bind SB ST _ _ (walk-good x (scheduleCatchHandler y c₁) (handler-stacked c₁ s₁ y)) (λ p h.
-        good-bind SB ST _ _ (walk-good y (p .context) (h .1)) (λ z q.
+        good-bind SB ST _ _ (walk-good _ (wr _) x (scheduleCatchHandler y c₁) (handler-stacked c₁ s₁ y)) (λ p h.
+        good-bind SB ST _ _ (walk-good _ (wr _) y (p .context) (h .1)) (λ z q.
         good-bind Stacked ST _ _ (unschedule-if-good (z .context) (q .1) g (c .nextId)) (λ c₂ s₂. ((k .id at, label-below g l, binding-below n (r .3), h .0, q .0), s₂))))))
-    terminal-good (scope p x f n) at c s r =
+    terminal-good o (scope p x f n) at c s r =
         good-bind Stacked ST _ _ (if-good c s (unlessScheduled c f) (taken-below c f (r .1))) (λ c₁ s₁.
-        enclosed-good x 18 at (unlessScheduled c f) c _ _ (mark-stacked c₁ s₁ (unlessScheduled c f)) (λ z h. (r .2, h)))
+        enclosed-good _ (wr _) x 18 at (unlessScheduled c f) c _ _ (mark-stacked c₁ s₁ (unlessScheduled c f)) (λ z h. (r .2, h)))
 
   -- ---- blocks
 
@@ -589,19 +594,20 @@ module _ (t : Table) (nb np ni nc : ℕ) (k : Bounded t nb np ni nc) where
   unfolding enterBlock
   enter-good b c s = good-bind Any Stacked _ _ (good-any (beginVisit t b (c .visits))) (λ v _. good-unless Stacked _ 11 b v _ (λ _. emit-stacked c s b v))
 
-  visit-block-ranged : (visit : VisitValueBlock) → VisitRanged visit → (inner : TraverseBlock) → WalkRanged inner → (n : ℕ) → WalkRanged (visitBlock t visit inner n)
+  visit-block-ranged : (visit : VisitValueBlock) → VisitRanged visit → (inner : TraverseInside) → ((o : Around) → WalkRanged (inner o)) → (o : Around) (n : ℕ)
+      → WalkRanged (visitBlock t visit inner o n)
   unfolding visitBlock WalkRanged
-  visit-block-ranged visit vr inner wr zero b c s = tt
-  visit-block-ranged visit vr inner wr (suc n) b c s =
+  visit-block-ranged visit vr inner wr o zero b c s = tt
+  visit-block-ranged visit vr inner wr o (suc n) b c s =
       good-bind Stacked SB _ _ (enter-good b c s) (λ c₁ s₁.
-      good-bind ST SB _ _ (terminal-good visit vr inner wr (terminalAt t b) b c₁ s₁ (k .ends b)) (λ r h.
-      next-good b (visitBlock t visit inner n) (r .statement) (r .next) (r .context) (visit-block-ranged visit vr inner wr n) (h .0) (h .1)))
+      good-bind ST SB _ _ (terminal-good visit vr inner wr o (terminalAt t b) b c₁ s₁ (k .ends b)) (λ r h.
+      next-good b (visitBlock t visit inner o n) (r .statement) (r .next) (r .context) (visit-block-ranged visit vr inner wr o n) (h .0) (h .1)))
 
-  walk-ranged : (d : ℕ) → WalkRanged (traverseBlock t d)
+  walk-ranged : (d : ℕ) (o : Around) → WalkRanged (traverseBlock t d o)
   unfolding traverseBlock WalkRanged
-  walk-ranged zero b c s = tt
-  walk-ranged (suc d) b c s = visit-block-ranged (visitValueBlock t d) (visit-ranged d) (traverseBlock t d) (walk-ranged d) 8193 b c s
+  walk-ranged zero o b c s = tt
+  walk-ranged (suc d) o b c s = visit-block-ranged (visitValueBlock t d) (visit-ranged d) (traverseBlock t d) (walk-ranged d) o 8193 b c s
 
-  pub tree-ranged : (r : BlockResult) → buildTree t ≡ ok r → RangedStatements (r .statements)
+  pub tree-ranged : (rule : Rule) (r : BlockResult) → buildTree rule t ≡ ok r → RangedStatements (r .statements)
   unfolding buildTree WalkRanged
-  tree-ranged r e = subst (λ (z : Result BlockResult). Good SB z) e (walk-ranged 128 (t .entry) start start-stacked) .0
+  tree-ranged rule r e = subst (λ (z : Result BlockResult). Good SB z) e (walk-ranged 128 (outermost rule) (t .entry) start start-stacked) .0

@@ -1,18 +1,21 @@
 -- The whole file: its line of names, its bytes one by one, and the check of its words.
 use mathlib.Core.Path.{_≡_, refl, sym, ap, _∙_, subst}
-use Prim.Native.Nat.{ℕ, suc, _+_, _-_, _*_, _/_, _<_, _≤_}
+use Prim.Native.Nat.{ℕ, suc, _+_, _-_, _*_, _/_, _^_, _<_, _≤_}
 use native.Mathlib.Omega.{arith}
 use native.Mathlib.Numerals.{add-one}
 use mathlib.Core.List.{List, [], _∷_, _++_, append-nil, append-assoc}
 use mathlib.Core.Bool.{Bool, true, false, not, _||_, cond}
-use lib.ListN.{length, getD, set, length-set, take, drop, drop-of-length-le}
+use lib.ListN.{length, getD, set, length-set, take, drop, drop-of-length-le, length-append}
 use lib.Seq.{drop-cons}
 use lib.Dec.{eqb}
 use borrow.Author.Tests.{eq-eqb, ne-eqb, eqb-true, eqb-false, le-leb, lt-leb}
 use Rattle.text.specs.Form.{ending}
 use Rattle.text.specs.Lent.{Holds}
-use Rattle.text.specs.Printed.{treeNames}
+use Rattle.text.specs.Line.{line}
+use Rattle.text.specs.Printed.{treeNames, writtenOf, lentOf}
+use Rattle.text.specs.declared.write.Written.{Written}
 use Rattle.text.proofs.LentLaws.{holds-none, holds-put, holds-all}
+use Rattle.text.proofs.WriteLaws.{line-most, text-fits}
 use Rattle.definition.proofs.Steps.{true-false}
 use Rattle.reading.specs.Needs.{treeVerdict, codeOf, atOf}
 use Rattle.treerows.specs.Found.{treeRead, noList, TreeAnswered}
@@ -23,7 +26,7 @@ use Rattle.treerows.specs.declared.TreeRead.{TreeRead}
 use Rattle.rowfile.specs.declared.Rows.{Rows}
 use Rattle.rowfile.specs.declared.scan.Scan.{Scan}
 use Rattle.rowfile.specs.Scan.{Scanned, stopped, words, follows, digitOf, nextColumn, refusedScan, firstDigit, inNumber, stepped, withWords, endedWord, scanned, startScan, alike, fileWords}
-use Rattle.rowfile.specs.Prints.{scanChecked, fileChecked}
+use Rattle.rowfile.specs.Prints.{scanChecked, fileChecked, checkNames, printedCheck, WrittenCheck}
 use Rattle.rowfile.specs.Read.{NamesEnd, Kept, rowsRefused, scanEnd, RowsRead, checkedAs}
 
 -- ---- the line of names
@@ -241,3 +244,16 @@ module _ (file : List ℕ) where
         let list : List ℕ = read .read e .0 in
         let is : fileWords file ≡ words list = read .read e .1 in
         h list (read .read e .2) ∙ sym (within-limit ∙ rw is)
+
+-- ---- what is printed
+
+-- 30 bytes are enough
+pub check-written : (code at : ℕ) {room : ℕ} {r : Written} {lent : List ℕ} → code < 2 ^ 32 → at < 2 ^ 32
+    → r ≡ writtenOf room (printedCheck (record { code = code; at = at })) → lent ≡ lentOf room (printedCheck (record { code = code; at = at }))
+    → WrittenCheck (record { code = code; at = at }) room r lent
+unfolding printedCheck
+check-written code at {room} p q answer bytes = record {
+  answer = answer;
+  bytes = bytes;
+  enough = λ long. answer ∙ text-fits room (checkNames ++ line (code ∷ at ∷ [])) (simp length-append (omega (arith, line-most (code ∷ at ∷ []) (p, (q, tt)), long)));
+}

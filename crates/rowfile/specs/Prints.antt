@@ -1,13 +1,12 @@
 -- What treecheck prints of a file: `code at` and the two numbers.
 use Prim.Native.Nat.{ℕ}
-use mathlib.Core.Path.{_≡_}
 use mathlib.Core.List.{List, [], _∷_, _++_}
 use mathlib.Core.Bool.{true, false}
 use lib.ListN.{length}
 use lib.Dec.{leb}
 use Rattle.text.specs.Ascii.{ascii}
 use Rattle.text.specs.Line.{line}
-use Rattle.text.specs.Printed.{writtenOf, lentOf}
+use Rattle.text.specs.Prints.{WrittenText}
 use Rattle.text.specs.declared.write.Written.{Written}
 use Rattle.reading.specs.Needs.{treeVerdict, codeOf, atOf}
 use Rattle.treerows.specs.declared.TreeChecked.{TreeChecked}
@@ -31,6 +30,5 @@ unfoldable pub printedCheck : TreeChecked → List ℕ
 printedCheck checked = checkNames ++ line (checked .code ∷ checked .at ∷ [])
 
 -- the answer of writing that into `room` lent bytes, and what these hold then; 30 bytes are enough
-pub record WrittenCheck (checked : TreeChecked) (room : ℕ) (r : Written) (lent : List ℕ) : Type 0 where
-  pub answer : r ≡ writtenOf room (printedCheck checked)
-  pub bytes : lent ≡ lentOf room (printedCheck checked)
+abbrev pub WrittenCheck : (checked : TreeChecked) → (room : ℕ) → (r : Written) → (lent : List ℕ) → Type 0
+WrittenCheck checked room r lent = WrittenText 30 (printedCheck checked) room r lent

@@ -9,8 +9,11 @@ use native.Mathlib.Nat.{zero-add}
 use lib.ListN.{length, getD}
 use lib.Dec.{ltb, eqb}
 use borrow.Author.Tests.{ltb-true, leb-true, eqb-true, ltb-false, eqb-false, lt-ltb, le-ltb, le-leb}
-use Rattle.table.specs.Words.{word, entryWord, blockCount, instructionCount, caseCount, placeCount, identifierCount, wordsNeeded, blocksBegin, instructionsBegin, casesBegin, placesBegin, identifiersBegin, blockWord, instructionWord, caseWord, placeWord, identifierWord, largest}
-use Rattle.table.specs.Check.{Verdict, accepted, refused, Rule, unused, number, row, row-or-none, rows-from, fits, rowVerdict, rowsVerdict, limits, countsVerdict, wordsVerdict, checked, blockRules, instructionRules, caseRules, placeRules, identifierRules}
+use Rattle.table.specs.Words.{word, entryWord, blockCount, instructionCount, caseCount, placeCount, identifierCount, wordsNeeded, blocksBegin}
+use Rattle.table.specs.Words.{instructionsBegin, casesBegin, placesBegin, identifiersBegin, blockWord, instructionWord, caseWord, placeWord}
+use Rattle.table.specs.Words.{identifierWord, largest}
+use Rattle.table.specs.Check.{Verdict, accepted, refused, Rule, unused, number, row, row-or-none, rows-from, fits, rowVerdict, rowsVerdict, limits}
+use Rattle.table.specs.Check.{countsVerdict, wordsVerdict, checked, blockRules, instructionRules, caseRules, placeRules, identifierRules}
 use Rattle.table.specs.Promise.{Limited, Promise}
 use Rattle.table.proofs.RowLaws.{row-fits, fits-row, rows-row, row-rows, on, both}
 use Rattle.table.proofs.RuleLaws.{block-width, instruction-width, case-width, place-width, identifier-width}
@@ -117,7 +120,9 @@ module _ (ws : List ℕ) where
         instruction = every ws (instructionRules ws) 7 (instruction-width ws) (instructionsBegin ws) (instructionCount ws) (instructions .0);
         case = every ws (caseRules ws) 2 (case-width ws) (casesBegin ws) (caseCount ws) (cases .0);
         place = λ i l. row-below _ _ (single _ (placesBegin ws) i (every ws (placeRules ws) 1 (place-width ws) (placesBegin ws) (placeCount ws) (places .0) i l 0 (omega arith)));
-        identifier = λ i l. number-most _ _ (single _ (identifiersBegin ws) i (every ws (identifierRules ws) 1 (identifier-width ws) (identifiersBegin ws) (identifierCount ws) (places .1) i l 0 (omega arith)));
+        identifier =
+            λ i l. number-most _ _ (single _ (identifiersBegin ws) i
+            (every ws (identifierRules ws) 1 (identifier-width ws) (identifiersBegin ws) (identifierCount ws) (places .1) i l 0 (omega arith)));
       }
     where
       single : (rule : Rule) (begin i : ℕ) → fits rule (word ws (begin + i * 1 + 0)) ≡ true → fits rule (word ws (begin + i)) ≡ true
@@ -132,7 +137,8 @@ module _ (ws : List ℕ) where
       ∙ (on _ _ (every-row ws (instructionRules ws) 7 (instruction-width ws) (instructionsBegin ws) (instructionCount ws) (p .instruction))
       ∙ (on _ _ (every-row ws (caseRules ws) 2 (case-width ws) (casesBegin ws) (caseCount ws) (p .case))
       ∙ (on _ _ (every-row ws (placeRules ws) 1 (place-width ws) (placesBegin ws) (placeCount ws) (λ i l k m. single _ (placesBegin ws) i k m (row-fitting _ _ (p .place i l))))
-      ∙ every-row ws (identifierRules ws) 1 (identifier-width ws) (identifiersBegin ws) (identifierCount ws) (λ i l k m. single _ (identifiersBegin ws) i k m (number-fitting _ _ (p .identifier i l)))))))
+      ∙ every-row ws (identifierRules ws) 1 (identifier-width ws) (identifiersBegin ws) (identifierCount ws)
+      (λ i l k m. single _ (identifiersBegin ws) i k m (number-fitting _ _ (p .identifier i l)))))))
     where
       counts : Limited ws → (k : ℕ) → k < 5 → word ws (1 + k) ≤ getD limits k 0
       counts l zero h = l .blocks

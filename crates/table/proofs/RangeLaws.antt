@@ -10,7 +10,8 @@ use lib.ListN.{getD, getD-replicate}
 use lib.Dec.{ltb, eqb}
 use borrow.Author.Tests.{eqb-true, eqb-false, ltb-true}
 use Rattle.table.specs.Words.{blockCount, instructionCount, caseCount, placeCount, blockWord, instructionWord, caseWord, largest}
-use Rattle.table.specs.Check.{Rule, unused, number, row-or-none, rows-from, fits, block, block-or-none, place, place-or-none, rulesByCode, terminalRules, blockRules, operandRules, instructionRules, caseRules}
+use Rattle.table.specs.Check.{Rule, unused, number, row-or-none, rows-from, fits, block, block-or-none, place, place-or-none, rulesByCode, terminalRules}
+use Rattle.table.specs.Check.{blockRules, operandRules, instructionRules, caseRules}
 use Rattle.table.specs.Table.{Block, Terminal, absent, terminalsByCode, terminalOf, unlessNone, operationOf, blockAt, blockOf, terminalAt, instructionAt, instructionOf, tableOf}
 use Rattle.table.specs.Promise.{Promise, InRange, OperandsInRange, BelowUnlessNone}
 use Rattle.table.proofs.RuleLaws.{absent as absent-rules, present as present-rules}

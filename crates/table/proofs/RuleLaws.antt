@@ -9,7 +9,8 @@ use lib.ListN.{length, replicate, List·getD-eq-default}
 use borrow.Author.Tests.{eq-eqb, ne-eqb, eqb-true, eqb-false, leb-true, leb-false, lt-ltb, le-ltb}
 use lib.Dec.{eqb, leb, ltb}
 use Rattle.table.specs.Words.{blockWord, instructionCount, largest}
-use Rattle.table.specs.Check.{Rule, unused, number, row, row-or-none, rows-from, end-of, fits, rulesByCode, terminalRules, blockRules, operandsByCode, operandRules, instructionRules, caseRules, placeRules, identifierRules}
+use Rattle.table.specs.Check.{Rule, unused, number, row, row-or-none, rows-from, end-of, fits, rulesByCode, terminalRules, blockRules, operandsByCode}
+use Rattle.table.specs.Check.{operandRules, instructionRules, caseRules, placeRules, identifierRules}
 use Rattle.table.specs.Answer.{limit, five}
 
 -- ---- a rule and its limit

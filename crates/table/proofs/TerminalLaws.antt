@@ -7,7 +7,8 @@ use native.Mathlib.Omega.{arith}
 use lib.Dec.{eqb}
 use borrow.Author.Tests.{eqb-true, eqb-false}
 use Rattle.table.specs.Words.{blockCount, placeCount, caseCount, blockWord, codeAt}
-use Rattle.table.specs.Table.{Terminal, throw, return, goto, if, branch, switch, do-while, while, for, for-of, for-in, logical, ternary, optional, label, sequence, maybe-throw, try, scope, tableOf, terminalOf, unlessNone, variantOf}
+use Rattle.table.specs.Table.{Terminal, throw, return, goto, if, branch, switch, do-while, while, for, for-of, for-in, logical, ternary, optional, label}
+use Rattle.table.specs.Table.{sequence, maybe-throw, try, scope, tableOf, terminalOf, unlessNone, variantOf}
 use Rattle.table.specs.Promise.{Promise, InRange, Ends}
 use Rattle.table.proofs.RangeLaws.{in-range, code-known}
 use Rattle.table.proofs.BlockLaws.{end-by}

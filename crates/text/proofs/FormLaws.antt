@@ -250,7 +250,8 @@ tables-in y t f =
     let r = row-in h [] (body y) _ _ (f .head .words) t₁ in
     let w = literal-in (y .head .names) (row (y .head .width) [] (body y)) _ _ (rw (f .head .long) at r) in
     rw (
-      regroup (y .head .names) (line h) (y .blocks .names) (lines (t .blocks)) (y .instructions .names) (lines (t .instructions)) (y .cases .names) (lines (t .cases)) (y .places .names) (lines (t .places)) (y .identifiers .names) (lines (t .identifiers)),
+      regroup (y .head .names) (line h) (y .blocks .names) (lines (t .blocks)) (y .instructions .names) (lines (t .instructions)) (y .cases .names)
+          (lines (t .cases)) (y .places .names) (lines (t .places)) (y .identifiers .names) (lines (t .identifiers)),
       regroup-words h (flat (t .blocks)) (flat (t .instructions)) (flat (t .cases)) (flat (t .places)) (flat (t .identifiers)),
     )
     w
@@ -278,7 +279,9 @@ text-good y file words t =
     record {
       tables = record { head = h; blocks = t₁ .rs; instructions = t₂ .rs; cases = t₃ .rs; places = t₄ .rs; identifiers = t₅ .rs };
       formed = record { head = r .row; blocks = t₁ .table; instructions = t₂ .table; cases = t₃ .table; places = t₄ .table; identifiers = t₅ .table };
-      text = assemble (y .head .names) (line h) (y .blocks .names) (lines (t₁ .rs)) (y .instructions .names) (lines (t₂ .rs)) (y .cases .names) (lines (t₃ .rs)) (y .places .names) (lines (t₄ .rs)) (y .identifiers .names) (lines (t₅ .rs))
+      text =
+          assemble (y .head .names) (line h) (y .blocks .names) (lines (t₁ .rs)) (y .instructions .names) (lines (t₂ .rs)) (y .cases .names) (lines (t₃ .rs))
+          (y .places .names) (lines (t₄ .rs)) (y .identifiers .names) (lines (t₅ .rs))
           named (r .shown) (t₁ .shown) (t₂ .shown) (t₃ .shown) (t₄ .shown) (t₅ .shown) (z .0);
       word = assemble-words h (flat (t₁ .rs)) (flat (t₂ .rs)) (flat (t₃ .rs)) (flat (t₄ .rs)) (flat (t₅ .rs))
           (r .kept) (t₁ .kept) (t₂ .kept) (t₃ .kept) (t₄ .kept) (t₅ .kept) (z .1);

@@ -6,3 +6,4 @@ pub mod FormLaws
 pub mod PartLaws
 pub mod AnswerLaws
 pub mod WriteLaws
+pub mod PrintsLaws

@@ -99,7 +99,8 @@ names-part b h = record {
 
 module _ {file : List ℕ} {part : Form → Form} {c r : Cursor} {b b′ : List ℕ} where
   pub part-at : {at count : ℕ} → r ≡ cursorAt at count → at ≤ length file → count ≤ at
-      → ((root : Form) (words : List ℕ) (next : Form) → At root file b (c .at) (c .count) words (part next) → (new : List ℕ) × At root file b′ at count (words ++ new) next) → PartRead file part c b r b′
+      → ((root : Form) (words : List ℕ) (next : Form) → At root file b (c .at) (c .count) words (part next)
+      → (new : List ℕ) × At root file b′ at count (words ++ new) next) → PartRead file part c b r b′
   part-at e p q f = rw e (record {
     near = record { within = p; few = q };
     stopped = λ root words next h g. absurd (false-true g);
@@ -115,7 +116,8 @@ row-refused e p f = rw e (record {
 })
 
 pub row-at : {file : List ℕ} {c r : Cursor} {b b′ : List ℕ} {width at count : ℕ} → r ≡ cursorAt at count → at ≤ length file → count ≤ at
-    → ((root : Form) (words : List ℕ) (next : List ℕ → Form) → At root file b (c .at) (c .count) words (row width [] next) → RowEnd root file width words next (cursorAt at count) b′) → RowRead file width c b r b′
+    → ((root : Form) (words : List ℕ) (next : List ℕ → Form) → At root file b (c .at) (c .count) words (row width [] next)
+    → RowEnd root file width words next (cursorAt at count) b′) → RowRead file width c b r b′
 row-at e p q f = rw e (record {
   near = record { within = p; few = q };
   stopped = λ root words next h g. absurd (false-true g);

@@ -189,10 +189,13 @@ printed-most (suc code) at rows visits tree p q =
     simp length-append (omega (arith, line-most (suc code ∷ at ∷ rows ∷ visits ∷ []) p))
 
 -- so much room is never too little
+pub text-fits : (room : ℕ) (text : List ℕ) → length text ≤ room → writtenOf room text ≡ Bytes (length text)
+unfolding writtenOf
+text-fits room text p = rw (le-leb (length text) room p)
+
 pub written-fits : (room code at rows visits : ℕ) (tree : List ℕ) → Words (code ∷ at ∷ rows ∷ visits ∷ []) → Narrow tree → 77 + length tree / 6 * 66 ≤ room
     → writtenOf room (printed code at rows visits tree) ≡ Bytes (length (printed code at rows visits tree))
-unfolding writtenOf
-written-fits room code at rows visits tree p q r = rw (le-leb (length (printed code at rows visits tree)) room (omega (arith, printed-most code at rows visits tree p q)))
+written-fits room code at rows visits tree p q r = text-fits room (printed code at rows visits tree) (omega (arith, printed-most code at rows visits tree p q))
 
 -- what was written lies within the lent bytes
 pub bytes-within : (room end : ℕ) (text : List ℕ) (r : Written) → r ≡ writtenOf room text → r ≡ Bytes end → end ≤ room

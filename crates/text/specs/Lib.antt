@@ -10,4 +10,5 @@ pub mod Form
 pub mod Steps
 pub mod Answer
 pub mod Printed
+pub mod Prints
 pub mod Samples

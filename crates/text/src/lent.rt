@@ -15,7 +15,7 @@ pub fn put_word(words: &mut [u32], at: usize, word: u32)
 }
 
 // Stores words from the start on, as far as there are places for them.
-pub fn put_words(words: &mut [u32], source: &[u32])
+pub(crate) fn put_words(words: &mut [u32], source: &[u32])
     ensures { λ _. ⌜ Holds (now (words .exit)) (length (now (source .entry))) (now (source .entry)) ⌝ }
 {
     let mut i = 0;
@@ -26,7 +26,7 @@ pub fn put_words(words: &mut [u32], source: &[u32])
 }
 
 // Stores a byte, if there is a place for it.
-pub fn put_byte(bytes: &mut [u8], at: usize, byte: u8)
+pub(crate) fn put_byte(bytes: &mut [u8], at: usize, byte: u8)
     ensures { λ _. ⌜ now (bytes .exit) ≡ set (now (bytes .entry)) at byte ⌝ }
 {
     if at < bytes.len() {
@@ -35,7 +35,7 @@ pub fn put_byte(bytes: &mut [u8], at: usize, byte: u8)
 }
 
 // Clears the words from an index on.
-pub fn clear_words(words: &mut [u32], from: usize)
+pub(crate) fn clear_words(words: &mut [u32], from: usize)
     requires { ⌜ from ≤ length (now words) ⌝ }
     ensures { λ _. ⌜ now (words .exit) ≡ take from (now (words .entry)) ++ replicate (length (now (words .entry)) - from) 0 ⌝ }
 {

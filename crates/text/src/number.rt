@@ -58,7 +58,7 @@ fn number_refused(at: usize) -> Number
 }
 
 // Reads a number and the byte that ends it.
-pub fn read_number(file: &[u8], start: usize, last: bool) -> Number
+pub(crate) fn read_number(file: &[u8], start: usize, last: bool) -> Number
     requires { ⌜ start ≤ length (now file) ⌝ }
     ensures { λ r. ⌜ NumberRead (now (file .entry)) start last r ⌝ }
 {

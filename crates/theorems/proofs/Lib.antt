@@ -1,1 +1,2 @@
+pub mod Language
 pub mod Theorems

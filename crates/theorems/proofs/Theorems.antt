@@ -6,13 +6,14 @@ use mathlib.Core.List.{List, map}
 use mathlib.Core.Logic.{_⊎_}
 use mathlib.Core.Bool.{_||_}
 use mathlib.Core.Option.{some}
-use lib.ListN.{length}
+use lib.ListN.{length, take}
 use lib.Dec.{T, eqb}
 use contract.Lifetimes.{Lfts}
 use denote.Ref.{RefT, now}
 use Rattle.table.specs.Check.{accepted, checked}
 use Rattle.table.specs.Table.{Table, tableOf}
 use Rattle.table.proofs.PromiseLaws.{promised}
+use Rattle.definition.specs.Around.{Rule, rust, language, Around}
 use Rattle.definition.specs.Result.{alreadyScheduled, unscheduleOutOfOrder, maybeThrowInValueTerminal}
 use Rattle.definition.specs.Tree.{Statements, rows}
 use Rattle.definition.specs.Context.{ControlFlowTarget, target-if, target-switch, target-case, target-loop, targetBlock, continuesAt, Context, Resolution, getBreakTarget, getContinueTarget}
@@ -38,6 +39,18 @@ use Rattle.definition.proofs.Crossed.{Found, break-found, continue-found}
 use Rattle.definition.proofs.JumpRows.{built-within}
 use Rattle.definition.proofs.Example.{W, loops, W-law, loops-law}
 use Rattle.definition.proofs.Samples.{Sample, samples, builtFor, the-samples}
+use Rattle.definition.specs.Tree.{Row}
+use Rattle.definition.specs.Reading.{ReadAs}
+use Rattle.definition.proofs.Readings.{one-reading}
+use Rattle.reading.specs.Grammar.{Answer}
+use Rattle.reading.specs.Needs.{treeVerdict, codeOf, atOf}
+use Rattle.reading.proofs.Words.{words-answered, words-answer-is}
+use Rattle.reading.proofs.BuiltReads.{built-answered}
+use Rattle.treerows.specs.Found.{TreeAnswered}
+use Rattle.treerows.specs.declared.TreeChecked.{TreeChecked}
+use Rattle.treerows.proofs.check_tree.Statement as tree-stated
+use Rattle.treerows.proofs.check_tree.Met as tree-proved
+use Rattle.treerows.proofs.check_tree.Reads as check-tree
 use Rattle.text.specs.Ascii.{ascii}
 use Rattle.text.specs.Decimal.{digitsOf, decimal}
 use Rattle.text.specs.declared.write.Written.{Written}
@@ -52,14 +65,24 @@ use Rattle.build.proofs.build_reactive_function.Reads as entry
 use Rattle.build.proofs.reactive_build.Statement as export-stated
 use Rattle.build.proofs.reactive_build.Met as export-proved
 use Rattle.build.proofs.reactive_build.Reads as export
+use Rattle.build.proofs.build_language.Statement as language-stated
+use Rattle.build.proofs.build_language.Met as language-proved
+use Rattle.build.proofs.build_language.Reads as language-entry
+use Rattle.build.proofs.reactive_build_language.Statement as language-export-stated
+use Rattle.build.proofs.reactive_build_language.Met as language-export-proved
+use Rattle.build.proofs.reactive_build_language.Reads as language-export
+use Rattle.survey.specs.declared.Rule as code
+use Rattle.survey.specs.Abstraction.{ruleOf}
+use Rattle.theorems.specs.Parted.{Parted}
+use Rattle.theorems.proofs.Language.{entries-part, first-never-29, LabelsThere, labels-there}
 use Rattle.treefile.specs.Prints.{Prints, FileBuilt}
-use Rattle.treefile.proofs.OneText.{file-built-one}
+use Rattle.text.proofs.PrintsLaws.{file-printed-one}
 use Rattle.treefile.proofs.Sample.{sample-prints}
 use Rattle.treefile.proofs.build_file.Statement as file-stated
 use Rattle.treefile.proofs.build_file.Met as file-proved
 use Rattle.treefile.proofs.build_file.Reads as build-file
 
--- ---- the entry (demand 2): build_reactive_function gives what the definition gives
+-- ---- the entries (demand 2): build_reactive_function and build_language (M-102) give what the definition gives, each by its rule
 
 -- Its contract is met: for any words and any lent buffer it ends, asks nothing, and its `ensures` holds. The same for the export
 pub build-meets-its-contract : {M : Type 1} → entry-stated.statement M
@@ -67,6 +90,12 @@ build-meets-its-contract = entry-proved.met
 
 pub export-meets-its-contract : {M : Type 1} → export-stated.statement M
 export-meets-its-contract = export-proved.met
+
+pub the-language-entry-meets-its-contract : {M : Type 1} → language-stated.statement M
+the-language-entry-meets-its-contract = language-proved.met
+
+pub the-language-export-meets-its-contract : {M : Type 1} → language-export-stated.statement M
+the-language-export-meets-its-contract = language-export-proved.met
 
 -- a call's references, before or after it: the words and the lent tree
 abbrev pub Lent : Type 0
@@ -77,8 +106,15 @@ build-asks-nothing κs before = tt
 
 -- what a caller learns from that contract: code, at, rows, visits and every lent word, refused or not
 pub build-gives-the-definition : (κs : Lfts 2) (before after : Lent) (answer : Outcome) → entry.Learnt κs before answer after
-    → outcome answer (now (after .1 .0)) ≡ built (now (before .0)) (length (now (before .1 .0)))
+    → outcome answer (now (after .1 .0)) ≡ built rust (now (before .0)) (length (now (before .1 .0)))
 build-gives-the-definition κs before after answer learnt = learnt
+
+pub the-language-entry-asks-nothing : (κs : Lfts 2) (before : Lent) → language-entry.Asked κs before
+the-language-entry-asks-nothing κs before = tt
+
+pub the-language-entry-gives-the-definition : (κs : Lfts 2) (before after : Lent) (answer : Outcome) → language-entry.Learnt κs before answer after
+    → outcome answer (now (after .1 .0)) ≡ built language (now (before .0)) (length (now (before .1 .0)))
+the-language-entry-gives-the-definition κs before after answer learnt = learnt
 
 -- the export's references: the words, the lent tree, and the three words of its answer beside the code
 abbrev pub LentWithAnswer : Type 0
@@ -94,72 +130,85 @@ pub export-gives-the-definition : (κs : Lfts 5) (before after : LentWithAnswer)
       rows = now (after .1 .1 .1 .0);
       visits = now (after .1 .1 .1 .1 .0);
       buffer = now (after .1 .0);
-    } ≡ built (now (before .0)) (length (now (before .1 .0)))
+    } ≡ built rust (now (before .0)) (length (now (before .1 .0)))
 export-gives-the-definition κs before after code learnt = learnt
+
+pub the-language-export-asks-nothing : (κs : Lfts 5) (before : LentWithAnswer) → language-export.Asked κs before
+the-language-export-asks-nothing κs before = tt
+
+pub the-language-export-gives-the-definition : (κs : Lfts 5) (before after : LentWithAnswer) (code : ℕ) → language-export.Learnt κs before code after
+    → record {
+      code = code;
+      at = now (after .1 .1 .0);
+      rows = now (after .1 .1 .1 .0);
+      visits = now (after .1 .1 .1 .1 .0);
+      buffer = now (after .1 .0);
+    } ≡ built language (now (before .0)) (length (now (before .1 .0)))
+the-language-export-gives-the-definition κs before after code learnt = learnt
 
 -- ---- what every answer shows (demand 1)
 
--- a call of the entry: `ensured` is what it learns, as `build-gives-the-definition` has it
-module _ (words buffer buffer′ : List ℕ) (answer : Outcome) (ensured : outcome answer buffer′ ≡ built words (length buffer)) where
+-- a call of either entry: `ensured` is what it learns, as `build-gives-the-definition` and `the-language-entry-gives-the-definition` have it
+module _ (rule : Rule) (words buffer buffer′ : List ℕ) (answer : Outcome) (ensured : outcome answer buffer′ ≡ built rule words (length buffer)) where
   -- what holds of the definition's outcome holds of the call's
-  carried : (P : definition.Outcome → Type 0) → P (built words (length buffer)) → P (outcome answer buffer′)
+  carried : (P : definition.Outcome → Type 0) → P (built rule words (length buffer)) → P (outcome answer buffer′)
   carried P h = subst P (sym ensured) h
 
   -- "Refused: all zeros."
   pub a-refused-call-leaves-zeros : (answer .code ≡ 0 → ⊥)
       → outcome answer buffer′ ≡ refusal (answer .code) (answer .at) (answer .rows) (answer .visits) (length buffer)
   a-refused-call-leaves-zeros =
-      carried (λ o. (o .code ≡ 0 → ⊥) → o ≡ refusal (o .code) (o .at) (o .rows) (o .visits) (length buffer)) (refused-form words (length buffer))
+      carried (λ o. (o .code ≡ 0 → ⊥) → o ≡ refusal (o .code) (o .at) (o .rows) (o .visits) (length buffer)) (refused-form rule words (length buffer))
 
   -- "Rows is 0 except at 40"
   pub a-refused-call-has-no-rows : (answer .code ≡ 0 → ⊥) → (answer .code ≡ 40 → ⊥) → answer .rows ≡ 0
-  a-refused-call-has-no-rows = carried (λ o. (o .code ≡ 0 → ⊥) → (o .code ≡ 40 → ⊥) → o .rows ≡ 0) (refused-rows words (length buffer))
+  a-refused-call-has-no-rows = carried (λ o. (o .code ≡ 0 → ⊥) → (o .code ≡ 40 → ⊥) → o .rows ≡ 0) (refused-rows rule words (length buffer))
 
   -- "Accepted: at 0, the buffer holds the rows, then zeros.": the rows of a tree
   pub an-accepted-call-leaves-rows-then-zeros : answer .code ≡ 0
       → (root : Statements) × (length (rows root) * 6 ≤ length buffer) × (outcome answer buffer′ ≡ acceptance (length buffer) (rows root) (answer .visits))
   an-accepted-call-leaves-rows-then-zeros =
       carried (λ o. o .code ≡ 0 → (root : Statements) × (length (rows root) * 6 ≤ length buffer) × (o ≡ acceptance (length buffer) (rows root) (o .visits)))
-      (accepted-form words (length buffer))
+      (accepted-form rule words (length buffer))
 
   -- 0; 1 to 4 or 10 to 31, which are the paper's for words and graphs; or 40
   pub a-call-has-a-code-of-the-paper : T (eqb (answer .code) 0 || ofInput (answer .code) || eqb (answer .code) 40)
-  a-call-has-a-code-of-the-paper = carried (λ o. T (eqb (o .code) 0 || ofInput (o .code) || eqb (o .code) 40)) (outcome-code words (length buffer))
+  a-call-has-a-code-of-the-paper = carried (λ o. T (eqb (o .code) 0 || ofInput (o .code) || eqb (o .code) 40)) (outcome-code rule words (length buffer))
 
   -- "Depth at most 128, visits at most 8,192."
   pub a-call-makes-at-most-8192-visits : answer .visits ≤ 8192
-  a-call-makes-at-most-8192-visits = carried (λ o. o .visits ≤ 8192) (visits-most words (length buffer))
+  a-call-makes-at-most-8192-visits = carried (λ o. o .visits ≤ 8192) (visits-most rule words (length buffer))
 
   -- ---- the runs agree (demand 3)
 
   -- the rows of any accepted table are read as one tree
   pub accepted-rows-are-one-tree : answer .code ≡ 0 → OneTree (outcome answer buffer′)
-  accepted-rows-are-one-tree h = entry-tree words buffer buffer′ answer ensured h
+  accepted-rows-are-one-tree h = entry-tree rule words buffer buffer′ answer ensured h
 
   -- on a plain table that is accepted the block run and that tree's run agree, over every finite list of answers
   pub the-runs-of-a-plain-table-agree : answer .code ≡ 0 → Plain (tableOf words) → RunLaw words (outcome answer buffer′)
-  the-runs-of-a-plain-table-agree h plain = entry-law words buffer buffer′ answer ensured h plain
+  the-runs-of-a-plain-table-agree h plain = entry-law rule words buffer buffer′ answer ensured h plain
 
 -- the same from less than the paper's plainness: no use is made of "one While" naming each Branch block
-pub the-runs-agree-from-less : (words : List ℕ) (lent : ℕ) → built words lent .code ≡ 0 → PlainEnough (tableOf words) → RunLaw words (built words lent)
+pub the-runs-agree-from-less : (rule : Rule) (words : List ℕ) (lent : ℕ) → built rule words lent .code ≡ 0 → PlainEnough (tableOf words) → RunLaw words (built rule words lent)
 the-runs-agree-from-less = run-law-enough
 
 -- it is not empty: W with instructions, and two loops of which the inner continues the outer
-pub the-runs-of-W-agree : RunLaw W (built W 600)
+pub the-runs-of-W-agree : (rule : Rule) → RunLaw W (built rule W 600)
 the-runs-of-W-agree = W-law
 
-pub the-runs-of-two-loops-agree : RunLaw loops (built loops 600)
+pub the-runs-of-two-loops-agree : (rule : Rule) → RunLaw loops (built rule loops 600)
 the-runs-of-two-loops-agree = loops-law
 
--- ---- "Four Rust messages never occur and are proved so": over any table
+-- ---- "Four Rust messages never occur and are proved so": over any table, by either rule
 
-pub no-break-block-is-already-scheduled : (t : Table) (at visits : ℕ) → report t ≡ rejected alreadyScheduled at visits → ⊥
+pub no-break-block-is-already-scheduled : (rule : Rule) (t : Table) (at visits : ℕ) → report rule t ≡ rejected alreadyScheduled at visits → ⊥
 no-break-block-is-already-scheduled = never-already-scheduled
 
-pub no-unschedule-is-out-of-order : (t : Table) (at visits : ℕ) → report t ≡ rejected unscheduleOutOfOrder at visits → ⊥
+pub no-unschedule-is-out-of-order : (rule : Rule) (t : Table) (at visits : ℕ) → report rule t ≡ rejected unscheduleOutOfOrder at visits → ⊥
 no-unschedule-is-out-of-order = never-unschedule-out-of-order
 
-pub no-value-terminal-is-a-maybe-throw : (t : Table) (at visits : ℕ) → report t ≡ rejected maybeThrowInValueTerminal at visits → ⊥
+pub no-value-terminal-is-a-maybe-throw : (rule : Rule) (t : Table) (at visits : ℕ) → report rule t ≡ rejected maybeThrowInValueTerminal at visits → ⊥
 no-value-terminal-is-a-maybe-throw = never-maybe-throw-in-value-terminal
 
 pub no-target-type-is-unknown : (target : ControlFlowTarget)
@@ -170,14 +219,14 @@ no-target-type-is-unknown = target-known
 -- ---- bounds, in every state that the build of checked words comes to
 
 -- "The stack holds at most 1,152 entries, also proved."
-pub the-stack-holds-at-most-1152-entries : (words : List ℕ) → checked words ≡ accepted → (s : State) → Reached (tableOf words) s
+pub the-stack-holds-at-most-1152-entries : (rule : Rule) (words : List ℕ) → checked words ≡ accepted → (s : State) → Reached rule (tableOf words) s
     → length (contextOf s .stack) ≤ 1152
-the-stack-holds-at-most-1152-entries words passed s reached = stack-bound (tableOf words) (checked-table words (promised words passed)) s reached
+the-stack-holds-at-most-1152-entries rule words passed s reached = stack-bound rule (tableOf words) (checked-table words (promised words passed)) s reached
 
-pub the-depth-is-at-most-128 : (words : List ℕ) → checked words ≡ accepted → (s : State) → Reached (tableOf words) s → length (framesOf s) ≤ 128
-the-depth-is-at-most-128 words passed s reached =
+pub the-depth-is-at-most-128 : (rule : Rule) (words : List ℕ) → checked words ≡ accepted → (s : State) → Reached rule (tableOf words) s → length (framesOf s) ≤ 128
+the-depth-is-at-most-128 rule words passed s reached =
     let checks = checked-table words (promised words passed) in
-    let small : Small s = sound-small (tableOf words) s (reached-going (tableOf words) checks s reached .sound) in small .frames
+    let small : Small s = sound-small (tableOf words) s (reached-going rule (tableOf words) checks s reached .sound) in small .frames
 
 -- ---- M-107: how many loops a jump leaves
 
@@ -190,55 +239,104 @@ pub a-continue-gives-the-loops-above-its-loop : (cx : Context) (block : ℕ) (fo
     → Found (λ target. continuesAt target block) (cx .stack) found
 a-continue-gives-the-loops-above-its-loop = continue-found
 
-pub no-row-has-more-than-128-loops : (words : List ℕ) (lent : ℕ) → (accepts : built words lent .code ≡ 0) → JumpsWithin (rows (one-tree words lent accepts .tree))
+pub no-row-has-more-than-128-loops : (rule : Rule) (words : List ℕ) (lent : ℕ) → (accepts : built rule words lent .code ≡ 0)
+    → JumpsWithin (rows (one-tree rule words lent accepts .tree))
 no-row-has-more-than-128-loops = built-within
+
+-- ---- M-100: read a tree back
+
+pub check-tree-meets-its-contract : {M : Type 1} → tree-stated.statement M
+check-tree-meets-its-contract = tree-proved.met
+
+pub check-tree-asks-nothing : (κs : Lfts 1) (before : RefT (List ℕ) × Unit {0}) → check-tree.Asked κs before
+check-tree-asks-nothing κs before = tt
+
+-- it gives the grammar's answer: "accepts a list .. exactly when it reads as one tree", 60 and 61 at the first row, 62
+pub check-tree-gives-the-grammars-answer : (κs : Lfts 1) (before after : RefT (List ℕ) × Unit {0}) (answer : TreeChecked) → check-tree.Learnt κs before answer after
+    → Answer (now (before .0)) (answer .code) (answer .at)
+check-tree-gives-the-grammars-answer κs before after answer learnt = let promised : TreeAnswered _ _ _ = learnt in promised .answer
+
+-- any words have an answer, and no other
+pub any-words-have-an-answer : (words : List ℕ) → Answer words (codeOf (treeVerdict words)) (atOf (treeVerdict words))
+any-words-have-an-answer = words-answered
+
+pub they-have-no-other : (words : List ℕ) {code at : ℕ} → Answer words code at → (code ≡ codeOf (treeVerdict words)) × (at ≡ atOf (treeVerdict words))
+they-have-no-other = words-answer-is
+
+pub a-list-has-one-reading : (list : List Row) (root root′ : Statements) → ReadAs list root → ReadAs list root′ → root ≡ root′
+a-list-has-one-reading = one-reading
+
+-- "every list that the build makes within that size is accepted", for both entries
+pub what-the-build-makes-is-accepted : (rule : Rule) (words : List ℕ) (lent : ℕ) → built rule words lent .code ≡ 0 → built rule words lent .rows ≤ 2048
+    → Answer (take (built rule words lent .rows * 6) (built rule words lent .buffer)) 0 0
+what-the-build-makes-is-accepted = built-answered
+
+-- ---- M-102: the language entry
+
+-- "which differs only as follows": for the same words and lent buffer it refuses alike, gives 29, or accepts after the same visits a tree that differs only in
+-- BREAKs that are Labeled in place of Unlabeled
+pub the-entries-differ-only-so : (words : List ℕ) (lent : ℕ) → Parted lent (built rust words lent) (built language words lent)
+the-entries-differ-only-so = entries-part
+
+-- "29 in the new entry"
+pub the-first-entry-never-gives-29 : (words : List ℕ) (lent : ℕ) → built rust words lent .code ≡ 29 → ⊥
+the-first-entry-never-gives-29 = first-never-29
+
+-- in an accepted tree of the language entry each Labeled jump stands in a statement with its label, a continue in its own loop with it, and the nearest loop
+-- or SWITCH around an Unlabeled break is a loop (specs/Named)
+pub the-labels-are-there : (words : List ℕ) (lent : ℕ) → built language words lent .code ≡ 0 → LabelsThere language words lent
+the-labels-are-there = labels-there language
 
 -- ---- samples
 
--- the ★ samples, as one table
-pub the-star-samples : map builtFor samples ≡ map (λ (sample : Sample). sample .outcome) samples
+-- the ★ samples, as one table, by either rule
+pub the-star-samples : (rule : Rule) → map (builtFor rule) samples ≡ map (λ (sample : Sample). sample .outcome) samples
 the-star-samples = the-samples
 
 -- the sample file prints the sample's output
 pub the-sample-file-prints-its-output :
-    Prints
+    Prints rust
     (ascii "entry blocks instructions cases places identifiers\n0 1 0 0 1 1\nfirst count code a b c d e id from to\n0 0 3 0 0 0 0 0 7 0 0\nid lvalue code p q from to\ntest block\nidentifier\n0\nnamed\n1\n")
     (ascii "code at rows visits\n0 0 2 1\nop a b c d e\n22 0 7 0 0 0\n9 1 0 0 0 0\n")
 the-sample-file-prints-its-output = sample-prints
 
--- ---- the program treebuild, as the function build_file
+-- ---- the programs treebuild and treebuild_language, as the function build_file by either rule
 
 pub build-file-meets-its-contract : {M : Type 1} → file-stated.statement M
 build-file-meets-its-contract = file-proved.met
 
-pub build-file-asks-nothing : (κs : Lfts 2) (before : Lent) → build-file.Asked κs before
+-- the rule, the file and the lent bytes
+abbrev pub Ruled : Type 0
+Ruled = code.Rule × Lent
+
+pub build-file-asks-nothing : (κs : Lfts 2) (before : Ruled) → build-file.Asked κs before
 build-file-asks-nothing κs before = tt
 
 -- a file in the form prints the definition's outcome of its words, any other its refusal
-pub build-file-prints-the-definition : (κs : Lfts 2) (before after : Lent) (answer : Written) → build-file.Learnt κs before answer after
-    → FileBuilt (now (before .0)) (length (now (before .1 .0))) answer (now (after .1 .0))
+pub build-file-prints-the-definition : (κs : Lfts 2) (before after : Ruled) (answer : Written) → build-file.Learnt κs before answer after
+    → FileBuilt (ruleOf (before .0)) (now (before .1 .0)) (length (now (before .1 .1 .0))) answer (now (after .1 .1 .0))
 build-file-prints-the-definition κs before after answer learnt = learnt
 
 -- and that fixes the answer and every lent byte
-pub a-file-has-one-answer : (file : List ℕ) (room : ℕ) (r s : Written) (l m : List ℕ) → FileBuilt file room r l → FileBuilt file room s m → (r ≡ s) × (l ≡ m)
-a-file-has-one-answer = file-built-one
+pub a-file-has-one-answer : (rule : Rule) (file : List ℕ) (room : ℕ) (r s : Written) (l m : List ℕ) → FileBuilt rule file room r l → FileBuilt rule file room s m → (r ≡ s) × (l ≡ m)
+a-file-has-one-answer rule = file-printed-one _ _ _
 
 -- ---- the machine, which the code follows turn by turn, gives what the definition gives
 
-pub the-machine-gives-the-definition : (t : Table) → Gives t (begin t) (report t)
+pub the-machine-gives-the-definition : (rule : Rule) (t : Table) → Gives rule t (begin t) (report rule t)
 the-machine-gives-the-definition = machine-builds
 
 -- ---- no count that a definition recurses on is ever too small. (The depth, 128, is the paper's own bound, and gives 30.)
 
 -- 8,193 blocks at one depth: more change nothing
-pub more-blocks-change-nothing : (t : Table) (depthLeft more block : ℕ) (cx : Context)
-    → visitBlock t (visitValueBlock t depthLeft) (traverseBlock t depthLeft) (more + suc mostVisits) block cx ≡ traverseBlock t (suc depthLeft) block cx
+pub more-blocks-change-nothing : (t : Table) (around : Around) (depthLeft more block : ℕ) (cx : Context)
+    → visitBlock t (visitValueBlock t depthLeft) (traverseBlock t depthLeft) around (more + suc mostVisits) block cx ≡ traverseBlock t (suc depthLeft) around block cx
 more-blocks-change-nothing = blocks-enough
 
 -- 16,818,177 turns of the machine, for words that are checked
-pub more-turns-change-nothing : (words : List ℕ) → checked words ≡ accepted → (turns : ℕ) → 16818177 ≤ turns
-    → run (tableOf words) turns (begin (tableOf words)) ≡ report (tableOf words)
-more-turns-change-nothing words passed = machine-turns (tableOf words) (checked-table words (promised words passed))
+pub more-turns-change-nothing : (rule : Rule) (words : List ℕ) → checked words ≡ accepted → (turns : ℕ) → 16818177 ≤ turns
+    → run rule (tableOf words) turns (begin (tableOf words)) ≡ report rule (tableOf words)
+more-turns-change-nothing rule words passed = machine-turns rule (tableOf words) (checked-table words (promised words passed))
 
 -- a block run that has stopped
 pub more-steps-change-nothing : (t : Table) (more steps block : ℕ) (answers : Answers) (performed : List ℕ) (left : Answers) (reason : Reason)

@@ -1,40 +1,7 @@
 // Reads a table from standard input and prints its tree, or why there is none, to standard output.
-ghost use mathlib.Core.Path.{_≡_};
-ghost use lib.ListN.{length};
-use program::read_all;
-use program::write_all;
-use text::write::Written;
-use treefile::build_file;
-
-// Arrays by functions that tell their length alone: a proof that has the zeros in sight counts them.
-
-// One byte more than a file may have.
-fn file_bytes() -> [u8; 32769]
-    ensures { λ r. ⌜ 32769 ≡ length r ⌝ }
-{
-    [0; 32769]
-}
-
-// Room for 2,048 rows of the longest numbers.
-fn printed_bytes() -> [u8; 135245]
-    ensures { λ r. ⌜ 135245 ≡ length r ⌝ }
-{
-    [0; 135245]
-}
+use survey::Rule;
+use treemain::build_input;
 
 fn main() {
-    let mut file = file_bytes();
-    let input = read_all(b"treebuild", &mut file);
-    if input.failed {
-        return;
-    }
-    let count = input.count;
-    let mut out = printed_bytes();
-    let written = build_file(&file[..count], &mut out);
-    match written {
-        Written::Bytes(end) => {
-            write_all(b"treebuild", &out[..end]);
-        }
-        Written::NoRoom => {}
-    }
+    build_input(b"treebuild", Rule::Rust);
 }

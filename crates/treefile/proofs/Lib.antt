@@ -1,4 +1,2 @@
 pub mod OutcomeLaws
-pub mod FileLaws
-pub mod OneText
 pub mod Sample

@@ -1,5 +1,5 @@
 -- Laws of outcomes that printing rests on.
-use Prim.Native.Nat.{ℕ, zero, suc, _-_, _*_, _/_, _≤_}
+use Prim.Native.Nat.{ℕ, _-_, _*_, _/_, _≤_}
 use mathlib.Core.Path.{_≡_, refl, sym, ap, _∙_}
 use mathlib.Core.Bool.{Bool, true, false}
 use mathlib.Core.List.{List, _++_}
@@ -11,8 +11,9 @@ use Rattle.table.specs.Check.{Verdict, checked}
 use Rattle.table.specs.Check as check
 use Rattle.table.specs.Table.{tableOf}
 use Rattle.definition.specs.Tree.{Row}
+use Rattle.definition.specs.Around.{Rule}
 use Rattle.definition.specs.Build.{Report, Outcome, accepted, rejected, report, refusal, wordsOf, placed, outcomeOf, afterCheck, built}
-use Rattle.text.specs.Printed.{printed, treeLines}
+use Rattle.text.specs.Printed.{printed}
 use Rattle.build.specs.Entry.{outcome}
 use Rattle.build.specs.declared.Outcome as build
 use Rattle.treefile.specs.Prints.{printedOutcome}
@@ -37,30 +38,24 @@ unfolding outcomeOf refusal Fits
 outcome-fits lent (accepted rows visits) = placed-fits lent rows visits
 outcome-fits lent (rejected code at visits) = λ _. omega arith
 
-after-fits : (lent : ℕ) (v : Verdict) (words : List ℕ) → Fits lent (afterCheck lent v words)
+after-fits : (rule : Rule) (lent : ℕ) (v : Verdict) (words : List ℕ) → Fits lent (afterCheck rule lent v words)
 unfolding afterCheck refusal Fits
-after-fits lent (check.refused code at) words = λ _. omega arith
-after-fits lent check.accepted words = outcome-fits lent (report (tableOf words))
+after-fits rule lent (check.refused code at) words = λ _. omega arith
+after-fits rule lent check.accepted words = outcome-fits lent (report rule (tableOf words))
 
-built-fits : (words : List ℕ) (lent : ℕ) → built words lent .code ≡ 0 → built words lent .rows * 6 ≤ lent
+built-fits : (rule : Rule) (words : List ℕ) (lent : ℕ) → built rule words lent .code ≡ 0 → built rule words lent .rows * 6 ≤ lent
 unfolding built Fits
-built-fits words lent = after-fits lent (checked words) words
-
--- a refusal prints no tree
-pub refusal-lines : (code at rows visits : ℕ) (t t′ : List ℕ) → (code ≡ 0 → ⊥) → printed code at rows visits t ≡ printed code at rows visits t′
-unfolding printed treeLines
-refusal-lines zero at rows visits t t′ h = absurd (h refl)
-refusal-lines (suc code) at rows visits t t′ h = refl
+built-fits rule words lent = after-fits rule lent (checked words) words
 
 -- what is written of a build is what its outcome prints
-pub built-printed : (words : List ℕ) (lent : ℕ) (r : build.Outcome) (tree : List ℕ) {room : ℕ} → room ≡ lent → outcome r tree ≡ built words room
-    → printed (r .code) (r .at) (r .rows) (r .visits) (take (r .rows * 6) tree) ≡ printedOutcome (built words lent)
+pub built-printed : (rule : Rule) (words : List ℕ) (lent : ℕ) (r : build.Outcome) (tree : List ℕ) {room : ℕ} → room ≡ lent → outcome r tree ≡ built rule words room
+    → printed (r .code) (r .at) (r .rows) (r .visits) (take (r .rows * 6) tree) ≡ printedOutcome (built rule words lent)
 unfolding printedOutcome
-built-printed words lent r tree l h = ap printedOutcome h ∙ ap (λ (n : ℕ). printedOutcome (built words n)) l
+built-printed rule words lent r tree l h = ap printedOutcome h ∙ ap (λ (n : ℕ). printedOutcome (built rule words n)) l
 
 -- what is accepted stands within the lent words
-pub built-within : (words tree : List ℕ) (lent : ℕ) (r : build.Outcome) → outcome r tree ≡ built words lent → r .code ≡ 0 → r .rows * 6 ≤ lent
-built-within words tree lent r h e =
+pub built-within : (rule : Rule) (words tree : List ℕ) (lent : ℕ) (r : build.Outcome) → outcome r tree ≡ built rule words lent → r .code ≡ 0 → r .rows * 6 ≤ lent
+built-within rule words tree lent r h e =
     let code = ap (λ (o : Outcome). o .code) h in
     let rows = ap (λ (o : Outcome). o .rows) h in
-    omega (arith, built-fits words lent (sym code ∙ e), rows)
+    omega (arith, built-fits rule words lent (sym code ∙ e), rows)

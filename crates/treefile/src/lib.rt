@@ -1,12 +1,13 @@
-// The program treebuild as a function: a file's bytes in, the bytes that are printed of it out.
+// The programs treebuild and treebuild_language as a function: a file's bytes in, the bytes that are printed of it out.
 ghost use mathlib.Core.Path.{_≡_};
-ghost use Prim.Native.Nat.{_≤_};
+ghost use Prim.Native.Nat.{_+_, _*_, _/_};
 ghost use lib.ListN.{length};
-ghost use Rattle.definition.specs.Build.{built};
-ghost use Rattle.text.specs.Printed.{printed, writtenOf, lentOf};
-ghost use Rattle.text.specs.declared.write.Written.the-variants.{Bytes};
-ghost use Rattle.treefile.specs.Prints.{lentWords, printedOutcome, FileBuilt};
-use build::build_reactive_function;
+ghost use Rattle.text.specs.Printed.{printed};
+ghost use Rattle.text.specs.Prints.{WrittenText};
+ghost use Rattle.survey.specs.Abstraction.{ruleOf};
+ghost use Rattle.treefile.specs.Prints.{treeText, FileBuilt};
+use build::build;
+use survey::Rule;
 use text::read::Answer;
 use text::read::read;
 use text::write::Written;
@@ -28,23 +29,19 @@ fn lent_words() -> [u32; 16384]
     [0; 16384]
 }
 
-// Writes a result of at most 2,048 rows: 135,245 bytes are always enough.
+// Writes a result: 77 bytes, and 66 for each row, are always enough.
 fn write_result(out: &mut [u8], code: u32, at: u32, rows: u32, visits: u32, tree: &[u32]) -> Written
-    ensures { λ r. ⌜ r ≡ writtenOf (length (now (out .entry))) (printed code at rows visits (now (tree .entry))) ⌝ }
-    ensures { λ _. ⌜ now (out .exit) ≡ lentOf (length (now (out .entry))) (printed code at rows visits (now (tree .entry))) ⌝ }
-    ensures { λ r. ⌜ (length (now (tree .entry)) ≤ lentWords → 135245 ≤ length (now (out .entry)) → r ≡ Bytes (length (printed code at rows visits (now (tree .entry))))) ⌝ }
+    ensures { λ r. ⌜ WrittenText (77 + length (now (tree .entry)) / 6 * 66) (printed code at rows visits (now (tree .entry))) (length (now (out .entry))) r (now (out .exit)) ⌝ }
 {
     write(out, code, at, rows, visits, tree)
 }
 
 // Builds the table's tree, with 2,048 rows lent, and writes the result.
-fn build_words(words: &[u32], out: &mut [u8]) -> Written
-    ensures { λ r. ⌜ r ≡ writtenOf (length (now (out .entry))) (printedOutcome (built (now (words .entry)) lentWords)) ⌝ }
-    ensures { λ _. ⌜ now (out .exit) ≡ lentOf (length (now (out .entry))) (printedOutcome (built (now (words .entry)) lentWords)) ⌝ }
-    ensures { λ r. ⌜ (135245 ≤ length (now (out .entry)) → r ≡ Bytes (length (printedOutcome (built (now (words .entry)) lentWords)))) ⌝ }
+fn build_words(rule: Rule, words: &[u32], out: &mut [u8]) -> Written
+    ensures { λ r. ⌜ WrittenText 135245 (treeText (ruleOf rule) (now (words .entry))) (length (now (out .entry))) r (now (out .exit)) ⌝ }
 {
     let mut tree = lent_rows();
-    let built = build_reactive_function(words, &mut tree);
+    let built = build(rule, words, &mut tree);
     if built.code != 0 {
         return write_result(out, built.code, built.at, built.rows, built.visits, &tree);
     }
@@ -60,13 +57,13 @@ fn build_words(words: &[u32], out: &mut [u8]) -> Written
 }
 
 // Reads a file, builds its table's tree and writes the result; or writes why the file is refused.
-pub fn build_file(file: &[u8], out: &mut [u8]) -> Written
-    ensures { λ r. ⌜ FileBuilt (now (file .entry)) (length (now (out .entry))) r (now (out .exit)) ⌝ }
+pub fn build_file(rule: Rule, file: &[u8], out: &mut [u8]) -> Written
+    ensures { λ r. ⌜ FileBuilt (ruleOf rule) (now (file .entry)) (length (now (out .entry))) r (now (out .exit)) ⌝ }
 {
     let mut words = lent_words();
     let answer = read(file, &mut words);
     match answer {
-        Answer::Words(count) => build_words(&words[..count], out),
+        Answer::Words(count) => build_words(rule, &words[..count], out),
         Answer::Refused { code, at } => write_result(out, code, at, 0, 0, &[]),
         Answer::NoRoom => Written::NoRoom,
     }

@@ -54,8 +54,28 @@ pub struct Refusal {
     pub at: u32,
 }
 
+type Entry = unsafe extern "C" fn(
+    words: *const u32,
+    word_count: usize,
+    tree: *mut u32,
+    tree_length: usize,
+    at: *mut u32,
+    rows: *mut u32,
+    visits: *mut u32,
+) -> c_uint;
+
 unsafe extern "C" {
     fn reactive_build(
+        words: *const u32,
+        word_count: usize,
+        tree: *mut u32,
+        tree_length: usize,
+        at: *mut u32,
+        rows: *mut u32,
+        visits: *mut u32,
+    ) -> c_uint;
+
+    fn reactive_build_language(
         words: *const u32,
         word_count: usize,
         tree: *mut u32,
@@ -69,11 +89,21 @@ unsafe extern "C" {
 /// Builds the tree of a table into a lent buffer, both of any content and length. The buffer then
 /// holds the rows and after them zeros; zeros alone if refused.
 pub fn build(words: &[u32], tree: &mut [u32]) -> Outcome {
+    build_by(reactive_build, words, tree)
+}
+
+/// The same by the language's rule: a break to a loop is Labeled also where a switch is being built
+/// in between, and the label that a Labeled jump names is there; else the refusal is 29.
+pub fn build_language(words: &[u32], tree: &mut [u32]) -> Outcome {
+    build_by(reactive_build_language, words, tree)
+}
+
+fn build_by(entry: Entry, words: &[u32], tree: &mut [u32]) -> Outcome {
     let (mut at, mut rows, mut visits) = (0, 0, 0);
     // SAFETY: slices give pointers that are not null, aligned and valid for their lengths; `tree` and
     // the three results are borrowed for this call alone. The function reads and writes nothing else.
     let code = unsafe {
-        reactive_build(
+        entry(
             words.as_ptr(),
             words.len(),
             tree.as_mut_ptr(),

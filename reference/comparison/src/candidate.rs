@@ -26,6 +26,13 @@ pub const CANDIDATE: Option<Candidate> = None;
 #[cfg(feature = "candidate")]
 pub const CANDIDATE: Option<Candidate> = Some(build);
 
+/// The language entry of M-102.
+#[cfg(not(feature = "candidate"))]
+pub const CANDIDATE_LANGUAGE: Option<Candidate> = None;
+
+#[cfg(feature = "candidate")]
+pub const CANDIDATE_LANGUAGE: Option<Candidate> = Some(build_language);
+
 #[cfg(not(feature = "candidate-check"))]
 pub const CANDIDATE_CHECK: Option<CandidateCheck> = None;
 
@@ -35,6 +42,13 @@ pub const CANDIDATE_CHECK: Option<CandidateCheck> = Some(check);
 #[cfg(feature = "candidate")]
 fn build(words: &[u32], buffer: &mut [u32]) -> Outcome {
     let reactive_build::Outcome { code, at, rows, visits } = reactive_build::build(words, buffer);
+    Outcome { code, at, rows, visits }
+}
+
+#[cfg(feature = "candidate")]
+fn build_language(words: &[u32], buffer: &mut [u32]) -> Outcome {
+    let reactive_build::Outcome { code, at, rows, visits } =
+        reactive_build::build_language(words, buffer);
     Outcome { code, at, rows, visits }
 }
 

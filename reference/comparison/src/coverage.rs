@@ -55,6 +55,9 @@ pub struct Coverage {
     /// Block runs compared with tree runs.
     pub runs: u64,
     pub differences: u64,
+    /// Tables that the language entry refuses with 29, and those in which it labels a break.
+    pub unnamed: u64,
+    pub relabeled: u64,
     families: [u64; FAMILIES.len()],
     accepted: [u64; FAMILIES.len()],
     /// In the order of `CODES`.
@@ -114,6 +117,8 @@ impl Coverage {
         self.compared += other.compared;
         self.runs += other.runs;
         self.differences += other.differences;
+        self.unnamed += other.unnamed;
+        self.relabeled += other.relabeled;
         add(&mut self.families, &other.families);
         add(&mut self.accepted, &other.accepted);
         add(&mut self.codes, &other.codes);
@@ -149,6 +154,8 @@ impl Coverage {
             need(self.breaks[kind], format!("BREAK {name}"));
             need(self.continues[kind], format!("CONTINUE {name}"));
         }
+        need(self.unnamed, "code 29 of the language entry".to_string());
+        need(self.relabeled, "a break that the language entry labels".to_string());
         for (class, bound) in DEPTHS.iter().enumerate() {
             need(self.depths[class], format!("depth up to {bound}"));
         }
@@ -189,6 +196,10 @@ impl Coverage {
         table(
             "| greatest depth up to | walks |",
             depths.map(|(bound, count)| format!("| {bound} | {count} |")).collect(),
+        );
+        out += &format!(
+            "Language entry: {} tables refused with 29, {} with a break that it labels.\n\n",
+            self.unnamed, self.relabeled
         );
         out + &format!("Most visits {}, most rows {}.\n", self.most_visits, self.most_rows)
     }

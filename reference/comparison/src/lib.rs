@@ -4,6 +4,7 @@ pub mod candidate;
 pub mod coverage;
 pub mod features;
 pub mod generate;
+pub mod language;
 pub mod model;
 pub mod reference;
 pub mod rng;

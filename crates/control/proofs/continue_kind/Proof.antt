@@ -11,11 +11,15 @@ returns c = let start : tie.Start = search in rw (continue-labeled _ (start .arg
 
 returns-2 : tie.Need-returns-2
 unfolding continueKind
-returns-2 c = let start : tie.Start = search in let nothing-above : start .args .loops ≡ 0 = omega (arith, c .before .if1 .left) in rw (nothing-above, c .if2 .taken)
+returns-2 c =
+    let else1 : tie.Else1 = search in
+    let start : tie.Start = search in let nothing-above : start .args .loops ≡ 0 = omega (arith, else1 .if1 .left) in rw (nothing-above, c .if2 .taken)
 
 returns-3 : tie.Need-returns-3
 unfolding continueKind
-returns-3 c = let start : tie.Start = search in let nothing-above : start .args .loops ≡ 0 = omega (arith, c .before .if1 .left) in rw (nothing-above, c .if2 .left)
+returns-3 c =
+    let else1 : tie.Else1 = search in
+    let start : tie.Start = search in let nothing-above : start .args .loops ≡ 0 = omega (arith, else1 .if1 .left) in rw (nothing-above, c .if2 .left)
 
 pub continue-kind-spec : {M : Type 1} → statement M
 continue-kind-spec = tie.close (tie.spec returns returns-2 returns-3)

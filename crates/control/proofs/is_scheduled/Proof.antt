@@ -15,7 +15,9 @@ element-copy-out-result c = search needs
 
 returns-2 : tie.Need-returns-2
 unfolding has
-returns-2 c = rw (c .before .if1 .left)
+returns-2 c =
+    let else1 : tie.Else1 = search in
+    rw (else1 .if1 .left)
 
 pub is-scheduled-spec : {M : Type 1} → statement M
 is-scheduled-spec =

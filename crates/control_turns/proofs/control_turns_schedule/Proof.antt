@@ -30,73 +30,105 @@ loop-holds c =
     }
 
 next-block-requires : tie.Need-next-block-requires Inv-loop μ-loop
-next-block-requires c κs = c .before .loop .inv .named
+next-block-requires c κs =
+    let at-loop : tie.At-loop Inv-loop μ-loop = search in
+    at-loop .loop .inv .named
 
 schedule-requires : tie.Need-schedule-requires Inv-loop μ-loop
-schedule-requires c κs = (
-  c .next-block .ensures,
-  record {
-    len = omega (arith, c .before .before .loop .inv .empty);
-    settled = c .before .before .loop .inv .settled;
-    id = omega (arith, c .before .before .loop .inv .ids, c .before .loop-test .taken, c .before .before .before .before .fits .turns);
-  },
-)
+schedule-requires c κs =
+    let in-loop : tie.In-loop Inv-loop μ-loop = search in
+    let at-loop : tie.At-loop Inv-loop μ-loop = search in
+    let start : tie.Start Inv-loop μ-loop = search in (
+      c .next-block .ensures,
+      record {
+        len = omega (arith, at-loop .loop .inv .empty);
+        settled = at-loop .loop .inv .settled;
+        id = omega (arith, at-loop .loop .inv .ids, in-loop .loop-test .taken, start .fits .turns);
+      },
+    )
 
 sub-at : tie.Need-sub-at Inv-loop μ-loop
-sub-at c = omega (arith, c .schedule .ensures .len, c .before .before .before .loop .inv .empty)
+sub-at c =
+    let at-loop : tie.At-loop Inv-loop μ-loop = search in
+    omega (arith, c .schedule .ensures .len, at-loop .loop .inv .empty)
 
 mul-entry : tie.Need-mul-entry Inv-loop μ-loop
-mul-entry c = scaled-fits _ 1152 _ (omega (arith, c .before .schedule .ensures .len, c .before .before .before .before .loop .inv .empty)) (lit< tt)
+mul-entry c =
+    let at-schedule : tie.After-schedule Inv-loop μ-loop = search in
+    let at-loop : tie.At-loop Inv-loop μ-loop = search in
+    scaled-fits _ 1152 _ (omega (arith, at-schedule .schedule .ensures .len, at-loop .loop .inv .empty)) (lit< tt)
 
 element-set-from-entry : tie.Need-element-set-from-entry Inv-loop μ-loop
-element-set-from-entry c = omega (arith, c .before .schedule .ensures .len, c .before .before .before .before .loop .inv .empty)
+element-set-from-entry c =
+    let at-schedule : tie.After-schedule Inv-loop μ-loop = search in
+    let at-loop : tie.At-loop Inv-loop μ-loop = search in
+    omega (arith, at-schedule .schedule .ensures .len, at-loop .loop .inv .empty)
 
 is-scheduled-requires : tie.Need-is-scheduled-requires Inv-loop μ-loop
-is-scheduled-requires c κs = c .before .before .before .before .before .next-block .ensures
+is-scheduled-requires c κs =
+    let at-next-block : tie.After-next-block Inv-loop μ-loop = search in
+    at-next-block .next-block .ensures
 
 count-requires : tie.Need-count-requires Inv-loop μ-loop
 count-requires c κs =
+    let at-next-block : tie.After-next-block Inv-loop μ-loop = search in
+    let in-loop : tie.In-loop Inv-loop μ-loop = search in
+    let at-loop : tie.At-loop Inv-loop μ-loop = search in
+    let start : tie.Start Inv-loop μ-loop = search in
     omega (
       arith,
-      c .before .before .before .before .before .before .before .before .loop .inv .all,
-      c .before .before .before .before .before .before .before .loop-test .taken,
-      c .before .before .before .before .before .before .before .before .before .before .fits .turns,
+      at-loop .loop .inv .all,
+      in-loop .loop-test .taken,
+      start .fits .turns,
     )
 
 mul-last : tie.Need-mul-last Inv-loop μ-loop
 mul-last c =
+    let at-schedule : tie.After-schedule Inv-loop μ-loop = search in
+    let at-loop : tie.At-loop Inv-loop μ-loop = search in
     scaled-fits _ 1152 _ (omega (
       arith,
-      c .before .before .before .before .before .before .schedule .ensures .len,
-      c .before .before .before .before .before .before .before .before .before .loop .inv .empty,
+      at-schedule .schedule .ensures .len,
+      at-loop .loop .inv .empty,
     )) (lit< tt)
 
 element-copy-out-last : tie.Need-element-copy-out-last Inv-loop μ-loop
 element-copy-out-last c =
+    let at-schedule : tie.After-schedule Inv-loop μ-loop = search in
+    let at-loop : tie.At-loop Inv-loop μ-loop = search in
     omega (
       arith,
-      c .before .before .before .before .before .before .schedule .ensures .len,
-      c .before .before .before .before .before .before .before .before .before .loop .inv .empty,
+      at-schedule .schedule .ensures .len,
+      at-loop .loop .inv .empty,
     )
 
 unschedule-requires : tie.Need-unschedule-requires Inv-loop μ-loop
 unschedule-requires c κs =
-    let stored = c .before .before .before .before .before .before .before .schedule .ensures .bounded
-    (c .before .before .before .before .before .before .before .before .before .before .loop .inv .bounded) in
-    let some : 0 < c .before .before .before .before .before .before .before .schedule .result .len = omega
-    (arith, c .before .before .before .before .before .before .before .schedule .ensures .len) in
-    record { nonempty = some; settled = refl; read = refl; named = stored .named (c .before .before .before .before .before .before .before .schedule .result .len - 1) (omega arith) }
+    let at-entry : tie.After-entry Inv-loop μ-loop = search in
+    let at-schedule : tie.After-schedule Inv-loop μ-loop = search in
+    let at-loop : tie.At-loop Inv-loop μ-loop = search in
+    let stored = at-schedule .schedule .ensures .bounded
+    (at-loop .loop .inv .bounded) in
+    let some : 0 < at-schedule .schedule .result .len = omega
+    (arith, at-schedule .schedule .ensures .len) in
+    record { nonempty = some; settled = refl; read = refl; named = stored .named (at-schedule .schedule .result .len - 1) (omega arith) }
 
 add-turn : tie.Need-add-turn Inv-loop μ-loop
 add-turn c =
+    let at-cx : tie.After-cx Inv-loop μ-loop = search in
+    let in-loop : tie.In-loop Inv-loop μ-loop = search in
+    let start : tie.Start Inv-loop μ-loop = search in
     omega (
       arith,
-      c .before .before .before .before .before .before .before .before .before .before .loop-test .taken,
-      c .before .before .before .before .before .before .before .before .before .before .before .before .before .fits .turns,
+      in-loop .loop-test .taken,
+      start .fits .turns,
     )
 
 loop-less : tie.Need-loop-less Inv-loop μ-loop
-loop-less c = omega (arith, c .before .before .before .before .before .before .before .before .before .before .loop-test .taken)
+loop-less c =
+    let at-cx : tie.After-cx Inv-loop μ-loop = search in
+    let in-loop : tie.In-loop Inv-loop μ-loop = search in
+    omega (arith, in-loop .loop-test .taken)
 
 loop-again : tie.Need-loop-again Inv-loop μ-loop
 loop-again c =
@@ -121,7 +153,9 @@ loop-again c =
     }
 
 returns : tie.Need-returns Inv-loop μ-loop
-returns c = omega (arith, c .before .loop .inv .all, c .before .loop .inv .most)
+returns c =
+    let at-loop : tie.At-loop Inv-loop μ-loop = search in
+    omega (arith, at-loop .loop .inv .all, at-loop .loop .inv .most)
 
 pub control-turns-schedule-spec : {M : Type 1} → statement M
 control-turns-schedule-spec =

@@ -1,5 +1,5 @@
 use borrow.Author.Needs.{needs}
-use Rattle.dotfile.proofs.DrawingLaws.{refusal-written}
+use Rattle.text.proofs.PrintsLaws.{refusal-written}
 use Rattle.dotfile.proofs.write_refusal.Statement.{statement}
 use Rattle.dotfile.proofs.write_refusal.Tie as tie
 

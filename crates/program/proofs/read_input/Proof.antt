@@ -49,7 +49,9 @@ same-length-2 : tie.Need-same-length-2 Inv-loop μ-loop
 same-length-2 c = search needs
 
 returns-2 : tie.Need-returns-2 Inv-loop μ-loop
-returns-2 c = counts _ _ (c .before .loop .inv .0)
+returns-2 c =
+    let at-loop : tie.At-loop Inv-loop μ-loop = search in
+    counts _ _ (at-loop .loop .inv .0)
 
 same-length-3 : tie.Need-same-length-3 Inv-loop μ-loop
 same-length-3 c = search needs

@@ -3,6 +3,7 @@ use mathlib.Core.List.{[]}
 use Rattle.text.proofs.LentLaws.{holds-none}
 use Rattle.text.proofs.WriteLaws.{wrote-then, wrote-all, fits-answer, fits-lent, over-answer, over-lent}
 use Rattle.rowfile.specs.Prints.{printedCheck}
+use Rattle.rowfile.proofs.FileLaws.{check-written}
 use borrow.Author.Needs.{needs}
 use Rattle.rowfile.proofs.write_check.Statement.{statement}
 use Rattle.rowfile.proofs.write_check.Tie as tie
@@ -32,11 +33,11 @@ returns c =
     let over : tie.Then1 = search in
     let line : tie.After-write-line = search in
     let names : tie.After-write-names = search in
+    let start : tie.Start = search in
     let held = wrote-all (wrote-then (names .write-names .ensures) (line .write-line .ensures)) [] (holds-none _) in
-    record {
-      answer = over-answer _ _ (line .write-line .last .0) _ _ (search needs) held (over .if1 .taken);
-      bytes = over-lent _ _ _ _ _ (search needs) held (over .if1 .taken) (cleared .clear-bytes .ensures);
-    }
+    check-written (start .args .code) (start .args .at) (start .fits .code .fits) (start .fits .at .fits)
+    (over-answer _ _ (line .write-line .last .0) _ _ (search needs) held (over .if1 .taken))
+    (over-lent _ _ _ _ _ (search needs) held (over .if1 .taken) (cleared .clear-bytes .ensures))
 
 clear-bytes-requires-2 : tie.Need-clear-bytes-requires-2
 clear-bytes-requires-2 c κs = search needs
@@ -51,11 +52,11 @@ returns-2 c =
     let fits : tie.Else1 = search in
     let line : tie.After-write-line = search in
     let names : tie.After-write-names = search in
+    let start : tie.Start = search in
     let held = wrote-all (wrote-then (names .write-names .ensures) (line .write-line .ensures)) [] (holds-none _) in
-    record {
-      answer = fits-answer _ _ (line .write-line .last .0) _ _ (search needs) held (fits .if1 .left);
-      bytes = fits-lent _ _ _ _ _ (search needs) held (fits .if1 .left) (cleared .clear-bytes2 .ensures);
-    }
+    check-written (start .args .code) (start .args .at) (start .fits .code .fits) (start .fits .at .fits)
+    (fits-answer _ _ (line .write-line .last .0) _ _ (search needs) held (fits .if1 .left))
+    (fits-lent _ _ _ _ _ (search needs) held (fits .if1 .left) (cleared .clear-bytes2 .ensures))
 
 pub write-check-spec : {M : Type 1} → statement M
 write-check-spec =

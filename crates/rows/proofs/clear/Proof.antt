@@ -42,8 +42,8 @@ loop-less c = simp length-set (omega arith)
 
 loop-again : tie.Need-loop-again Inv-loop μ-loop
 loop-again c =
-    let at-loop = c .before in
-    let at-entry = at-loop .before in
+    let at-loop : tie.At-loop Inv-loop μ-loop = search in
+    let at-entry : tie.Start Inv-loop μ-loop = search in
     let l = at-loop .loop in
     let a = at-entry .args in
     let e : l .i + 1 - a .from ≡ l .i - a .from + 1 = omega (arith, l .inv .least) in
@@ -60,8 +60,8 @@ same-length c = search needs
 
 returns : tie.Need-returns Inv-loop μ-loop
 returns c =
-    let at-loop = c .before in
-    let at-entry = at-loop .before in
+    let at-loop : tie.At-loop Inv-loop μ-loop = search in
+    let at-entry : tie.Start Inv-loop μ-loop = search in
     let l = at-loop .loop in
     let e : at-loop .loop .i ≡ length (at-loop .loop .buffer) = omega (arith, l .inv .most, c .loop-test .left) in
     let f : length (at-loop .loop .buffer) ≡ length (at-entry .args .buffer .now) = l .inv .long in

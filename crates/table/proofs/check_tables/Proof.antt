@@ -14,8 +14,8 @@ is-accepted-requires c κs = search needs
 returns : tie.Need-returns
 unfolding wordsVerdict
 returns c =
-    let at-is-accepted = c .before in
-    let at-check-blocks = at-is-accepted .before in
+    let at-is-accepted : tie.After-is-accepted = search in
+    let at-check-blocks : tie.After-check-blocks = search in
     stops _ _ (at-check-blocks .check-blocks .ensures) (at-is-accepted .is-accepted .ensures) (c .if1 .taken)
 
 check-instructions-requires : tie.Need-check-instructions-requires
@@ -27,11 +27,11 @@ is-accepted-requires-2 c κs = search needs
 returns-2 : tie.Need-returns-2
 unfolding wordsVerdict
 returns-2 c =
-    let at-is-accepted2 = c .before in
-    let at-check-instructions = at-is-accepted2 .before in
-    let at-if1 = at-check-instructions .before in
-    let at-is-accepted = at-if1 .before in
-    let at-check-blocks = at-is-accepted .before in
+    let at-is-accepted2 : tie.After-is-accepted2 = search in
+    let at-check-instructions : tie.After-check-instructions = search in
+    let at-if1 : tie.Else1 = search in
+    let at-is-accepted : tie.After-is-accepted = search in
+    let at-check-blocks : tie.After-check-blocks = search in
     goes-on _ _ (at-check-blocks .check-blocks .ensures) (at-is-accepted .is-accepted .ensures) (at-if1 .if1 .left)
     (stops _ _ (at-check-instructions .check-instructions .ensures) (at-is-accepted2 .is-accepted2 .ensures) (c .if2 .taken))
 
@@ -44,14 +44,14 @@ is-accepted-requires-3 c κs = search needs
 returns-3 : tie.Need-returns-3
 unfolding wordsVerdict
 returns-3 c =
-    let at-is-accepted3 = c .before in
-    let at-check-cases = at-is-accepted3 .before in
-    let at-if2 = at-check-cases .before in
-    let at-is-accepted2 = at-if2 .before in
-    let at-check-instructions = at-is-accepted2 .before in
-    let at-if1 = at-check-instructions .before in
-    let at-is-accepted = at-if1 .before in
-    let at-check-blocks = at-is-accepted .before in
+    let at-is-accepted3 : tie.After-is-accepted3 = search in
+    let at-check-cases : tie.After-check-cases = search in
+    let at-if2 : tie.Else2 = search in
+    let at-is-accepted2 : tie.After-is-accepted2 = search in
+    let at-check-instructions : tie.After-check-instructions = search in
+    let at-if1 : tie.Else1 = search in
+    let at-is-accepted : tie.After-is-accepted = search in
+    let at-check-blocks : tie.After-check-blocks = search in
     goes-on _ _ (at-check-blocks .check-blocks .ensures) (at-is-accepted .is-accepted .ensures) (at-if1 .if1 .left)
     (goes-on _ _ (at-check-instructions .check-instructions .ensures) (at-is-accepted2 .is-accepted2 .ensures) (at-if2 .if2 .left)
     (stops _ _ (at-check-cases .check-cases .ensures) (at-is-accepted3 .is-accepted3 .ensures) (c .if3 .taken)))
@@ -65,17 +65,17 @@ is-accepted-requires-4 c κs = search needs
 returns-4 : tie.Need-returns-4
 unfolding wordsVerdict
 returns-4 c =
-    let at-is-accepted4 = c .before in
-    let at-check-places = at-is-accepted4 .before in
-    let at-if3 = at-check-places .before in
-    let at-is-accepted3 = at-if3 .before in
-    let at-check-cases = at-is-accepted3 .before in
-    let at-if2 = at-check-cases .before in
-    let at-is-accepted2 = at-if2 .before in
-    let at-check-instructions = at-is-accepted2 .before in
-    let at-if1 = at-check-instructions .before in
-    let at-is-accepted = at-if1 .before in
-    let at-check-blocks = at-is-accepted .before in
+    let at-is-accepted4 : tie.After-is-accepted4 = search in
+    let at-check-places : tie.After-check-places = search in
+    let at-if3 : tie.Else3 = search in
+    let at-is-accepted3 : tie.After-is-accepted3 = search in
+    let at-check-cases : tie.After-check-cases = search in
+    let at-if2 : tie.Else2 = search in
+    let at-is-accepted2 : tie.After-is-accepted2 = search in
+    let at-check-instructions : tie.After-check-instructions = search in
+    let at-if1 : tie.Else1 = search in
+    let at-is-accepted : tie.After-is-accepted = search in
+    let at-check-blocks : tie.After-check-blocks = search in
     goes-on _ _ (at-check-blocks .check-blocks .ensures) (at-is-accepted .is-accepted .ensures) (at-if1 .if1 .left)
     (goes-on _ _ (at-check-instructions .check-instructions .ensures) (at-is-accepted2 .is-accepted2 .ensures) (at-if2 .if2 .left)
     (goes-on _ _ (at-check-cases .check-cases .ensures) (at-is-accepted3 .is-accepted3 .ensures) (at-if3 .if3 .left)
@@ -87,18 +87,18 @@ check-identifiers-requires c κs = search needs
 returns-5 : tie.Need-returns-5
 unfolding wordsVerdict
 returns-5 c =
-    let at-if4 = c .before in
-    let at-is-accepted4 = at-if4 .before in
-    let at-check-places = at-is-accepted4 .before in
-    let at-if3 = at-check-places .before in
-    let at-is-accepted3 = at-if3 .before in
-    let at-check-cases = at-is-accepted3 .before in
-    let at-if2 = at-check-cases .before in
-    let at-is-accepted2 = at-if2 .before in
-    let at-check-instructions = at-is-accepted2 .before in
-    let at-if1 = at-check-instructions .before in
-    let at-is-accepted = at-if1 .before in
-    let at-check-blocks = at-is-accepted .before in
+    let at-if4 : tie.Else4 = search in
+    let at-is-accepted4 : tie.After-is-accepted4 = search in
+    let at-check-places : tie.After-check-places = search in
+    let at-if3 : tie.Else3 = search in
+    let at-is-accepted3 : tie.After-is-accepted3 = search in
+    let at-check-cases : tie.After-check-cases = search in
+    let at-if2 : tie.Else2 = search in
+    let at-is-accepted2 : tie.After-is-accepted2 = search in
+    let at-check-instructions : tie.After-check-instructions = search in
+    let at-if1 : tie.Else1 = search in
+    let at-is-accepted : tie.After-is-accepted = search in
+    let at-check-blocks : tie.After-check-blocks = search in
     goes-on _ _ (at-check-blocks .check-blocks .ensures) (at-is-accepted .is-accepted .ensures) (at-if1 .if1 .left)
     (goes-on _ _ (at-check-instructions .check-instructions .ensures) (at-is-accepted2 .is-accepted2 .ensures) (at-if2 .if2 .left)
     (goes-on _ _ (at-check-cases .check-cases .ensures) (at-is-accepted3 .is-accepted3 .ensures) (at-if3 .if3 .left)

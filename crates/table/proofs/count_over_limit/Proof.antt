@@ -11,7 +11,7 @@ block-count-requires c κs = search needs
 returns : tie.Need-returns
 unfolding blockCount instructionCount caseCount placeCount identifierCount
 returns c =
-    let at-block-count = c .before in
+    let at-block-count : tie.After-block-count = search in
     counted-off _ _ _ _ (at-block-count .block-count .ensures) (c .if1 .taken)
 
 instruction-count-requires : tie.Need-instruction-count-requires
@@ -20,9 +20,9 @@ instruction-count-requires c κs = search needs
 returns-2 : tie.Need-returns-2
 unfolding blockCount instructionCount caseCount placeCount identifierCount
 returns-2 c =
-    let at-instruction-count = c .before in
-    let at-if1 = at-instruction-count .before in
-    let at-block-count = at-if1 .before in
+    let at-instruction-count : tie.After-instruction-count = search in
+    let at-if1 : tie.Else1 = search in
+    let at-block-count : tie.After-block-count = search in
     counted-on _ _ _ _ (at-block-count .block-count .ensures) (at-if1 .if1 .left)
     (counted-off _ _ _ _ (at-instruction-count .instruction-count .ensures) (c .if2 .taken))
 
@@ -32,11 +32,11 @@ case-count-requires c κs = search needs
 returns-3 : tie.Need-returns-3
 unfolding blockCount instructionCount caseCount placeCount identifierCount
 returns-3 c =
-    let at-case-count = c .before in
-    let at-if2 = at-case-count .before in
-    let at-instruction-count = at-if2 .before in
-    let at-if1 = at-instruction-count .before in
-    let at-block-count = at-if1 .before in
+    let at-case-count : tie.After-case-count = search in
+    let at-if2 : tie.Else2 = search in
+    let at-instruction-count : tie.After-instruction-count = search in
+    let at-if1 : tie.Else1 = search in
+    let at-block-count : tie.After-block-count = search in
     counted-on _ _ _ _ (at-block-count .block-count .ensures) (at-if1 .if1 .left)
     (counted-on _ _ _ _ (at-instruction-count .instruction-count .ensures) (at-if2 .if2 .left)
     (counted-off _ _ _ _ (at-case-count .case-count .ensures) (c .if3 .taken)))
@@ -47,13 +47,13 @@ place-count-requires c κs = search needs
 returns-4 : tie.Need-returns-4
 unfolding blockCount instructionCount caseCount placeCount identifierCount
 returns-4 c =
-    let at-place-count = c .before in
-    let at-if3 = at-place-count .before in
-    let at-case-count = at-if3 .before in
-    let at-if2 = at-case-count .before in
-    let at-instruction-count = at-if2 .before in
-    let at-if1 = at-instruction-count .before in
-    let at-block-count = at-if1 .before in
+    let at-place-count : tie.After-place-count = search in
+    let at-if3 : tie.Else3 = search in
+    let at-case-count : tie.After-case-count = search in
+    let at-if2 : tie.Else2 = search in
+    let at-instruction-count : tie.After-instruction-count = search in
+    let at-if1 : tie.Else1 = search in
+    let at-block-count : tie.After-block-count = search in
     counted-on _ _ _ _ (at-block-count .block-count .ensures) (at-if1 .if1 .left)
     (counted-on _ _ _ _ (at-instruction-count .instruction-count .ensures) (at-if2 .if2 .left)
     (counted-on _ _ _ _ (at-case-count .case-count .ensures) (at-if3 .if3 .left)
@@ -65,15 +65,15 @@ identifier-count-requires c κs = search needs
 returns-5 : tie.Need-returns-5
 unfolding blockCount instructionCount caseCount placeCount identifierCount
 returns-5 c =
-    let at-identifier-count = c .before in
-    let at-if4 = at-identifier-count .before in
-    let at-place-count = at-if4 .before in
-    let at-if3 = at-place-count .before in
-    let at-case-count = at-if3 .before in
-    let at-if2 = at-case-count .before in
-    let at-instruction-count = at-if2 .before in
-    let at-if1 = at-instruction-count .before in
-    let at-block-count = at-if1 .before in
+    let at-identifier-count : tie.After-identifier-count = search in
+    let at-if4 : tie.Else4 = search in
+    let at-place-count : tie.After-place-count = search in
+    let at-if3 : tie.Else3 = search in
+    let at-case-count : tie.After-case-count = search in
+    let at-if2 : tie.Else2 = search in
+    let at-instruction-count : tie.After-instruction-count = search in
+    let at-if1 : tie.Else1 = search in
+    let at-block-count : tie.After-block-count = search in
     counted-on _ _ _ _ (at-block-count .block-count .ensures) (at-if1 .if1 .left)
     (counted-on _ _ _ _ (at-instruction-count .instruction-count .ensures) (at-if2 .if2 .left)
     (counted-on _ _ _ _ (at-case-count .case-count .ensures) (at-if3 .if3 .left)
@@ -83,15 +83,15 @@ returns-5 c =
 returns-6 : tie.Need-returns-6
 unfolding blockCount instructionCount caseCount placeCount identifierCount
 returns-6 c =
-    let at-identifier-count = c .before in
-    let at-if4 = at-identifier-count .before in
-    let at-place-count = at-if4 .before in
-    let at-if3 = at-place-count .before in
-    let at-case-count = at-if3 .before in
-    let at-if2 = at-case-count .before in
-    let at-instruction-count = at-if2 .before in
-    let at-if1 = at-instruction-count .before in
-    let at-block-count = at-if1 .before in
+    let at-identifier-count : tie.After-identifier-count = search in
+    let at-if4 : tie.Else4 = search in
+    let at-place-count : tie.After-place-count = search in
+    let at-if3 : tie.Else3 = search in
+    let at-case-count : tie.After-case-count = search in
+    let at-if2 : tie.Else2 = search in
+    let at-instruction-count : tie.After-instruction-count = search in
+    let at-if1 : tie.Else1 = search in
+    let at-block-count : tie.After-block-count = search in
     counted-on _ _ _ _ (at-block-count .block-count .ensures) (at-if1 .if1 .left)
     (counted-on _ _ _ _ (at-instruction-count .instruction-count .ensures) (at-if2 .if2 .left)
     (counted-on _ _ _ _ (at-case-count .case-count .ensures) (at-if3 .if3 .left)

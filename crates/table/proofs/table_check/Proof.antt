@@ -14,8 +14,8 @@ code-requires c κs = search needs
 
 returns : tie.Need-returns
 returns c =
-    let at-place = c .before in
-    let at-check = at-place .before in
+    let at-place : tie.After-place = search in
+    let at-check : tie.After-check = search in
     rw (← (at-check .check .ensures)) (c .code .ensures, at-place .place .ensures)
 
 pub table-check-spec : {M : Type 1} → statement M

@@ -34,29 +34,42 @@ same-length-2 : tie.Need-same-length-2 Inv-loop μ-loop
 same-length-2 c = omega arith
 
 returns-2 : tie.Need-returns-2 Inv-loop μ-loop
-returns-2 c = omega (arith, c .before .number .ensures)
+returns-2 c =
+    let at-number : tie.After-number Inv-loop μ-loop = search in
+    omega (arith, at-number .number .ensures)
 
 number-requires-2 : tie.Need-number-requires-2 Inv-loop μ-loop
-number-requires-2 c κs = omega (arith, c .before .number .ensures)
+number-requires-2 c κs =
+    let at-number : tie.After-number Inv-loop μ-loop = search in
+    omega (arith, at-number .number .ensures)
 
 cast-fill : tie.Need-cast-fill Inv-loop μ-loop
-cast-fill c = omega (arith, c .before .before .before .before .number .ensures)
+cast-fill c =
+    let at-number : tie.After-number Inv-loop μ-loop = search in
+    omega (arith, at-number .number .ensures)
 
 fill-requires : tie.Need-fill-requires Inv-loop μ-loop
 fill-requires c κs = omega arith
 
 loop-less : tie.Need-loop-less Inv-loop μ-loop
-loop-less c = omega (arith, c .before .before .before .before .before .before .before .number .ensures, c .before .before .before .before .before .number2 .ensures)
+loop-less c =
+    let at-number2 : tie.After-number2 Inv-loop μ-loop = search in
+    let at-number : tie.After-number Inv-loop μ-loop = search in
+    omega (arith, at-number .number .ensures, at-number2 .number2 .ensures)
 
 loop-again : tie.Need-loop-again Inv-loop μ-loop
 loop-again c =
+    let at-fill : tie.After-fill Inv-loop μ-loop = search in
+    let at-number2 : tie.After-number2 Inv-loop μ-loop = search in
+    let at-number : tie.After-number Inv-loop μ-loop = search in
+    let at-loop : tie.At-loop Inv-loop μ-loop = search in
     omega (
       arith,
-      c .before .before .before .before .before .before .before .before .before .before .before .loop .inv,
-      c .before .before .before .before .before .before .before .number .ensures,
-      c .before .before .before .before .before .number2 .ensures,
-      c .before .before .fill .ensures,
-      c .before .before .fill .kept .0,
+      at-loop .loop .inv,
+      at-number .number .ensures,
+      at-number2 .number2 .ensures,
+      at-fill .fill .ensures,
+      at-fill .fill .kept .0,
     )
 
 same-length-3 : tie.Need-same-length-3 Inv-loop μ-loop

@@ -18,7 +18,9 @@ shared-slice-read-byte : tie.Need-shared-slice-read-byte Inv-loop μ-loop
 shared-slice-read-byte c = omega arith
 
 cast-byte : tie.Need-cast-byte Inv-loop μ-loop
-cast-byte c = omega (arith, c .shared-slice-known .given (c .before .before .loop .i))
+cast-byte c =
+    let at-loop : tie.At-loop Inv-loop μ-loop = search in
+    omega (arith, c .shared-slice-known .given (at-loop .loop .i))
 
 add-i : tie.Need-add-i Inv-loop μ-loop
 add-i c = omega arith
@@ -30,7 +32,10 @@ mul-value : tie.Need-mul-value Inv-loop μ-loop
 mul-value c = omega arith
 
 add-value : tie.Need-add-value Inv-loop μ-loop
-add-value c = omega (arith, c .before .shared-slice-known .given (c .before .before .before .loop .i))
+add-value c =
+    let at-shared-slice-known : tie.After-shared-slice-known Inv-loop μ-loop = search in
+    let at-loop : tie.At-loop Inv-loop μ-loop = search in
+    omega (arith, at-shared-slice-known .shared-slice-known .given (at-loop .loop .i))
 
 loop-less : tie.Need-loop-less Inv-loop μ-loop
 loop-less c = omega arith

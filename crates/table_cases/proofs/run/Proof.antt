@@ -30,54 +30,75 @@ number-requires-2 : tie.Need-number-requires-2 Inv-loop μ-loop
 number-requires-2 c κs = omega arith
 
 list-requires : tie.Need-list-requires Inv-loop μ-loop
-list-requires c κs = omega (arith, c .before .number2 .ensures)
+list-requires c κs =
+    let at-number2 : tie.After-number2 Inv-loop μ-loop = search in
+    omega (arith, at-number2 .number2 .ensures)
 
 slice-reshare-prefix-differs : tie.Need-slice-reshare-prefix-differs Inv-loop μ-loop
-slice-reshare-prefix-differs c = omega (arith, c .before .before .list .ensures, c .before .before .list .kept)
+slice-reshare-prefix-differs c =
+    let at-list : tie.After-list Inv-loop μ-loop = search in
+    omega (arith, at-list .list .ensures, at-list .list .kept)
 
 slice-aggregate-differs : tie.Need-slice-aggregate-differs Inv-loop μ-loop
-slice-aggregate-differs c = sym (length-take-le _ _ (omega (arith, c .before .before .before .list .ensures, c .before .before .before .list .kept)))
+slice-aggregate-differs c =
+    let at-list : tie.After-list Inv-loop μ-loop = search in
+    sym (length-take-le _ _ (omega (arith, at-list .list .ensures, at-list .list .kept)))
 
 differs-requires : tie.Need-differs-requires Inv-loop μ-loop
 differs-requires c κs = search needs
 
 add-differences : tie.Need-add-differences Inv-loop μ-loop
 add-differences c =
+    let at-number2 : tie.After-number2 Inv-loop μ-loop = search in
+    let in-loop : tie.In-loop Inv-loop μ-loop = search in
+    let at-loop : tie.At-loop Inv-loop μ-loop = search in
     omega (
       arith,
-      c .before .before .before .before .before .before .before .before .before .before .loop .inv,
-      c .before .before .before .before .before .before .before .before .before .loop-test .taken,
+      at-loop .loop .inv,
+      in-loop .loop-test .taken,
       c .differs .ensures,
     )
 
 add-lists : tie.Need-add-lists Inv-loop μ-loop
 add-lists c =
+    let at-number2 : tie.After-number2 Inv-loop μ-loop = search in
+    let in-loop : tie.In-loop Inv-loop μ-loop = search in
+    let at-loop : tie.At-loop Inv-loop μ-loop = search in
     omega (
       arith,
-      c .before .before .before .before .before .before .before .before .before .before .loop .inv,
-      c .before .before .before .before .before .before .before .before .before .loop-test .taken,
+      at-loop .loop .inv,
+      in-loop .loop-test .taken,
     )
 
 loop-less : tie.Need-loop-less Inv-loop μ-loop
 loop-less c =
+    let at-list : tie.After-list Inv-loop μ-loop = search in
+    let at-number2 : tie.After-number2 Inv-loop μ-loop = search in
+    let at-number : tie.After-number Inv-loop μ-loop = search in
+    let in-loop : tie.In-loop Inv-loop μ-loop = search in
     omega (
       arith,
-      c .before .before .before .before .before .before .before .before .before .loop-test .taken,
-      c .before .before .before .before .before .before .before .before .number .ensures,
-      c .before .before .before .before .before .before .number2 .ensures,
-      c .before .before .before .before .list .ensures,
+      in-loop .loop-test .taken,
+      at-number .number .ensures,
+      at-number2 .number2 .ensures,
+      at-list .list .ensures,
     )
 
 loop-again : tie.Need-loop-again Inv-loop μ-loop
 loop-again c =
+    let at-list : tie.After-list Inv-loop μ-loop = search in
+    let at-number2 : tie.After-number2 Inv-loop μ-loop = search in
+    let at-number : tie.After-number Inv-loop μ-loop = search in
+    let in-loop : tie.In-loop Inv-loop μ-loop = search in
+    let at-loop : tie.At-loop Inv-loop μ-loop = search in
     omega (
       arith,
-      c .before .before .before .before .before .before .before .before .before .before .loop .inv,
-      c .before .before .before .before .before .before .before .before .before .loop-test .taken,
-      c .before .before .before .before .before .before .before .before .number .ensures,
-      c .before .before .before .before .before .before .number2 .ensures,
-      c .before .before .before .before .list .ensures,
-      c .before .before .before .before .list .kept,
+      at-loop .loop .inv,
+      in-loop .loop-test .taken,
+      at-number .number .ensures,
+      at-number2 .number2 .ensures,
+      at-list .list .ensures,
+      at-list .list .kept,
       c .differs .ensures,
     )
 

@@ -7,7 +7,9 @@ use Rattle.text_cases.proofs.first_words.Statement.{statement}
 use Rattle.text_cases.proofs.first_words.Tie as tie
 
 slice-aggregate-result : tie.Need-slice-aggregate-result
-slice-aggregate-result c = sym (length-take-le 24 (c .before .before .before .args .words .now) (omega arith))
+slice-aggregate-result c =
+    let start : tie.Start = search in
+    sym (length-take-le 24 (start .args .words .now) (omega arith))
 
 returns : tie.Need-returns
 returns c = search needs
@@ -16,7 +18,9 @@ returns-2 : tie.Need-returns-2
 returns-2 c = search needs
 
 slice-aggregate-result-2 : tie.Need-slice-aggregate-result-2
-slice-aggregate-result-2 c = let a = c .before .before .before .args in sym (length-take-le (a .n) (a .words .now) (omega arith))
+slice-aggregate-result-2 c =
+    let start : tie.Start = search in
+    let a = start .args in sym (length-take-le (a .n) (a .words .now) (omega arith))
 
 returns-3 : tie.Need-returns-3
 returns-3 c = search needs

@@ -35,12 +35,14 @@ loop-less c = omega arith
 
 loop-again : tie.Need-loop-again Inv-loop μ-loop
 loop-again c =
-    let at-run-named = c .before .before in
-    let at-loop = at-run-named .before .before .before .before in
+    let at-run-named : tie.After-run-named Inv-loop μ-loop = search in
+    let at-loop : tie.At-loop Inv-loop μ-loop = search in
     at-run-named .run-named .kept .1 .0 ∙ at-loop .loop .inv
 
 same-length : tie.Need-same-length Inv-loop μ-loop
-same-length c = c .before .loop .inv
+same-length c =
+    let at-loop : tie.At-loop Inv-loop μ-loop = search in
+    at-loop .loop .inv
 
 returns : tie.Need-returns Inv-loop μ-loop
 returns c = search needs

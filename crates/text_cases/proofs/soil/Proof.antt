@@ -28,10 +28,14 @@ loop-less : tie.Need-loop-less Inv-loop μ-loop
 loop-less c = simp length-set (omega arith)
 
 loop-again : tie.Need-loop-again Inv-loop μ-loop
-loop-again c = simp length-set (c .before .loop .inv)
+loop-again c =
+    let at-loop : tie.At-loop Inv-loop μ-loop = search in
+    simp length-set (at-loop .loop .inv)
 
 same-length : tie.Need-same-length Inv-loop μ-loop
-same-length c = c .before .loop .inv
+same-length c =
+    let at-loop : tie.At-loop Inv-loop μ-loop = search in
+    at-loop .loop .inv
 
 returns : tie.Need-returns Inv-loop μ-loop
 returns c = search needs

@@ -1,7 +1,7 @@
 use native.Mathlib.Omega.{arith}
 use mathlib.Core.Path.{sym}
 use lib.Seq.{length-take-le}
-use Rattle.dotfile.proofs.FileLaws.{bytes-within}
+use Rattle.text.proofs.WriteLaws.{bytes-within}
 use borrow.Author.Needs.{needs}
 use Rattle.treedot.proofs.main.Statement.{statement}
 use Rattle.treedot.proofs.main.Tie as tie

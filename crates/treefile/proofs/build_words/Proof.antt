@@ -1,25 +1,24 @@
 use borrow.Author.Needs.{needs}
 use native.Mathlib.Omega.{arith}
-use mathlib.Core.Path.{sym, ap, _∙_}
-use Prim.Native.Nat.{ℕ, _*_, _≤_}
-use mathlib.Core.List.{List}
-use Rattle.text.specs.declared.write.Written.the-variants.{Bytes}
+use mathlib.Core.Path.{sym, _∙_}
+use Prim.Native.Nat.{_*_, _≤_}
 use lib.ListN.{length}
-use Rattle.text.specs.Printed.{writtenOf, lentOf}
-use Rattle.treefile.specs.Prints.{lentWords}
 use lib.Seq.{length-take-le}
-use Rattle.treefile.proofs.OutcomeLaws.{built-within, refusal-lines, built-printed}
+use Rattle.text.proofs.PrintsLaws.{refusal-lines, written-as}
+use Rattle.survey.specs.Abstraction.{ruleOf}
+use Rattle.treefile.specs.Prints.{lentWords}
+use Rattle.treefile.proofs.OutcomeLaws.{built-within, built-printed}
 use Rattle.treefile.proofs.build_words.Statement.{statement}
 use Rattle.treefile.proofs.build_words.Tie as tie
 
 lent-rows-requires : tie.Need-lent-rows-requires
 lent-rows-requires c κs = search needs
 
-slice-aggregate-build-reactive-function : tie.Need-slice-aggregate-build-reactive-function
-slice-aggregate-build-reactive-function c = search needs
+slice-aggregate-build : tie.Need-slice-aggregate-build
+slice-aggregate-build c = search needs
 
-build-reactive-function-requires : tie.Need-build-reactive-function-requires
-build-reactive-function-requires c κs = search needs
+build-requires : tie.Need-build-requires
+build-requires c κs = search needs
 
 slice-aggregate-write-result : tie.Need-slice-aggregate-write-result
 slice-aggregate-write-result c = search needs
@@ -35,14 +34,12 @@ returns c =
     let at-write-result : tie.After-write-result = search in
     let then1 : tie.Then1 = search in
     let at-tree2 : tie.After-tree2 = search in
-    let at-build-reactive-function : tie.After-build-reactive-function = search in
+    let at-build : tie.After-build = search in
     let at-rows : tie.After-lent-rows = search in
     let start : tie.Start = search in
-    let b = at-build-reactive-function .build-reactive-function in
-    let h = b .ensures in
-    let w = at-write-result .write-result .ensures in
-    let e = refusal-lines _ _ _ _ _ _ (then1 .if1 .taken) ∙ built-printed (start .args .words .now) lentWords (b .result) (b .last .1 .0) (sym (at-rows .lent-rows .ensures)) h in
-    (w .0 ∙ ap (writtenOf _) e, (w .1 .0 ∙ ap (lentOf _) e, λ p. w .1 .1 (omega (arith, at-tree2 .tree2 .given)) p ∙ ap (λ (text : List ℕ). Bytes (length text)) e))
+    let b = at-build .build in
+    let e = refusal-lines _ _ _ _ _ _ (then1 .if1 .taken) ∙ built-printed (ruleOf (start .args .rule)) (start .args .words .now) lentWords (b .result) (b .last .1 .1 .0) (sym (at-rows .lent-rows .ensures)) (b .ensures) in
+    written-as e (omega (arith, at-tree2 .tree2 .given)) (at-write-result .write-result .ensures)
 
 cast-end : tie.Need-cast-end
 cast-end c = search needs
@@ -53,16 +50,16 @@ mul-end c = search needs
 array-share-prefix-tree : tie.Need-array-share-prefix-tree
 array-share-prefix-tree c =
     let else1 : tie.Else1 = search in
-    let at-build-reactive-function : tie.After-build-reactive-function = search in
-    let b = at-build-reactive-function .build-reactive-function in
-    omega (arith, built-within _ _ _ _ (b .ensures) (else1 .if1 .left), b .kept .1 .0)
+    let at-build : tie.After-build = search in
+    let b = at-build .build in
+    omega (arith, built-within _ _ _ _ _ (b .ensures) (else1 .if1 .left), b .kept .1 .1 .0)
 
 slice-aggregate-write-result-2 : tie.Need-slice-aggregate-write-result-2
 slice-aggregate-write-result-2 c =
     let else1 : tie.Else1 = search in
-    let at-build-reactive-function : tie.After-build-reactive-function = search in
-    let b = at-build-reactive-function .build-reactive-function in
-    sym (length-take-le _ _ (omega (arith, built-within _ _ _ _ (b .ensures) (else1 .if1 .left), b .kept .1 .0)))
+    let at-build : tie.After-build = search in
+    let b = at-build .build in
+    sym (length-take-le _ _ (omega (arith, built-within _ _ _ _ _ (b .ensures) (else1 .if1 .left), b .kept .1 .1 .0)))
 
 write-result-requires-2 : tie.Need-write-result-requires-2
 write-result-requires-2 c κs = search needs
@@ -75,29 +72,22 @@ returns-2 c =
     let at-write-result2 : tie.After-write-result2 = search in
     let else1 : tie.Else1 = search in
     let at-tree2 : tie.After-tree2 = search in
-    let at-build-reactive-function : tie.After-build-reactive-function = search in
+    let at-build : tie.After-build = search in
     let at-rows : tie.After-lent-rows = search in
     let start : tie.Start = search in
-    let b = at-build-reactive-function .build-reactive-function in
+    let b = at-build .build in
     let h = b .ensures in
-    let fits : b .result .rows * 6 ≤ length (b .last .1 .0) = omega (arith, built-within _ _ _ _ h (else1 .if1 .left), b .kept .1 .0) in
-    let w = at-write-result2 .write-result2 .ensures in
-    let e = built-printed (start .args .words .now) lentWords (b .result) (b .last .1 .0) (sym (at-rows .lent-rows .ensures)) h in (
-      w .0 ∙ ap (writtenOf _) e,
-      (
-        w .1 .0 ∙ ap (lentOf _) e,
-        λ p. w .1 .1 (omega (arith, length-take-le (b .result .rows * 6) (b .last .1 .0) fits, fits, at-tree2 .tree2 .given)) p ∙ ap
-            (λ (text : List ℕ). Bytes (length text)) e,
-      ),
-    )
+    let fits : b .result .rows * 6 ≤ length (b .last .1 .1 .0) = omega (arith, built-within _ _ _ _ _ h (else1 .if1 .left), b .kept .1 .1 .0) in
+    let e = built-printed (ruleOf (start .args .rule)) (start .args .words .now) lentWords (b .result) (b .last .1 .1 .0) (sym (at-rows .lent-rows .ensures)) h in
+    written-as e (omega (arith, length-take-le (b .result .rows * 6) (b .last .1 .1 .0) fits, fits, at-tree2 .tree2 .given)) (at-write-result2 .write-result2 .ensures)
 
 pub build-words-spec : {M : Type 1} → statement M
 build-words-spec =
     tie.close
     (tie.spec
     lent-rows-requires
-    slice-aggregate-build-reactive-function
-    build-reactive-function-requires
+    slice-aggregate-build
+    build-requires
     slice-aggregate-write-result
     write-result-requires
     same-length

@@ -7,11 +7,12 @@ use std::sync::atomic::{AtomicU64, Ordering};
 use std::thread;
 use std::time::Instant;
 
-use comparison::candidate::{CANDIDATE, CANDIDATE_CHECK, Candidate};
+use comparison::candidate::{CANDIDATE, CANDIDATE_CHECK, CANDIDATE_LANGUAGE, Candidate};
 use comparison::coverage::Coverage;
 use comparison::generate::{Generated, generate};
+use comparison::language::read_off;
 use comparison::model::table::Table;
-use comparison::model::{self, Outcome};
+use comparison::model::{self, Outcome, Rule, Walked};
 use comparison::reference;
 use comparison::rng::Rng;
 use comparison::runs::{block_run, is_plain, tree_run};
@@ -96,6 +97,7 @@ fn compare(seed: u64, number: u64, coverage: &mut Coverage) {
         Ok(table) => {
             let (walked, seen) = reference::walk_counted(&table);
             coverage.walk(&words, &seen);
+            compare_language(number, &table, &walked, coverage);
             if let Ok(rows) = &walked.result
                 && is_plain(&table)
             {
@@ -116,6 +118,34 @@ fn compare(seed: u64, number: u64, coverage: &mut Coverage) {
     coverage.answer(family, expected.0, &expected.1);
     if let Some(candidate) = CANDIDATE {
         compare_with("candidate", candidate, number, &words, &expected, coverage);
+    }
+    if let Some(candidate) = CANDIDATE_LANGUAGE {
+        let mut buffer = vec![STALE; expected.1.len()];
+        let expected = (model::build_language(&words, &mut buffer), buffer);
+        compare_with("language candidate", candidate, number, &words, &expected, coverage);
+    }
+}
+
+/// The language entry of the model "differs only as follows" from the reference: it refuses alike, or
+/// with 29 after no more visits; it accepts what can be read off the reference's tree.
+fn compare_language(number: u64, table: &Table, first: &Walked, coverage: &mut Coverage) {
+    let language = model::walk_by(Rule::Language, table);
+    let is_29 = language.result.as_ref().is_err_and(|refusal| refusal.code == 29);
+    let expected = match &first.result {
+        Err(refusal) => Some(Err(*refusal)),
+        Ok(rows) => read_off(rows).map(Ok),
+    };
+    let good = match &expected {
+        None => is_29 && language.visits <= first.visits,
+        Some(Err(_)) if is_29 => language.visits <= first.visits,
+        Some(result) => *result == language.result && language.visits == first.visits,
+    };
+    coverage.unnamed += u64::from(is_29);
+    coverage.relabeled += u64::from(language.result.is_ok() && language.result != first.result);
+    if !good {
+        coverage.differences += 1;
+        println!("table {number} differs in the language entry: {:?}", table.words);
+        println!("  expected {expected:?}, model {:?} {}", language.result, language.visits);
     }
 }
 

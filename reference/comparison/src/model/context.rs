@@ -122,33 +122,39 @@ impl Context {
     /// The kind of a break to this block and the loops above its entry, or nothing if no entry has
     /// it. The innermost counts.
     pub fn break_kind(&self, block: u32) -> Option<(u32, u32)> {
-        let found = self.stack.iter().rposition(|target| target.block() == block)?;
-        let above = &self.stack[found + 1..];
-        let kind = match self.stack[found] {
-            Target::Loop { .. } if above.iter().any(|target| target.is_loop()) => LABELED,
+        let (found, at_top, loops) = self.innermost(|target| target.block() == block)?;
+        let kind = match found {
+            Target::Loop { .. } if loops > 0 => LABELED,
             Target::Loop { .. } => UNLABELED,
-            Target::Plain { .. } if above.is_empty() => IMPLICIT,
+            Target::Plain { .. } if at_top => IMPLICIT,
             Target::Plain { .. } => LABELED,
         };
-        Some((kind, loops(above)))
+        Some((kind, loops))
     }
 
     /// The end of the innermost loop with this continue block, the kind of a continue to it and the
     /// loops above it.
     pub fn continue_target(&self, block: u32) -> Option<(u32, u32, u32)> {
-        let found = self.stack.iter().rposition(|target| target.continues_at(block))?;
-        let above = &self.stack[found + 1..];
-        let kind = if above.iter().any(|target| target.is_loop()) {
+        let (found, at_top, loops) = self.innermost(|target| target.continues_at(block))?;
+        let kind = if loops > 0 {
             LABELED
-        } else if above.is_empty() {
+        } else if at_top {
             IMPLICIT
         } else {
             UNLABELED
         };
-        Some((self.stack[found].block(), kind, loops(above)))
+        Some((found.block(), kind, loops))
     }
-}
 
-fn loops(entries: &[Target]) -> u32 {
-    entries.iter().filter(|target| target.is_loop()).count() as u32
+    /// The innermost entry that is meant, whether it is the stack's top, and the loops above it.
+    fn innermost(&self, is_meant: impl Fn(Target) -> bool) -> Option<(Target, bool, u32)> {
+        let mut loops = 0;
+        for (above, target) in self.stack.iter().rev().enumerate() {
+            if is_meant(*target) {
+                return Some((*target, above == 0, loops));
+            }
+            loops += u32::from(target.is_loop());
+        }
+        None
+    }
 }

@@ -43,11 +43,26 @@ pub struct Walked {
     pub deepest: u32,
 }
 
+/// The two entries of paper 02, M-102: the one that equals the Rust, and the language entry.
+#[derive(Clone, Copy, Debug, PartialEq, Eq)]
+pub enum Rule {
+    Rust,
+    Language,
+}
+
 /// The public call: words in, rows out.
 pub fn build(words: &[u32], buffer: &mut [u32]) -> Outcome {
+    build_by(Rule::Rust, words, buffer)
+}
+
+pub fn build_language(words: &[u32], buffer: &mut [u32]) -> Outcome {
+    build_by(Rule::Language, words, buffer)
+}
+
+fn build_by(rule: Rule, words: &[u32], buffer: &mut [u32]) -> Outcome {
     buffer.fill(0);
     let walked = match check::check(words) {
-        Ok(table) => walk(&table),
+        Ok(table) => walk_by(rule, &table),
         Err(refusal) => Walked { result: Err(refusal), visits: 0, deepest: 0 },
     };
     finish(&walked, buffer)
@@ -72,7 +87,11 @@ pub fn finish(walked: &Walked, buffer: &mut [u32]) -> Outcome {
 
 /// The statement walk from the entry, closed by the root BLOCK.
 pub fn walk(table: &Table) -> Walked {
-    let mut walk = Walk::new(*table);
+    walk_by(Rule::Rust, table)
+}
+
+pub fn walk_by(rule: Rule, table: &Table) -> Walked {
+    let mut walk = Walk::new(rule, *table);
     let result = walk.block_row(table.entry(), 1);
     Walked { result: result.map(|()| walk.rows), visits: walk.visits, deepest: walk.deepest }
 }
@@ -84,6 +103,16 @@ struct Walk<'w> {
     visits: u32,
     deepest: u32,
     context: context::Context,
+    rule: Rule,
+    around: Vec<Around>,
+}
+
+/// A statement that is being built, with its label; the innermost comes last.
+#[derive(Clone, Copy, PartialEq, Eq)]
+enum Around {
+    Loop(Option<u32>),
+    Switch(Option<u32>),
+    Other(Option<u32>),
 }
 
 /// The columns of a block's row.
@@ -99,10 +128,11 @@ struct Block {
 }
 
 impl<'w> Walk<'w> {
-    fn new(table: Table<'w>) -> Self {
+    fn new(rule: Rule, table: Table<'w>) -> Self {
         let blocks = table.words[1] as usize;
         let context = context::Context::new(blocks);
-        Self { table, rows: Vec::new(), visits: 0, deepest: 0, context }
+        let around = Vec::new();
+        Self { table, rows: Vec::new(), visits: 0, deepest: 0, context, rule, around }
     }
 
     /// A visit begins: 30, 31, 10 in this order.

@@ -1,9 +1,9 @@
 //! The statement walk.
 
 use super::columns::NONE;
-use super::context::IMPLICIT;
+use super::context::{IMPLICIT, LABELED, UNLABELED};
 use super::table::Span;
-use super::{Block, Refusal, Walk};
+use super::{Around, Block, Refusal, Rule, Walk};
 
 /// What the end of a block gives besides its rows: how many statements they are, and the block
 /// that the walk takes next at the same depth.
@@ -33,6 +33,14 @@ impl Walk<'_> {
             next = ended.next;
         }
         self.row([9, statements, 0, 0, 0, 0]);
+        Ok(())
+    }
+
+    /// A list nested in a statement.
+    fn nested(&mut self, statement: Around, number: u32, depth: u32) -> Result<(), Refusal> {
+        self.around.push(statement);
+        self.block_row(number, depth + 1)?;
+        self.around.pop();
         Ok(())
     }
 
@@ -102,13 +110,13 @@ impl Walk<'_> {
         if self.context.is_scheduled(consequent) {
             return Err(Refusal { code: 12, at: consequent });
         }
-        self.block_row(consequent, depth + 1)?;
+        self.nested(Around::Other(taken), consequent, depth)?;
         let has_alternate = alternate != fallthrough;
         if has_alternate {
             if self.context.is_scheduled(alternate) {
                 return Err(Refusal { code: 13, at: alternate });
             }
-            self.block_row(alternate, depth + 1)?;
+            self.nested(Around::Other(taken), alternate, depth)?;
         }
         self.leave(taken);
         let row = [10, test, has_alternate.into(), block.id, label(taken), 0];
@@ -121,12 +129,12 @@ impl Walk<'_> {
             let statements = self.visit_break(block, consequent)?;
             self.row([9, statements, 0, 0, 0, 0]);
         } else {
-            self.block_row(consequent, depth + 1)?;
+            self.nested(Around::Other(None), consequent, depth)?;
         }
         if self.context.is_scheduled(alternate) {
             return Err(Refusal { code: 19, at: block.number });
         }
-        self.block_row(alternate, depth + 1)?;
+        self.nested(Around::Other(None), alternate, depth)?;
         Ok(self.statement([10, test, 1, block.id, NONE, 0], None))
     }
 
@@ -142,7 +150,7 @@ impl Walk<'_> {
                 }
                 continue;
             }
-            self.block_row(case_block, depth + 1)?;
+            self.nested(Around::Switch(taken), case_block, depth)?;
             self.row([11, case_test, 0, 0, 0, 0]);
             self.context.schedule(case_block);
             built += 1;
@@ -165,12 +173,13 @@ impl Walk<'_> {
         block: &Block,
         number: u32,
         free: bool,
+        taken: Option<u32>,
         depth: u32,
     ) -> Result<(), Refusal> {
         if !free {
             return Err(Refusal { code: 16, at: block.number });
         }
-        self.block_row(number, depth + 1)
+        self.nested(Around::Loop(taken), number, depth)
     }
 
     fn do_while_statement(&mut self, block: &Block, depth: u32) -> Result<Ended, Refusal> {
@@ -178,7 +187,7 @@ impl Walk<'_> {
         let taken = self.free_fallthrough(fallthrough, Asks::Nothing)?;
         let free = self.loop_is_free(loop_block, fallthrough);
         self.context.schedule_loop(fallthrough, test, loop_block)?;
-        self.loop_body(block, loop_block, free, depth)?;
+        self.loop_body(block, loop_block, free, taken, depth)?;
         self.visit_value_block(test, block.span, None, depth + 1)?;
         self.context.unschedule();
         Ok(self.statement([13, block.id, label(taken), 0, 0, 0], taken))
@@ -190,7 +199,7 @@ impl Walk<'_> {
         let free = self.loop_is_free(loop_block, fallthrough);
         self.context.schedule_loop(fallthrough, test, loop_block)?;
         self.visit_value_block(test, block.span, None, depth + 1)?;
-        self.loop_body(block, loop_block, free, depth)?;
+        self.loop_body(block, loop_block, free, taken, depth)?;
         self.context.unschedule();
         Ok(self.statement([14, block.id, label(taken), 0, 0, 0], taken))
     }
@@ -207,7 +216,7 @@ impl Walk<'_> {
         if has_update {
             self.visit_value_block(update, block.span, None, depth + 1)?;
         }
-        self.loop_body(block, loop_block, free, depth)?;
+        self.loop_body(block, loop_block, free, taken, depth)?;
         self.context.unschedule();
         Ok(self.statement([15, block.id, label(taken), has_update.into(), 0, 0], taken))
     }
@@ -219,7 +228,7 @@ impl Walk<'_> {
         self.context.schedule_loop(fallthrough, init, loop_block)?;
         self.visit_flattened(init, block.span, depth + 1)?;
         self.visit_flattened(test, block.span, depth + 1)?;
-        self.loop_body(block, loop_block, free, depth)?;
+        self.loop_body(block, loop_block, free, taken, depth)?;
         self.context.unschedule();
         let Span { from, to } = block.span;
         Ok(self.statement([16, block.id, label(taken), from, to, 0], taken))
@@ -231,7 +240,7 @@ impl Walk<'_> {
         let free = self.loop_is_free(loop_block, fallthrough);
         self.context.schedule_loop(fallthrough, init, loop_block)?;
         self.visit_flattened(init, block.span, depth + 1)?;
-        self.loop_body(block, loop_block, free, depth)?;
+        self.loop_body(block, loop_block, free, taken, depth)?;
         self.context.unschedule();
         let Span { from, to } = block.span;
         Ok(self.statement([17, block.id, label(taken), from, to, 0], taken))
@@ -257,7 +266,7 @@ impl Walk<'_> {
         if self.context.is_scheduled(body) {
             return Err(Refusal { code: 17, at: block.number });
         }
-        self.block_row(body, depth + 1)?;
+        self.nested(Around::Other(taken), body, depth)?;
         self.leave(taken);
         Ok(self.statement([18, block.id, label(taken), 0, 0, 0], taken))
     }
@@ -266,8 +275,8 @@ impl Walk<'_> {
         let [body, handler, fallthrough, binding, _] = block.operands;
         let taken = self.take_fallthrough(fallthrough, Asks::Reachable)?;
         self.context.schedule_catch_handler(handler);
-        self.block_row(body, depth + 1)?;
-        self.block_row(handler, depth + 1)?;
+        self.nested(Around::Other(taken), body, depth)?;
+        self.nested(Around::Other(taken), handler, depth)?;
         self.leave(taken);
         Ok(self.statement([19, block.id, label(taken), binding, 0, 0], taken))
     }
@@ -281,7 +290,7 @@ impl Walk<'_> {
         if self.context.is_scheduled(body) {
             return Err(Refusal { code: 18, at: block.number });
         }
-        self.block_row(body, depth + 1)?;
+        self.nested(Around::Other(None), body, depth)?;
         self.leave(taken);
         Ok(self.statement([op, scope, 0, 0, 0, 0], taken))
     }
@@ -297,17 +306,45 @@ impl Walk<'_> {
             }
             return Ok(0);
         }
+        let kind = self.break_kind_in(kind);
+        let named = self.around.iter().any(|statement| names(*statement, target));
+        self.refuse_unnamed(block, kind, named)?;
         self.row([24, target, block.id, kind, loops, 0]);
         Ok(1)
+    }
+
+    /// M-102: a break to a loop is Labeled also when a switch is being built between.
+    fn break_kind_in(&self, kind: u32) -> u32 {
+        let inner = self.around.iter().rfind(|statement| !matches!(statement, Around::Other(_)));
+        match (self.rule, kind, inner) {
+            (Rule::Language, UNLABELED, Some(Around::Switch(_))) => LABELED,
+            _ => kind,
+        }
+    }
+
+    /// M-102: 29 where a Labeled jump finds no such label.
+    fn refuse_unnamed(&self, block: &Block, kind: u32, named: bool) -> Result<(), Refusal> {
+        if self.rule == Rule::Language && kind == LABELED && !named {
+            return Err(Refusal { code: 29, at: block.number });
+        }
+        Ok(())
     }
 
     fn visit_continue(&mut self, block: &Block, target: u32) -> Result<u32, Refusal> {
         let Some((end, kind, loops)) = self.context.continue_target(target) else {
             return Err(Refusal { code: 21, at: target });
         };
+        let open = self.around.iter().rev().filter(|one| matches!(one, Around::Loop(_)));
+        let named = open.skip(loops as usize).next().is_some_and(|found| names(*found, end));
+        self.refuse_unnamed(block, kind, named)?;
         self.row([25, end, block.id, kind, loops, 0]);
         Ok(1)
     }
+}
+
+fn names(statement: Around, target: u32) -> bool {
+    let (Around::Loop(label) | Around::Switch(label) | Around::Other(label)) = statement;
+    label == Some(target)
 }
 
 /// A statement's label: its fallthrough if taken.

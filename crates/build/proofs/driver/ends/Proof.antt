@@ -1,7 +1,7 @@
 use mathlib.Core.Path.{_≡_, refl}
 use mathlib.Core.Bool.{Bool, true}
 use borrow.Author.Tests.{eq-eqb, ne-eqb}
-use Rattle.planner.specs.declared.plan.Plan.{Plan}
+use Rattle.plan.specs.declared.Plan.{Plan}
 use Rattle.build.specs.Driver.{isHalt, planEnds}
 use borrow.Author.Needs.{needs}
 use Rattle.build.proofs.driver.ends.Statement.{statement}

@@ -1,234 +1,394 @@
-use Prim.Native.Nat.{ℕ, _<_}
+use Prim.Native.Nat.{ℕ, _-_, _<_, _≤_}
 use native.Mathlib.Omega.{arith}
 use mathlib.Core.Path.{_≡_, refl, sym, ap, _∙_, subst}
 use mathlib.Core.List.{List}
 use mathlib.Core.Bool.{false}
-use lib.ListN.{length, set}
+use lib.ListN.{length, getD, set}
 use mathlib.Core.Logic.{⊎-elim}
 use borrow.Author.Needs.{needs}
 use Rattle.control.specs.Abstraction.{contextOf, resolvedOf, settled}
 use Rattle.control.specs.Contract.{Last}
-use Rattle.planner.specs.declared.plan.Plan.{Plan}
-use Rattle.planner.specs.declared.plan.Change.{Change}
-use Rattle.planner.specs.declared.plan.Change.the-variants.{Schedule, ScheduleBriefly, Unschedule}
+use Rattle.plan.specs.declared.Plan.{Plan}
+use Rattle.plan.specs.declared.Change.{Change}
+use Rattle.plan.specs.declared.Change.the-variants.{Schedule, ScheduleBriefly, Unschedule}
+use Rattle.table.specs.Words.{blockCount}
 use Rattle.table.specs.Table.{tableOf}
+use Rattle.definition.specs.Around.{Rule}
+use Rattle.definition.specs.Machine.{aroundOf}
+use Rattle.survey.specs.Abstraction.{ruleOf, surveyOf, aimOf, FoundBelow, AimBelow}
+use Rattle.plan.specs.Plans.{noFrame, framesOf}
 use Rattle.definition.specs.Build.{report}
-use Rattle.build.specs.Driver.{foundBy, visitedBlock, planEnds, blockedBy, Reported}
-use Rattle.build.proofs.ApplyLaws.{withMarks, Whole, Changeable, Changed, Blocked, Applicable, Applied, nothing-changed, schedule-changed}
+use Rattle.build.specs.Driver.{foundBy, goalBy, visitedBlock, planEnds, blockedBy, Reported}
+use Rattle.build.proofs.ApplyLaws.{marks-as, withMarks, Whole, Changeable, Changed, Blocked, Applicable, Applied, nothing-changed, schedule-changed}
 use Rattle.build.proofs.ApplyLaws.{schedule-blocked, unschedule-changed, briefly-changed, briefly-blocked, last-scheduled, changeable-marked}
 use Rattle.build.proofs.ApplyLaws.{whole-marked, plan-applied, last-entry}
 use Rattle.control.specs.declared.Context.{Context}
-use Rattle.planner.specs.declared.plan.Position.{Position}
-use Rattle.planner.specs.declared.plan.Frame.{Frame}
-use Rattle.build.proofs.DriverLaws.{Walking, turnsLeft, walking-start, frame-read, found-jump, found-below, ready, shallow, visit-below, AtTurn}
+use Rattle.plan.specs.declared.Position.{Position}
+use Rattle.plan.specs.declared.Frame.{Frame}
+use Rattle.build.proofs.DriverLaws.{Walking, turnsLeft, walking-start, frame-read, found-jump, found-below, ready, shallow, visit-below, beyond, frame-block, frame-at, AtTurn}
 use Rattle.build.proofs.DriverLaws.{turn-ends, turn-applicable, turn-slot, turn-blocked, turn-again, turn-lower}
 use denote.Ref.{now}
+use Rattle.build.proofs.AroundLaws.{Surveying, survey-start, survey-on, survey-done, aim-below}
 use Rattle.build.proofs.CheckedLaws.{checked-table}
 use Rattle.build.proofs.SearchLaws.{Searching, search-start, search-on, search-none, search-found}
 use Rattle.build.proofs.driver.walk.Statement.{statement}
 use Rattle.build.proofs.driver.walk.Tie as tie
 
-record Inv (words buffer₀ buffer : List ℕ) (cx : Context) (frames : List Frame) (p : Position) : Type 0 where
-  walking : Walking words buffer cx frames p
+record Inv (rule : Rule) (words buffer₀ buffer : List ℕ) (cx : Context) (frames : List Frame) (p : Position) : Type 0 where
+  walking : Walking rule words buffer cx frames p
   long : length buffer ≡ length buffer₀
 
 abbrev Inv-loop2 : tie.InvT-loop2
-Inv-loop2 words tree cx frames p frame jump at₀ top₀ loops₀ at top loops =
-    Searching jump cx at top loops
+Inv-loop2 rule words tree cx frames p frame jump at₀ loops₀ at loops =
+    Searching jump cx at loops
 
 abbrev μ-loop2 : tie.MeasureT-loop2
-μ-loop2 words tree cx frames p frame jump at₀ top₀ loops₀ at top loops =
+μ-loop2 rule words tree cx frames p frame jump at₀ loops₀ at loops =
     at
 
+abbrev Inv-loop3 : tie.InvT-loop3
+Inv-loop3 rule words tree cx frames p frame jump at loops found target left₀ seen₀ left seen =
+    Surveying (ruleOf rule) words frames (p .depth) (resolvedOf found) left (surveyOf seen)
+
+abbrev μ-loop3 : tie.MeasureT-loop3
+μ-loop3 rule words tree cx frames p frame jump at loops found target left₀ seen₀ left seen = left
+
 abbrev Inv-loop : tie.InvT-loop
-Inv-loop words tree₀ cx₀ frames₀ p₀ tree cx frames p = Inv words tree₀ tree cx frames p
+Inv-loop rule words tree₀ cx₀ frames₀ p₀ tree cx frames p = Inv (ruleOf rule) words tree₀ tree cx frames p
 
 abbrev μ-loop : tie.MeasureT-loop
-μ-loop words tree₀ cx₀ frames₀ p₀ tree cx frames p = turnsLeft p frames cx
+μ-loop rule words tree₀ cx₀ frames₀ p₀ tree cx frames p = turnsLeft p frames cx
 
-new-requires : tie.Need-new-requires Inv-loop2 μ-loop2 Inv-loop μ-loop
+new-requires : tie.Need-new-requires Inv-loop2 μ-loop2 Inv-loop3 μ-loop3 Inv-loop μ-loop
 new-requires c κs = tt
 
-no-frame-requires : tie.Need-no-frame-requires Inv-loop2 μ-loop2 Inv-loop μ-loop
+no-frame-requires : tie.Need-no-frame-requires Inv-loop2 μ-loop2 Inv-loop3 μ-loop3 Inv-loop μ-loop
 no-frame-requires c κs = tt
 
-start-requires : tie.Need-start-requires Inv-loop2 μ-loop2 Inv-loop μ-loop
+start-requires : tie.Need-start-requires Inv-loop2 μ-loop2 Inv-loop3 μ-loop3 Inv-loop μ-loop
 start-requires c κs = search needs
 
-loop-holds : tie.Need-loop-holds Inv-loop2 μ-loop2 Inv-loop μ-loop
+loop-holds : tie.Need-loop-holds Inv-loop2 μ-loop2 Inv-loop3 μ-loop3 Inv-loop μ-loop
 loop-holds c =
-    let at-new : tie.After-new Inv-loop2 μ-loop2 Inv-loop μ-loop = search in
-    let start : tie.Start Inv-loop2 μ-loop2 Inv-loop μ-loop = search in
-    record { walking = walking-start _ (start .pre) (checked-table _ (start .pre)) _ _ _ _ (at-new .new .ensures) refl (c .start .ensures); long = refl }
+    let at-new : tie.After-new Inv-loop2 μ-loop2 Inv-loop3 μ-loop3 Inv-loop μ-loop = search in
+    let start : tie.Start Inv-loop2 μ-loop2 Inv-loop3 μ-loop3 Inv-loop μ-loop = search in
+    record { walking = walking-start _ _ (start .pre) (checked-table _ (start .pre)) _ _ _ _ (at-new .new .ensures) refl (c .start .ensures); long = refl }
 
-innermost-requires : tie.Need-innermost-requires Inv-loop2 μ-loop2 Inv-loop μ-loop
+innermost-requires : tie.Need-innermost-requires Inv-loop2 μ-loop2 Inv-loop3 μ-loop3 Inv-loop μ-loop
 innermost-requires c κs = tt
 
-mul-frame : tie.Need-mul-frame Inv-loop2 μ-loop2 Inv-loop μ-loop
+mul-frame : tie.Need-mul-frame Inv-loop2 μ-loop2 Inv-loop3 μ-loop3 Inv-loop μ-loop
 mul-frame c =
-    let at-loop : tie.At-loop Inv-loop2 μ-loop2 Inv-loop μ-loop = search in
-    let start : tie.Start Inv-loop2 μ-loop2 Inv-loop μ-loop = search in
-    omega (arith, c .innermost .ensures, shallow _ (start .pre) (checked-table _ (start .pre)) _ _ _ _ (at-loop .loop .inv .walking))
+    let at-loop : tie.At-loop Inv-loop2 μ-loop2 Inv-loop3 μ-loop3 Inv-loop μ-loop = search in
+    let start : tie.Start Inv-loop2 μ-loop2 Inv-loop3 μ-loop3 Inv-loop μ-loop = search in
+    omega (arith, c .innermost .ensures, shallow _ _ (start .pre) (checked-table _ (start .pre)) _ _ _ _ (at-loop .loop .inv .walking))
 
-array-copy-out-frame : tie.Need-array-copy-out-frame Inv-loop2 μ-loop2 Inv-loop μ-loop
+array-copy-out-frame : tie.Need-array-copy-out-frame Inv-loop2 μ-loop2 Inv-loop3 μ-loop3 Inv-loop μ-loop
 array-copy-out-frame c =
-    let at-loop : tie.At-loop Inv-loop2 μ-loop2 Inv-loop μ-loop = search in
-    let start : tie.Start Inv-loop2 μ-loop2 Inv-loop μ-loop = search in
-    omega (arith, c .innermost .ensures, shallow _ (start .pre) (checked-table _ (start .pre)) _ _ _ _ (at-loop .loop .inv .walking))
+    let at-loop : tie.At-loop Inv-loop2 μ-loop2 Inv-loop3 μ-loop3 Inv-loop μ-loop = search in
+    let start : tie.Start Inv-loop2 μ-loop2 Inv-loop3 μ-loop3 Inv-loop μ-loop = search in
+    omega (arith, c .innermost .ensures, shallow _ _ (start .pre) (checked-table _ (start .pre)) _ _ _ _ (at-loop .loop .inv .walking))
 
-jump-at-requires : tie.Need-jump-at-requires Inv-loop2 μ-loop2 Inv-loop μ-loop
+jump-at-requires : tie.Need-jump-at-requires Inv-loop2 μ-loop2 Inv-loop3 μ-loop3 Inv-loop μ-loop
 jump-at-requires c κs =
-    let at-loop : tie.At-loop Inv-loop2 μ-loop2 Inv-loop μ-loop = search in
-    let start : tie.Start Inv-loop2 μ-loop2 Inv-loop μ-loop = search in
-    ((start .pre), visit-below _ (start .pre) (checked-table _ (start .pre)) _ _ _ _ (at-loop .loop .inv .walking))
+    let at-loop : tie.At-loop Inv-loop2 μ-loop2 Inv-loop3 μ-loop3 Inv-loop μ-loop = search in
+    let start : tie.Start Inv-loop2 μ-loop2 Inv-loop3 μ-loop3 Inv-loop μ-loop = search in
+    ((start .pre), visit-below _ _ (start .pre) (checked-table _ (start .pre)) _ _ _ _ (at-loop .loop .inv .walking))
 
-search-from-requires : tie.Need-search-from-requires Inv-loop2 μ-loop2 Inv-loop μ-loop
+search-from-requires : tie.Need-search-from-requires Inv-loop2 μ-loop2 Inv-loop3 μ-loop3 Inv-loop μ-loop
 search-from-requires c κs = tt
 
-loop2-holds : tie.Need-loop2-holds Inv-loop2 μ-loop2 Inv-loop μ-loop
+loop2-holds : tie.Need-loop2-holds Inv-loop2 μ-loop2 Inv-loop3 μ-loop3 Inv-loop μ-loop
 loop2-holds c =
-    let at-loop : tie.At-loop Inv-loop2 μ-loop2 Inv-loop μ-loop = search in
+    let at-loop : tie.At-loop Inv-loop2 μ-loop2 Inv-loop3 μ-loop3 Inv-loop μ-loop = search in
     search-start _ _ _ (at-loop .loop .inv .walking .whole .settled) (c .search-from .ensures)
 
-sub-at : tie.Need-sub-at Inv-loop2 μ-loop2 Inv-loop μ-loop
+sub-at : tie.Need-sub-at Inv-loop2 μ-loop2 Inv-loop3 μ-loop3 Inv-loop μ-loop
 sub-at c = search needs
 
-mul-entry : tie.Need-mul-entry Inv-loop2 μ-loop2 Inv-loop μ-loop
+mul-entry : tie.Need-mul-entry Inv-loop2 μ-loop2 Inv-loop3 μ-loop3 Inv-loop μ-loop
 mul-entry c =
-    let at-loop2 : tie.At-loop2 Inv-loop2 μ-loop2 Inv-loop μ-loop = search in
-    let at-frame : tie.After-frame Inv-loop2 μ-loop2 Inv-loop μ-loop = search in
-    let at-loop : tie.At-loop Inv-loop2 μ-loop2 Inv-loop μ-loop = search in
+    let at-loop2 : tie.At-loop2 Inv-loop2 μ-loop2 Inv-loop3 μ-loop3 Inv-loop μ-loop = search in
+    let at-frame : tie.After-frame Inv-loop2 μ-loop2 Inv-loop3 μ-loop3 Inv-loop μ-loop = search in
+    let at-loop : tie.At-loop Inv-loop2 μ-loop2 Inv-loop3 μ-loop3 Inv-loop μ-loop = search in
     omega (arith, at-loop2 .loop2 .inv .within, at-loop .loop .inv .walking .whole .bounded .most)
 
-element-copy-out-entry : tie.Need-element-copy-out-entry Inv-loop2 μ-loop2 Inv-loop μ-loop
+element-copy-out-entry : tie.Need-element-copy-out-entry Inv-loop2 μ-loop2 Inv-loop3 μ-loop3 Inv-loop μ-loop
 element-copy-out-entry c =
-    let at-loop2 : tie.At-loop2 Inv-loop2 μ-loop2 Inv-loop μ-loop = search in
-    let at-frame : tie.After-frame Inv-loop2 μ-loop2 Inv-loop μ-loop = search in
-    let at-loop : tie.At-loop Inv-loop2 μ-loop2 Inv-loop μ-loop = search in
+    let at-loop2 : tie.At-loop2 Inv-loop2 μ-loop2 Inv-loop3 μ-loop3 Inv-loop μ-loop = search in
+    let at-frame : tie.After-frame Inv-loop2 μ-loop2 Inv-loop3 μ-loop3 Inv-loop μ-loop = search in
+    let at-loop : tie.At-loop Inv-loop2 μ-loop2 Inv-loop3 μ-loop3 Inv-loop μ-loop = search in
     omega (arith, c .if1 .left, at-loop2 .loop2 .inv .within, at-loop .loop .inv .walking .whole .bounded .most)
 
-meets-requires : tie.Need-meets-requires Inv-loop2 μ-loop2 Inv-loop μ-loop
+meets-requires : tie.Need-meets-requires Inv-loop2 μ-loop2 Inv-loop3 μ-loop3 Inv-loop μ-loop
 meets-requires c κs = tt
 
-resolve-requires : tie.Need-resolve-requires Inv-loop2 μ-loop2 Inv-loop μ-loop
+resolve-requires : tie.Need-resolve-requires Inv-loop2 μ-loop2 Inv-loop3 μ-loop3 Inv-loop μ-loop
 resolve-requires c κs = tt
 
-count-loop-requires : tie.Need-count-loop-requires Inv-loop2 μ-loop2 Inv-loop μ-loop
+count-loop-requires : tie.Need-count-loop-requires Inv-loop2 μ-loop2 Inv-loop3 μ-loop3 Inv-loop μ-loop
 count-loop-requires c κs =
-    let else1 : tie.Else1 Inv-loop2 μ-loop2 Inv-loop μ-loop = search in
-    let at-loop2 : tie.At-loop2 Inv-loop2 μ-loop2 Inv-loop μ-loop = search in
-    let at-frame : tie.After-frame Inv-loop2 μ-loop2 Inv-loop μ-loop = search in
-    let at-loop : tie.At-loop Inv-loop2 μ-loop2 Inv-loop μ-loop = search in
+    let else1 : tie.Else1 Inv-loop2 μ-loop2 Inv-loop3 μ-loop3 Inv-loop μ-loop = search in
+    let at-loop2 : tie.At-loop2 Inv-loop2 μ-loop2 Inv-loop3 μ-loop3 Inv-loop μ-loop = search in
+    let at-frame : tie.After-frame Inv-loop2 μ-loop2 Inv-loop3 μ-loop3 Inv-loop μ-loop = search in
+    let at-loop : tie.At-loop Inv-loop2 μ-loop2 Inv-loop3 μ-loop3 Inv-loop μ-loop = search in
     omega (arith, else1 .if1 .left, at-loop2 .loop2 .inv .within, at-loop .loop .inv .walking .whole .bounded .most)
 
-loop2-less : tie.Need-loop2-less Inv-loop2 μ-loop2 Inv-loop μ-loop
+loop2-less : tie.Need-loop2-less Inv-loop2 μ-loop2 Inv-loop3 μ-loop3 Inv-loop μ-loop
 loop2-less c = search needs
 
-loop2-again : tie.Need-loop2-again Inv-loop2 μ-loop2 Inv-loop μ-loop
+loop2-again : tie.Need-loop2-again Inv-loop2 μ-loop2 Inv-loop3 μ-loop3 Inv-loop μ-loop
 loop2-again c =
-    let else2 : tie.Else2 Inv-loop2 μ-loop2 Inv-loop μ-loop = search in
-    let at-meets : tie.After-meets Inv-loop2 μ-loop2 Inv-loop μ-loop = search in
-    let else1 : tie.Else1 Inv-loop2 μ-loop2 Inv-loop μ-loop = search in
-    let at-loop2 : tie.At-loop2 Inv-loop2 μ-loop2 Inv-loop μ-loop = search in
-    search-on _ _ _ _ _ (at-loop2 .loop2 .inv) (else1 .if1 .left) (sym (at-meets .meets .ensures) ∙ else2 .if2 .left) (c .count-loop .ensures)
+    let else2 : tie.Else2 Inv-loop2 μ-loop2 Inv-loop3 μ-loop3 Inv-loop μ-loop = search in
+    let at-meets : tie.After-meets Inv-loop2 μ-loop2 Inv-loop3 μ-loop3 Inv-loop μ-loop = search in
+    let else1 : tie.Else1 Inv-loop2 μ-loop2 Inv-loop3 μ-loop3 Inv-loop μ-loop = search in
+    let at-loop2 : tie.At-loop2 Inv-loop2 μ-loop2 Inv-loop3 μ-loop3 Inv-loop μ-loop = search in
+    search-on _ _ _ _ (at-loop2 .loop2 .inv) (else1 .if1 .left) (sym (at-meets .meets .ensures) ∙ else2 .if2 .left) (c .count-loop .ensures)
 
 -- where the search has ended
-module _ (c : tie.Joined1 Inv-loop2 μ-loop2 Inv-loop μ-loop) where
-  abbrev head : tie.At-loop Inv-loop2 μ-loop2 Inv-loop μ-loop
-  head = c .before .before .before .before .before .before .before .before .before
+module _ (c : tie.Joined1 Inv-loop2 μ-loop2 Inv-loop3 μ-loop3 Inv-loop μ-loop) where
+  abbrev asked-jump : tie.After-jump-at Inv-loop2 μ-loop2 Inv-loop3 μ-loop3 Inv-loop μ-loop
+  asked-jump = search
 
-  found : (visits : ℕ) → resolvedOf (c .if1 .resolved) ≡ foundBy (c .before .before .before .jump-at .result) (contextOf visits (head .loop .cx))
+  abbrev stack-search : tie.At-loop2 Inv-loop2 μ-loop2 Inv-loop3 μ-loop3 Inv-loop μ-loop
+  stack-search = search
+
+  abbrev head : tie.At-loop Inv-loop2 μ-loop2 Inv-loop3 μ-loop3 Inv-loop μ-loop
+  head =
+      let asked : tie.After-jump-at Inv-loop2 μ-loop2 Inv-loop3 μ-loop3 Inv-loop μ-loop = asked-jump in
+      search
+
+  abbrev started : tie.Start Inv-loop2 μ-loop2 Inv-loop3 μ-loop3 Inv-loop μ-loop
+  started =
+      let looping : tie.At-loop Inv-loop2 μ-loop2 Inv-loop3 μ-loop3 Inv-loop μ-loop = head in
+      search
+
+  found : (visits : ℕ) → resolvedOf (c .if1 .found) ≡ foundBy (asked-jump .jump-at .result) (contextOf visits (head .loop .cx))
   found visits =
-      ⊎-elim (λ w. ap resolvedOf (w .2) ∙ search-none _ _ _ _ _ (c .before .loop2 .inv) (w .0 .taken) visits)
-      (λ w. ap resolvedOf (w .6) ∙ w .4 .ensures ∙ search-found _ _ _ _ _ (c .before .loop2 .inv) (w .0 .left) (sym (w .2 .ensures) ∙ w .3 .taken) visits)
+      ⊎-elim (λ w. ap resolvedOf (w .2) ∙ search-none _ _ _ _ (stack-search .loop2 .inv) (w .0 .taken) visits)
+      (λ w. ap resolvedOf (w .6) ∙ w .4 .ensures ∙ search-found _ _ _ _ (stack-search .loop2 .inv) (w .0 .left) (sym (w .2 .ensures) ∙ w .3 .taken) visits)
       (c .if1 .came)
 
--- where the turn is planned
-module _ (c : tie.After-plan-turn Inv-loop2 μ-loop2 Inv-loop μ-loop) where
-  abbrev at-head : tie.At-loop Inv-loop2 μ-loop2 Inv-loop μ-loop
-  at-head = head (c .before .before .before .before .before .before .before)
+  below : FoundBelow (c .if1 .found)
+  below = found-below _ (asked-jump .jump-at .result) (c .if1 .found) (head .loop .inv .walking .whole) found
 
-  turn : AtTurn (now (at-head .before .before .before .before .before .before .args .words)) (at-head .loop .tree) (at-head .loop .cx) (at-head .loop .frames)
-      (at-head .loop .p) (c .plan-turn .last .1 .0) (c .plan-turn .result)
+target-of-requires : tie.Need-target-of-requires Inv-loop2 μ-loop2 Inv-loop3 μ-loop3 Inv-loop μ-loop
+target-of-requires c κs = below c
+
+asks-requires : tie.Need-asks-requires Inv-loop2 μ-loop2 Inv-loop3 μ-loop3 Inv-loop μ-loop
+asks-requires c κs = tt
+
+pass-from-requires : tie.Need-pass-from-requires Inv-loop2 μ-loop2 Inv-loop3 μ-loop3 Inv-loop μ-loop
+pass-from-requires c κs = tt
+
+unseen-requires : tie.Need-unseen-requires Inv-loop2 μ-loop2 Inv-loop3 μ-loop3 Inv-loop μ-loop
+unseen-requires c κs = tt
+
+loop3-holds : tie.Need-loop3-holds Inv-loop2 μ-loop2 Inv-loop3 μ-loop3 Inv-loop μ-loop
+loop3-holds c =
+    let counted : tie.After-pass-from Inv-loop2 μ-loop2 Inv-loop3 μ-loop3 Inv-loop μ-loop = search in
+    let asked : tie.After-asks Inv-loop2 μ-loop2 Inv-loop3 μ-loop3 Inv-loop μ-loop = search in
+    survey-start _ _ _ _ _ _ _ _ (asked .asks .ensures) (counted .pass-from .ensures) (c .unseen .ensures)
+
+sub-left : tie.Need-sub-left Inv-loop2 μ-loop2 Inv-loop3 μ-loop3 Inv-loop μ-loop
+sub-left c = search needs
+
+-- the pass over the frames: the one that is read
+module _ (c : tie.In-loop3 Inv-loop2 μ-loop2 Inv-loop3 μ-loop3 Inv-loop μ-loop) where
+  abbrev passing : tie.At-loop3 Inv-loop2 μ-loop2 Inv-loop3 μ-loop3 Inv-loop μ-loop
+  passing = search
+
+  abbrev resolved-at : tie.Joined1 Inv-loop2 μ-loop2 Inv-loop3 μ-loop3 Inv-loop μ-loop
+  resolved-at =
+      let at-passing : tie.At-loop3 Inv-loop2 μ-loop2 Inv-loop3 μ-loop3 Inv-loop μ-loop = passing in
+      search
+
+  abbrev top-of : tie.At-loop Inv-loop2 μ-loop2 Inv-loop3 μ-loop3 Inv-loop μ-loop
+  top-of = head resolved-at
+
+  abbrev entered : tie.Start Inv-loop2 μ-loop2 Inv-loop3 μ-loop3 Inv-loop μ-loop
+  entered = started resolved-at
+
+  in-use : passing .loop3 .left - 1 < top-of .loop .p .depth
+  in-use = omega (arith, c .loop3-test .taken, passing .loop3 .inv .most)
+
+  reads : getD (top-of .loop .frames) (passing .loop3 .left - 1) beyond ≡ getD (top-of .loop .frames) (passing .loop3 .left - 1) noFrame
+  reads = frame-at _ _ (entered .pre) (checked-table _ (entered .pre)) _ _ _ _ (top-of .loop .inv .walking) _ in-use
+
+  in-table : getD (top-of .loop .frames) (passing .loop3 .left - 1) noFrame .block < blockCount (now (entered .args .words))
+  in-table = frame-block _ _ (entered .pre) (checked-table _ (entered .pre)) _ _ _ _ (top-of .loop .inv .walking) _ in-use
+
+  few : top-of .loop .p .depth ≤ 128
+  few = shallow _ _ (entered .pre) (checked-table _ (entered .pre)) _ _ _ _ (top-of .loop .inv .walking)
+
+mul-around : tie.Need-mul-around Inv-loop2 μ-loop2 Inv-loop3 μ-loop3 Inv-loop μ-loop
+mul-around c = omega (arith, in-use c, few c)
+
+array-copy-out-around : tie.Need-array-copy-out-around Inv-loop2 μ-loop2 Inv-loop3 μ-loop3 Inv-loop μ-loop
+array-copy-out-around c = omega (arith, in-use c, few c)
+
+pass-requires : tie.Need-pass-requires Inv-loop2 μ-loop2 Inv-loop3 μ-loop3 Inv-loop μ-loop
+pass-requires c κs =
+    let tested : tie.In-loop3 Inv-loop2 μ-loop2 Inv-loop3 μ-loop3 Inv-loop μ-loop = search in
+    let sought : tie.After-target-of Inv-loop2 μ-loop2 Inv-loop3 μ-loop3 Inv-loop μ-loop = search in
+    (entered tested .pre, (rw (reads tested) (in-table tested), sought .target-of .ensures .1))
+
+loop3-less : tie.Need-loop3-less Inv-loop2 μ-loop2 Inv-loop3 μ-loop3 Inv-loop μ-loop
+loop3-less c = search needs
+
+loop3-again : tie.Need-loop3-again Inv-loop2 μ-loop2 Inv-loop3 μ-loop3 Inv-loop μ-loop
+loop3-again c =
+    let tested : tie.In-loop3 Inv-loop2 μ-loop2 Inv-loop3 μ-loop3 Inv-loop μ-loop = search in
+    let sought : tie.After-target-of Inv-loop2 μ-loop2 Inv-loop3 μ-loop3 Inv-loop μ-loop = search in
+    survey-on _ _ _ _ _ _ _ _ (passing tested .loop3 .inv) (tested .loop3-test .taken) (rw (sought .target-of .ensures .0, reads tested) at (c .pass .ensures))
+
+aim-at-requires : tie.Need-aim-at-requires Inv-loop2 μ-loop2 Inv-loop3 μ-loop3 Inv-loop μ-loop
+aim-at-requires c κs = tt
+
+-- where the jump goes
+module _ (c : tie.After-aim-at Inv-loop2 μ-loop2 Inv-loop3 μ-loop3 Inv-loop μ-loop) where
+  abbrev searched : tie.Joined1 Inv-loop2 μ-loop2 Inv-loop3 μ-loop3 Inv-loop μ-loop
+  searched = search
+
+  abbrev tested : tie.After-loop3 Inv-loop2 μ-loop2 Inv-loop3 μ-loop3 Inv-loop μ-loop
+  tested = search
+
+  abbrev surveyed : tie.At-loop3 Inv-loop2 μ-loop2 Inv-loop3 μ-loop3 Inv-loop μ-loop
+  surveyed =
+      let after : tie.After-loop3 Inv-loop2 μ-loop2 Inv-loop3 μ-loop3 Inv-loop μ-loop = tested in
+      search
+
+  aimed : (visits : ℕ) → aimOf (c .aim-at .result) ≡ goalBy (asked-jump searched .jump-at .result)
+      (aroundOf (ruleOf (started searched .args .rule))
+      (tableOf (now (started searched .args .words))) (framesOf (head searched .loop .frames) (head searched .loop .p .depth)))
+      (foundBy (asked-jump searched .jump-at .result) (contextOf visits (head searched .loop .cx)))
+  aimed visits = c .aim-at .ensures ∙ survey-done _ _ _ _ _ (asked-jump searched .jump-at .result) _ _ (surveyed .loop3 .inv) (tested .loop3-test .left)
+      ∙ ap (goalBy (asked-jump searched .jump-at .result) _) (found searched visits)
+
+  aims-below : AimBelow (c .aim-at .result)
+  aims-below = aim-below (asked-jump searched .jump-at .result) (ruleOf (started searched .args .rule))
+      (surveyOf (surveyed .loop3 .seen)) (searched .if1 .found) (c .aim-at .result) (c .aim-at .ensures) (below searched)
+
+-- where the turn is planned
+module _ (c : tie.After-plan-turn Inv-loop2 μ-loop2 Inv-loop3 μ-loop3 Inv-loop μ-loop) where
+  abbrev at-aim : tie.After-aim-at Inv-loop2 μ-loop2 Inv-loop3 μ-loop3 Inv-loop μ-loop
+  at-aim =
+      let at-cx2 : tie.After-cx2 Inv-loop2 μ-loop2 Inv-loop3 μ-loop3 Inv-loop μ-loop = search in
+      search
+
+  abbrev at-head : tie.At-loop Inv-loop2 μ-loop2 Inv-loop3 μ-loop3 Inv-loop μ-loop
+  at-head = head (searched at-aim)
+
+  abbrev begun : tie.Start Inv-loop2 μ-loop2 Inv-loop3 μ-loop3 Inv-loop μ-loop
+  begun = started (searched at-aim)
+
+  abbrev innermost-at : tie.After-innermost Inv-loop2 μ-loop2 Inv-loop3 μ-loop3 Inv-loop μ-loop
+  innermost-at =
+      let asked : tie.After-jump-at Inv-loop2 μ-loop2 Inv-loop3 μ-loop3 Inv-loop μ-loop = asked-jump (searched at-aim) in
+      search
+
+  turn : AtTurn (ruleOf (begun .args .rule)) (now (begun .args .words))
+      (at-head .loop .tree) (at-head .loop .cx) (at-head .loop .frames) (at-head .loop .p) (c .plan-turn .last .1 .0) (c .plan-turn .result)
   turn =
-      let at-if1 = c .before .before .before .before .before .before .before in
-      let at-jump-at = at-if1 .before .before .before in
-      let start = at-head .before .before .before .before .before .before in
       record {
-        promise = start .pre;
+        promise = begun .pre;
         walking = at-head .loop .inv .walking;
         frame = _;
-        read = frame-read _ (start .pre) (checked-table _ (start .pre)) _ _ _ _ (at-head .loop .inv .walking) _ (at-jump-at .before .before .before .before .before .innermost .ensures);
-        found = at-if1 .if1 .resolved;
+        read = frame-read _ _ (begun .pre) (checked-table _ (begun .pre)) _ _ _ _ (at-head .loop .inv .walking) _ (innermost-at .innermost .ensures);
+        aim = at-aim .aim-at .result;
         planned = c .plan-turn .ensures;
-        jump = found-jump _ _ (at-head .loop .p) _ (at-if1 .if1 .resolved) (at-jump-at .jump-at .ensures) (found at-if1);
+        jump = found-jump _ _ _ _ (at-head .loop .p) _ (at-aim .aim-at .result) (asked-jump (searched at-aim) .jump-at .ensures) (aimed at-aim);
       }
 
-plan-turn-requires : tie.Need-plan-turn-requires Inv-loop2 μ-loop2 Inv-loop μ-loop
+plan-turn-requires : tie.Need-plan-turn-requires Inv-loop2 μ-loop2 Inv-loop3 μ-loop3 Inv-loop μ-loop
 plan-turn-requires c κs =
-    let at-if1 : tie.Joined1 Inv-loop2 μ-loop2 Inv-loop μ-loop = search in
-    let at-jump-at : tie.After-jump-at Inv-loop2 μ-loop2 Inv-loop μ-loop = search in
-    let at-innermost : tie.After-innermost Inv-loop2 μ-loop2 Inv-loop μ-loop = search in
-    let at-loop : tie.At-loop Inv-loop2 μ-loop2 Inv-loop μ-loop = search in
-    let start : tie.Start Inv-loop2 μ-loop2 Inv-loop μ-loop = search in (
-      ready _ (start .pre) (checked-table _ (start .pre)) _ _ _ _ (at-loop .loop .inv .walking) _ (frame-read _ (start .pre) (checked-table _ (start .pre)) _ _ _
-          _ (at-loop .loop .inv .walking) _ (at-innermost .innermost .ensures)),
-      found-below _ (at-jump-at .jump-at .result) (at-if1 .if1 .resolved)
-          (at-loop .loop .inv .walking .whole) (found at-if1),
+    let at-aim : tie.After-aim-at Inv-loop2 μ-loop2 Inv-loop3 μ-loop3 Inv-loop μ-loop = search in
+    let at-head = head (searched at-aim) in
+    let start = started (searched at-aim) in
+    let at-jump-at : tie.After-jump-at Inv-loop2 μ-loop2 Inv-loop3 μ-loop3 Inv-loop μ-loop = asked-jump (searched at-aim) in
+    let at-innermost : tie.After-innermost Inv-loop2 μ-loop2 Inv-loop3 μ-loop3 Inv-loop μ-loop = search in (
+      ready _ _ (start .pre) (checked-table _ (start .pre)) _ _ _ _ (at-head .loop .inv .walking) _ (frame-read _ _ (start .pre) (checked-table _ (start .pre)) _ _ _
+          _ (at-head .loop .inv .walking) _ (at-innermost .innermost .ensures)),
+      aims-below at-aim,
     )
 
-ends-requires : tie.Need-ends-requires Inv-loop2 μ-loop2 Inv-loop μ-loop
+ends-requires : tie.Need-ends-requires Inv-loop2 μ-loop2 Inv-loop3 μ-loop3 Inv-loop μ-loop
 ends-requires c κs = tt
 
-answer-requires : tie.Need-answer-requires Inv-loop2 μ-loop2 Inv-loop μ-loop
+answer-requires : tie.Need-answer-requires Inv-loop2 μ-loop2 Inv-loop3 μ-loop3 Inv-loop μ-loop
 answer-requires c κs = tt
 
-same-length : tie.Need-same-length Inv-loop2 μ-loop2 Inv-loop μ-loop
+same-length : tie.Need-same-length Inv-loop2 μ-loop2 Inv-loop3 μ-loop3 Inv-loop μ-loop
 same-length c =
-    let at-plan-turn : tie.After-plan-turn Inv-loop2 μ-loop2 Inv-loop μ-loop = search in
-    let at-plan-turn-arg : tie.After-plan-turn-arg Inv-loop2 μ-loop2 Inv-loop μ-loop = search in
-    let at-jump-at-arg : tie.After-jump-at-arg Inv-loop2 μ-loop2 Inv-loop μ-loop = search in
-    let at-loop : tie.At-loop Inv-loop2 μ-loop2 Inv-loop μ-loop = search in
-    omega (arith, at-plan-turn .plan-turn .kept .1 .0, at-loop .loop .inv .long)
+    let at-plan-turn : tie.After-plan-turn Inv-loop2 μ-loop2 Inv-loop3 μ-loop3 Inv-loop μ-loop = search in
+    omega (arith, at-plan-turn .plan-turn .kept .1 .0, at-head at-plan-turn .loop .inv .long)
 
-returns : tie.Need-returns Inv-loop2 μ-loop2 Inv-loop μ-loop
+returns : tie.Need-returns Inv-loop2 μ-loop2 Inv-loop3 μ-loop3 Inv-loop μ-loop
 returns c =
-    let then3 : tie.Then3 Inv-loop2 μ-loop2 Inv-loop μ-loop = search in
-    let at-ends : tie.After-ends Inv-loop2 μ-loop2 Inv-loop μ-loop = search in
-    let at-plan-turn : tie.After-plan-turn Inv-loop2 μ-loop2 Inv-loop μ-loop = search in
+    let then3 : tie.Then3 Inv-loop2 μ-loop2 Inv-loop3 μ-loop3 Inv-loop μ-loop = search in
+    let at-ends : tie.After-ends Inv-loop2 μ-loop2 Inv-loop3 μ-loop3 Inv-loop μ-loop = search in
+    let at-plan-turn : tie.After-plan-turn Inv-loop2 μ-loop2 Inv-loop3 μ-loop3 Inv-loop μ-loop = search in
     rw (c .answer .ensures) (turn-ends (turn (at-plan-turn)) (sym (at-ends .ends .ensures) ∙ then3 .if3 .taken))
 
-visited-block-requires : tie.Need-visited-block-requires Inv-loop2 μ-loop2 Inv-loop μ-loop
+visited-block-requires : tie.Need-visited-block-requires Inv-loop2 μ-loop2 Inv-loop3 μ-loop3 Inv-loop μ-loop
 visited-block-requires c κs = tt
 
-mark-requires : tie.Need-mark-requires Inv-loop2 μ-loop2 Inv-loop μ-loop
+mark-requires : tie.Need-mark-requires Inv-loop2 μ-loop2 Inv-loop3 μ-loop3 Inv-loop μ-loop
 mark-requires c κs =
-    let else3 : tie.Else3 Inv-loop2 μ-loop2 Inv-loop μ-loop = search in
-    let at-ends : tie.After-ends Inv-loop2 μ-loop2 Inv-loop μ-loop = search in
-    let at-plan-turn : tie.After-plan-turn Inv-loop2 μ-loop2 Inv-loop μ-loop = search in
+    let else3 : tie.Else3 Inv-loop2 μ-loop2 Inv-loop3 μ-loop3 Inv-loop μ-loop = search in
+    let at-ends : tie.After-ends Inv-loop2 μ-loop2 Inv-loop3 μ-loop3 Inv-loop μ-loop = search in
+    let at-plan-turn : tie.After-plan-turn Inv-loop2 μ-loop2 Inv-loop3 μ-loop3 Inv-loop μ-loop = search in
     rw (c .visited-block .ensures) (turn-applicable (turn (at-plan-turn)) (sym (at-ends .ends .ensures) ∙ else3 .if3 .left) .block)
 
-mark-requires-2 : tie.Need-mark-requires-2 Inv-loop2 μ-loop2 Inv-loop μ-loop
+mark-requires-2 : tie.Need-mark-requires-2 Inv-loop2 μ-loop2 Inv-loop3 μ-loop3 Inv-loop μ-loop
 mark-requires-2 c κs =
-    let else3 : tie.Else3 Inv-loop2 μ-loop2 Inv-loop μ-loop = search in
-    let at-ends : tie.After-ends Inv-loop2 μ-loop2 Inv-loop μ-loop = search in
-    let at-plan-turn : tie.After-plan-turn Inv-loop2 μ-loop2 Inv-loop μ-loop = search in
+    let else3 : tie.Else3 Inv-loop2 μ-loop2 Inv-loop3 μ-loop3 Inv-loop μ-loop = search in
+    let at-ends : tie.After-ends Inv-loop2 μ-loop2 Inv-loop3 μ-loop3 Inv-loop μ-loop = search in
+    let at-plan-turn : tie.After-plan-turn Inv-loop2 μ-loop2 Inv-loop3 μ-loop3 Inv-loop μ-loop = search in
     turn-applicable (turn (at-plan-turn)) (sym (at-ends .ends .ensures) ∙ else3 .if3 .left) .handler
 
-mark-requires-3 : tie.Need-mark-requires-3 Inv-loop2 μ-loop2 Inv-loop μ-loop
+mark-requires-3 : tie.Need-mark-requires-3 Inv-loop2 μ-loop2 Inv-loop3 μ-loop3 Inv-loop μ-loop
 mark-requires-3 c κs =
-    let else3 : tie.Else3 Inv-loop2 μ-loop2 Inv-loop μ-loop = search in
-    let at-ends : tie.After-ends Inv-loop2 μ-loop2 Inv-loop μ-loop = search in
-    let at-plan-turn : tie.After-plan-turn Inv-loop2 μ-loop2 Inv-loop μ-loop = search in
+    let else3 : tie.Else3 Inv-loop2 μ-loop2 Inv-loop3 μ-loop3 Inv-loop μ-loop = search in
+    let at-ends : tie.After-ends Inv-loop2 μ-loop2 Inv-loop3 μ-loop3 Inv-loop μ-loop = search in
+    let at-plan-turn : tie.After-plan-turn Inv-loop2 μ-loop2 Inv-loop3 μ-loop3 Inv-loop μ-loop = search in
     turn-applicable (turn (at-plan-turn)) (sym (at-ends .ends .ensures) ∙ else3 .if3 .left) .scope
 
-frame-slot-requires : tie.Need-frame-slot-requires Inv-loop2 μ-loop2 Inv-loop μ-loop
+frame-slot-requires : tie.Need-frame-slot-requires Inv-loop2 μ-loop2 Inv-loop3 μ-loop3 Inv-loop μ-loop
 frame-slot-requires c κs = tt
 
 -- where the sets are marked: the change of the stack is left
-module _ (c : tie.After-frame-slot Inv-loop2 μ-loop2 Inv-loop μ-loop) where
-  abbrev planned : tie.After-plan-turn Inv-loop2 μ-loop2 Inv-loop μ-loop
-  planned = c .before .before .before .before .before .before .before .before .before .before .before .before .before .before
+module _ (c : tie.After-frame-slot Inv-loop2 μ-loop2 Inv-loop3 μ-loop3 Inv-loop μ-loop) where
+  abbrev marked3 : tie.After-mark3 Inv-loop2 μ-loop2 Inv-loop3 μ-loop3 Inv-loop μ-loop
+  marked3 = search
+
+  abbrev marked2 : tie.After-mark2 Inv-loop2 μ-loop2 Inv-loop3 μ-loop3 Inv-loop μ-loop
+  marked2 = search
+
+  abbrev marked : tie.After-mark Inv-loop2 μ-loop2 Inv-loop3 μ-loop3 Inv-loop μ-loop
+  marked =
+      let after : tie.After-mark2 Inv-loop2 μ-loop2 Inv-loop3 μ-loop3 Inv-loop μ-loop = marked2 in
+      search
+
+  abbrev visited-at : tie.After-visited-block Inv-loop2 μ-loop2 Inv-loop3 μ-loop3 Inv-loop μ-loop
+  visited-at =
+      let after : tie.After-mark Inv-loop2 μ-loop2 Inv-loop3 μ-loop3 Inv-loop μ-loop = marked in
+      search
+
+  abbrev left-at : tie.Else3 Inv-loop2 μ-loop2 Inv-loop3 μ-loop3 Inv-loop μ-loop
+  left-at =
+      let after : tie.After-mark Inv-loop2 μ-loop2 Inv-loop3 μ-loop3 Inv-loop μ-loop = marked in
+      search
+
+  abbrev ended : tie.After-ends Inv-loop2 μ-loop2 Inv-loop3 μ-loop3 Inv-loop μ-loop
+  ended =
+      let after : tie.Else3 Inv-loop2 μ-loop2 Inv-loop3 μ-loop3 Inv-loop μ-loop = left-at in
+      search
+
+  abbrev planned : tie.After-plan-turn Inv-loop2 μ-loop2 Inv-loop3 μ-loop3 Inv-loop μ-loop
+  planned =
+      let after : tie.After-ends Inv-loop2 μ-loop2 Inv-loop3 μ-loop3 Inv-loop μ-loop = ended in
+      search
 
   abbrev plan : Plan
   plan = planned .plan-turn .result
@@ -245,9 +405,9 @@ module _ (c : tie.After-frame-slot Inv-loop2 μ-loop2 Inv-loop μ-loop) where
   abbrev with-marks : Context
   with-marks =
       record {
-        emitted = c .before .before .before .before .before .before .before .mark .last .0;
-        «catch_handlers» = c .before .before .before .before .before .mark2 .last .0;
-        «scope_fallthroughs» = c .before .before .before .mark3 .last .0;
+        emitted = marked .mark .last .0;
+        «catch_handlers» = marked2 .mark2 .last .0;
+        «scope_fallthroughs» = marked3 .mark3 .last .0;
         len =
             cx .len;
         scheduled = cx .scheduled;
@@ -262,19 +422,12 @@ module _ (c : tie.After-frame-slot Inv-loop2 μ-loop2 Inv-loop μ-loop) where
   frames = set (at-head planned .loop .frames) (c .frame-slot .result) (plan .frame)
 
   goes-on : planEnds plan ≡ false
-  goes-on =
-      sym (c .before .before .before .before .before .before .before .before .before .before .before .ends .ensures) ∙
-      c .before .before .before .before .before .before .before .before .before .before .if3 .left
+  goes-on = sym (ended .ends .ensures) ∙ left-at .if3 .left
 
   marks-made : with-marks ≡ withMarks visited (plan .handler) (plan .scope) cx
   marks-made =
-      rw (
-        ← (c .before .before .before .mark3 .ensures),
-        ← (c .before .before .before .before .before .mark2 .ensures),
-        ← (c .before .before .before .before .before .before .before .before .visited-block .ensures),
-        ←
-            (c .before .before .before .before .before .before .before .mark .ensures),
-      ) refl
+      marks-as visited (plan .handler) (plan .scope) (visited-at .visited-block .result) cx _ _ _ (visited-at .visited-block .ensures) (marked .mark .ensures)
+      (marked2 .mark2 .ensures) (marked3 .mark3 .ensures)
 
   applicable : Applicable visited plan cx
   applicable = turn-applicable (turn planned) goes-on
@@ -289,7 +442,7 @@ module _ (c : tie.After-frame-slot Inv-loop2 μ-loop2 Inv-loop μ-loop) where
         (changeable-marked change visited (plan .handler) (plan .scope) cx (subst (λ (z : Change). Changeable z cx) e (applicable .change)))
 
     blocks : {code at : ℕ} → Blocked change with-marks code at
-        → Reported (report (tableOf (now (at-head planned .before .before .before .before .before .before .args .words)))) (blockedBy code at (plan .position)) (planned .plan-turn .last .1 .0)
+        → Reported (report (ruleOf (begun planned .args .rule)) (tableOf (now (begun planned .args .words)))) (blockedBy code at (plan .position)) (planned .plan-turn .last .1 .0)
     blocks {code} {at} E =
         turn-blocked (turn planned) goes-on (subst (λ (z : Change). Blocked z (withMarks visited (plan .handler) (plan .scope) cx) code at) (sym e)
         (subst (λ (z : Context). Blocked change z code at) marks-made E))
@@ -298,8 +451,8 @@ module _ (c : tie.After-frame-slot Inv-loop2 μ-loop2 Inv-loop μ-loop) where
       changed : Applied visited plan cx r
       changed = plan-applied visited plan cx with-marks r marks-made (subst (λ (z : Change). Changed z with-marks r) (sym e) E)
 
-      next : Inv (now (at-head planned .before .before .before .before .before .before .args .words))
-          (now (at-head planned .before .before .before .before .before .before .args .tree)) (planned .plan-turn .last .1 .0) r frames (plan .position)
+      next : Inv (ruleOf (begun planned .args .rule)) (now (begun planned .args .words))
+          (now (begun planned .args .tree)) (planned .plan-turn .last .1 .0) r frames (plan .position)
       next = record { walking = turn-again (turn planned) goes-on changed (c .frame-slot .ensures); long = omega (arith, planned .plan-turn .kept .1 .0, at-head planned .loop .inv .long) }
 
       lower : turnsLeft (plan .position) frames r < turnsLeft p (at-head planned .loop .frames) cx
@@ -307,11 +460,11 @@ module _ (c : tie.After-frame-slot Inv-loop2 μ-loop2 Inv-loop μ-loop) where
 
 -- ---- what each change leaves
 
-module _ (c : tie.After-schedule Inv-loop2 μ-loop2 Inv-loop μ-loop) where
-  abbrev slotted : tie.After-frame-slot Inv-loop2 μ-loop2 Inv-loop μ-loop
+module _ (c : tie.After-schedule Inv-loop2 μ-loop2 Inv-loop3 μ-loop3 Inv-loop μ-loop) where
+  abbrev slotted : tie.After-frame-slot Inv-loop2 μ-loop2 Inv-loop3 μ-loop3 Inv-loop μ-loop
   slotted = search
 
-  abbrev asked : tie.After-change Inv-loop2 μ-loop2 Inv-loop μ-loop
+  abbrev asked : tie.After-change Inv-loop2 μ-loop2 Inv-loop3 μ-loop3 Inv-loop μ-loop
   asked = search
 
   schedulable : Changeable (Schedule (asked .change .given .0 .0)) (with-marks slotted)
@@ -320,11 +473,11 @@ module _ (c : tie.After-schedule Inv-loop2 μ-loop2 Inv-loop μ-loop) where
   by-schedule : c .schedule .result .refused ≡ 0 → Changed (Schedule (asked .change .given .0 .0)) (with-marks slotted) (settled (c .schedule .result))
   by-schedule z = schedule-changed _ _ _ _ (c .schedule .ensures) z refl (schedulable .1 .len) (whole slotted)
 
-module _ (c : tie.After-schedule2 Inv-loop2 μ-loop2 Inv-loop μ-loop) where
-  abbrev slotted2 : tie.After-frame-slot Inv-loop2 μ-loop2 Inv-loop μ-loop
+module _ (c : tie.After-schedule2 Inv-loop2 μ-loop2 Inv-loop3 μ-loop3 Inv-loop μ-loop) where
+  abbrev slotted2 : tie.After-frame-slot Inv-loop2 μ-loop2 Inv-loop3 μ-loop3 Inv-loop μ-loop
   slotted2 = search
 
-  abbrev asked2 : tie.After-change2 Inv-loop2 μ-loop2 Inv-loop μ-loop
+  abbrev asked2 : tie.After-change2 Inv-loop2 μ-loop2 Inv-loop3 μ-loop3 Inv-loop μ-loop
   asked2 = search
 
   briefly : Changeable (ScheduleBriefly (asked2 .change2 .given .0 .0)) (with-marks slotted2)
@@ -336,182 +489,187 @@ module _ (c : tie.After-schedule2 Inv-loop2 μ-loop2 Inv-loop μ-loop) where
   pushed-last : Last (settled (c .schedule2 .result)) (c .schedule2 .result .pushed)
   pushed-last = last-scheduled _ _ _ (c .schedule2 .ensures) (briefly .0) (briefly .1 .len) (whole slotted2)
 
-module _ (c : tie.After-unschedule Inv-loop2 μ-loop2 Inv-loop μ-loop) where
-  abbrev scheduled2 : tie.After-schedule2 Inv-loop2 μ-loop2 Inv-loop μ-loop
+module _ (c : tie.After-unschedule Inv-loop2 μ-loop2 Inv-loop3 μ-loop3 Inv-loop μ-loop) where
+  abbrev scheduled2 : tie.After-schedule2 Inv-loop2 μ-loop2 Inv-loop3 μ-loop3 Inv-loop μ-loop
   scheduled2 = search
 
-  abbrev else5 : tie.Else5 Inv-loop2 μ-loop2 Inv-loop μ-loop
+  abbrev else5 : tie.Else5 Inv-loop2 μ-loop2 Inv-loop3 μ-loop3 Inv-loop μ-loop
   else5 = search
 
   by-briefly : Changed (ScheduleBriefly (asked2 scheduled2 .change2 .given .0 .0)) (with-marks (slotted2 scheduled2)) (c .unschedule .result)
   unfolding settled
   by-briefly = briefly-changed _ _ _ _ _ (pushed-first scheduled2 (else5 .if5 .left)) (pushed-last scheduled2) (c .unschedule .ensures)
 
-module _ (c : tie.After-unschedule2 Inv-loop2 μ-loop2 Inv-loop μ-loop) where
-  by-unschedule : Changed Unschedule (with-marks (c .before .before .before .before)) (c .unschedule2 .result)
-  by-unschedule =
-      unschedule-changed _ _ _ (last-entry _ (changeable (c .before .before .before .before) _ (c .before .before .enum-told2 .given .1))
-      (whole (c .before .before .before .before))) (c .unschedule2 .ensures) (whole (c .before .before .before .before))
+module _ (c : tie.After-unschedule2 Inv-loop2 μ-loop2 Inv-loop3 μ-loop3 Inv-loop μ-loop) where
+  abbrev slotted3 : tie.After-frame-slot Inv-loop2 μ-loop2 Inv-loop3 μ-loop3 Inv-loop μ-loop
+  slotted3 = search
 
-mul-frames : tie.Need-mul-frames Inv-loop2 μ-loop2 Inv-loop μ-loop
+  abbrev told : tie.After-enum-told2 Inv-loop2 μ-loop2 Inv-loop3 μ-loop3 Inv-loop μ-loop
+  told = search
+
+  by-unschedule : Changed Unschedule (with-marks slotted3) (c .unschedule2 .result)
+  by-unschedule =
+      unschedule-changed _ _ _ (last-entry _ (changeable slotted3 _ (told .enum-told2 .given .1)) (whole slotted3)) (c .unschedule2 .ensures) (whole slotted3)
+
+mul-frames : tie.Need-mul-frames Inv-loop2 μ-loop2 Inv-loop3 μ-loop3 Inv-loop μ-loop
 mul-frames c = omega (arith, c .frame-slot .ensures, turn-slot (turn (planned c)) (goes-on c))
 
-array-set-from-frames : tie.Need-array-set-from-frames Inv-loop2 μ-loop2 Inv-loop μ-loop
+array-set-from-frames : tie.Need-array-set-from-frames Inv-loop2 μ-loop2 Inv-loop3 μ-loop3 Inv-loop μ-loop
 array-set-from-frames c = rw (c .frame-slot .ensures) (turn-slot (turn (planned c)) (goes-on c))
 
-enum-told : tie.Need-enum-told Inv-loop2 μ-loop2 Inv-loop μ-loop
+enum-told : tie.Need-enum-told Inv-loop2 μ-loop2 Inv-loop3 μ-loop3 Inv-loop μ-loop
 enum-told c = search needs
 
-loop-less : tie.Need-loop-less Inv-loop2 μ-loop2 Inv-loop μ-loop
+loop-less : tie.Need-loop-less Inv-loop2 μ-loop2 Inv-loop3 μ-loop3 Inv-loop μ-loop
 loop-less c =
-    let at-frame-slot : tie.After-frame-slot Inv-loop2 μ-loop2 Inv-loop μ-loop = search in
+    let at-frame-slot : tie.After-frame-slot Inv-loop2 μ-loop2 Inv-loop3 μ-loop3 Inv-loop μ-loop = search in
     lower (at-frame-slot) _ (c .enum-told .given .1) _ (nothing-changed _ (whole (at-frame-slot)))
 
-loop-again : tie.Need-loop-again Inv-loop2 μ-loop2 Inv-loop μ-loop
+loop-again : tie.Need-loop-again Inv-loop2 μ-loop2 Inv-loop3 μ-loop3 Inv-loop μ-loop
 loop-again c =
-    let at-frame-slot : tie.After-frame-slot Inv-loop2 μ-loop2 Inv-loop μ-loop = search in
+    let at-frame-slot : tie.After-frame-slot Inv-loop2 μ-loop2 Inv-loop3 μ-loop3 Inv-loop μ-loop = search in
     next (at-frame-slot) _ (c .enum-told .given .1) _ (nothing-changed _ (whole (at-frame-slot)))
 
-enum-known-change : tie.Need-enum-known-change Inv-loop2 μ-loop2 Inv-loop μ-loop
+enum-known-change : tie.Need-enum-known-change Inv-loop2 μ-loop2 Inv-loop3 μ-loop3 Inv-loop μ-loop
 enum-known-change c = search needs
 
-schedule-requires : tie.Need-schedule-requires Inv-loop2 μ-loop2 Inv-loop μ-loop
+schedule-requires : tie.Need-schedule-requires Inv-loop2 μ-loop2 Inv-loop3 μ-loop3 Inv-loop μ-loop
 schedule-requires c κs =
-    let at-change : tie.After-change Inv-loop2 μ-loop2 Inv-loop μ-loop = search in
-    let at-frame-slot : tie.After-frame-slot Inv-loop2 μ-loop2 Inv-loop μ-loop = search in
+    let at-change : tie.After-change Inv-loop2 μ-loop2 Inv-loop3 μ-loop3 Inv-loop μ-loop = search in
+    let at-frame-slot : tie.After-frame-slot Inv-loop2 μ-loop2 Inv-loop3 μ-loop3 Inv-loop μ-loop = search in
     changeable (at-frame-slot) _ (at-change .change .given .1)
 
-blocked-requires : tie.Need-blocked-requires Inv-loop2 μ-loop2 Inv-loop μ-loop
+blocked-requires : tie.Need-blocked-requires Inv-loop2 μ-loop2 Inv-loop3 μ-loop3 Inv-loop μ-loop
 blocked-requires c κs = tt
 
-same-length-2 : tie.Need-same-length-2 Inv-loop2 μ-loop2 Inv-loop μ-loop
+same-length-2 : tie.Need-same-length-2 Inv-loop2 μ-loop2 Inv-loop3 μ-loop3 Inv-loop μ-loop
 same-length-2 c =
-    let at-frame-slot : tie.After-frame-slot Inv-loop2 μ-loop2 Inv-loop μ-loop = search in
+    let at-frame-slot : tie.After-frame-slot Inv-loop2 μ-loop2 Inv-loop3 μ-loop3 Inv-loop μ-loop = search in
     omega (arith, planned at-frame-slot .plan-turn .kept .1 .0, at-head (planned at-frame-slot) .loop .inv .long)
 
-returns-2 : tie.Need-returns-2 Inv-loop2 μ-loop2 Inv-loop μ-loop
+returns-2 : tie.Need-returns-2 Inv-loop2 μ-loop2 Inv-loop3 μ-loop3 Inv-loop μ-loop
 returns-2 c =
-    let then4 : tie.Then4 Inv-loop2 μ-loop2 Inv-loop μ-loop = search in
-    let at-schedule : tie.After-schedule Inv-loop2 μ-loop2 Inv-loop μ-loop = search in
-    let at-change : tie.After-change Inv-loop2 μ-loop2 Inv-loop μ-loop = search in
-    let at-frame-slot : tie.After-frame-slot Inv-loop2 μ-loop2 Inv-loop μ-loop = search in
+    let then4 : tie.Then4 Inv-loop2 μ-loop2 Inv-loop3 μ-loop3 Inv-loop μ-loop = search in
+    let at-schedule : tie.After-schedule Inv-loop2 μ-loop2 Inv-loop3 μ-loop3 Inv-loop μ-loop = search in
+    let at-change : tie.After-change Inv-loop2 μ-loop2 Inv-loop3 μ-loop3 Inv-loop μ-loop = search in
+    let at-frame-slot : tie.After-frame-slot Inv-loop2 μ-loop2 Inv-loop3 μ-loop3 Inv-loop μ-loop = search in
     rw (c .blocked .ensures) (blocks at-frame-slot _ (at-change .change .given .1) (schedule-blocked _ _ _ (at-schedule .schedule .ensures) (then4 .if4 .taken)))
 
-sub-entry : tie.Need-sub-entry Inv-loop2 μ-loop2 Inv-loop μ-loop
+sub-entry : tie.Need-sub-entry Inv-loop2 μ-loop2 Inv-loop3 μ-loop3 Inv-loop μ-loop
 sub-entry c =
-    let at-schedule : tie.After-schedule Inv-loop2 μ-loop2 Inv-loop μ-loop = search in
+    let at-schedule : tie.After-schedule Inv-loop2 μ-loop2 Inv-loop3 μ-loop3 Inv-loop μ-loop = search in
     omega (arith, at-schedule .schedule .ensures .len)
 
-mul-entry-2 : tie.Need-mul-entry-2 Inv-loop2 μ-loop2 Inv-loop μ-loop
+mul-entry-2 : tie.Need-mul-entry-2 Inv-loop2 μ-loop2 Inv-loop3 μ-loop3 Inv-loop μ-loop
 mul-entry-2 c =
-    let at-schedule : tie.After-schedule Inv-loop2 μ-loop2 Inv-loop μ-loop = search in
+    let at-schedule : tie.After-schedule Inv-loop2 μ-loop2 Inv-loop3 μ-loop3 Inv-loop μ-loop = search in
     omega (arith, at-schedule .schedule .ensures .len, schedulable at-schedule .1 .len)
 
-element-set-from-entry : tie.Need-element-set-from-entry Inv-loop2 μ-loop2 Inv-loop μ-loop
+element-set-from-entry : tie.Need-element-set-from-entry Inv-loop2 μ-loop2 Inv-loop3 μ-loop3 Inv-loop μ-loop
 element-set-from-entry c =
-    let at-schedule : tie.After-schedule Inv-loop2 μ-loop2 Inv-loop μ-loop = search in
+    let at-schedule : tie.After-schedule Inv-loop2 μ-loop2 Inv-loop3 μ-loop3 Inv-loop μ-loop = search in
     omega (arith, at-schedule .schedule .ensures .len, schedulable at-schedule .1 .len)
 
-loop-less-2 : tie.Need-loop-less-2 Inv-loop2 μ-loop2 Inv-loop μ-loop
+loop-less-2 : tie.Need-loop-less-2 Inv-loop2 μ-loop2 Inv-loop3 μ-loop3 Inv-loop μ-loop
 unfolding settled
 loop-less-2 c =
-    let else4 : tie.Else4 Inv-loop2 μ-loop2 Inv-loop μ-loop = search in
-    let at-schedule : tie.After-schedule Inv-loop2 μ-loop2 Inv-loop μ-loop = search in
+    let else4 : tie.Else4 Inv-loop2 μ-loop2 Inv-loop3 μ-loop3 Inv-loop μ-loop = search in
+    let at-schedule : tie.After-schedule Inv-loop2 μ-loop2 Inv-loop3 μ-loop3 Inv-loop μ-loop = search in
     lower (slotted at-schedule) _ (asked at-schedule .change .given .1) _ (by-schedule at-schedule (else4 .if4 .left))
 
-loop-again-2 : tie.Need-loop-again-2 Inv-loop2 μ-loop2 Inv-loop μ-loop
+loop-again-2 : tie.Need-loop-again-2 Inv-loop2 μ-loop2 Inv-loop3 μ-loop3 Inv-loop μ-loop
 unfolding settled
 loop-again-2 c =
-    let else4 : tie.Else4 Inv-loop2 μ-loop2 Inv-loop μ-loop = search in
-    let at-schedule : tie.After-schedule Inv-loop2 μ-loop2 Inv-loop μ-loop = search in
+    let else4 : tie.Else4 Inv-loop2 μ-loop2 Inv-loop3 μ-loop3 Inv-loop μ-loop = search in
+    let at-schedule : tie.After-schedule Inv-loop2 μ-loop2 Inv-loop3 μ-loop3 Inv-loop μ-loop = search in
     next (slotted at-schedule) _ (asked at-schedule .change .given .1) _ (by-schedule at-schedule (else4 .if4 .left))
 
-enum-known-change-2 : tie.Need-enum-known-change-2 Inv-loop2 μ-loop2 Inv-loop μ-loop
+enum-known-change-2 : tie.Need-enum-known-change-2 Inv-loop2 μ-loop2 Inv-loop3 μ-loop3 Inv-loop μ-loop
 enum-known-change-2 c = search needs
 
-schedule-requires-2 : tie.Need-schedule-requires-2 Inv-loop2 μ-loop2 Inv-loop μ-loop
+schedule-requires-2 : tie.Need-schedule-requires-2 Inv-loop2 μ-loop2 Inv-loop3 μ-loop3 Inv-loop μ-loop
 schedule-requires-2 c κs =
-    let at-change2 : tie.After-change2 Inv-loop2 μ-loop2 Inv-loop μ-loop = search in
-    let at-frame-slot : tie.After-frame-slot Inv-loop2 μ-loop2 Inv-loop μ-loop = search in
+    let at-change2 : tie.After-change2 Inv-loop2 μ-loop2 Inv-loop3 μ-loop3 Inv-loop μ-loop = search in
+    let at-frame-slot : tie.After-frame-slot Inv-loop2 μ-loop2 Inv-loop3 μ-loop3 Inv-loop μ-loop = search in
     changeable (at-frame-slot) _ (at-change2 .change2 .given .1)
 
-blocked-requires-2 : tie.Need-blocked-requires-2 Inv-loop2 μ-loop2 Inv-loop μ-loop
+blocked-requires-2 : tie.Need-blocked-requires-2 Inv-loop2 μ-loop2 Inv-loop3 μ-loop3 Inv-loop μ-loop
 blocked-requires-2 c κs = tt
 
-same-length-3 : tie.Need-same-length-3 Inv-loop2 μ-loop2 Inv-loop μ-loop
+same-length-3 : tie.Need-same-length-3 Inv-loop2 μ-loop2 Inv-loop3 μ-loop3 Inv-loop μ-loop
 same-length-3 c =
-    let at-frame-slot : tie.After-frame-slot Inv-loop2 μ-loop2 Inv-loop μ-loop = search in
+    let at-frame-slot : tie.After-frame-slot Inv-loop2 μ-loop2 Inv-loop3 μ-loop3 Inv-loop μ-loop = search in
     omega (arith, planned at-frame-slot .plan-turn .kept .1 .0, at-head (planned at-frame-slot) .loop .inv .long)
 
-returns-3 : tie.Need-returns-3 Inv-loop2 μ-loop2 Inv-loop μ-loop
+returns-3 : tie.Need-returns-3 Inv-loop2 μ-loop2 Inv-loop3 μ-loop3 Inv-loop μ-loop
 returns-3 c =
-    let then5 : tie.Then5 Inv-loop2 μ-loop2 Inv-loop μ-loop = search in
-    let at-schedule2 : tie.After-schedule2 Inv-loop2 μ-loop2 Inv-loop μ-loop = search in
-    let at-change2 : tie.After-change2 Inv-loop2 μ-loop2 Inv-loop μ-loop = search in
-    let at-frame-slot : tie.After-frame-slot Inv-loop2 μ-loop2 Inv-loop μ-loop = search in
+    let then5 : tie.Then5 Inv-loop2 μ-loop2 Inv-loop3 μ-loop3 Inv-loop μ-loop = search in
+    let at-schedule2 : tie.After-schedule2 Inv-loop2 μ-loop2 Inv-loop3 μ-loop3 Inv-loop μ-loop = search in
+    let at-change2 : tie.After-change2 Inv-loop2 μ-loop2 Inv-loop3 μ-loop3 Inv-loop μ-loop = search in
+    let at-frame-slot : tie.After-frame-slot Inv-loop2 μ-loop2 Inv-loop3 μ-loop3 Inv-loop μ-loop = search in
     rw (c .blocked2 .ensures) (blocks at-frame-slot _ (at-change2 .change2 .given .1) (briefly-blocked _ _ _ (at-schedule2 .schedule2 .ensures) (then5 .if5 .taken)))
 
-sub-entry-2 : tie.Need-sub-entry-2 Inv-loop2 μ-loop2 Inv-loop μ-loop
+sub-entry-2 : tie.Need-sub-entry-2 Inv-loop2 μ-loop2 Inv-loop3 μ-loop3 Inv-loop μ-loop
 sub-entry-2 c =
-    let at-schedule2 : tie.After-schedule2 Inv-loop2 μ-loop2 Inv-loop μ-loop = search in
+    let at-schedule2 : tie.After-schedule2 Inv-loop2 μ-loop2 Inv-loop3 μ-loop3 Inv-loop μ-loop = search in
     omega (arith, at-schedule2 .schedule2 .ensures .len)
 
-mul-entry-3 : tie.Need-mul-entry-3 Inv-loop2 μ-loop2 Inv-loop μ-loop
+mul-entry-3 : tie.Need-mul-entry-3 Inv-loop2 μ-loop2 Inv-loop3 μ-loop3 Inv-loop μ-loop
 mul-entry-3 c =
-    let at-schedule2 : tie.After-schedule2 Inv-loop2 μ-loop2 Inv-loop μ-loop = search in
+    let at-schedule2 : tie.After-schedule2 Inv-loop2 μ-loop2 Inv-loop3 μ-loop3 Inv-loop μ-loop = search in
     omega (arith, at-schedule2 .schedule2 .ensures .len, briefly at-schedule2 .1 .len)
 
-element-set-from-entry-2 : tie.Need-element-set-from-entry-2 Inv-loop2 μ-loop2 Inv-loop μ-loop
+element-set-from-entry-2 : tie.Need-element-set-from-entry-2 Inv-loop2 μ-loop2 Inv-loop3 μ-loop3 Inv-loop μ-loop
 element-set-from-entry-2 c =
-    let at-schedule2 : tie.After-schedule2 Inv-loop2 μ-loop2 Inv-loop μ-loop = search in
+    let at-schedule2 : tie.After-schedule2 Inv-loop2 μ-loop2 Inv-loop3 μ-loop3 Inv-loop μ-loop = search in
     omega (arith, at-schedule2 .schedule2 .ensures .len, briefly at-schedule2 .1 .len)
 
-unschedule-requires : tie.Need-unschedule-requires Inv-loop2 μ-loop2 Inv-loop μ-loop
+unschedule-requires : tie.Need-unschedule-requires Inv-loop2 μ-loop2 Inv-loop3 μ-loop3 Inv-loop μ-loop
 unfolding settled
 unschedule-requires c κs =
-    let at-schedule2 : tie.After-schedule2 Inv-loop2 μ-loop2 Inv-loop μ-loop = search in
+    let at-schedule2 : tie.After-schedule2 Inv-loop2 μ-loop2 Inv-loop3 μ-loop3 Inv-loop μ-loop = search in
     pushed-last at-schedule2
 
-loop-less-3 : tie.Need-loop-less-3 Inv-loop2 μ-loop2 Inv-loop μ-loop
+loop-less-3 : tie.Need-loop-less-3 Inv-loop2 μ-loop2 Inv-loop3 μ-loop3 Inv-loop μ-loop
 loop-less-3 c = lower (slotted2 (scheduled2 c)) _ (asked2 (scheduled2 c) .change2 .given .1) _ (by-briefly c)
 
-loop-again-3 : tie.Need-loop-again-3 Inv-loop2 μ-loop2 Inv-loop μ-loop
+loop-again-3 : tie.Need-loop-again-3 Inv-loop2 μ-loop2 Inv-loop3 μ-loop3 Inv-loop μ-loop
 loop-again-3 c = next (slotted2 (scheduled2 c)) _ (asked2 (scheduled2 c) .change2 .given .1) _ (by-briefly c)
 
-enum-told-2 : tie.Need-enum-told-2 Inv-loop2 μ-loop2 Inv-loop μ-loop
+enum-told-2 : tie.Need-enum-told-2 Inv-loop2 μ-loop2 Inv-loop3 μ-loop3 Inv-loop μ-loop
 enum-told-2 c = search needs
 
-sub-entry-3 : tie.Need-sub-entry-3 Inv-loop2 μ-loop2 Inv-loop μ-loop
+sub-entry-3 : tie.Need-sub-entry-3 Inv-loop2 μ-loop2 Inv-loop3 μ-loop3 Inv-loop μ-loop
 sub-entry-3 c =
-    let at-frame-slot : tie.After-frame-slot Inv-loop2 μ-loop2 Inv-loop μ-loop = search in
+    let at-frame-slot : tie.After-frame-slot Inv-loop2 μ-loop2 Inv-loop3 μ-loop3 Inv-loop μ-loop = search in
     changeable (at-frame-slot) _ (c .enum-told2 .given .1)
 
-mul-entry-4 : tie.Need-mul-entry-4 Inv-loop2 μ-loop2 Inv-loop μ-loop
+mul-entry-4 : tie.Need-mul-entry-4 Inv-loop2 μ-loop2 Inv-loop3 μ-loop3 Inv-loop μ-loop
 mul-entry-4 c =
-    let at-frame-slot : tie.After-frame-slot Inv-loop2 μ-loop2 Inv-loop μ-loop = search in
+    let at-frame-slot : tie.After-frame-slot Inv-loop2 μ-loop2 Inv-loop3 μ-loop3 Inv-loop μ-loop = search in
     omega (arith, whole (at-frame-slot) .bounded .most)
 
-element-copy-out-entry-2 : tie.Need-element-copy-out-entry-2 Inv-loop2 μ-loop2 Inv-loop μ-loop
+element-copy-out-entry-2 : tie.Need-element-copy-out-entry-2 Inv-loop2 μ-loop2 Inv-loop3 μ-loop3 Inv-loop μ-loop
 element-copy-out-entry-2 c =
-    let at-frame-slot : tie.After-frame-slot Inv-loop2 μ-loop2 Inv-loop μ-loop = search in
+    let at-frame-slot : tie.After-frame-slot Inv-loop2 μ-loop2 Inv-loop3 μ-loop3 Inv-loop μ-loop = search in
     omega (arith, changeable (at-frame-slot) _ (c .enum-told2 .given .1), whole (at-frame-slot) .bounded .most)
 
-unschedule-requires-2 : tie.Need-unschedule-requires-2 Inv-loop2 μ-loop2 Inv-loop μ-loop
+unschedule-requires-2 : tie.Need-unschedule-requires-2 Inv-loop2 μ-loop2 Inv-loop3 μ-loop3 Inv-loop μ-loop
 unschedule-requires-2 c κs =
-    let at-enum-told2 : tie.After-enum-told2 Inv-loop2 μ-loop2 Inv-loop μ-loop = search in
-    let at-frame-slot : tie.After-frame-slot Inv-loop2 μ-loop2 Inv-loop μ-loop = search in
+    let at-enum-told2 : tie.After-enum-told2 Inv-loop2 μ-loop2 Inv-loop3 μ-loop3 Inv-loop μ-loop = search in
+    let at-frame-slot : tie.After-frame-slot Inv-loop2 μ-loop2 Inv-loop3 μ-loop3 Inv-loop μ-loop = search in
     last-entry _ (changeable (at-frame-slot) _ (at-enum-told2 .enum-told2 .given .1)) (whole (at-frame-slot))
 
-loop-less-4 : tie.Need-loop-less-4 Inv-loop2 μ-loop2 Inv-loop μ-loop
+loop-less-4 : tie.Need-loop-less-4 Inv-loop2 μ-loop2 Inv-loop3 μ-loop3 Inv-loop μ-loop
 loop-less-4 c =
-    let at-enum-told2 : tie.After-enum-told2 Inv-loop2 μ-loop2 Inv-loop μ-loop = search in
-    let at-frame-slot : tie.After-frame-slot Inv-loop2 μ-loop2 Inv-loop μ-loop = search in
+    let at-enum-told2 : tie.After-enum-told2 Inv-loop2 μ-loop2 Inv-loop3 μ-loop3 Inv-loop μ-loop = search in
+    let at-frame-slot : tie.After-frame-slot Inv-loop2 μ-loop2 Inv-loop3 μ-loop3 Inv-loop μ-loop = search in
     lower (at-frame-slot) _ (at-enum-told2 .enum-told2 .given .1) _ (by-unschedule c)
 
-loop-again-4 : tie.Need-loop-again-4 Inv-loop2 μ-loop2 Inv-loop μ-loop
+loop-again-4 : tie.Need-loop-again-4 Inv-loop2 μ-loop2 Inv-loop3 μ-loop3 Inv-loop μ-loop
 loop-again-4 c =
-    let at-enum-told2 : tie.After-enum-told2 Inv-loop2 μ-loop2 Inv-loop μ-loop = search in
-    let at-frame-slot : tie.After-frame-slot Inv-loop2 μ-loop2 Inv-loop μ-loop = search in
+    let at-enum-told2 : tie.After-enum-told2 Inv-loop2 μ-loop2 Inv-loop3 μ-loop3 Inv-loop μ-loop = search in
+    let at-frame-slot : tie.After-frame-slot Inv-loop2 μ-loop2 Inv-loop3 μ-loop3 Inv-loop μ-loop = search in
     next (at-frame-slot) _ (at-enum-told2 .enum-told2 .given .1) _ (by-unschedule c)
 
 pub walk-spec : {M : Type 1} → statement M
@@ -520,6 +678,8 @@ walk-spec =
     (tie.spec
     Inv-loop2
     μ-loop2
+    Inv-loop3
+    μ-loop3
     Inv-loop
     μ-loop
     new-requires
@@ -540,6 +700,18 @@ walk-spec =
     count-loop-requires
     loop2-less
     loop2-again
+    target-of-requires
+    asks-requires
+    pass-from-requires
+    unseen-requires
+    loop3-holds
+    sub-left
+    mul-around
+    array-copy-out-around
+    pass-requires
+    loop3-less
+    loop3-again
+    aim-at-requires
     plan-turn-requires
     ends-requires
     answer-requires

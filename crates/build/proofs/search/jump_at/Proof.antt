@@ -2,8 +2,8 @@ use Prim.Native.Nat.{ℕ}
 use native.Mathlib.Omega.{arith}
 use mathlib.Core.Path.{ap}
 use mathlib.Core.Path.{_≡_}
-use Rattle.planner.specs.declared.plan.Stage.{Stage}
-use Rattle.planner.specs.declared.plan.Stage.the-variants.{Visit, Ended, Choose, Pop, Halt}
+use Rattle.plan.specs.declared.Stage.{Stage}
+use Rattle.plan.specs.declared.Stage.the-variants.{Visit, Ended, Choose, Pop, Halt}
 use borrow.Author.Needs.{needs}
 use Rattle.build.proofs.search.jump_at.Statement.{statement}
 use Rattle.build.proofs.search.jump_at.Tie as tie

@@ -22,15 +22,18 @@ add-self-2 c = search needs
 
 returns : tie.Need-returns
 returns c =
-    let start = c .before .before .before .before .before .before .before .before in
+    let at-refusal : tie.After-refusal = search in
+    let at-add-target : tie.After-add-target = search in
+    let at-is-blocked : tie.After-is-blocked = search in
+    let start : tie.Start = search in
     let long = simp length-map at (start .good .0 .1 .1 .1 .1 .1 .1 .1 .1 .1 .1 .1 .0 .1 .0 .1) in
     let flags = simp length-map at (start .good .0 .1 .1 .1 .1 .1 .1 .0 .1 .0 .1) in
     rw (
-      c .before .before .refusal .ensures,
-      c .before .before .before .before .before .is-blocked .ensures,
+      at-refusal .refusal .ensures,
+      at-is-blocked .is-blocked .ensures,
       blocked-asked (start .args .target) (start .args .self .scheduled) (start .pre .0) (omega (arith, flags)),
-      c .before .before .before .add-target .ensures .0,
-      c .before .before .before .add-target .ensures .1,
+      at-add-target .add-target .ensures .0,
+      at-add-target .add-target .ensures .1,
     )
     (scheduled (start .args .target) (start .args .self) (start .pre .0) (start .pre .1) (omega (arith, long, start .pre .1 .len)))
 

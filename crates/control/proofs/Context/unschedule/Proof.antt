@@ -11,8 +11,9 @@ sub-self c = search needs
 
 returns : tie.Need-returns
 returns c =
-    let start = c .before .before .before .before in
-    rw (c .before .remove-target .ensures) (unscheduled (start .args .self) (start .args .last) (start .pre))
+    let at-remove-target : tie.After-remove-target = search in
+    let start : tie.Start = search in
+    rw (at-remove-target .remove-target .ensures) (unscheduled (start .args .self) (start .args .last) (start .pre))
 
 pub unschedule-spec : {M : Type 1} → statement M
 unschedule-spec = tie.close (tie.spec remove-target-requires sub-self returns)

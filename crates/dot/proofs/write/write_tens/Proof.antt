@@ -20,8 +20,9 @@ same-length c = search needs
 
 returns : tie.Need-returns
 returns c =
+    let at-put : tie.After-put = search in
     let small : tie.Then1 = search in
-    rw (decimal-small _ (small .if1 .taken)) (c .before .before .put .ensures)
+    rw (decimal-small _ (small .if1 .taken)) (at-put .put .ensures)
 
 cast-put-2 : tie.Need-cast-put-2
 cast-put-2 c = search needs

@@ -1,18 +1,14 @@
 use Rattle.planner.proofs.GotoLaws.{jump-count, goto-break, goto-continue, goto-try}
 use native.Mathlib.Omega.{arith}
-use mathlib.Core.Path.{sym, _∙_}
 use borrow.Author.Needs.{needs}
 use Rattle.planner.proofs.branch.visit_goto.Statement.{statement}
 use Rattle.planner.proofs.branch.visit_goto.Tie as tie
 
-block-word-requires : tie.Need-block-word-requires
-block-word-requires c κs = search needs
+goto-at-requires : tie.Need-goto-at-requires
+goto-at-requires c κs = search needs
 
-block-word-requires-2 : tie.Need-block-word-requires-2
-block-word-requires-2 c κs = search needs
-
-block-word-requires-3 : tie.Need-block-word-requires-3
-block-word-requires-3 c κs = search needs
+block-at-requires : tie.Need-block-at-requires
+block-at-requires c κs = search needs
 
 visit-break-requires : tie.Need-visit-break-requires
 visit-break-requires c κs = search needs
@@ -28,17 +24,14 @@ same-length : tie.Need-same-length
 same-length c = search needs
 
 returns : tie.Need-returns
-returns c =
-    let at-visit-break : tie.After-visit-break = search in
+returns c around =
+    let jumped : tie.After-visit-break = search in
     let then1 : tie.Then1 = search in
-    let at-block-word3 : tie.After-block-word3 = search in
-    let at-block-word2 : tie.After-block-word2 = search in
-    let at-block-word : tie.After-block-word = search in
+    let head : tie.After-block-at = search in
+    let read : tie.After-goto-at = search in
     let start : tie.Start = search in
-    goto-break (start .args .words .now) (start .args .p) (start .pre .0) (start .pre .1 .0) (start .args .scopes .now) (start .args .resolved)
-    (at-block-word .block-word .result) (at-block-word3 .block-word3 .result) _ (at-visit-break .visit-break .result) _ _
-    (sym (at-block-word2 .block-word2 .ensures) ∙ then1 .if1 .taken) (at-block-word .block-word .ensures) (at-block-word3 .block-word3 .ensures)
-    (at-visit-break .visit-break .ensures) (c .after-jump .ensures)
+    goto-break (start .args .p) (read .goto-at .result .variant) (read .goto-at .ensures) (head .block-at .ensures) (start .args .scopes .now) (start .args .aim) around _
+    (jumped .visit-break .result) _ _ (then1 .if1 .taken) (jumped .visit-break .ensures) (c .after-jump .ensures)
 
 visit-continue-requires : tie.Need-visit-continue-requires
 visit-continue-requires c κs = search needs
@@ -46,7 +39,6 @@ visit-continue-requires c κs = search needs
 after-jump-requires-2 : tie.Need-after-jump-requires-2
 after-jump-requires-2 c κs =
     let at-visit-continue : tie.After-visit-continue = search in
-    let at-block-word : tie.After-block-word = search in
     let start : tie.Start = search in
     (omega (arith, start .pre .0), jump-count _ _ _ _ _ (at-visit-continue .visit-continue .result) _ (at-visit-continue .visit-continue .ensures (start .args .p .visits) (start .args .scopes .now)))
 
@@ -54,37 +46,34 @@ same-length-2 : tie.Need-same-length-2
 same-length-2 c = search needs
 
 returns-2 : tie.Need-returns-2
-returns-2 c =
-    let at-visit-continue : tie.After-visit-continue = search in
+returns-2 c around =
+    let jumped : tie.After-visit-continue = search in
     let then2 : tie.Then2 = search in
-    let at-block-word3 : tie.After-block-word3 = search in
-    let at-block-word2 : tie.After-block-word2 = search in
-    let at-block-word : tie.After-block-word = search in
+    let head : tie.After-block-at = search in
+    let read : tie.After-goto-at = search in
     let start : tie.Start = search in
-    goto-continue (start .args .words .now) (start .args .p) (start .pre .0) (start .pre .1 .0) (start .args .scopes .now) (start .args .resolved)
-    (at-block-word .block-word .result) (at-block-word3 .block-word3 .result) _ (at-visit-continue .visit-continue .result) _ _
-    (sym (at-block-word2 .block-word2 .ensures) ∙ then2 .if2 .taken) (at-block-word .block-word .ensures) (at-block-word3 .block-word3 .ensures)
-    (at-visit-continue .visit-continue .ensures (start .args .p .visits) (start .args .scopes .now)) (c .after-jump2 .ensures)
+    goto-continue (start .args .p) (read .goto-at .result .variant) (read .goto-at .ensures) (head .block-at .ensures) (start .args .scopes .now) (start .args .aim) around _
+    (jumped .visit-continue .result) _ _ (then2 .if2 .taken) (jumped .visit-continue .ensures (start .args .p .visits) (start .args .scopes .now)) (c .after-jump2 .ensures)
 
 leave-requires : tie.Need-leave-requires
 leave-requires c κs = search needs
 
 returns-3 : tie.Need-returns-3
-returns-3 c =
+returns-3 c around =
     let else2 : tie.Else2 = search in
     let else1 : tie.Else1 = search in
-    let at-block-word2 : tie.After-block-word2 = search in
+    let head : tie.After-block-at = search in
+    let read : tie.After-goto-at = search in
     let start : tie.Start = search in
-    goto-try (start .args .words .now) (start .args .p) (start .pre .0) (start .pre .1 .0) (start .args .scopes .now) (start .args .resolved) _ _
-    (λ z. else1 .if1 .left (at-block-word2 .block-word2 .ensures ∙ z)) (λ z. else2 .if2 .left (at-block-word2 .block-word2 .ensures ∙ z)) (c .leave .ensures)
+    goto-try (start .args .p) (read .goto-at .result .variant) (read .goto-at .ensures) (head .block-at .ensures) (start .args .scopes .now) (start .args .aim) around _ _
+    (else1 .if1 .left) (else2 .if2 .left) (c .leave .ensures)
 
 pub visit-goto-spec : {M : Type 1} → statement M
 visit-goto-spec =
     tie.close
     (tie.spec
-    block-word-requires
-    block-word-requires-2
-    block-word-requires-3
+    goto-at-requires
+    block-at-requires
     visit-break-requires
     after-jump-requires
     same-length

@@ -9,14 +9,14 @@ enum-told c = search needs
 refuse-jump-requires : tie.Need-refuse-jump-requires
 refuse-jump-requires c κs = search needs
 
-enum-known-resolved : tie.Need-enum-known-resolved
-enum-known-resolved c = search needs
+enum-known-aim : tie.Need-enum-known-aim
+enum-known-aim c = search needs
 
-break-to-found-requires : tie.Need-break-to-found-requires
-break-to-found-requires c κs =
-    let at-resolved : tie.After-resolved = search in
+break-to-requires : tie.Need-break-to-requires
+break-to-requires c κs =
+    let at-aim : tie.After-aim = search in
     let at-entry : tie.Start = search in
-    (rw (at-resolved .resolved .given .1) at (at-entry .pre .0), at-entry .pre .1)
+    (rw (at-aim .aim .given .1) at (at-entry .pre .0), at-entry .pre .1)
 
 returns : tie.Need-returns
 returns c =
@@ -28,10 +28,10 @@ same-length c = search needs
 
 returns-2 : tie.Need-returns-2
 returns-2 c =
-    let at-break-to-found : tie.After-break-to-found = search in
-    let at-resolved : tie.After-resolved = search in
+    let at-break-to : tie.After-break-to = search in
+    let at-aim : tie.After-aim = search in
     let at-entry : tie.Start = search in
-    rw (at-resolved .resolved .given .1) (at-break-to-found .break-to-found .ensures (at-entry .args .target))
+    rw (at-aim .aim .given .1) (at-break-to .break-to .ensures (at-entry .args .target))
 
 pub visit-break-spec : {M : Type 1} → statement M
 visit-break-spec =
@@ -39,8 +39,8 @@ visit-break-spec =
     (tie.spec
     enum-told
     refuse-jump-requires
-    enum-known-resolved
-    break-to-found-requires
+    enum-known-aim
+    break-to-requires
     returns
     same-length
     returns-2)

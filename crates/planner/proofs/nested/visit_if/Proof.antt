@@ -1,5 +1,6 @@
 use native.Mathlib.Omega.{arith}
-use Rattle.planner.proofs.VisitLaws.{reached-most, if-missing, if-nested}
+use Rattle.plan.proofs.PlannedLaws.{reached-most}
+use Rattle.planner.proofs.VisitLaws.{if-missing, if-nested}
 use borrow.Author.Needs.{needs}
 use Rattle.planner.proofs.nested.visit_if.Statement.{statement}
 use Rattle.planner.proofs.nested.visit_if.Tie as tie

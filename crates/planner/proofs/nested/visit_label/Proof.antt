@@ -1,5 +1,6 @@
 use native.Mathlib.Omega.{arith}
-use Rattle.planner.proofs.VisitLaws.{reached-most, label-absent, label-nested}
+use Rattle.plan.proofs.PlannedLaws.{reached-most}
+use Rattle.planner.proofs.VisitLaws.{label-absent, label-nested}
 use borrow.Author.Needs.{needs}
 use Rattle.planner.proofs.nested.visit_label.Statement.{statement}
 use Rattle.planner.proofs.nested.visit_label.Tie as tie

@@ -1,5 +1,5 @@
 use native.Mathlib.Omega.{arith}
-use Rattle.planner.proofs.VisitLaws.{takes-most}
+use Rattle.plan.proofs.PlannedLaws.{takes-most}
 use Rattle.planner.proofs.RowPlanLaws.{scope-nested}
 use borrow.Author.Needs.{needs}
 use Rattle.planner.proofs.nested.visit_scope.Statement.{statement}

@@ -1,5 +1,6 @@
 use native.Mathlib.Omega.{arith}
-use Rattle.planner.proofs.VisitLaws.{reached-most, switch-missing, switch-begins}
+use Rattle.plan.proofs.PlannedLaws.{reached-most}
+use Rattle.planner.proofs.VisitLaws.{switch-missing, switch-begins}
 use borrow.Author.Needs.{needs}
 use Rattle.planner.proofs.nested.visit_switch.Statement.{statement}
 use Rattle.planner.proofs.nested.visit_switch.Tie as tie

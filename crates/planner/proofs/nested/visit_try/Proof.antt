@@ -1,5 +1,6 @@
 use native.Mathlib.Omega.{arith}
-use Rattle.planner.proofs.VisitLaws.{reached-most, try-missing, try-nested}
+use Rattle.plan.proofs.PlannedLaws.{reached-most}
+use Rattle.planner.proofs.VisitLaws.{try-missing, try-nested}
 use borrow.Author.Needs.{needs}
 use Rattle.planner.proofs.nested.visit_try.Statement.{statement}
 use Rattle.planner.proofs.nested.visit_try.Tie as tie

@@ -1,5 +1,5 @@
 use Rattle.planner.proofs.TerminalLaws.{visits-ready, shown-seen, not-halted}
-use Rattle.planner.proofs.ResumeLaws.{turn-on, popped, closing-at-pop}
+use Rattle.resume.proofs.ResumeLaws.{turn-on, popped, closing-at-pop}
 use borrow.Author.Needs.{needs}
 use Rattle.planner.proofs.turn.plan_turn.Statement.{statement}
 use Rattle.planner.proofs.turn.plan_turn.Tie as tie
@@ -44,38 +44,38 @@ same-length : tie.Need-same-length
 same-length c = search needs
 
 returns : tie.Need-returns
-returns c =
+returns c around =
     let at-visit-block : tie.After-visit-block = search in
-    at-visit-block .visit-block .ensures _
+    at-visit-block .visit-block .ensures _ around
 
 same-length-2 : tie.Need-same-length-2
 same-length-2 c = search needs
 
 returns-2 : tie.Need-returns-2
-returns-2 c =
+returns-2 c around =
     let at-resume : tie.After-resume = search in
-    turn-on _ _ _ (λ C o. shown-seen o) (at-resume .resume .ensures)
+    turn-on _ _ _ (λ C o. shown-seen o) (at-resume .resume .ensures around)
 
 same-length-3 : tie.Need-same-length-3
 same-length-3 c = search needs
 
 returns-3 : tie.Need-returns-3
-returns-3 c =
+returns-3 c around =
     let at-choose-case : tie.After-choose-case = search in
-    turn-on _ _ _ (λ C o. shown-seen o) (at-choose-case .choose-case .ensures)
+    turn-on _ _ _ (λ C o. shown-seen o) (at-choose-case .choose-case .ensures around)
 
 same-length-4 : tie.Need-same-length-4
 same-length-4 c = search needs
 
 returns-4 : tie.Need-returns-4
-returns-4 c =
+returns-4 c around =
     let at-close-statement : tie.After-close-statement = search in
     let at-enum-told4 : tie.After-enum-told4 = search in
     let at-entry : tie.Start = search in
     turn-on _ _ _ (λ C o. o .visits) (popped _ _ _ (at-entry .pre .0) (at-enum-told4 .enum-told4 .given .1) (at-close-statement .close-statement .ensures))
 
 returns-5 : tie.Need-returns-5
-returns-5 c =
+returns-5 c around =
     let at-enum-told5 : tie.After-enum-told5 = search in
     let at-entry : tie.Start = search in
     absurd (not-halted _ _ _ (at-entry .pre .0) (at-enum-told5 .enum-told5 .given .1))

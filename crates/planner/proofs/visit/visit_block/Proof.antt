@@ -1,6 +1,5 @@
 use mathlib.Core.Path.{refl, sym, _∙_}
 use native.Mathlib.Omega.{arith}
-use Rattle.table.proofs.RangeLaws.{run-within}
 use Rattle.definition.specs.Context.{has}
 use Rattle.planner.proofs.TerminalLaws.{deep-planned, visits-planned, absent-planned, emitted-planned, entered-planned}
 use borrow.Author.Needs.{needs}
@@ -11,20 +10,20 @@ refuse-requires : tie.Need-refuse-requires
 refuse-requires c κs = search needs
 
 returns : tie.Need-returns
-returns c frame =
+returns c frame around =
     let at-if1 : tie.Then1 = search in
     let at-entry : tie.Start = search in
-    deep-planned _ _ _ _ _ _ _ (at-entry .pre .0) frame _ _ (at-if1 .if1 .taken) (c .refuse .ensures)
+    deep-planned _ _ _ _ _ _ _ around (at-entry .pre .0) frame _ _ (at-if1 .if1 .taken) (c .refuse .ensures)
 
 refuse-requires-2 : tie.Need-refuse-requires-2
 refuse-requires-2 c κs = search needs
 
 returns-2 : tie.Need-returns-2
-returns-2 c frame =
+returns-2 c frame around =
     let at-if2 : tie.Then2 = search in
     let at-if1 : tie.Else1 = search in
     let at-entry : tie.Start = search in
-    visits-planned _ _ _ _ _ _ _ (at-entry .pre .0) frame (at-if1 .if1 .left) _ _ (at-if2 .if2 .taken) (c .refuse2 .ensures)
+    visits-planned _ _ _ _ _ _ _ around (at-entry .pre .0) frame (at-if1 .if1 .left) _ _ (at-if2 .if2 .taken) (c .refuse2 .ensures)
 
 add-visits : tie.Need-add-visits
 add-visits c = search needs
@@ -32,22 +31,22 @@ add-visits c = search needs
 advance-requires : tie.Need-advance-requires
 advance-requires c κs = search needs
 
-block-word-requires : tie.Need-block-word-requires
-block-word-requires c κs = search needs
+code-at-requires : tie.Need-code-at-requires
+code-at-requires c κs = search needs
 
 refuse-requires-3 : tie.Need-refuse-requires-3
 refuse-requires-3 c κs = search needs
 
 returns-3 : tie.Need-returns-3
-returns-3 c frame =
+returns-3 c frame around =
     let at-if3 : tie.Then3 = search in
-    let at-block-word : tie.After-block-word = search in
+    let coded : tie.After-code-at = search in
     let at-advance : tie.After-advance = search in
     let at-if2 : tie.Else2 = search in
     let at-if1 : tie.Else1 = search in
     let at-entry : tie.Start = search in
-    absent-planned _ _ _ _ _ _ _ (at-entry .pre .0) frame (at-if1 .if1 .left) (at-if2 .if2 .left) _ _ _ refl
-    (sym (at-block-word .block-word .ensures) ∙ at-if3 .if3 .taken) (rw (at-advance .advance .ensures) at (c .refuse3 .ensures))
+    absent-planned _ _ _ _ _ _ _ around (at-entry .pre .0) frame (at-if1 .if1 .left) (at-if2 .if2 .left) _ _ _ refl
+    (sym (coded .code-at .ensures) ∙ at-if3 .if3 .taken) (rw (at-advance .advance .ensures) at (c .refuse3 .ensures))
 
 cast-if4 : tie.Need-cast-if4
 cast-if4 c = search needs
@@ -60,56 +59,36 @@ refuse-requires-4 c κs = search needs
 
 returns-4 : tie.Need-returns-4
 unfolding has
-returns-4 c frame =
+returns-4 c frame around =
     let at-if4 : tie.Then4 = search in
     let at-if3 : tie.Else3 = search in
-    let at-block-word : tie.After-block-word = search in
+    let coded : tie.After-code-at = search in
     let at-advance : tie.After-advance = search in
     let at-if2 : tie.Else2 = search in
     let at-if1 : tie.Else1 = search in
     let at-entry : tie.Start = search in
-    emitted-planned _ _ _ _ _ _ _ (at-entry .pre .0) frame (at-if1 .if1 .left) (at-if2 .if2 .left)
-    (λ e. at-if3 .if3 .left (at-block-word .block-word .ensures ∙ e)) _ _ _ refl (at-if4 .if4 .taken)
+    emitted-planned _ _ _ _ _ _ _ around (at-entry .pre .0) frame (at-if1 .if1 .left) (at-if2 .if2 .left)
+    (λ e. at-if3 .if3 .left (coded .code-at .ensures ∙ e)) _ _ _ refl (at-if4 .if4 .taken)
     (rw (at-advance .advance .ensures) at (c .refuse4 .ensures))
 
-block-word-requires-2 : tie.Need-block-word-requires-2
-block-word-requires-2 c κs = search needs
-
-block-word-requires-3 : tie.Need-block-word-requires-3
-block-word-requires-3 c κs =
-    let at-advance : tie.After-advance = search in
-    let at-slice-known : tie.After-slice-known = search in
-    let start : tie.Start = search in
-    (start .pre .0 .promise .sized, (start .pre .0 .block, omega arith))
+block-at-requires : tie.Need-block-at-requires
+block-at-requires c κs = search needs
 
 put-instructions-requires : tie.Need-put-instructions-requires
 put-instructions-requires c κs =
-    let at-block-word2 : tie.After-block-word2 = search in
-    let at-struct-known3 : tie.After-struct-known3 = search in
-    let at-shared-slice-known : tie.After-shared-slice-known = search in
-    let at-entry : tie.Start = search in (
-      at-entry .pre .0 .promise,
-      (
-        rw (at-block-word2 .block-word2 .ensures, c .block-word3 .ensures) (run-within _ (at-entry .pre .0 .promise) _
-            (at-entry .pre .0 .block)),
-        omega (arith, at-entry .pre .0 .rows),
-      ),
-    )
+    let head : tie.After-block-at = search in
+    let else3 : tie.Else3 = search in
+    let else1 : tie.Else1 = search in
+    let start : tie.Start = search in
+    (start .pre .0 .promise, (head .block-at .ensures .there, omega (arith, start .pre .0 .rows)))
 
 add-advance : tie.Need-add-advance
 add-advance c =
-    let at-block-word2 : tie.After-block-word2 = search in
-    let at-struct-known3 : tie.After-struct-known3 = search in
-    let at-shared-slice-known : tie.After-shared-slice-known = search in
-    let at-entry : tie.Start = search in
-    omega (
-      arith,
-      at-block-word2 .block-word2 .ensures,
-      at-entry .pre .0 .rows,
-      at-entry .pre .0 .count,
-      run-within _ (at-entry .pre .0 .promise) _ (at-entry .pre .0 .block),
-      at-entry .pre .0 .promise .sized .limited .instructions,
-    )
+    let head : tie.After-block-at = search in
+    let else3 : tie.Else3 = search in
+    let else1 : tie.Else1 = search in
+    let start : tie.Start = search in
+    omega (arith, start .pre .0 .rows, start .pre .0 .count, head .block-at .ensures .there, head .block-at .ensures .few)
 
 advance-requires-2 : tie.Need-advance-requires-2
 advance-requires-2 c κs = search needs
@@ -118,9 +97,9 @@ visit-terminal-requires : tie.Need-visit-terminal-requires
 visit-terminal-requires c κs =
     let at-advance2 : tie.After-advance2 = search in
     let at-put-instructions : tie.After-put-instructions = search in
-    let at-block-word2 : tie.After-block-word2 = search in
+    let head : tie.After-block-at = search in
     let at-if3 : tie.Else3 = search in
-    let at-block-word : tie.After-block-word = search in
+    let coded : tie.After-code-at = search in
     let at-if2 : tie.Else2 = search in
     let at-if1 : tie.Else1 = search in
     let at-entry : tie.Start = search in
@@ -133,15 +112,14 @@ visit-terminal-requires c κs =
         rows = omega (
           arith,
           at-put-instructions .put-instructions .ensures .more,
-          at-block-word2 .block-word2 .ensures,
           at-entry .pre .0 .rows,
-          run-within _ (at-entry .pre .0 .promise) _ (at-entry .pre .0 .block),
-          at-entry .pre .0 .promise .sized .limited .instructions,
+          head .block-at .ensures .there,
+          head .block-at .ensures .few,
         );
         count = omega
             (arith, at-put-instructions .put-instructions .ensures .more, at-entry .pre .0 .count);
       },
-      (at-entry .pre .1, λ e. at-if3 .if3 .left (at-block-word .block-word .ensures ∙ e)),
+      (at-entry .pre .1, λ e. at-if3 .if3 .left (coded .code-at .ensures ∙ e)),
     )
 
 same-length : tie.Need-same-length
@@ -149,23 +127,21 @@ same-length c = search needs
 
 returns-5 : tie.Need-returns-5
 unfolding has
-returns-5 c frame =
+returns-5 c frame around =
     let at-visit-terminal : tie.After-visit-terminal = search in
     let at-advance2 : tie.After-advance2 = search in
     let at-put-instructions : tie.After-put-instructions = search in
-    let at-block-word3 : tie.After-block-word3 = search in
-    let at-block-word2 : tie.After-block-word2 = search in
+    let head : tie.After-block-at = search in
     let at-if4 : tie.Else4 = search in
     let at-if3 : tie.Else3 = search in
-    let at-block-word : tie.After-block-word = search in
+    let coded : tie.After-code-at = search in
     let at-if2 : tie.Else2 = search in
     let at-if1 : tie.Else1 = search in
     let at-entry : tie.Start = search in
-    entered-planned _ _ _ _ _ _ _ (at-entry .pre .0) frame (at-if1 .if1 .left) (at-if2 .if2 .left)
-    (λ e. at-if3 .if3 .left (at-block-word .block-word .ensures ∙ e)) _ _ _ _ _ (at-if4 .if4 .left) refl refl
-    (omega (arith, at-block-word2 .block-word2 .ensures)) refl
-    (rw (at-block-word2 .block-word2 .ensures, at-block-word3 .block-word3 .ensures) at (at-put-instructions .put-instructions .ensures))
-    (rw (at-advance2 .advance2 .ensures) at (at-visit-terminal .visit-terminal .ensures))
+    entered-planned _ _ _ _ _ _ _ around (at-entry .pre .0) frame (at-if1 .if1 .left) (at-if2 .if2 .left)
+    (λ e. at-if3 .if3 .left (coded .code-at .ensures ∙ e)) (head .block-at .ensures) _ _ _ _ _ (at-if4 .if4 .left) refl refl
+    refl refl (at-put-instructions .put-instructions .ensures)
+    (rw (at-advance2 .advance2 .ensures) at (at-visit-terminal .visit-terminal .ensures around))
 
 pub visit-block-spec : {M : Type 1} → statement M
 visit-block-spec =
@@ -177,15 +153,14 @@ visit-block-spec =
     returns-2
     add-visits
     advance-requires
-    block-word-requires
+    code-at-requires
     refuse-requires-3
     returns-3
     cast-if4
     element-copy-out-if4
     refuse-requires-4
     returns-4
-    block-word-requires-2
-    block-word-requires-3
+    block-at-requires
     put-instructions-requires
     add-advance
     advance-requires-2

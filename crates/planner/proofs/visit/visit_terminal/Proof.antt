@@ -1,9 +1,9 @@
-use mathlib.Core.Path.{refl, sym, _∙_}
+use mathlib.Core.Path.{refl, sym, ap, _∙_}
 use native.Mathlib.Omega.{arith}
-use Rattle.table.specs.Table.{terminalOf}
+use Rattle.loops.specs.Loops.{valueFallthrough}
 use Rattle.planner.proofs.VisitLaws.{unreachable-left}
-use Rattle.planner.proofs.ResumeLaws.{planned-as}
-use Rattle.planner.proofs.TerminalLaws.{goto-seen, branch-seen, fallthrough-by, missed-past}
+use Rattle.plan.proofs.PlannedLaws.{planned-as}
+use Rattle.planner.proofs.TerminalLaws.{goto-seen, branch-seen, elsewhere, missed-past}
 use Rattle.table.proofs.RangeLaws.{code-known}
 use borrow.Author.Needs.{needs}
 use Rattle.planner.proofs.visit.visit_terminal.Statement.{statement}
@@ -51,40 +51,44 @@ visit-for-of-requires c κs = search needs
 visit-for-in-requires : tie.Need-visit-for-in-requires
 visit-for-in-requires c κs = search needs
 
+logical-at-requires : tie.Need-logical-at-requires
+logical-at-requires c κs = search needs
+
 visit-value-requires : tie.Need-visit-value-requires
-unfolding terminalOf
 visit-value-requires c κs =
-    let at-match : tie.At-match-keys14 = search in
-    let at-code-at : tie.After-code-at = search in
-    let at-entry : tie.Start = search in
-    (at-entry .pre .0, (omega arith, fallthrough-by _ _ (at-entry .pre .0 .block) 13 5 (sym (at-code-at .code-at .ensures) ∙ at-match .match .keys14) refl))
+    let read : tie.After-logical-at = search in
+    let start : tie.Start = search in
+    (start .pre .0, ap valueFallthrough (read .logical-at .ensures .is))
+
+ternary-at-requires : tie.Need-ternary-at-requires
+ternary-at-requires c κs = search needs
 
 visit-value-requires-2 : tie.Need-visit-value-requires-2
-unfolding terminalOf
 visit-value-requires-2 c κs =
-    let at-match : tie.At-match-keys15 = search in
-    let at-code-at : tie.After-code-at = search in
-    let at-entry : tie.Start = search in
-    (at-entry .pre .0, (omega arith, fallthrough-by _ _ (at-entry .pre .0 .block) 14 4 (sym (at-code-at .code-at .ensures) ∙ at-match .match .keys15) refl))
+    let read : tie.After-ternary-at = search in
+    let start : tie.Start = search in
+    (start .pre .0, ap valueFallthrough (read .ternary-at .ensures .is))
+
+optional-at-requires : tie.Need-optional-at-requires
+optional-at-requires c κs = search needs
 
 visit-value-requires-3 : tie.Need-visit-value-requires-3
-unfolding terminalOf
 visit-value-requires-3 c κs =
-    let at-match : tie.At-match-keys16 = search in
-    let at-code-at : tie.After-code-at = search in
-    let at-entry : tie.Start = search in
-    (at-entry .pre .0, (omega arith, fallthrough-by _ _ (at-entry .pre .0 .block) 15 5 (sym (at-code-at .code-at .ensures) ∙ at-match .match .keys16) refl))
+    let read : tie.After-optional-at = search in
+    let start : tie.Start = search in
+    (start .pre .0, ap valueFallthrough (read .optional-at .ensures .is))
 
 visit-label-requires : tie.Need-visit-label-requires
 visit-label-requires c κs = search needs
 
+sequence-at-requires : tie.Need-sequence-at-requires
+sequence-at-requires c κs = search needs
+
 visit-value-requires-4 : tie.Need-visit-value-requires-4
-unfolding terminalOf
 visit-value-requires-4 c κs =
-    let at-match : tie.At-match-keys18 = search in
-    let at-code-at : tie.After-code-at = search in
-    let at-entry : tie.Start = search in
-    (at-entry .pre .0, (omega arith, fallthrough-by _ _ (at-entry .pre .0 .block) 17 4 (sym (at-code-at .code-at .ensures) ∙ at-match .match .keys18) refl))
+    let read : tie.After-sequence-at = search in
+    let start : tie.Start = search in
+    (start .pre .0, ap valueFallthrough (read .sequence-at .ensures .is))
 
 visit-maybe-throw-requires : tie.Need-visit-maybe-throw-requires
 visit-maybe-throw-requires c κs = search needs
@@ -102,149 +106,204 @@ refuse-requires-2 : tie.Need-refuse-requires-2
 refuse-requires-2 c κs = search needs
 
 returns : tie.Need-returns
-returns c =
+returns c around =
     let at-match : tie.At-match-keys1 = search in
     let at-code-at : tie.After-code-at = search in
     let start : tie.Start = search in
     absurd (start .pre .1 .1 (sym (at-code-at .code-at .ensures) ∙ at-match .match .keys1))
 
 returns-2 : tie.Need-returns-2
-returns-2 c =
+returns-2 c around =
     let at-match : tie.At-match-keys2 = search in
     let at-code-at : tie.After-code-at = search in
     let at-entry : tie.Start = search in
-    planned-as (λ F R C. refl) (λ C o. o .seen) (unreachable-left (at-entry .pre .0) (sym (at-code-at .code-at .ensures) ∙ at-match .match .keys2) (c .leave .ensures) _)
+    elsewhere around (at-entry .pre .0) (at-code-at .code-at .ensures) (at-match .match .keys2) refl (λ C o. o .seen)
+    (unreachable-left (at-entry .pre .0) (sym (at-code-at .code-at .ensures) ∙ at-match .match .keys2) (c .leave .ensures) _)
 
 same-length : tie.Need-same-length
 same-length c = search needs
 
 returns-3 : tie.Need-returns-3
-returns-3 c =
+returns-3 c around =
     let at-visit-throw : tie.After-visit-throw = search in
-    planned-as (λ F R C. refl) (λ C o. o .seen .visits) (at-visit-throw .visit-throw .ensures)
+    let at-match : tie.At-match-keys3 = search in
+    let at-code-at : tie.After-code-at = search in
+    let start : tie.Start = search in
+    elsewhere around (start .pre .0) (at-code-at .code-at .ensures) (at-match .match .keys3) refl (λ C o. o .seen .visits) (at-visit-throw .visit-throw .ensures)
 
 same-length-2 : tie.Need-same-length-2
 same-length-2 c = search needs
 
 returns-4 : tie.Need-returns-4
-returns-4 c =
+returns-4 c around =
     let at-visit-return : tie.After-visit-return = search in
-    planned-as (λ F R C. refl) (λ C o. o .seen .visits) (at-visit-return .visit-return .ensures)
+    let at-match : tie.At-match-keys4 = search in
+    let at-code-at : tie.After-code-at = search in
+    let start : tie.Start = search in
+    elsewhere around (start .pre .0) (at-code-at .code-at .ensures) (at-match .match .keys4) refl (λ C o. o .seen .visits) (at-visit-return .visit-return .ensures)
 
 same-length-3 : tie.Need-same-length-3
 same-length-3 c = search needs
 
 returns-5 : tie.Need-returns-5
-returns-5 c =
+returns-5 c around =
     let at-visit-goto : tie.After-visit-goto = search in
-    let at-match : tie.At-match-keys5 = search in
-    let at-code-at : tie.After-code-at = search in
-    let at-entry : tie.Start = search in
-    planned-as (λ F R C. refl) (λ C o. goto-seen _ _ _ _ _ _ (at-entry .pre .0 .promise) (at-entry .pre .0 .block) C o
-    (sym (at-code-at .code-at .ensures) ∙ at-match .match .keys5)) (at-visit-goto .visit-goto .ensures)
+    planned-as (λ F R C. refl) (λ C o. goto-seen o) (at-visit-goto .visit-goto .ensures around)
 
 returns-6 : tie.Need-returns-6
-returns-6 c = planned-as (λ F R C. refl) (λ C o. o .seen) (c .visit-if .ensures _)
+returns-6 c around =
+    let at-match : tie.At-match-keys6 = search in
+    let at-code-at : tie.After-code-at = search in
+    let start : tie.Start = search in
+    elsewhere around (start .pre .0) (at-code-at .code-at .ensures) (at-match .match .keys6) refl (λ C o. o .seen) (c .visit-if .ensures _)
 
 same-length-4 : tie.Need-same-length-4
 same-length-4 c = search needs
 
 returns-7 : tie.Need-returns-7
-returns-7 c =
+returns-7 c around =
     let at-visit-branch : tie.After-visit-branch = search in
-    let at-match : tie.At-match-keys7 = search in
-    let at-code-at : tie.After-code-at = search in
-    let at-entry : tie.Start = search in
-    planned-as (λ F R C. refl) (λ C o. branch-seen _ _ _ _ _ _ (at-entry .pre .0 .promise) (at-entry .pre .0 .block) C o
-    (sym (at-code-at .code-at .ensures) ∙ at-match .match .keys7)) (at-visit-branch .visit-branch .ensures)
+    planned-as (λ F R C. refl) (λ C o. branch-seen o) (at-visit-branch .visit-branch .ensures around)
 
 returns-8 : tie.Need-returns-8
-returns-8 c = planned-as (λ F R C. refl) (λ C o. o .seen) (c .visit-switch .ensures _)
+returns-8 c around =
+    let at-match : tie.At-match-keys8 = search in
+    let at-code-at : tie.After-code-at = search in
+    let start : tie.Start = search in
+    elsewhere around (start .pre .0) (at-code-at .code-at .ensures) (at-match .match .keys8) refl (λ C o. o .seen) (c .visit-switch .ensures _)
 
 returns-9 : tie.Need-returns-9
-returns-9 c = planned-as (λ F R C. refl) (λ C o. o .seen) (c .visit-do-while .ensures _)
+returns-9 c around =
+    let at-match : tie.At-match-keys9 = search in
+    let at-code-at : tie.After-code-at = search in
+    let start : tie.Start = search in
+    elsewhere around (start .pre .0) (at-code-at .code-at .ensures) (at-match .match .keys9) refl (λ C o. o .seen) (c .visit-do-while .ensures _)
 
 same-length-5 : tie.Need-same-length-5
 same-length-5 c = search needs
 
 returns-10 : tie.Need-returns-10
-returns-10 c =
+returns-10 c around =
     let at-visit-while : tie.After-visit-while = search in
-    planned-as (λ F R C. refl) (λ C o. o .seen) (at-visit-while .visit-while .ensures)
+    let at-match : tie.At-match-keys10 = search in
+    let at-code-at : tie.After-code-at = search in
+    let start : tie.Start = search in
+    elsewhere around (start .pre .0) (at-code-at .code-at .ensures) (at-match .match .keys10) refl (λ C o. o .seen) (at-visit-while .visit-while .ensures)
 
 same-length-6 : tie.Need-same-length-6
 same-length-6 c = search needs
 
 returns-11 : tie.Need-returns-11
-returns-11 c =
+returns-11 c around =
     let at-visit-for : tie.After-visit-for = search in
-    planned-as (λ F R C. refl) (λ C o. o .seen) (at-visit-for .visit-for .ensures)
+    let at-match : tie.At-match-keys11 = search in
+    let at-code-at : tie.After-code-at = search in
+    let start : tie.Start = search in
+    elsewhere around (start .pre .0) (at-code-at .code-at .ensures) (at-match .match .keys11) refl (λ C o. o .seen) (at-visit-for .visit-for .ensures)
 
 same-length-7 : tie.Need-same-length-7
 same-length-7 c = search needs
 
 returns-12 : tie.Need-returns-12
-returns-12 c =
+returns-12 c around =
     let at-visit-for-of : tie.After-visit-for-of = search in
-    planned-as (λ F R C. refl) (λ C o. o .seen) (at-visit-for-of .visit-for-of .ensures)
+    let at-match : tie.At-match-keys12 = search in
+    let at-code-at : tie.After-code-at = search in
+    let start : tie.Start = search in
+    elsewhere around (start .pre .0) (at-code-at .code-at .ensures) (at-match .match .keys12) refl (λ C o. o .seen) (at-visit-for-of .visit-for-of .ensures)
 
 same-length-8 : tie.Need-same-length-8
 same-length-8 c = search needs
 
 returns-13 : tie.Need-returns-13
-returns-13 c =
+returns-13 c around =
     let at-visit-for-in : tie.After-visit-for-in = search in
-    planned-as (λ F R C. refl) (λ C o. o .seen) (at-visit-for-in .visit-for-in .ensures)
+    let at-match : tie.At-match-keys13 = search in
+    let at-code-at : tie.After-code-at = search in
+    let start : tie.Start = search in
+    elsewhere around (start .pre .0) (at-code-at .code-at .ensures) (at-match .match .keys13) refl (λ C o. o .seen) (at-visit-for-in .visit-for-in .ensures)
 
 same-length-9 : tie.Need-same-length-9
 same-length-9 c = search needs
 
 returns-14 : tie.Need-returns-14
-returns-14 c =
+returns-14 c around =
     let at-visit-value : tie.After-visit-value = search in
-    planned-as (λ F R C. refl) (λ C o. o .seen) (at-visit-value .visit-value .ensures)
+    let at-match : tie.At-match-keys14 = search in
+    let at-code-at : tie.After-code-at = search in
+    let start : tie.Start = search in
+    elsewhere around (start .pre .0) (at-code-at .code-at .ensures) (at-match .match .keys14) refl (λ C o. o .seen) (at-visit-value .visit-value .ensures)
 
 same-length-10 : tie.Need-same-length-10
 same-length-10 c = search needs
 
 returns-15 : tie.Need-returns-15
-returns-15 c =
+returns-15 c around =
     let at-visit-value2 : tie.After-visit-value2 = search in
-    planned-as (λ F R C. refl) (λ C o. o .seen) (at-visit-value2 .visit-value2 .ensures)
+    let at-match : tie.At-match-keys15 = search in
+    let at-code-at : tie.After-code-at = search in
+    let start : tie.Start = search in
+    elsewhere around (start .pre .0) (at-code-at .code-at .ensures) (at-match .match .keys15) refl (λ C o. o .seen) (at-visit-value2 .visit-value2 .ensures)
 
 same-length-11 : tie.Need-same-length-11
 same-length-11 c = search needs
 
 returns-16 : tie.Need-returns-16
-returns-16 c =
+returns-16 c around =
     let at-visit-value3 : tie.After-visit-value3 = search in
-    planned-as (λ F R C. refl) (λ C o. o .seen) (at-visit-value3 .visit-value3 .ensures)
+    let at-match : tie.At-match-keys16 = search in
+    let at-code-at : tie.After-code-at = search in
+    let start : tie.Start = search in
+    elsewhere around (start .pre .0) (at-code-at .code-at .ensures) (at-match .match .keys16) refl (λ C o. o .seen) (at-visit-value3 .visit-value3 .ensures)
 
 returns-17 : tie.Need-returns-17
-returns-17 c = planned-as (λ F R C. refl) (λ C o. o .seen) (c .visit-label .ensures _)
+returns-17 c around =
+    let at-match : tie.At-match-keys17 = search in
+    let at-code-at : tie.After-code-at = search in
+    let start : tie.Start = search in
+    elsewhere around (start .pre .0) (at-code-at .code-at .ensures) (at-match .match .keys17) refl (λ C o. o .seen) (c .visit-label .ensures _)
 
 same-length-12 : tie.Need-same-length-12
 same-length-12 c = search needs
 
 returns-18 : tie.Need-returns-18
-returns-18 c =
+returns-18 c around =
     let at-visit-value4 : tie.After-visit-value4 = search in
-    planned-as (λ F R C. refl) (λ C o. o .seen) (at-visit-value4 .visit-value4 .ensures)
+    let at-match : tie.At-match-keys18 = search in
+    let at-code-at : tie.After-code-at = search in
+    let start : tie.Start = search in
+    elsewhere around (start .pre .0) (at-code-at .code-at .ensures) (at-match .match .keys18) refl (λ C o. o .seen) (at-visit-value4 .visit-value4 .ensures)
 
 returns-19 : tie.Need-returns-19
-returns-19 c = planned-as (λ F R C. refl) (λ C o. o .seen) (c .visit-maybe-throw .ensures _)
+returns-19 c around =
+    let at-match : tie.At-match-keys19 = search in
+    let at-code-at : tie.After-code-at = search in
+    let start : tie.Start = search in
+    elsewhere around (start .pre .0) (at-code-at .code-at .ensures) (at-match .match .keys19) refl (λ C o. o .seen) (c .visit-maybe-throw .ensures _)
 
 returns-20 : tie.Need-returns-20
-returns-20 c = planned-as (λ F R C. refl) (λ C o. o .seen) (c .visit-try .ensures _)
+returns-20 c around =
+    let at-match : tie.At-match-keys20 = search in
+    let at-code-at : tie.After-code-at = search in
+    let start : tie.Start = search in
+    elsewhere around (start .pre .0) (at-code-at .code-at .ensures) (at-match .match .keys20) refl (λ C o. o .seen) (c .visit-try .ensures _)
 
 returns-21 : tie.Need-returns-21
-returns-21 c = planned-as (λ F R C. refl) (λ C o. o .seen) (c .visit-scope .ensures _)
+returns-21 c around =
+    let at-match : tie.At-match-keys21 = search in
+    let at-code-at : tie.After-code-at = search in
+    let start : tie.Start = search in
+    elsewhere around (start .pre .0) (at-code-at .code-at .ensures) (at-match .match .keys21) refl (λ C o. o .seen) (c .visit-scope .ensures _)
 
 returns-22 : tie.Need-returns-22
-returns-22 c = planned-as (λ F R C. refl) (λ C o. o .seen) (c .visit-scope2 .ensures _)
+returns-22 c around =
+    let at-match : tie.At-match-keys22 = search in
+    let at-code-at : tie.After-code-at = search in
+    let start : tie.Start = search in
+    elsewhere around (start .pre .0) (at-code-at .code-at .ensures) (at-match .match .keys22) refl (λ C o. o .seen) (c .visit-scope2 .ensures _)
 
 returns-23 : tie.Need-returns-23
-returns-23 c =
+returns-23 c around =
     let at-match : tie.At-match-rest = search in
     let at-code-at : tie.After-code-at = search in
     let start : tie.Start = search in
@@ -268,10 +327,14 @@ visit-terminal-spec =
     visit-for-requires
     visit-for-of-requires
     visit-for-in-requires
+    logical-at-requires
     visit-value-requires
+    ternary-at-requires
     visit-value-requires-2
+    optional-at-requires
     visit-value-requires-3
     visit-label-requires
+    sequence-at-requires
     visit-value-requires-4
     visit-maybe-throw-requires
     visit-try-requires

@@ -25,8 +25,8 @@ block-word-requires c κs = search needs
 
 returns : tie.Need-returns Inv-loop μ-loop
 returns c =
-    let at-block-word = c .before in
-    let at-loop = at-block-word .before .before in
+    let at-block-word : tie.After-block-word Inv-loop μ-loop = search in
+    let at-loop : tie.At-loop Inv-loop μ-loop = search in
     unused-off _ _ 11 (omega arith) (at-block-word .block-word .ensures) (c .if1 .taken) ∙ sym (at-loop .loop .inv .0)
 
 add-column : tie.Need-add-column Inv-loop μ-loop
@@ -37,12 +37,14 @@ loop-less c = omega arith
 
 loop-again : tie.Need-loop-again Inv-loop μ-loop
 loop-again c =
-    let at-block-word = c .before in
-    let at-loop = at-block-word .before .before in
+    let at-block-word : tie.After-block-word Inv-loop μ-loop = search in
+    let at-loop : tie.At-loop Inv-loop μ-loop = search in
     (at-loop .loop .inv .0 ∙ unused-on _ _ 11 (omega arith) (at-block-word .block-word .ensures) (c .if1 .left), omega arith)
 
 returns-2 : tie.Need-returns-2 Inv-loop μ-loop
-returns-2 c = unused-last _ _ 11 (omega arith) ∙ sym (c .before .loop .inv .0)
+returns-2 c =
+    let at-loop : tie.At-loop Inv-loop μ-loop = search in
+    unused-last _ _ 11 (omega arith) ∙ sym (at-loop .loop .inv .0)
 
 pub absent-row-spec : {M : Type 1} → statement M
 absent-row-spec =

@@ -166,7 +166,13 @@ returns-8 c =
     let first : tie.After-block-word2 = search in
     let past1 : tie.Else1 = search in
     let code : tie.After-block-word = search in
-    rw (present _ _ (λ e. past1 .if1 .left (code .block-word .ensures ∙ e)), ← (first .block-word2 .ensures), ← (instructions .instruction-count .ensures), ← (code .block-word .ensures), ← (from .block-word5 .ensures))
+    rw (
+      present _ _ (λ e. past1 .if1 .left (code .block-word .ensures ∙ e)),
+      ← (first .block-word2 .ensures),
+      ← (instructions .instruction-count .ensures),
+      ← (code .block-word .ensures),
+      ← (from .block-word5 .ensures),
+    )
     (passed _ _ _ _ (first .block-word2 .ensures) refl (past2 .if2 .left)
     (passed _ _ _ _ (count .block-word3 .ensures) (most .rows-from .ensures) (past3 .if3 .left)
     (passed _ _ _ _ (code .block-word .ensures) refl (past4 .if4 .left)
@@ -194,7 +200,13 @@ returns-9 c =
     let first : tie.After-block-word2 = search in
     let past1 : tie.Else1 = search in
     let code : tie.After-block-word = search in
-    rw (present _ _ (λ e. past1 .if1 .left (code .block-word .ensures ∙ e)), ← (first .block-word2 .ensures), ← (instructions .instruction-count .ensures), ← (code .block-word .ensures), ← (from .block-word5 .ensures))
+    rw (
+      present _ _ (λ e. past1 .if1 .left (code .block-word .ensures ∙ e)),
+      ← (first .block-word2 .ensures),
+      ← (instructions .instruction-count .ensures),
+      ← (code .block-word .ensures),
+      ← (from .block-word5 .ensures),
+    )
     (passed _ _ _ _ (first .block-word2 .ensures) refl (past2 .if2 .left)
     (passed _ _ _ _ (count .block-word3 .ensures) (most .rows-from .ensures) (past3 .if3 .left)
     (passed _ _ _ _ (code .block-word .ensures) refl (past4 .if4 .left)

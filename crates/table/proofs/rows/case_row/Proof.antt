@@ -18,9 +18,9 @@ row-or-none-requires c κs = search needs
 returns : tie.Need-returns
 unfolding caseRules block place-or-none
 returns c =
-    let at-row-or-none = c .before in
-    let at-place-count = at-row-or-none .before in
-    let at-case-word = at-place-count .before in
+    let at-row-or-none : tie.After-row-or-none = search in
+    let at-place-count : tie.After-place-count = search in
+    let at-case-word : tie.After-case-word = search in
     rw (← (at-place-count .place-count .ensures)) (failed _ _ _ _ (at-case-word .case-word .ensures) (at-row-or-none .row-or-none .ensures) (c .if1 .taken))
 
 case-word-requires-2 : tie.Need-case-word-requires-2
@@ -32,25 +32,27 @@ block-count-requires c κs = search needs
 returns-2 : tie.Need-returns-2
 unfolding caseRules block place-or-none
 returns-2 c =
-    let at-block-count = c .before in
-    let at-case-word2 = at-block-count .before in
-    let at-if1 = at-case-word2 .before in
-    let at-row-or-none = at-if1 .before in
-    let at-place-count = at-row-or-none .before in
-    let at-case-word = at-place-count .before in
-    rw (← (at-place-count .place-count .ensures), ← (at-block-count .block-count .ensures)) (passed _ _ _ _ (at-case-word .case-word .ensures) (at-row-or-none .row-or-none .ensures) (at-if1 .if1 .left)
+    let at-block-count : tie.After-block-count = search in
+    let at-case-word2 : tie.After-case-word2 = search in
+    let at-if1 : tie.Else1 = search in
+    let at-row-or-none : tie.After-row-or-none = search in
+    let at-place-count : tie.After-place-count = search in
+    let at-case-word : tie.After-case-word = search in
+    rw (← (at-place-count .place-count .ensures), ← (at-block-count .block-count .ensures))
+    (passed _ _ _ _ (at-case-word .case-word .ensures) (at-row-or-none .row-or-none .ensures) (at-if1 .if1 .left)
     (failed _ _ _ _ (at-case-word2 .case-word2 .ensures) refl (c .if2 .taken)))
 
 returns-3 : tie.Need-returns-3
 unfolding caseRules block place-or-none
 returns-3 c =
-    let at-block-count = c .before in
-    let at-case-word2 = at-block-count .before in
-    let at-if1 = at-case-word2 .before in
-    let at-row-or-none = at-if1 .before in
-    let at-place-count = at-row-or-none .before in
-    let at-case-word = at-place-count .before in
-    rw (← (at-place-count .place-count .ensures), ← (at-block-count .block-count .ensures)) (passed _ _ _ _ (at-case-word .case-word .ensures) (at-row-or-none .row-or-none .ensures) (at-if1 .if1 .left)
+    let at-block-count : tie.After-block-count = search in
+    let at-case-word2 : tie.After-case-word2 = search in
+    let at-if1 : tie.Else1 = search in
+    let at-row-or-none : tie.After-row-or-none = search in
+    let at-place-count : tie.After-place-count = search in
+    let at-case-word : tie.After-case-word = search in
+    rw (← (at-place-count .place-count .ensures), ← (at-block-count .block-count .ensures))
+    (passed _ _ _ _ (at-case-word .case-word .ensures) (at-row-or-none .row-or-none .ensures) (at-if1 .if1 .left)
     (passed _ _ _ _ (at-case-word2 .case-word2 .ensures) refl (c .if2 .left)
     (all-fit _ _)))
 

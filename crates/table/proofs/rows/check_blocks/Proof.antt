@@ -11,7 +11,9 @@ use Rattle.table.proofs.rows.check_blocks.Statement.{statement}
 use Rattle.table.proofs.rows.check_blocks.Tie as tie
 
 abbrev Inv-loop : tie.InvT-loop
-Inv-loop words rows row₀ row = (rowsVerdict words (blockRules words) blocksBegin 0 (blockCount words) ≡ rowsVerdict words (blockRules words) (blocksBegin + row * 11) row (blockCount words - row)) × (row ≤ blockCount words)
+Inv-loop words rows row₀ row =
+    (rowsVerdict words (blockRules words) blocksBegin 0 (blockCount words) ≡ rowsVerdict words (blockRules words) (blocksBegin + row * 11) row
+    (blockCount words - row)) × (row ≤ blockCount words)
 
 abbrev μ-loop : tie.MeasureT-loop
 μ-loop words rows row₀ row = blockCount words - row
@@ -37,8 +39,8 @@ add-t8 c = omega arith
 returns : tie.Need-returns Inv-loop μ-loop
 unfolding blockWord blocksBegin
 returns c =
-    let at-block-row = c .before in
-    let at-loop = at-block-row .before .before in
+    let at-block-row : tie.After-block-row Inv-loop μ-loop = search in
+    let at-loop : tie.At-loop Inv-loop μ-loop = search in
     rows-off _ _ 11 (block-width _) _ _ _ (omega arith) (at-block-row .block-row .ensures) (c .if1 .taken) refl ∙ sym (at-loop .loop .inv .0)
 
 add-block : tie.Need-add-block Inv-loop μ-loop
@@ -50,12 +52,14 @@ loop-less c = omega arith
 loop-again : tie.Need-loop-again Inv-loop μ-loop
 unfolding blockWord
 loop-again c =
-    let at-block-row = c .before in
-    let at-loop = at-block-row .before .before in
+    let at-block-row : tie.After-block-row Inv-loop μ-loop = search in
+    let at-loop : tie.At-loop Inv-loop μ-loop = search in
     (at-loop .loop .inv .0 ∙ rows-on _ _ 11 (block-width _) _ _ _ (omega arith) (at-block-row .block-row .ensures) (c .if1 .left), omega arith)
 
 returns-2 : tie.Need-returns-2 Inv-loop μ-loop
-returns-2 c = sym (c .before .loop .inv .0 ∙ rows-last _ _ 11 (block-width _) _ _ _ (omega arith))
+returns-2 c =
+    let at-loop : tie.At-loop Inv-loop μ-loop = search in
+    sym (at-loop .loop .inv .0 ∙ rows-last _ _ 11 (block-width _) _ _ _ (omega arith))
 
 pub check-blocks-spec : {M : Type 1} → statement M
 check-blocks-spec =

@@ -11,7 +11,9 @@ use Rattle.table.proofs.rows.check_cases.Statement.{statement}
 use Rattle.table.proofs.rows.check_cases.Tie as tie
 
 abbrev Inv-loop : tie.InvT-loop
-Inv-loop words begin rows row₀ row = (rowsVerdict words (caseRules words) (casesBegin words) 0 (caseCount words) ≡ rowsVerdict words (caseRules words) (casesBegin words + row * 2) row (caseCount words - row)) × (row ≤ caseCount words)
+Inv-loop words begin rows row₀ row =
+    (rowsVerdict words (caseRules words) (casesBegin words) 0 (caseCount words) ≡ rowsVerdict words (caseRules words) (casesBegin words + row * 2) row
+    (caseCount words - row)) × (row ≤ caseCount words)
 
 abbrev μ-loop : tie.MeasureT-loop
 μ-loop words begin rows row₀ row = caseCount words - row
@@ -40,9 +42,9 @@ add-t9 c = omega arith
 returns : tie.Need-returns Inv-loop μ-loop
 unfolding caseWord
 returns c =
-    let at-case-row = c .before in
-    let at-loop = at-case-row .before .before in
-    let at-cases-begin = at-loop .before .before in
+    let at-case-row : tie.After-case-row Inv-loop μ-loop = search in
+    let at-loop : tie.At-loop Inv-loop μ-loop = search in
+    let at-cases-begin : tie.After-cases-begin Inv-loop μ-loop = search in
     rows-off _ _ 2 (case-width _) _ _ _ (omega arith) (at-case-row .case-row .ensures) (c .if1 .taken) (at-cases-begin .cases-begin .ensures .0) ∙ sym (at-loop .loop .inv .0)
 
 add-case : tie.Need-add-case Inv-loop μ-loop
@@ -54,12 +56,14 @@ loop-less c = omega arith
 loop-again : tie.Need-loop-again Inv-loop μ-loop
 unfolding caseWord
 loop-again c =
-    let at-case-row = c .before in
-    let at-loop = at-case-row .before .before in
+    let at-case-row : tie.After-case-row Inv-loop μ-loop = search in
+    let at-loop : tie.At-loop Inv-loop μ-loop = search in
     (at-loop .loop .inv .0 ∙ rows-on _ _ 2 (case-width _) _ _ _ (omega arith) (at-case-row .case-row .ensures) (c .if1 .left), omega arith)
 
 returns-2 : tie.Need-returns-2 Inv-loop μ-loop
-returns-2 c = sym (c .before .loop .inv .0 ∙ rows-last _ _ 2 (case-width _) _ _ _ (omega arith))
+returns-2 c =
+    let at-loop : tie.At-loop Inv-loop μ-loop = search in
+    sym (at-loop .loop .inv .0 ∙ rows-last _ _ 2 (case-width _) _ _ _ (omega arith))
 
 pub check-cases-spec : {M : Type 1} → statement M
 check-cases-spec =

@@ -10,7 +10,9 @@ use Rattle.table.proofs.rows.check_identifiers.Statement.{statement}
 use Rattle.table.proofs.rows.check_identifiers.Tie as tie
 
 abbrev Inv-loop : tie.InvT-loop
-Inv-loop words begin rows row₀ row = (rowsVerdict words (identifierRules words) (identifiersBegin words) 0 (identifierCount words) ≡ rowsVerdict words (identifierRules words) (identifiersBegin words + row) row (identifierCount words - row)) × (row ≤ identifierCount words)
+Inv-loop words begin rows row₀ row =
+    (rowsVerdict words (identifierRules words) (identifiersBegin words) 0 (identifierCount words) ≡ rowsVerdict words (identifierRules words)
+    (identifiersBegin words + row) row (identifierCount words - row)) × (row ≤ identifierCount words)
 
 abbrev μ-loop : tie.MeasureT-loop
 μ-loop words begin rows row₀ row = identifierCount words - row
@@ -34,9 +36,9 @@ add-t7 c = omega arith
 returns : tie.Need-returns Inv-loop μ-loop
 unfolding identifierWord identifierRules
 returns c =
-    let at-identifier-word = c .before in
-    let at-loop = at-identifier-word .before .before in
-    let at-identifiers-begin = at-loop .before .before in
+    let at-identifier-word : tie.After-identifier-word Inv-loop μ-loop = search in
+    let at-loop : tie.At-loop Inv-loop μ-loop = search in
+    let at-identifiers-begin : tie.After-identifiers-begin Inv-loop μ-loop = search in
     rest-off _ _ _ _ _ (omega arith) (at-identifier-word .identifier-word .ensures) refl (c .if1 .taken) (at-identifiers-begin .identifiers-begin .ensures .0) ∙ sym (at-loop .loop .inv .0)
 
 add-identifier : tie.Need-add-identifier Inv-loop μ-loop
@@ -48,13 +50,15 @@ loop-less c = omega arith
 loop-again : tie.Need-loop-again Inv-loop μ-loop
 unfolding identifierWord identifierRules
 loop-again c =
-    let at-identifier-word = c .before in
-    let at-loop = at-identifier-word .before .before in
+    let at-identifier-word : tie.After-identifier-word Inv-loop μ-loop = search in
+    let at-loop : tie.At-loop Inv-loop μ-loop = search in
     (at-loop .loop .inv .0 ∙ rest-on _ _ _ _ _ (omega arith) (at-identifier-word .identifier-word .ensures) refl (c .if1 .left), omega arith)
 
 returns-2 : tie.Need-returns-2 Inv-loop μ-loop
 unfolding identifierRules
-returns-2 c = sym (c .before .loop .inv .0 ∙ rest-last _ _ _ _ _ (omega arith))
+returns-2 c =
+    let at-loop : tie.At-loop Inv-loop μ-loop = search in
+    sym (at-loop .loop .inv .0 ∙ rest-last _ _ _ _ _ (omega arith))
 
 pub check-identifiers-spec : {M : Type 1} → statement M
 check-identifiers-spec =

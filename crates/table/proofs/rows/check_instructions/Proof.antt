@@ -11,7 +11,9 @@ use Rattle.table.proofs.rows.check_instructions.Statement.{statement}
 use Rattle.table.proofs.rows.check_instructions.Tie as tie
 
 abbrev Inv-loop : tie.InvT-loop
-Inv-loop words begin rows row₀ row = (rowsVerdict words (instructionRules words) (instructionsBegin words) 0 (instructionCount words) ≡ rowsVerdict words (instructionRules words) (instructionsBegin words + row * 7) row (instructionCount words - row)) × (row ≤ instructionCount words)
+Inv-loop words begin rows row₀ row =
+    (rowsVerdict words (instructionRules words) (instructionsBegin words) 0 (instructionCount words) ≡ rowsVerdict words (instructionRules words)
+    (instructionsBegin words + row * 7) row (instructionCount words - row)) × (row ≤ instructionCount words)
 
 abbrev μ-loop : tie.MeasureT-loop
 μ-loop words begin rows row₀ row = instructionCount words - row
@@ -40,10 +42,11 @@ add-t9 c = omega arith
 returns : tie.Need-returns Inv-loop μ-loop
 unfolding instructionWord
 returns c =
-    let at-instruction-row = c .before in
-    let at-loop = at-instruction-row .before .before in
-    let at-instructions-begin = at-loop .before .before in
-    rows-off _ _ 7 (instruction-width _) _ _ _ (omega arith) (at-instruction-row .instruction-row .ensures) (c .if1 .taken) (at-instructions-begin .instructions-begin .ensures .0) ∙ sym (at-loop .loop .inv .0)
+    let at-instruction-row : tie.After-instruction-row Inv-loop μ-loop = search in
+    let at-loop : tie.At-loop Inv-loop μ-loop = search in
+    let at-instructions-begin : tie.After-instructions-begin Inv-loop μ-loop = search in
+    rows-off _ _ 7 (instruction-width _) _ _ _ (omega arith) (at-instruction-row .instruction-row .ensures) (c .if1 .taken)
+    (at-instructions-begin .instructions-begin .ensures .0) ∙ sym (at-loop .loop .inv .0)
 
 add-instruction : tie.Need-add-instruction Inv-loop μ-loop
 add-instruction c = omega arith
@@ -54,12 +57,14 @@ loop-less c = omega arith
 loop-again : tie.Need-loop-again Inv-loop μ-loop
 unfolding instructionWord
 loop-again c =
-    let at-instruction-row = c .before in
-    let at-loop = at-instruction-row .before .before in
+    let at-instruction-row : tie.After-instruction-row Inv-loop μ-loop = search in
+    let at-loop : tie.At-loop Inv-loop μ-loop = search in
     (at-loop .loop .inv .0 ∙ rows-on _ _ 7 (instruction-width _) _ _ _ (omega arith) (at-instruction-row .instruction-row .ensures) (c .if1 .left), omega arith)
 
 returns-2 : tie.Need-returns-2 Inv-loop μ-loop
-returns-2 c = sym (c .before .loop .inv .0 ∙ rows-last _ _ 7 (instruction-width _) _ _ _ (omega arith))
+returns-2 c =
+    let at-loop : tie.At-loop Inv-loop μ-loop = search in
+    sym (at-loop .loop .inv .0 ∙ rows-last _ _ 7 (instruction-width _) _ _ _ (omega arith))
 
 pub check-instructions-spec : {M : Type 1} → statement M
 check-instructions-spec =

@@ -10,7 +10,9 @@ use Rattle.table.proofs.rows.check_places.Statement.{statement}
 use Rattle.table.proofs.rows.check_places.Tie as tie
 
 abbrev Inv-loop : tie.InvT-loop
-Inv-loop words begin rows identifiers row₀ row = (rowsVerdict words (placeRules words) (placesBegin words) 0 (placeCount words) ≡ rowsVerdict words (placeRules words) (placesBegin words + row) row (placeCount words - row)) × (row ≤ placeCount words)
+Inv-loop words begin rows identifiers row₀ row =
+    (rowsVerdict words (placeRules words) (placesBegin words) 0 (placeCount words) ≡ rowsVerdict words (placeRules words) (placesBegin words + row) row
+    (placeCount words - row)) × (row ≤ placeCount words)
 
 abbrev μ-loop : tie.MeasureT-loop
 μ-loop words begin rows identifiers row₀ row = placeCount words - row
@@ -37,11 +39,12 @@ add-t8 c = omega arith
 returns : tie.Need-returns Inv-loop μ-loop
 unfolding placeWord placeRules
 returns c =
-    let at-place-word = c .before in
-    let at-loop = at-place-word .before .before in
-    let at-identifier-count = at-loop .before in
-    let at-places-begin = at-identifier-count .before .before in
-    rest-off _ _ _ _ _ (omega arith) (at-place-word .place-word .ensures) (at-identifier-count .identifier-count .ensures) (c .if1 .taken) (at-places-begin .places-begin .ensures .0) ∙ sym (at-loop .loop .inv .0)
+    let at-place-word : tie.After-place-word Inv-loop μ-loop = search in
+    let at-loop : tie.At-loop Inv-loop μ-loop = search in
+    let at-identifier-count : tie.After-identifier-count Inv-loop μ-loop = search in
+    let at-places-begin : tie.After-places-begin Inv-loop μ-loop = search in
+    rest-off _ _ _ _ _ (omega arith) (at-place-word .place-word .ensures) (at-identifier-count .identifier-count .ensures) (c .if1 .taken)
+    (at-places-begin .places-begin .ensures .0) ∙ sym (at-loop .loop .inv .0)
 
 add-place : tie.Need-add-place Inv-loop μ-loop
 add-place c = omega arith
@@ -52,14 +55,16 @@ loop-less c = omega arith
 loop-again : tie.Need-loop-again Inv-loop μ-loop
 unfolding placeWord placeRules
 loop-again c =
-    let at-place-word = c .before in
-    let at-loop = at-place-word .before .before in
-    let at-identifier-count = at-loop .before in
+    let at-place-word : tie.After-place-word Inv-loop μ-loop = search in
+    let at-loop : tie.At-loop Inv-loop μ-loop = search in
+    let at-identifier-count : tie.After-identifier-count Inv-loop μ-loop = search in
     (at-loop .loop .inv .0 ∙ rest-on _ _ _ _ _ (omega arith) (at-place-word .place-word .ensures) (at-identifier-count .identifier-count .ensures) (c .if1 .left), omega arith)
 
 returns-2 : tie.Need-returns-2 Inv-loop μ-loop
 unfolding placeRules
-returns-2 c = sym (c .before .loop .inv .0 ∙ rest-last _ _ _ _ _ (omega arith))
+returns-2 c =
+    let at-loop : tie.At-loop Inv-loop μ-loop = search in
+    sym (at-loop .loop .inv .0 ∙ rest-last _ _ _ _ _ (omega arith))
 
 pub check-places-spec : {M : Type 1} → statement M
 check-places-spec =

@@ -9,7 +9,7 @@ block-word-requires c κs = search needs
 
 returns : tie.Need-returns
 returns c =
-    let at-block-word = c .before in
+    let at-block-word : tie.After-block-word = search in
     is-not-below _ _ _ _ (at-block-word .block-word .ensures) (c .if1 .taken)
 
 block-word-requires-2 : tie.Need-block-word-requires-2
@@ -17,9 +17,9 @@ block-word-requires-2 c κs = search needs
 
 returns-2 : tie.Need-returns-2
 returns-2 c =
-    let at-block-word2 = c .before in
-    let at-if1 = at-block-word2 .before in
-    let at-block-word = at-if1 .before in
+    let at-block-word2 : tie.After-block-word2 = search in
+    let at-if1 : tie.Else1 = search in
+    let at-block-word : tie.After-block-word = search in
     is-below _ _ _ _ (at-block-word .block-word .ensures) (at-if1 .if1 .left)
     (is-not-below _ _ _ _ (at-block-word2 .block-word2 .ensures) (c .if2 .taken))
 
@@ -28,11 +28,11 @@ block-word-requires-3 c κs = search needs
 
 returns-3 : tie.Need-returns-3
 returns-3 c =
-    let at-block-word3 = c .before in
-    let at-if2 = at-block-word3 .before in
-    let at-block-word2 = at-if2 .before in
-    let at-if1 = at-block-word2 .before in
-    let at-block-word = at-if1 .before in
+    let at-block-word3 : tie.After-block-word3 = search in
+    let at-if2 : tie.Else2 = search in
+    let at-block-word2 : tie.After-block-word2 = search in
+    let at-if1 : tie.Else1 = search in
+    let at-block-word : tie.After-block-word = search in
     is-below _ _ _ _ (at-block-word .block-word .ensures) (at-if1 .if1 .left)
     (is-below _ _ _ _ (at-block-word2 .block-word2 .ensures) (at-if2 .if2 .left)
     (is-not-below _ _ _ _ (at-block-word3 .block-word3 .ensures) (c .if3 .taken)))
@@ -42,13 +42,13 @@ block-word-requires-4 c κs = search needs
 
 returns-4 : tie.Need-returns-4
 returns-4 c =
-    let at-block-word4 = c .before in
-    let at-if3 = at-block-word4 .before in
-    let at-block-word3 = at-if3 .before in
-    let at-if2 = at-block-word3 .before in
-    let at-block-word2 = at-if2 .before in
-    let at-if1 = at-block-word2 .before in
-    let at-block-word = at-if1 .before in
+    let at-block-word4 : tie.After-block-word4 = search in
+    let at-if3 : tie.Else3 = search in
+    let at-block-word3 : tie.After-block-word3 = search in
+    let at-if2 : tie.Else2 = search in
+    let at-block-word2 : tie.After-block-word2 = search in
+    let at-if1 : tie.Else1 = search in
+    let at-block-word : tie.After-block-word = search in
     is-below _ _ _ _ (at-block-word .block-word .ensures) (at-if1 .if1 .left)
     (is-below _ _ _ _ (at-block-word2 .block-word2 .ensures) (at-if2 .if2 .left)
     (is-below _ _ _ _ (at-block-word3 .block-word3 .ensures) (at-if3 .if3 .left)
@@ -59,15 +59,15 @@ block-word-requires-5 c κs = search needs
 
 returns-5 : tie.Need-returns-5
 returns-5 c =
-    let at-block-word5 = c .before in
-    let at-if4 = at-block-word5 .before in
-    let at-block-word4 = at-if4 .before in
-    let at-if3 = at-block-word4 .before in
-    let at-block-word3 = at-if3 .before in
-    let at-if2 = at-block-word3 .before in
-    let at-block-word2 = at-if2 .before in
-    let at-if1 = at-block-word2 .before in
-    let at-block-word = at-if1 .before in
+    let at-block-word5 : tie.After-block-word5 = search in
+    let at-if4 : tie.Else4 = search in
+    let at-block-word4 : tie.After-block-word4 = search in
+    let at-if3 : tie.Else3 = search in
+    let at-block-word3 : tie.After-block-word3 = search in
+    let at-if2 : tie.Else2 = search in
+    let at-block-word2 : tie.After-block-word2 = search in
+    let at-if1 : tie.Else1 = search in
+    let at-block-word : tie.After-block-word = search in
     is-below _ _ _ _ (at-block-word .block-word .ensures) (at-if1 .if1 .left)
     (is-below _ _ _ _ (at-block-word2 .block-word2 .ensures) (at-if2 .if2 .left)
     (is-below _ _ _ _ (at-block-word3 .block-word3 .ensures) (at-if3 .if3 .left)
@@ -76,15 +76,15 @@ returns-5 c =
 
 returns-6 : tie.Need-returns-6
 returns-6 c =
-    let at-block-word5 = c .before in
-    let at-if4 = at-block-word5 .before in
-    let at-block-word4 = at-if4 .before in
-    let at-if3 = at-block-word4 .before in
-    let at-block-word3 = at-if3 .before in
-    let at-if2 = at-block-word3 .before in
-    let at-block-word2 = at-if2 .before in
-    let at-if1 = at-block-word2 .before in
-    let at-block-word = at-if1 .before in
+    let at-block-word5 : tie.After-block-word5 = search in
+    let at-if4 : tie.Else4 = search in
+    let at-block-word4 : tie.After-block-word4 = search in
+    let at-if3 : tie.Else3 = search in
+    let at-block-word3 : tie.After-block-word3 = search in
+    let at-if2 : tie.Else2 = search in
+    let at-block-word2 : tie.After-block-word2 = search in
+    let at-if1 : tie.Else1 = search in
+    let at-block-word : tie.After-block-word = search in
     is-below _ _ _ _ (at-block-word .block-word .ensures) (at-if1 .if1 .left)
     (is-below _ _ _ _ (at-block-word2 .block-word2 .ensures) (at-if2 .if2 .left)
     (is-below _ _ _ _ (at-block-word3 .block-word3 .ensures) (at-if3 .if3 .left)

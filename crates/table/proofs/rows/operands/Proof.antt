@@ -9,7 +9,7 @@ instruction-word-requires c κs = search needs
 
 returns : tie.Need-returns
 returns c =
-    let at-instruction-word = c .before in
+    let at-instruction-word : tie.After-instruction-word = search in
     is-not-below _ _ _ _ (at-instruction-word .instruction-word .ensures) (c .if1 .taken)
 
 instruction-word-requires-2 : tie.Need-instruction-word-requires-2
@@ -17,17 +17,17 @@ instruction-word-requires-2 c κs = search needs
 
 returns-2 : tie.Need-returns-2
 returns-2 c =
-    let at-instruction-word2 = c .before in
-    let at-if1 = at-instruction-word2 .before in
-    let at-instruction-word = at-if1 .before in
+    let at-instruction-word2 : tie.After-instruction-word2 = search in
+    let at-if1 : tie.Else1 = search in
+    let at-instruction-word : tie.After-instruction-word = search in
     is-below _ _ _ _ (at-instruction-word .instruction-word .ensures) (at-if1 .if1 .left)
     (is-not-below _ _ _ _ (at-instruction-word2 .instruction-word2 .ensures) (c .if2 .taken))
 
 returns-3 : tie.Need-returns-3
 returns-3 c =
-    let at-instruction-word2 = c .before in
-    let at-if1 = at-instruction-word2 .before in
-    let at-instruction-word = at-if1 .before in
+    let at-instruction-word2 : tie.After-instruction-word2 = search in
+    let at-if1 : tie.Else1 = search in
+    let at-instruction-word : tie.After-instruction-word = search in
     is-below _ _ _ _ (at-instruction-word .instruction-word .ensures) (at-if1 .if1 .left)
     (is-below _ _ _ _ (at-instruction-word2 .instruction-word2 .ensures) (c .if2 .left)
     (all-below _ _))

@@ -106,169 +106,199 @@ columns-requires-23 c κs = search needs
 returns : tie.Need-returns
 unfolding terminalRules block block-or-none place place-or-none
 returns c =
-    let at-match = c .before in
+    let at-match : tie.At-match-keys1 = search in
     rw (at-match .match .keys1) (in-limits _ 3 _ _ (c .columns .ensures) refl)
 
 returns-2 : tie.Need-returns-2
 unfolding terminalRules block block-or-none place place-or-none
 returns-2 c =
-    let at-match = c .before in
+    let at-match : tie.At-match-keys2 = search in
     rw (at-match .match .keys2) (in-limits _ 3 _ _ (c .columns2 .ensures) refl)
 
 returns-3 : tie.Need-returns-3
 unfolding terminalRules block block-or-none place place-or-none
 returns-3 c =
-    let at-match = c .before in
-    let at-place-count = at-match .before .before .before .before .before .before .before .before in
+    let at-match : tie.At-match-keys3 = search in
+    let at-row-or-none : tie.After-row-or-none = search in
+    let at-place-count : tie.After-place-count = search in
     rw (at-match .match .keys3) (in-limits _ 3 _ _ (c .columns3 .ensures) (simp (at-place-count .place-count .ensures)))
 
 returns-4 : tie.Need-returns-4
 unfolding terminalRules block block-or-none place place-or-none
 returns-4 c =
-    let at-match = c .before in
-    let at-place-count = at-match .before .before .before .before .before .before .before .before in
+    let at-match : tie.At-match-keys4 = search in
+    let at-row-or-none : tie.After-row-or-none = search in
+    let at-place-count : tie.After-place-count = search in
     rw (at-match .match .keys4) (in-limits _ 3 _ _ (c .columns4 .ensures) (simp (at-place-count .place-count .ensures)))
 
 returns-5 : tie.Need-returns-5
 unfolding terminalRules block block-or-none place place-or-none
 returns-5 c =
-    let at-match = c .before in
-    let at-block-count = at-match .before .before .before .before .before .before .before .before .before in
+    let at-match : tie.At-match-keys5 = search in
+    let at-row-or-none : tie.After-row-or-none = search in
+    let at-block-count : tie.After-block-count = search in
     rw (at-match .match .keys5) (in-limits _ 3 _ _ (c .columns5 .ensures) (simp (at-block-count .block-count .ensures)))
 
 returns-6 : tie.Need-returns-6
 unfolding terminalRules block block-or-none place place-or-none
 returns-6 c =
-    let at-match = c .before in
-    let at-place-count = at-match .before .before .before .before .before .before .before .before in
-    let at-block-count = at-place-count .before in
+    let at-match : tie.At-match-keys6 = search in
+    let at-row-or-none : tie.After-row-or-none = search in
+    let at-place-count : tie.After-place-count = search in
+    let at-block-count : tie.After-block-count = search in
     rw (at-match .match .keys6) (in-limits _ 3 _ _ (c .columns6 .ensures) (simp (at-place-count .place-count .ensures, at-block-count .block-count .ensures)))
 
 returns-7 : tie.Need-returns-7
 unfolding terminalRules block block-or-none place place-or-none
 returns-7 c =
-    let at-match = c .before in
-    let at-place-count = at-match .before .before .before .before .before .before .before .before in
-    let at-block-count = at-place-count .before in
+    let at-match : tie.At-match-keys7 = search in
+    let at-row-or-none : tie.After-row-or-none = search in
+    let at-place-count : tie.After-place-count = search in
+    let at-block-count : tie.After-block-count = search in
     rw (at-match .match .keys7) (in-limits _ 3 _ _ (c .columns7 .ensures) (simp (at-place-count .place-count .ensures, at-block-count .block-count .ensures)))
 
 returns-8 : tie.Need-returns-8
 unfolding terminalRules block block-or-none place place-or-none
 returns-8 c =
-    let at-match = c .before in
-    let at-rows-from = at-match .before in
-    let at-case-count = at-rows-from .before in
-    let at-block-word3 = at-case-count .before in
-    let at-place-count = at-block-word3 .before .before .before .before .before in
-    let at-block-count = at-place-count .before in
-    rw (at-match .match .keys8) (in-limits _ 3 _ _ (c .columns8 .ensures) (simp (at-rows-from .rows-from .ensures, at-block-word3 .block-word3 .ensures, at-case-count .case-count .ensures, at-place-count .place-count .ensures, at-block-count .block-count .ensures)))
+    let at-match : tie.At-match-keys8 = search in
+    let at-rows-from : tie.After-rows-from = search in
+    let at-case-count : tie.After-case-count = search in
+    let at-block-word3 : tie.After-block-word3 = search in
+    let at-place-count : tie.After-place-count = search in
+    let at-block-count : tie.After-block-count = search in
+    rw (at-match .match .keys8) (in-limits _ 3 _ _ (c .columns8 .ensures)
+    (simp (
+      at-rows-from .rows-from .ensures,
+      at-block-word3 .block-word3 .ensures,
+      at-case-count .case-count .ensures,
+      at-place-count .place-count .ensures,
+      at-block-count .block-count .ensures,
+    )))
 
 returns-9 : tie.Need-returns-9
 unfolding terminalRules block block-or-none place place-or-none
 returns-9 c =
-    let at-match = c .before in
-    let at-block-count = at-match .before .before .before .before .before .before .before .before .before in
+    let at-match : tie.At-match-keys9 = search in
+    let at-row-or-none : tie.After-row-or-none = search in
+    let at-block-count : tie.After-block-count = search in
     rw (at-match .match .keys9) (in-limits _ 3 _ _ (c .columns9 .ensures) (simp (at-block-count .block-count .ensures)))
 
 returns-10 : tie.Need-returns-10
 unfolding terminalRules block block-or-none place place-or-none
 returns-10 c =
-    let at-match = c .before in
-    let at-block-count = at-match .before .before .before .before .before .before .before .before .before in
+    let at-match : tie.At-match-keys10 = search in
+    let at-row-or-none : tie.After-row-or-none = search in
+    let at-block-count : tie.After-block-count = search in
     rw (at-match .match .keys10) (in-limits _ 3 _ _ (c .columns10 .ensures) (simp (at-block-count .block-count .ensures)))
 
 returns-11 : tie.Need-returns-11
 unfolding terminalRules block block-or-none place place-or-none
 returns-11 c =
-    let at-match = c .before in
-    let at-row-or-none = at-match .before .before .before .before .before .before in
-    let at-block-word = at-row-or-none .before in
-    let at-block-count = at-block-word .before .before in
+    let at-match : tie.At-match-keys11 = search in
+    let at-row-or-none : tie.After-row-or-none = search in
+    let at-block-word : tie.After-block-word = search in
+    let at-block-count : tie.After-block-count = search in
     rw (at-match .match .keys11) (in-limits _ 3 _ _ (c .columns11 .ensures) (simp (at-row-or-none .row-or-none .ensures, at-block-word .block-word .ensures, at-block-count .block-count .ensures)))
 
 returns-12 : tie.Need-returns-12
 unfolding terminalRules block block-or-none place place-or-none
 returns-12 c =
-    let at-match = c .before in
-    let at-block-count = at-match .before .before .before .before .before .before .before .before .before in
+    let at-match : tie.At-match-keys12 = search in
+    let at-row-or-none : tie.After-row-or-none = search in
+    let at-block-count : tie.After-block-count = search in
     rw (at-match .match .keys12) (in-limits _ 3 _ _ (c .columns12 .ensures) (simp (at-block-count .block-count .ensures)))
 
 returns-13 : tie.Need-returns-13
 unfolding terminalRules block block-or-none place place-or-none
 returns-13 c =
-    let at-match = c .before in
-    let at-block-count = at-match .before .before .before .before .before .before .before .before .before in
+    let at-match : tie.At-match-keys13 = search in
+    let at-row-or-none : tie.After-row-or-none = search in
+    let at-block-count : tie.After-block-count = search in
     rw (at-match .match .keys13) (in-limits _ 3 _ _ (c .columns13 .ensures) (simp (at-block-count .block-count .ensures)))
 
 returns-14 : tie.Need-returns-14
 unfolding terminalRules block block-or-none place place-or-none
 returns-14 c =
-    let at-match = c .before in
-    let at-block-count = at-match .before .before .before .before .before .before .before .before .before in
+    let at-match : tie.At-match-keys14 = search in
+    let at-row-or-none : tie.After-row-or-none = search in
+    let at-block-count : tie.After-block-count = search in
     rw (at-match .match .keys14) (in-limits _ 3 _ _ (c .columns14 .ensures) (simp (at-block-count .block-count .ensures)))
 
 returns-15 : tie.Need-returns-15
 unfolding terminalRules block block-or-none place place-or-none
 returns-15 c =
-    let at-match = c .before in
-    let at-block-count = at-match .before .before .before .before .before .before .before .before .before in
+    let at-match : tie.At-match-keys15 = search in
+    let at-row-or-none : tie.After-row-or-none = search in
+    let at-block-count : tie.After-block-count = search in
     rw (at-match .match .keys15) (in-limits _ 3 _ _ (c .columns15 .ensures) (simp (at-block-count .block-count .ensures)))
 
 returns-16 : tie.Need-returns-16
 unfolding terminalRules block block-or-none place place-or-none
 returns-16 c =
-    let at-match = c .before in
-    let at-block-count = at-match .before .before .before .before .before .before .before .before .before in
+    let at-match : tie.At-match-keys16 = search in
+    let at-row-or-none : tie.After-row-or-none = search in
+    let at-block-count : tie.After-block-count = search in
     rw (at-match .match .keys16) (in-limits _ 3 _ _ (c .columns16 .ensures) (simp (at-block-count .block-count .ensures)))
 
 returns-17 : tie.Need-returns-17
 unfolding terminalRules block block-or-none place place-or-none
 returns-17 c =
-    let at-match = c .before in
-    let at-block-count = at-match .before .before .before .before .before .before .before .before .before in
+    let at-match : tie.At-match-keys17 = search in
+    let at-row-or-none : tie.After-row-or-none = search in
+    let at-block-count : tie.After-block-count = search in
     rw (at-match .match .keys17) (in-limits _ 3 _ _ (c .columns17 .ensures) (simp (at-block-count .block-count .ensures)))
 
 returns-18 : tie.Need-returns-18
 unfolding terminalRules block block-or-none place place-or-none
 returns-18 c =
-    let at-match = c .before in
-    let at-block-count = at-match .before .before .before .before .before .before .before .before .before in
+    let at-match : tie.At-match-keys18 = search in
+    let at-row-or-none : tie.After-row-or-none = search in
+    let at-block-count : tie.After-block-count = search in
     rw (at-match .match .keys18) (in-limits _ 3 _ _ (c .columns18 .ensures) (simp (at-block-count .block-count .ensures)))
 
 returns-19 : tie.Need-returns-19
 unfolding terminalRules block block-or-none place place-or-none
 returns-19 c =
-    let at-match = c .before in
-    let at-block-count = at-match .before .before .before .before .before .before .before .before .before in
+    let at-match : tie.At-match-keys19 = search in
+    let at-row-or-none : tie.After-row-or-none = search in
+    let at-block-count : tie.After-block-count = search in
     rw (at-match .match .keys19) (in-limits _ 3 _ _ (c .columns19 .ensures) (simp (at-block-count .block-count .ensures)))
 
 returns-20 : tie.Need-returns-20
 unfolding terminalRules block block-or-none place place-or-none
 returns-20 c =
-    let at-match = c .before in
-    let at-row-or-none2 = at-match .before .before .before .before in
-    let at-block-word2 = at-row-or-none2 .before in
-    let at-place-count = at-block-word2 .before .before .before in
-    let at-block-count = at-place-count .before in
-    rw (at-match .match .keys20) (in-limits _ 3 _ _ (c .columns20 .ensures) (simp (at-row-or-none2 .row-or-none2 .ensures, at-block-word2 .block-word2 .ensures, at-place-count .place-count .ensures, at-block-count .block-count .ensures)))
+    let at-match : tie.At-match-keys20 = search in
+    let at-row-or-none2 : tie.After-row-or-none2 = search in
+    let at-block-word2 : tie.After-block-word2 = search in
+    let at-place-count : tie.After-place-count = search in
+    let at-block-count : tie.After-block-count = search in
+    rw (at-match .match .keys20) (in-limits _ 3 _ _ (c .columns20 .ensures)
+    (simp (
+      at-row-or-none2 .row-or-none2 .ensures,
+      at-block-word2 .block-word2 .ensures,
+      at-place-count .place-count .ensures,
+      at-block-count .block-count .ensures,
+    )))
 
 returns-21 : tie.Need-returns-21
 unfolding terminalRules block block-or-none place place-or-none
 returns-21 c =
-    let at-match = c .before in
-    let at-block-count = at-match .before .before .before .before .before .before .before .before .before in
+    let at-match : tie.At-match-keys21 = search in
+    let at-row-or-none : tie.After-row-or-none = search in
+    let at-block-count : tie.After-block-count = search in
     rw (at-match .match .keys21) (in-limits _ 3 _ _ (c .columns21 .ensures) (simp (at-block-count .block-count .ensures)))
 
 returns-22 : tie.Need-returns-22
 unfolding terminalRules block block-or-none place place-or-none
 returns-22 c =
-    let at-match = c .before in
-    let at-block-count = at-match .before .before .before .before .before .before .before .before .before in
+    let at-match : tie.At-match-keys22 = search in
+    let at-row-or-none : tie.After-row-or-none = search in
+    let at-block-count : tie.After-block-count = search in
     rw (at-match .match .keys22) (in-limits _ 3 _ _ (c .columns22 .ensures) (simp (at-block-count .block-count .ensures)))
 
 returns-23 : tie.Need-returns-23
 returns-23 c =
-    let at-match = c .before in
+    let at-match : tie.At-match-rest = search in
     rw (no-terminal _ _ _ (past 22 _ (at-match .match .rest))) (in-limits _ 3 _ _ (c .columns23 .ensures) refl)
 
 pub terminal-columns-spec : {M : Type 1} → statement M

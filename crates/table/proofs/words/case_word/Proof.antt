@@ -29,7 +29,9 @@ shared-slice-read-result c = omega arith
 
 returns : tie.Need-returns
 unfolding caseWord word
-returns c = rw (c .before .cases-begin .ensures .0)
+returns c =
+    let at-cases-begin : tie.After-cases-begin = search in
+    rw (at-cases-begin .cases-begin .ensures .0)
 
 pub case-word-spec : {M : Type 1} → statement M
 case-word-spec =

@@ -23,7 +23,9 @@ shared-slice-read-result c = omega arith
 
 returns : tie.Need-returns
 unfolding identifierWord word
-returns c = rw (c .before .identifiers-begin .ensures .0)
+returns c =
+    let at-identifiers-begin : tie.After-identifiers-begin = search in
+    rw (at-identifiers-begin .identifiers-begin .ensures .0)
 
 pub identifier-word-spec : {M : Type 1} → statement M
 identifier-word-spec =

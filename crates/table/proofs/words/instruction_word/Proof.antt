@@ -29,7 +29,9 @@ shared-slice-read-result c = omega arith
 
 returns : tie.Need-returns
 unfolding instructionWord word
-returns c = rw (c .before .instructions-begin .ensures .0)
+returns c =
+    let at-instructions-begin : tie.After-instructions-begin = search in
+    rw (at-instructions-begin .instructions-begin .ensures .0)
 
 pub instruction-word-spec : {M : Type 1} → statement M
 instruction-word-spec =

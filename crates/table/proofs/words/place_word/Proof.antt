@@ -23,7 +23,9 @@ shared-slice-read-result c = omega arith
 
 returns : tie.Need-returns
 unfolding placeWord word
-returns c = rw (c .before .places-begin .ensures .0)
+returns c =
+    let at-places-begin : tie.After-places-begin = search in
+    rw (at-places-begin .places-begin .ensures .0)
 
 pub place-word-spec : {M : Type 1} → statement M
 place-word-spec =

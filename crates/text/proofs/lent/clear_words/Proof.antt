@@ -29,7 +29,7 @@ loop-less c = simp length-set (omega arith)
 
 loop-again : tie.Need-loop-again Inv-loop μ-loop
 loop-again c =
-    let at-loop = c .before in
+    let at-loop : tie.At-loop Inv-loop μ-loop = search in
     cleared-more _ _ _ _ (at-loop .loop .inv) (c .loop-test .taken)
 
 same-length : tie.Need-same-length Inv-loop μ-loop
@@ -37,7 +37,7 @@ same-length c = search needs
 
 returns : tie.Need-returns Inv-loop μ-loop
 returns c =
-    let at-loop = c .before in
+    let at-loop : tie.At-loop Inv-loop μ-loop = search in
     cleared-all _ _ _ _ (at-loop .loop .inv) (c .loop-test .left)
 
 pub clear-words-spec : {M : Type 1} → statement M

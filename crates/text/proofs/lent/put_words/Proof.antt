@@ -25,7 +25,9 @@ abbrev μ-loop : tie.MeasureT-loop
 μ-loop words₀ source i₀ words i = length source - i
 
 loop-holds : tie.Need-loop-holds Inv-loop μ-loop
-loop-holds c = record { most = omega arith; long = refl; holds = holds-none (c .before .before .args .words .now) }
+loop-holds c =
+    let start : tie.Start Inv-loop μ-loop = search in
+    record { most = omega arith; long = refl; holds = holds-none (start .args .words .now) }
 
 mul-put-word : tie.Need-mul-put-word Inv-loop μ-loop
 mul-put-word c = search needs
@@ -44,25 +46,30 @@ loop-less c = omega arith
 
 loop-again : tie.Need-loop-again Inv-loop μ-loop
 loop-again c =
-    let at-put-word = c .before .before in
-    let at-loop-test = at-put-word .before .before .before in
-    let at-loop = at-loop-test .before in
-    let at-entry = at-loop .before .before .before in
+    let at-put-word : tie.After-put-word Inv-loop μ-loop = search in
+    let at-loop-test : tie.In-loop Inv-loop μ-loop = search in
+    let at-loop : tie.At-loop Inv-loop μ-loop = search in
+    let at-entry : tie.Start Inv-loop μ-loop = search in
     let I = at-loop .loop .inv in
     let e = at-put-word .put-word .ensures in
     record {
       most = omega (arith, at-loop-test .loop-test .taken);
       long = rw e (simp length-set (I .long));
-      holds = rw (e, add-one (at-loop .loop .i), take-suc (at-entry .args .source .now) (at-loop .loop .i) 0 (at-loop-test .loop-test .taken)) (rw (add-one (at-loop .loop .i)) at (holds-put (at-loop .loop .words) (at-loop .loop .i) (getD (at-entry .args .source .now) (at-loop .loop .i) 0) _ (I .holds)));
+      holds =
+          rw (e, add-one (at-loop .loop .i), take-suc (at-entry .args .source .now) (at-loop .loop .i) 0 (at-loop-test .loop-test .taken))
+          (rw (add-one (at-loop .loop .i)) at (holds-put (at-loop .loop .words) (at-loop .loop .i) (getD (at-entry .args .source .now) (at-loop .loop .i) 0) _
+          (I .holds)));
     }
 
 same-length : tie.Need-same-length Inv-loop μ-loop
-same-length c = c .before .loop .inv .long
+same-length c =
+    let at-loop : tie.At-loop Inv-loop μ-loop = search in
+    at-loop .loop .inv .long
 
 returns : tie.Need-returns Inv-loop μ-loop
 returns c =
-    let at-loop = c .before in
-    let at-entry = at-loop .before .before .before in
+    let at-loop : tie.At-loop Inv-loop μ-loop = search in
+    let at-entry : tie.Start Inv-loop μ-loop = search in
     let I = at-loop .loop .inv in
     let e : at-loop .loop .i ≡ length (at-entry .args .source .now) = omega (arith, I .most, c .loop-test .left) in
     rw (take-length (at-entry .args .source .now)) at (rw e at (I .holds))

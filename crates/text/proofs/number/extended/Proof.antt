@@ -10,7 +10,7 @@ digit-value-requires c κs = search needs
 
 returns : tie.Need-returns
 returns c =
-    let at-digit-value = c .before in
+    let at-digit-value : tie.After-digit-value = search in
     record {
       most = omega arith;
       more = λ h. absurd (omega arith);
@@ -31,9 +31,9 @@ add-more c = search needs
 
 returns-3 : tie.Need-returns-3
 returns-3 c =
-    let at-if2 = c .before in
-    let at-if1 = at-if2 .before in
-    let at-digit-value = at-if1 .before in
+    let at-if2 : tie.Else2 = search in
+    let at-if1 : tie.Else1 = search in
+    let at-digit-value : tie.After-digit-value = search in
     let D = at-digit-value .digit-value in
     let small : D .result < 10 = omega (arith, D .ensures .most, at-if1 .if1 .left) in
     record {
@@ -44,7 +44,7 @@ returns-3 c =
 
 returns-4 : tie.Need-returns-4
 returns-4 c =
-    let at-digit-value = c .before .before .before in
+    let at-digit-value : tie.After-digit-value = search in
     record {
       most = omega arith;
       more = λ h. absurd (omega arith);

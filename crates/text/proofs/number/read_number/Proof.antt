@@ -29,7 +29,7 @@ number-refused-requires c κs = search needs
 
 returns : tie.Need-returns Inv-loop μ-loop
 returns c =
-    let at-if1 = c .before in
+    let at-if1 : tie.Then1 Inv-loop μ-loop = search in
     number-refused (c .number-refused .ensures) (omega (arith, at-if1 .if1 .taken)) (λ root words next h. first-missing _ _ words _ next h (at-if1 .if1 .taken))
 
 shared-slice-read-digit-value : tie.Need-shared-slice-read-digit-value Inv-loop μ-loop
@@ -43,10 +43,10 @@ number-refused-requires-2 c κs = search needs
 
 returns-2 : tie.Need-returns-2 Inv-loop μ-loop
 returns-2 c =
-    let at-if2 = c .before in
-    let at-digit-value = at-if2 .before in
-    let at-if1 = at-digit-value .before .before in
-    let at-entry = at-if1 .before .before in
+    let at-if2 : tie.Then2 Inv-loop μ-loop = search in
+    let at-digit-value : tie.After-digit-value Inv-loop μ-loop = search in
+    let at-if1 : tie.Else1 Inv-loop μ-loop = search in
+    let at-entry : tie.Start Inv-loop μ-loop = search in
     let D = at-digit-value .digit-value in
     let full = at-if2 .if2 .taken in
     number-refused (c .number-refused2 .ensures) (at-entry .pre)
@@ -60,10 +60,10 @@ add-at c = omega arith
 
 loop-holds : tie.Need-loop-holds Inv-loop μ-loop
 loop-holds c =
-    let at-if2 = c .before in
-    let at-digit-value = at-if2 .before in
-    let at-if1 = at-digit-value .before .before in
-    let at-entry = at-if1 .before .before in
+    let at-if2 : tie.Else2 Inv-loop μ-loop = search in
+    let at-digit-value : tie.After-digit-value Inv-loop μ-loop = search in
+    let at-if1 : tie.Else1 Inv-loop μ-loop = search in
+    let at-entry : tie.Start Inv-loop μ-loop = search in
     let D = at-digit-value .digit-value in
     let small : D .result < 10 = omega (arith, D .ensures .most, at-if2 .if2 .left) in
     let inside : at-entry .args .start < length (at-entry .args .file .now) = omega (arith, at-entry .pre, at-if1 .if1 .left) in
@@ -82,9 +82,9 @@ add-t17 c = search needs
 
 returns-3 : tie.Need-returns-3 Inv-loop μ-loop
 returns-3 c =
-    let at-loop-test = c .before .before in
-    let at-loop = at-loop-test .before in
-    let at-ending-byte = at-loop .before in
+    let at-loop-test : tie.In-loop Inv-loop μ-loop = search in
+    let at-loop : tie.At-loop Inv-loop μ-loop = search in
+    let at-ending-byte : tie.After-ending-byte Inv-loop μ-loop = search in
     let I = at-loop .loop .inv in
     record {
       within = omega (arith, at-loop-test .loop-test .taken);
@@ -101,12 +101,12 @@ number-refused-requires-3 c κs = search needs
 
 returns-4 : tie.Need-returns-4 Inv-loop μ-loop
 returns-4 c =
-    let at-if4 = c .before in
-    let at-extended = at-if4 .before in
-    let at-if3 = at-extended .before in
-    let at-loop-test = at-if3 .before .before in
-    let at-loop = at-loop-test .before in
-    let at-ending-byte = at-loop .before in
+    let at-if4 : tie.Then4 Inv-loop μ-loop = search in
+    let at-extended : tie.After-extended Inv-loop μ-loop = search in
+    let at-if3 : tie.Else3 Inv-loop μ-loop = search in
+    let at-loop-test : tie.In-loop Inv-loop μ-loop = search in
+    let at-loop : tie.At-loop Inv-loop μ-loop = search in
+    let at-ending-byte : tie.After-ending-byte Inv-loop μ-loop = search in
     let I = at-loop .loop .inv in
     let E = at-extended .extended in
     let full = at-if4 .if4 .taken in
@@ -125,9 +125,9 @@ loop-less c = omega arith
 
 loop-again : tie.Need-loop-again Inv-loop μ-loop
 loop-again c =
-    let at-extended = c .before in
-    let at-loop-test = at-extended .before .before .before in
-    let at-loop = at-loop-test .before in
+    let at-extended : tie.After-extended Inv-loop μ-loop = search in
+    let at-loop-test : tie.In-loop Inv-loop μ-loop = search in
+    let at-loop : tie.At-loop Inv-loop μ-loop = search in
     let I = at-loop .loop .inv in
     let E = at-extended .extended in
     let fits : E .result < 2 ^ 32 = omega (arith, E .ensures .most, c .if4 .left) in
@@ -144,8 +144,8 @@ number-refused-requires-4 c κs = search needs
 
 returns-5 : tie.Need-returns-5 Inv-loop μ-loop
 returns-5 c =
-    let at-loop-test = c .before in
-    let at-loop = at-loop-test .before in
+    let at-loop-test : tie.After-loop Inv-loop μ-loop = search in
+    let at-loop : tie.At-loop Inv-loop μ-loop = search in
     let I = at-loop .loop .inv in
     number-refused (c .number-refused4 .ensures) (I .near)
     (λ root words next h. digit-missing _ _ words _ _ next (I .here root words next h) (omega (arith, I .near, at-loop-test .loop-test .left)))

@@ -36,7 +36,8 @@ returns-2 c =
     let at-read-names : tie.After-read-names = search in
     let at-cursor-at : tie.After-cursor-at = search in
     let at-entry : tie.Start = search in
-    head-row (rw (at-cursor-at .cursor-at .ensures) at (at-read-names .read-names .ensures)) (at-if1 .if1 .left) (at-read-row .read-row .kept .1 .1 .1 .0 ∙ at-entry .pre) (at-read-row .read-row .ensures)
+    head-row (rw (at-cursor-at .cursor-at .ensures) at (at-read-names .read-names .ensures)) (at-if1 .if1 .left)
+    (at-read-row .read-row .kept .1 .1 .1 .0 ∙ at-entry .pre) (at-read-row .read-row .ensures)
 
 pub read-head-spec : {M : Type 1} → statement M
 read-head-spec =

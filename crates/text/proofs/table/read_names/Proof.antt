@@ -25,21 +25,23 @@ abbrev μ-loop : tie.MeasureT-loop
 
 loop-holds : tie.Need-loop-holds Inv-loop μ-loop
 loop-holds c =
-    let at-entry = c .before .before in
+    let at-entry : tie.Start Inv-loop μ-loop = search in
     let a = at-entry .args in
     record { most = omega arith; near = omega (arith, at-entry .pre .within); here = λ root words next h. rw (add-zero (a .from .at)) h }
 
 add-at : tie.Need-add-at Inv-loop μ-loop
-add-at c = omega (arith, c .before .loop .inv .near)
+add-at c =
+    let at-loop : tie.At-loop Inv-loop μ-loop = search in
+    omega (arith, at-loop .loop .inv .near)
 
 cursor-refused-requires : tie.Need-cursor-refused-requires Inv-loop μ-loop
 cursor-refused-requires c κs = search needs
 
 returns : tie.Need-returns Inv-loop μ-loop
 returns c =
-    let at-if1 = c .before in
-    let at-loop-test = at-if1 .before in
-    let at-loop = at-loop-test .before in
+    let at-if1 : tie.Then1 Inv-loop μ-loop = search in
+    let at-loop-test : tie.In-loop Inv-loop μ-loop = search in
+    let at-loop : tie.At-loop Inv-loop μ-loop = search in
     let I = at-loop .loop .inv in
     names-refused (c .cursor-refused .ensures) (I .near)
     (λ root words next h. name-missing _ _ words _ _ next (at-loop-test .loop-test .taken) (I .here root words next h) (omega (arith, I .near, at-if1 .if1 .taken)))
@@ -55,10 +57,10 @@ cursor-refused-requires-2 c κs = search needs
 
 returns-2 : tie.Need-returns-2 Inv-loop μ-loop
 returns-2 c =
-    let at-if2 = c .before in
-    let at-if1 = at-if2 .before .before .before in
-    let at-loop-test = at-if1 .before in
-    let at-loop = at-loop-test .before in
+    let at-if2 : tie.Then2 Inv-loop μ-loop = search in
+    let at-if1 : tie.Else1 Inv-loop μ-loop = search in
+    let at-loop-test : tie.In-loop Inv-loop μ-loop = search in
+    let at-loop : tie.At-loop Inv-loop μ-loop = search in
     let I = at-loop .loop .inv in
     names-refused (c .cursor-refused2 .ensures) (I .near)
     (λ root words next h. name-other _ _ words _ _ next (at-loop-test .loop-test .taken) (I .here root words next h) (at-if1 .if1 .left) (at-if2 .if2 .taken))
@@ -71,29 +73,33 @@ loop-less c = omega arith
 
 loop-again : tie.Need-loop-again Inv-loop μ-loop
 loop-again c =
-    let at-if1 = c .before .before .before in
-    let at-loop-test = at-if1 .before in
-    let at-loop = at-loop-test .before in
-    let at-entry = at-loop .before .before .before in
+    let at-if1 : tie.Else1 Inv-loop μ-loop = search in
+    let at-loop-test : tie.In-loop Inv-loop μ-loop = search in
+    let at-loop : tie.At-loop Inv-loop μ-loop = search in
+    let at-entry : tie.Start Inv-loop μ-loop = search in
     let I = at-loop .loop .inv in
     let a = at-entry .args in
     record {
       most = omega (arith, at-loop-test .loop-test .taken);
       near = omega (arith, at-if1 .if1 .left);
-      here = λ root words next h. rw (sym (add-assoc (a .from .at) (at-loop .loop .i) 1)) (name-taken _ _ words _ _ next (at-loop-test .loop-test .taken) (I .here root words next h) (at-if1 .if1 .left) (c .if2 .left));
+      here =
+          λ root words next h. rw (sym (add-assoc (a .from .at) (at-loop .loop .i) 1))
+          (name-taken _ _ words _ _ next (at-loop-test .loop-test .taken) (I .here root words next h) (at-if1 .if1 .left) (c .if2 .left));
     }
 
 add-cursor-at : tie.Need-add-cursor-at Inv-loop μ-loop
-add-cursor-at c = omega (arith, c .before .loop .inv .near)
+add-cursor-at c =
+    let at-loop : tie.At-loop Inv-loop μ-loop = search in
+    omega (arith, at-loop .loop .inv .near)
 
 cursor-at-requires : tie.Need-cursor-at-requires Inv-loop μ-loop
 cursor-at-requires c κs = search needs
 
 returns-3 : tie.Need-returns-3 Inv-loop μ-loop
 returns-3 c =
-    let at-loop-test = c .before in
-    let at-loop = at-loop-test .before in
-    let at-entry = at-loop .before .before .before in
+    let at-loop-test : tie.After-loop Inv-loop μ-loop = search in
+    let at-loop : tie.At-loop Inv-loop μ-loop = search in
+    let at-entry : tie.Start Inv-loop μ-loop = search in
     let I = at-loop .loop .inv in
     names-at (c .cursor-at .ensures) (I .near) (omega (arith, at-entry .pre .few))
     (λ root words next h. rw (names-done _ (at-loop .loop .i) next (at-loop-test .loop-test .left)) at (I .here root words next h))

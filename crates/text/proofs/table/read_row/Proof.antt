@@ -21,7 +21,8 @@ record Run (file : List ℕ) (width : ℕ) (words₀ : List ℕ) (at₀ count₀
   long : length words ≡ length words₀
   numbers : List ℕ
   many : length numbers ≡ i
-  here : (root : Form) (before : List ℕ) (next : List ℕ → Form) → At root file words₀ at₀ count₀ before (row width [] next) → At root file words at count (before ++ numbers) (row (width - i) numbers next)
+  here : (root : Form) (before : List ℕ) (next : List ℕ → Form) → At root file words₀ at₀ count₀ before (row width [] next)
+      → At root file words at count (before ++ numbers) (row (width - i) numbers next)
 
 abbrev Inv-loop : tie.InvT-loop
 Inv-loop file width words₀ at₀ count₀ i₀ words at count i = Run file width words₀ at₀ count₀ words at count i
@@ -31,7 +32,7 @@ abbrev μ-loop : tie.MeasureT-loop
 
 loop-holds : tie.Need-loop-holds Inv-loop μ-loop
 loop-holds c =
-    let at-entry = c .before .before in
+    let at-entry : tie.Start Inv-loop μ-loop = search in
     record {
       most = omega arith;
       near = at-entry .pre .within;
@@ -52,17 +53,21 @@ cursor-refused-requires : tie.Need-cursor-refused-requires Inv-loop μ-loop
 cursor-refused-requires c κs = search needs
 
 same-length : tie.Need-same-length Inv-loop μ-loop
-same-length c = c .before .before .before .before .loop .inv .long
+same-length c =
+    let at-loop : tie.At-loop Inv-loop μ-loop = search in
+    at-loop .loop .inv .long
 
 returns : tie.Need-returns Inv-loop μ-loop
 returns c =
-    let at-if1 = c .before in
-    let at-read-number = at-if1 .before in
-    let at-loop-test = at-read-number .before in
-    let at-loop = at-loop-test .before in
+    let at-if1 : tie.Then1 Inv-loop μ-loop = search in
+    let at-read-number : tie.After-read-number Inv-loop μ-loop = search in
+    let at-loop-test : tie.In-loop Inv-loop μ-loop = search in
+    let at-loop : tie.At-loop Inv-loop μ-loop = search in
     let I = at-loop .loop .inv in
     let N = at-read-number .read-number .ensures in
-    row-refused (c .cursor-refused .ensures) (N .within) (λ root before next h. N .stopped root _ _ (rw (row-open _ _ _ next (at-loop-test .loop-test .taken)) at (I .here root before next h .reached)) (at-if1 .if1 .taken))
+    row-refused (c .cursor-refused .ensures) (N .within)
+    (λ root before next h. N .stopped root _ _ (rw (row-open _ _ _ next (at-loop-test .loop-test .taken)) at (I .here root before next h .reached))
+    (at-if1 .if1 .taken))
 
 put-word-requires : tie.Need-put-word-requires Inv-loop μ-loop
 put-word-requires c κs = search needs
@@ -78,11 +83,11 @@ loop-less c = omega arith
 
 loop-again : tie.Need-loop-again Inv-loop μ-loop
 loop-again c =
-    let at-put-word = c .before .before in
-    let at-if1 = at-put-word .before .before in
-    let at-read-number = at-if1 .before in
-    let at-loop-test = at-read-number .before in
-    let at-loop = at-loop-test .before in
+    let at-put-word : tie.After-put-word Inv-loop μ-loop = search in
+    let at-if1 : tie.Else1 Inv-loop μ-loop = search in
+    let at-read-number : tie.After-read-number Inv-loop μ-loop = search in
+    let at-loop-test : tie.In-loop Inv-loop μ-loop = search in
+    let at-loop : tie.At-loop Inv-loop μ-loop = search in
     let I = at-loop .loop .inv in
     let N = at-read-number .read-number .ensures in
     let n = at-read-number .read-number .result .value in
@@ -105,12 +110,14 @@ cursor-at-requires : tie.Need-cursor-at-requires Inv-loop μ-loop
 cursor-at-requires c κs = search needs
 
 same-length-2 : tie.Need-same-length-2 Inv-loop μ-loop
-same-length-2 c = c .before .before .loop .inv .long
+same-length-2 c =
+    let at-loop : tie.At-loop Inv-loop μ-loop = search in
+    at-loop .loop .inv .long
 
 returns-2 : tie.Need-returns-2 Inv-loop μ-loop
 returns-2 c =
-    let at-loop-test = c .before in
-    let at-loop = at-loop-test .before in
+    let at-loop-test : tie.After-loop Inv-loop μ-loop = search in
+    let at-loop : tie.At-loop Inv-loop μ-loop = search in
     let I = at-loop .loop .inv in
     row-at (c .cursor-at .ensures) (I .near) (I .few) (λ root before next h.
     let a = I .here root before next h in

@@ -28,7 +28,7 @@ abbrev μ-loop : tie.MeasureT-loop
 
 loop-holds : tie.Need-loop-holds Inv-loop μ-loop
 loop-holds c =
-    let at-entry = c .before .before in
+    let at-entry : tie.Start Inv-loop μ-loop = search in
     record {
       most = omega arith;
       near = record { within = at-entry .pre .within; few = at-entry .pre .few };
@@ -41,22 +41,22 @@ cursor-at-requires c κs = search needs
 
 read-row-requires : tie.Need-read-row-requires Inv-loop μ-loop
 read-row-requires c κs =
-    let at-cursor-at = c .before in
-    let at-loop = at-cursor-at .before .before in
+    let at-cursor-at : tie.After-cursor-at Inv-loop μ-loop = search in
+    let at-loop : tie.At-loop Inv-loop μ-loop = search in
     rw (at-cursor-at .cursor-at .ensures) (at-loop .loop .inv .near)
 
 same-length : tie.Need-same-length Inv-loop μ-loop
 same-length c =
-    let at-read-row = c .before .before .before in
-    let at-loop = at-read-row .before .before .before .before in
+    let at-read-row : tie.After-read-row Inv-loop μ-loop = search in
+    let at-loop : tie.At-loop Inv-loop μ-loop = search in
     at-read-row .read-row .kept .1 .1 .1 .0 ∙ at-loop .loop .inv .long
 
 returns : tie.Need-returns Inv-loop μ-loop
 returns c =
-    let at-read-row = c .before .before .before in
-    let at-cursor-at = at-read-row .before .before in
-    let at-loop-test = at-cursor-at .before in
-    let at-loop = at-loop-test .before in
+    let at-read-row : tie.After-read-row Inv-loop μ-loop = search in
+    let at-cursor-at : tie.After-cursor-at Inv-loop μ-loop = search in
+    let at-loop-test : tie.In-loop Inv-loop μ-loop = search in
+    let at-loop : tie.At-loop Inv-loop μ-loop = search in
     let I = at-loop .loop .inv in
     let R = rw (at-cursor-at .cursor-at .ensures) at (at-read-row .read-row .ensures) in
     record {
@@ -75,10 +75,10 @@ loop-less c = omega arith
 
 loop-again : tie.Need-loop-again Inv-loop μ-loop
 loop-again c =
-    let at-read-row = c .before .before .before in
-    let at-cursor-at = at-read-row .before .before in
-    let at-loop-test = at-cursor-at .before in
-    let at-loop = at-loop-test .before in
+    let at-read-row : tie.After-read-row Inv-loop μ-loop = search in
+    let at-cursor-at : tie.After-cursor-at Inv-loop μ-loop = search in
+    let at-loop-test : tie.In-loop Inv-loop μ-loop = search in
+    let at-loop : tie.At-loop Inv-loop μ-loop = search in
     let I = at-loop .loop .inv in
     let R = rw (at-cursor-at .cursor-at .ensures) at (at-read-row .read-row .ensures) in
     record {
@@ -95,12 +95,14 @@ cursor-at-requires-2 : tie.Need-cursor-at-requires-2 Inv-loop μ-loop
 cursor-at-requires-2 c κs = search needs
 
 same-length-2 : tie.Need-same-length-2 Inv-loop μ-loop
-same-length-2 c = c .before .before .loop .inv .long
+same-length-2 c =
+    let at-loop : tie.At-loop Inv-loop μ-loop = search in
+    at-loop .loop .inv .long
 
 returns-2 : tie.Need-returns-2 Inv-loop μ-loop
 returns-2 c =
-    let at-loop-test = c .before in
-    let at-loop = at-loop-test .before in
+    let at-loop-test : tie.After-loop Inv-loop μ-loop = search in
+    let at-loop : tie.At-loop Inv-loop μ-loop = search in
     let I = at-loop .loop .inv in
     part-at (c .cursor-at2 .ensures) (I .near .within) (I .near .few)
     (λ root before next h. rw (rows-done _ _ (at-loop .loop .i) next (at-loop-test .loop-test .left)) at (I .here root before next h))

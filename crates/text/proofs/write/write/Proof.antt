@@ -16,9 +16,9 @@ same-length c = search needs
 
 returns : tie.Need-returns
 returns c =
-    let at-clear-bytes = c .before .before in
-    let at-if1 = at-clear-bytes .before .before in
-    let at-write-result = at-if1 .before .before .before in
+    let at-clear-bytes : tie.After-clear-bytes = search in
+    let at-if1 : tie.Then1 = search in
+    let at-write-result : tie.After-write-result = search in
     let W = at-write-result .write-result in
     let h = W .ensures [] (holds-none _) in (
       over-answer _ _ (W .last .0) _ _ (W .kept .0) h (at-if1 .if1 .taken),
@@ -33,9 +33,9 @@ same-length-2 c = search needs
 
 returns-2 : tie.Need-returns-2
 returns-2 c =
-    let at-clear-bytes2 = c .before .before in
-    let at-if1 = at-clear-bytes2 .before .before in
-    let at-write-result = at-if1 .before .before .before in
+    let at-clear-bytes2 : tie.After-clear-bytes2 = search in
+    let at-if1 : tie.Else1 = search in
+    let at-write-result : tie.After-write-result = search in
     let W = at-write-result .write-result in
     let h = W .ensures [] (holds-none _) in (
       fits-answer _ _ (W .last .0) _ _ (W .kept .0) h (at-if1 .if1 .left),

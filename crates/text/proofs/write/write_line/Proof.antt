@@ -40,9 +40,9 @@ shared-slice-read-write-number c = search needs
 
 write-number-requires : tie.Need-write-number-requires Inv-loop μ-loop
 write-number-requires c κs =
-    let at-loop-test = c .before .before in
-    let at-loop = at-loop-test .before in
-    let at-entry = at-loop .before .before .before in
+    let at-loop-test : tie.In-loop Inv-loop μ-loop = search in
+    let at-loop : tie.At-loop Inv-loop μ-loop = search in
+    let at-entry : tie.Start Inv-loop μ-loop = search in
     omega (arith, at-entry .pre, at-loop .loop .inv .room, at-loop-test .loop-test .taken)
 
 add-ending-byte : tie.Need-add-ending-byte Inv-loop μ-loop
@@ -56,13 +56,21 @@ put-byte-requires c κs = search needs
 
 add-at : tie.Need-add-at Inv-loop μ-loop
 add-at c =
-    let at-write-number = c .before .before .before .before .before .before .before in
-    let at-shared-slice-known2 = at-write-number .before in
-    let at-loop-test = at-shared-slice-known2 .before .before in
-    let at-loop = at-loop-test .before in
-    let at-entry = at-loop .before .before .before in
+    let at-out : tie.After-out Inv-loop μ-loop = search in
+    let at-write-number : tie.After-write-number Inv-loop μ-loop = search in
+    let at-shared-slice-known2 : tie.After-shared-slice-known2 Inv-loop μ-loop = search in
+    let at-loop-test : tie.In-loop Inv-loop μ-loop = search in
+    let at-loop : tie.At-loop Inv-loop μ-loop = search in
+    let at-entry : tie.Start Inv-loop μ-loop = search in
     let n = getD (at-entry .args .numbers .now) (at-loop .loop .i) 0 in
-    omega (arith, at-entry .pre, at-loop .loop .inv .room, at-loop-test .loop-test .taken, at-write-number .write-number .ensures .long, decimal-ten n (at-shared-slice-known2 .shared-slice-known2 .given (at-loop .loop .i) .fits))
+    omega (
+      arith,
+      at-entry .pre,
+      at-loop .loop .inv .room,
+      at-loop-test .loop-test .taken,
+      at-write-number .write-number .ensures .long,
+      decimal-ten n (at-shared-slice-known2 .shared-slice-known2 .given (at-loop .loop .i) .fits),
+    )
 
 add-i : tie.Need-add-i Inv-loop μ-loop
 add-i c = search needs
@@ -72,13 +80,13 @@ loop-less c = omega arith
 
 loop-again : tie.Need-loop-again Inv-loop μ-loop
 loop-again c =
-    let at-put-byte = c .before .before in
-    let at-ending-byte = at-put-byte .before in
-    let at-write-number = at-ending-byte .before .before .before .before in
-    let at-shared-slice-known2 = at-write-number .before in
-    let at-loop-test = at-shared-slice-known2 .before .before in
-    let at-loop = at-loop-test .before in
-    let at-entry = at-loop .before .before .before in
+    let at-put-byte : tie.After-put-byte Inv-loop μ-loop = search in
+    let at-ending-byte : tie.After-ending-byte Inv-loop μ-loop = search in
+    let at-write-number : tie.After-write-number Inv-loop μ-loop = search in
+    let at-shared-slice-known2 : tie.After-shared-slice-known2 Inv-loop μ-loop = search in
+    let at-loop-test : tie.In-loop Inv-loop μ-loop = search in
+    let at-loop : tie.At-loop Inv-loop μ-loop = search in
+    let at-entry : tie.Start Inv-loop μ-loop = search in
     let I = at-loop .loop .inv in
     let numbers = at-entry .args .numbers .now in
     let n = getD numbers (at-loop .loop .i) 0 in
@@ -92,12 +100,14 @@ loop-again c =
     }
 
 same-length : tie.Need-same-length Inv-loop μ-loop
-same-length c = c .before .loop .inv .long
+same-length c =
+    let at-loop : tie.At-loop Inv-loop μ-loop = search in
+    at-loop .loop .inv .long
 
 returns : tie.Need-returns Inv-loop μ-loop
 returns c =
-    let at-loop = c .before in
-    let at-entry = at-loop .before .before .before in
+    let at-loop : tie.At-loop Inv-loop μ-loop = search in
+    let at-entry : tie.Start Inv-loop μ-loop = search in
     let I = at-loop .loop .inv in
     let e = sym (append-nil (I .text)) ∙ rw (line-done (at-entry .args .numbers .now) (at-loop .loop .i) (c .loop-test .left)) at (I .rest) in
     rw e at (I .wrote)

@@ -26,12 +26,14 @@ abbrev μ-loop : tie.MeasureT-loop
 μ-loop out₀ start names i₀ out i = length names - i
 
 loop-holds : tie.Need-loop-holds Inv-loop μ-loop
-loop-holds c = record { most = omega arith; long = refl; wrote = rw (add-zero (c .before .before .args .start)) (wrote-none _ _) }
+loop-holds c =
+    let start : tie.Start Inv-loop μ-loop = search in
+    record { most = omega arith; long = refl; wrote = rw (add-zero (start .args .start)) (wrote-none _ _) }
 
 add-put-byte : tie.Need-add-put-byte Inv-loop μ-loop
 add-put-byte c =
-    let at-loop = c .before .before in
-    let at-entry = at-loop .before .before .before in
+    let at-loop : tie.At-loop Inv-loop μ-loop = search in
+    let at-entry : tie.Start Inv-loop μ-loop = search in
     omega (arith, at-entry .pre, at-loop .loop .inv .most)
 
 shared-slice-read-put-byte : tie.Need-shared-slice-read-put-byte Inv-loop μ-loop
@@ -48,33 +50,42 @@ loop-less c = omega arith
 
 loop-again : tie.Need-loop-again Inv-loop μ-loop
 loop-again c =
-    let at-put-byte = c .before .before in
-    let at-loop-test = at-put-byte .before .before .before in
-    let at-loop = at-loop-test .before in
-    let at-entry = at-loop .before .before .before in
+    let at-put-byte : tie.After-put-byte Inv-loop μ-loop = search in
+    let at-loop-test : tie.In-loop Inv-loop μ-loop = search in
+    let at-loop : tie.At-loop Inv-loop μ-loop = search in
+    let at-entry : tie.Start Inv-loop μ-loop = search in
     let I = at-loop .loop .inv in
     let e = at-put-byte .put-byte .ensures in
     let names = at-entry .args .names .now in
     record {
       most = omega (arith, at-loop-test .loop-test .taken);
       long = rw e (simp length-set (I .long));
-      wrote = rw (e, add-one (at-loop .loop .i), take-suc names (at-loop .loop .i) 0 (at-loop-test .loop-test .taken), ← (add-one (at-loop .loop .i)), sym (add-assoc (at-entry .args .start) (at-loop .loop .i) 1))
+      wrote =
+          rw (
+            e,
+            add-one (at-loop .loop .i),
+            take-suc names (at-loop .loop .i) 0 (at-loop-test .loop-test .taken),
+            ← (add-one (at-loop .loop .i)),
+            sym (add-assoc (at-entry .args .start) (at-loop .loop .i) 1),
+          )
           (wrote-then (I .wrote) (wrote-byte _ _ _));
     }
 
 add-result : tie.Need-add-result Inv-loop μ-loop
 add-result c =
-    let at-loop = c .before in
-    let at-entry = at-loop .before .before .before in
+    let at-loop : tie.At-loop Inv-loop μ-loop = search in
+    let at-entry : tie.Start Inv-loop μ-loop = search in
     omega (arith, at-entry .pre, at-loop .loop .inv .most)
 
 same-length : tie.Need-same-length Inv-loop μ-loop
-same-length c = c .before .loop .inv .long
+same-length c =
+    let at-loop : tie.At-loop Inv-loop μ-loop = search in
+    at-loop .loop .inv .long
 
 returns : tie.Need-returns Inv-loop μ-loop
 returns c =
-    let at-loop = c .before in
-    let at-entry = at-loop .before .before .before in
+    let at-loop : tie.At-loop Inv-loop μ-loop = search in
+    let at-entry : tie.Start Inv-loop μ-loop = search in
     let I = at-loop .loop .inv in
     let names = at-entry .args .names .now in
     let e : take (at-loop .loop .i) names ≡ names = take-all (at-loop .loop .i) names (c .loop-test .left) in

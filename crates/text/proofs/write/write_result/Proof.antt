@@ -22,8 +22,8 @@ same-length c = search needs
 
 returns : tie.Need-returns
 returns c =
-    let at-write-line = c .before .before .before in
-    let at-write-names = at-write-line .before .before .before .before .before in
+    let at-write-line : tie.After-write-line = search in
+    let at-write-names : tie.After-write-names = search in
     rw (printed-refused _ _ _ _ _ (c .if1 .taken)) (wrote-all (wrote-then (at-write-names .write-names .ensures) (at-write-line .write-line .ensures)))
 
 slice-aggregate-write-names-2 : tie.Need-slice-aggregate-write-names-2
@@ -31,9 +31,9 @@ slice-aggregate-write-names-2 c = search needs
 
 write-names-requires-2 : tie.Need-write-names-requires-2
 write-names-requires-2 c κs =
-    let at-write-line = c .before .before .before .before .before in
-    let at-write-names = at-write-line .before .before .before .before .before in
-    let at-entry = at-write-names .before .before .before .before .before in
+    let at-write-line : tie.After-write-line = search in
+    let at-write-names : tie.After-write-names = search in
+    let at-entry : tie.Start = search in
     let f = at-entry .fits in
     let a = at-entry .args in
     let l = line-most (a .code ∷ a .at ∷ a .rows ∷ a .visits ∷ []) (f .code .fits, (f .at .fits, (f .rows .fits, (f .visits .fits, tt)))) in
@@ -47,12 +47,12 @@ same-length-2 c = search needs
 
 returns-2 : tie.Need-returns-2
 returns-2 c =
-    let at-write-rows = c .before .before in
-    let at-write-names2 = at-write-rows .before .before .before .before in
-    let at-if1 = at-write-names2 .before .before .before in
-    let at-write-line = at-if1 .before .before .before in
-    let at-write-names = at-write-line .before .before .before .before .before in
-    let at-entry = at-write-names .before .before .before .before .before in
+    let at-write-rows : tie.After-write-rows = search in
+    let at-write-names2 : tie.After-write-names2 = search in
+    let at-if1 : tie.Else1 = search in
+    let at-write-line : tie.After-write-line = search in
+    let at-write-names : tie.After-write-names = search in
+    let at-entry : tie.Start = search in
     rw (printed-accepted _ _ _ _ (at-entry .args .tree .now) (at-if1 .if1 .left))
     (wrote-some (at-write-names .write-names .ensures) (wrote-some (at-write-line .write-line .ensures) (wrote-some (at-write-names2 .write-names2 .ensures) (at-write-rows .write-rows .ensures))))
 

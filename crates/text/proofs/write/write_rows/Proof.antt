@@ -29,23 +29,30 @@ abbrev μ-loop : tie.MeasureT-loop
 
 loop-holds : tie.Need-loop-holds Inv-loop μ-loop
 loop-holds c =
-    let rows = length (c .before .before .args .tree .now) / 6 in
+    let start : tie.Start Inv-loop μ-loop = search in
+    let rows = length (start .args .tree .now) / 6 in
     record { most = omega arith; long = refl; text = []; rest = rw (sub-zero rows) refl; wrote = wrote-none _ _ }
 
 same-length : tie.Need-same-length Inv-loop μ-loop
-same-length c = c .before .before .loop .inv .long
+same-length c =
+    let at-loop : tie.At-loop Inv-loop μ-loop = search in
+    at-loop .loop .inv .long
 
 returns : tie.Need-returns Inv-loop μ-loop
 returns c =
-    let at-loop = c .before .before in
+    let at-loop : tie.At-loop Inv-loop μ-loop = search in
     let I = at-loop .loop .inv in
     wrote-part (I .text) _ _ (I .wrote) (I .rest) (λ p. absurd (omega (arith, p, c .if1 .taken)))
 
 mul-first : tie.Need-mul-first Inv-loop μ-loop
-mul-first c = omega (arith, c .before .loop-test .taken)
+mul-first c =
+    let in-loop : tie.In-loop Inv-loop μ-loop = search in
+    omega (arith, in-loop .loop-test .taken)
 
 add-end : tie.Need-add-end Inv-loop μ-loop
-add-end c = omega (arith, c .before .loop-test .taken)
+add-end c =
+    let in-loop : tie.In-loop Inv-loop μ-loop = search in
+    omega (arith, in-loop .loop-test .taken)
 
 mul-write-line : tie.Need-mul-write-line Inv-loop μ-loop
 mul-write-line c = search needs
@@ -61,10 +68,10 @@ part-write-line-end c = search needs
 
 write-line-requires : tie.Need-write-line-requires Inv-loop μ-loop
 write-line-requires c κs =
-    let at-if1 = c .before .before in
-    let at-loop-test = at-if1 .before in
-    let at-loop = at-loop-test .before in
-    let at-entry = at-loop .before .before .before in
+    let at-if1 : tie.Else1 Inv-loop μ-loop = search in
+    let at-loop-test : tie.In-loop Inv-loop μ-loop = search in
+    let at-loop : tie.At-loop Inv-loop μ-loop = search in
+    let at-entry : tie.Start Inv-loop μ-loop = search in
     let tree = at-entry .args .tree .now in
     let i = at-loop .loop .i in
     let six : i * 6 + 6 - i * 6 ≡ 6 = omega arith in
@@ -79,10 +86,10 @@ loop-less c = omega arith
 
 loop-again : tie.Need-loop-again Inv-loop μ-loop
 loop-again c =
-    let at-write-line = c .before .before in
-    let at-loop-test = at-write-line .before .before .before .before in
-    let at-loop = at-loop-test .before in
-    let at-entry = at-loop .before .before .before in
+    let at-write-line : tie.After-write-line Inv-loop μ-loop = search in
+    let at-loop-test : tie.In-loop Inv-loop μ-loop = search in
+    let at-loop : tie.At-loop Inv-loop μ-loop = search in
+    let at-entry : tie.Start Inv-loop μ-loop = search in
     let I = at-loop .loop .inv in
     let tree = at-entry .args .tree .now in
     let i = at-loop .loop .i in
@@ -96,11 +103,13 @@ loop-again c =
     }
 
 same-length-2 : tie.Need-same-length-2 Inv-loop μ-loop
-same-length-2 c = c .before .loop .inv .long
+same-length-2 c =
+    let at-loop : tie.At-loop Inv-loop μ-loop = search in
+    at-loop .loop .inv .long
 
 returns-2 : tie.Need-returns-2 Inv-loop μ-loop
 returns-2 c =
-    let at-loop = c .before in
+    let at-loop : tie.At-loop Inv-loop μ-loop = search in
     let I = at-loop .loop .inv in
     wrote-part (I .text) _ _ (I .wrote) (I .rest) (λ p. tree-done _ (at-loop .loop .i) _ (c .loop-test .left))
 

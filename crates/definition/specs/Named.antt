@@ -1,0 +1,65 @@
+-- M-107 and M-102, of the tree alone: the number of a continue counts the loops around it up to its own; and in the language entry every Labeled jump
+-- names a label around it, and an Unlabeled break stands directly in its loop. proofs/Labels proves it of every tree that the build makes.
+use mathlib.Core.Path.{_≡_}
+use Prim.Native.Nat.{ℕ, zero, suc}
+use mathlib.Core.List.{List, [], _∷_}
+use mathlib.Core.Option.{Option, none, some}
+use mathlib.Core.Bool.{Bool, true, false}
+use Rattle.definition.specs.Tree.{Kind, implicit, labeled, unlabeled, Statement, INSTR, IF, SWITCH, DOWHILE, WHILE, FOR, FOROF, FORIN, LABEL, TRY, SCOPE, RETURN, THROW, BREAK, CONTINUE, Statements, done, _▸_, Cases, no-cases, CASE}
+use Rattle.definition.specs.Around.{Rule, rust, language, Enclosing, a-loop, a-switch, another, switchInside, namesStatement, namesLoop}
+
+-- "A jump that comes out Labeled must name the label of a statement around it"; and a bare break leaves "the nearest loop or switch", which is a loop
+abbrev pub BreakNamed : (switchInside named : Bool) → Kind → Type 0
+BreakNamed switch named implicit = Unit {0}
+BreakNamed switch named labeled = named ≡ true
+BreakNamed switch named unlabeled = switch ≡ false
+
+-- "and a continue the label of the very loop it resolved to"
+abbrev pub ContinueNamed : (named : Bool) → Kind → Type 0
+ContinueNamed named implicit = Unit {0}
+ContinueNamed named labeled = named ≡ true
+ContinueNamed named unlabeled = Unit {0}
+
+abbrev pub InLanguage : Rule → Type 0 → Type 0
+InLanguage rust claim = Unit {0}
+InLanguage language claim = claim
+
+-- a loop has the label, or none: its fallthrough is the target
+abbrev pub LabelOr : Option ℕ → (target : ℕ) → Type 0
+LabelOr none target = Unit {0}
+LabelOr (some label) target = label ≡ target
+
+-- "the very loop it resolved to": so many loops are between
+abbrev pub VeryLoop : List Enclosing → (loops target : ℕ) → Type 0
+VeryLoop [] loops target = ⊥
+VeryLoop (a-loop label ∷ outer) zero target = LabelOr label target
+VeryLoop (a-loop label ∷ outer) (suc loops) target = VeryLoop outer loops target
+VeryLoop (a-switch label ∷ outer) loops target = VeryLoop outer loops target
+VeryLoop (another label ∷ outer) loops target = VeryLoop outer loops target
+
+-- within these statements, the innermost first
+unfoldable mutual
+  pub NamedStatement : Rule → List Enclosing → Statement → Type 0
+  NamedStatement rule around (INSTR id lvalue span value) = Unit {0}
+  NamedStatement rule around (IF test id label consequent present alternate) = Named rule (another label ∷ around) consequent × Named rule (another label ∷ around) alternate
+  NamedStatement rule around (SWITCH test id label cases) = NamedCases rule (a-switch label ∷ around) cases
+  NamedStatement rule around (DOWHILE id label body test) = Named rule (a-loop label ∷ around) body
+  NamedStatement rule around (WHILE id label test body) = Named rule (a-loop label ∷ around) body
+  NamedStatement rule around (FOR id label init test update body) = Named rule (a-loop label ∷ around) body
+  NamedStatement rule around (FOROF id label span init test body) = Named rule (a-loop label ∷ around) body
+  NamedStatement rule around (FORIN id label span init body) = Named rule (a-loop label ∷ around) body
+  NamedStatement rule around (LABEL id label body) = Named rule (another label ∷ around) body
+  NamedStatement rule around (TRY id label binding body handler) = Named rule (another label ∷ around) body × Named rule (another label ∷ around) handler
+  NamedStatement rule around (SCOPE pruned scope body) = Named rule (another none ∷ around) body
+  NamedStatement rule around (RETURN value id) = Unit {0}
+  NamedStatement rule around (THROW value id) = Unit {0}
+  NamedStatement rule around (BREAK target id kind loops) = InLanguage rule (BreakNamed (switchInside around) (namesStatement around target) kind)
+  NamedStatement rule around (CONTINUE target id kind loops) = VeryLoop around loops target × InLanguage rule (ContinueNamed (namesLoop around loops target) kind)
+
+  pub Named : Rule → List Enclosing → Statements → Type 0
+  Named rule around done = Unit {0}
+  Named rule around (statement ▸ rest) = NamedStatement rule around statement × Named rule around rest
+
+  pub NamedCases : Rule → List Enclosing → Cases → Type 0
+  NamedCases rule around no-cases = Unit {0}
+  NamedCases rule around (CASE test body rest) = Named rule around body × NamedCases rule around rest

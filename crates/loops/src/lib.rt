@@ -1,0 +1,493 @@
+// Loops, whose values are made before their body, and value terminals as statements.
+use control::ControlFlowTarget;
+use control::is_blocked;
+use plan::Change;
+use plan::NONE;
+use plan::Plan;
+use plan::Position;
+use plan::Stage;
+use plan::advance;
+use plan::fallthrough::narrow;
+use plan::fallthrough::scheduled_at;
+use plan::fallthrough::unless_scheduled;
+use plan::fallthrough::unless_unreachable;
+use plan::frame_of;
+use plan::leave;
+use plan::refuse;
+use plan::traverse_block;
+use rows::INSTR;
+use rows::put;
+use table::columns::code_at;
+use table::columns::span_at;
+use table::terminals::do_while_at;
+use table::terminals::for_at;
+use table::terminals::for_in_at;
+use table::terminals::for_of_at;
+use table::terminals::while_at;
+use value::result::Tally;
+use value::result::ValueResult;
+use value::sequence::value_block_result_to_sequence;
+use value::walk::visit_value_block;
+use value::walk::visit_value_block_terminal;
+ghost use mathlib.Core.Path.{_≡_};
+ghost use mathlib.Core.Option.{some};
+ghost use Prim.Native.Nat.{_-_, _≤_, _<_};
+ghost use lib.Dec.{eqb};
+ghost use Rattle.table.specs.Words.{blockCount, codeAt};
+ghost use Rattle.table.specs.Table.{tableOf, terminalAt, unlessNone};
+ghost use Rattle.definition.specs.Value.{visitValueBlock};
+ghost use Rattle.control.specs.Contract.{continueScheduled};
+ghost use Rattle.plan.specs.Planned.{Entered, PlannedBare};
+ghost use Rattle.plan.specs.Plans.{brieflyIf};
+ghost use Rattle.loops.specs.Loops.{PlannedRows, plainMade, flatMade, forValues, forOfValues, noValues, valuesOf, Makes, Spent, MakesMore, MakesTested, loopTarget, scheduleLoop, enteringLoop, loopTaken, continuesAt, valueFallthrough};
+
+// What a loop's values came to: a refusal, or the rows and visits then.
+pub struct Values {
+    pub code: u32,
+    pub at: u32,
+    pub rows: u32,
+    pub visits: u32,
+}
+
+// A loop's blocks: its fallthrough, its label, where it continues, and its loop block.
+pub struct Loop {
+    pub fallthrough: u32,
+    pub label: u32,
+    pub continue_block: u32,
+    pub loop_block: u32,
+}
+
+fn values_of(result: ValueResult) -> Values
+    ensures { λ r. ⌜ r ≡ valuesOf result ⌝ }
+{
+    let tally = result.tally;
+    Values {
+        code: result.code,
+        at: result.at,
+        rows: tally.rows,
+        visits: tally.visits,
+    }
+}
+
+fn no_values(p: Position) -> Values
+    ensures { λ r. ⌜ r ≡ noValues p ⌝ }
+{
+    Values {
+        code: 0,
+        at: 0,
+        rows: p.rows,
+        visits: p.visits,
+    }
+}
+
+// One value more, as it is.
+fn plain_value(words: &[u32], tree: &mut [u32], p: Position, before: Values, block: u32) -> Values
+    requires { ⌜ Entered (now words) p ⌝ }
+    requires { ⌜ block < blockCount (now words) ⌝ }
+    requires { ⌜ Spent (noValues p) 6 before ⌝ }
+    ensures { λ r. ⌜ MakesMore p (plainMade (now (words .entry)) p block) before (now (tree .entry)) r (now (tree .exit)) ⌝ }
+{
+    if before.code != 0 {
+        return before;
+    }
+    let span = span_at(words, p.block);
+    let tally = Tally {
+        rows: before.rows,
+        visits: before.visits,
+    };
+    values_of(visit_value_block(words, tree, tally, 127 - p.depth, block, NONE, span))
+}
+
+// One value more, flattened: init, and ForOf's test.
+fn flat_value(words: &[u32], tree: &mut [u32], p: Position, before: Values, block: u32) -> Values
+    requires { ⌜ Entered (now words) p ⌝ }
+    requires { ⌜ block < blockCount (now words) ⌝ }
+    requires { ⌜ Spent (noValues p) 6 before ⌝ }
+    ensures { λ r. ⌜ MakesMore p (flatMade (now (words .entry)) p block) before (now (tree .entry)) r (now (tree .exit)) ⌝ }
+{
+    if before.code != 0 {
+        return before;
+    }
+    let span = span_at(words, p.block);
+    let tally = Tally {
+        rows: before.rows,
+        visits: before.visits,
+    };
+    let result = visit_value_block(words, tree, tally, 127 - p.depth, block, NONE, span);
+    if result.code != 0 {
+        return values_of(result);
+    }
+    let rows = value_block_result_to_sequence(words, tree, result, span);
+    let after = result.tally;
+    Values {
+        code: 0,
+        at: 0,
+        rows: rows,
+        visits: after.visits,
+    }
+}
+
+fn loop_target(fallthrough: u32, continue_block: u32, loop_block: u32) -> ControlFlowTarget
+    requires { ⌜ fallthrough < 1024 ⌝ }
+    requires { ⌜ «continue_block» < 1024 ⌝ }
+    requires { ⌜ «loop_block» < 1024 ⌝ }
+    ensures { λ r. ⌜ r ≡ loopTarget fallthrough «continue_block» «loop_block» ⌝ }
+{
+    ControlFlowTarget::Loop {
+        block: narrow(fallthrough),
+        continue_block: narrow(continue_block),
+        loop_block: narrow(loop_block),
+    }
+}
+
+// What `schedule` will ask of the loop: refused 15, before its values are made.
+fn continues_scheduled(
+    scheduled: &[bool; 1024],
+    fallthrough: u32,
+    continue_block: u32,
+    loop_block: u32,
+) -> bool
+    requires { ⌜ fallthrough < 1024 ⌝ }
+    requires { ⌜ «continue_block» < 1024 ⌝ }
+    requires { ⌜ «loop_block» < 1024 ⌝ }
+    ensures { λ r. ⌜ r ≡ continueScheduled (now (scheduled .entry)) fallthrough «continue_block» ⌝ }
+{
+    is_blocked(
+        scheduled,
+        loop_target(fallthrough, continue_block, loop_block),
+    )
+}
+
+fn loop_is_taken<'a>(
+    scheduled: &'a [bool; 1024],
+    catch_handlers: &'a [bool; 1024],
+    loop_block: u32,
+    fallthrough: u32,
+) -> bool
+    requires { ⌜ «loop_block» < 1024 ⌝ }
+    ensures { λ r. ⌜ r ≡ loopTaken (now (scheduled .entry)) (now («catch_handlers» .entry)) «loop_block» fallthrough ⌝ }
+{
+    if loop_block == fallthrough {
+        return true;
+    }
+    scheduled_at(scheduled, catch_handlers, loop_block)
+}
+
+fn schedule_loop(blocks: Loop) -> Change
+    requires { ⌜ blocks .fallthrough < 1024 ⌝ }
+    requires { ⌜ blocks .«continue_block» < 1024 ⌝ }
+    requires { ⌜ blocks .«loop_block» < 1024 ⌝ }
+    ensures { λ r. ⌜ r ≡ scheduleLoop blocks ⌝ }
+{
+    let target = loop_target(blocks.fallthrough, blocks.continue_block, blocks.loop_block);
+    Change::Schedule(target)
+}
+
+// The body of a loop whose values are made.
+fn enter_loop<'a>(
+    scheduled: &'a [bool; 1024],
+    catch_handlers: &'a [bool; 1024],
+    p: Position,
+    values: Values,
+    blocks: Loop,
+) -> Plan
+    requires { ⌜ p .depth < 128 ⌝ }
+    requires { ⌜ blocks .fallthrough < 1024 ⌝ }
+    requires { ⌜ blocks .«continue_block» < 1024 ⌝ }
+    requires { ⌜ blocks .«loop_block» < 1024 ⌝ }
+    ensures { λ r. ⌜ r ≡ enteringLoop (eqb (values .code) 0) (loopTaken (now (scheduled .entry)) (now («catch_handlers» .entry)) (blocks .«loop_block») (blocks .fallthrough)) p values blocks ⌝ }
+{
+    let after = advance(p, p.count, values.rows, values.visits, Stage::Visit);
+    if values.code != 0 {
+        return refuse(after, values.code, values.at);
+    }
+    if loop_is_taken(
+        scheduled,
+        catch_handlers,
+        blocks.loop_block,
+        blocks.fallthrough,
+    ) {
+        return refuse(after, 16, p.block);
+    }
+    let frame = frame_of(p, blocks.label, 1);
+    traverse_block(
+        blocks.loop_block,
+        frame,
+        p.depth + 1,
+        values.rows,
+        values.visits,
+        schedule_loop(blocks),
+    )
+}
+
+pub fn visit_do_while<'a>(
+    words: &[u32],
+    scheduled: &'a [bool; 1024],
+    catch_handlers: &'a [bool; 1024],
+    p: Position,
+) -> Plan
+    requires { ⌜ Entered (now words) p ⌝ }
+    requires { ⌜ codeAt (now words) (p .block) ≡ 8 ⌝ }
+    ensures { λ r. ⌜ PlannedBare (now (words .entry)) (now (scheduled .entry)) (now («catch_handlers» .entry)) p r ⌝ }
+{
+    let terminal = do_while_at(words, p.block);
+    if continues_scheduled(
+        scheduled,
+        terminal.fallthrough,
+        terminal.test,
+        terminal.loop_block,
+    ) {
+        return refuse(p, 15, terminal.test);
+    }
+    let label = unless_scheduled(scheduled, catch_handlers, terminal.fallthrough);
+    let blocks = Loop {
+        fallthrough: terminal.fallthrough,
+        label: label,
+        continue_block: terminal.test,
+        loop_block: terminal.loop_block,
+    };
+    enter_loop(scheduled, catch_handlers, p, no_values(p), blocks)
+}
+
+pub fn visit_while<'a>(
+    words: &[u32],
+    tree: &mut [u32],
+    scheduled: &'a [bool; 1024],
+    catch_handlers: &'a [bool; 1024],
+    p: Position,
+) -> Plan
+    requires { ⌜ Entered (now words) p ⌝ }
+    requires { ⌜ codeAt (now words) (p .block) ≡ 9 ⌝ }
+    ensures { λ r. ⌜ PlannedRows (now (words .entry)) (now (scheduled .entry)) (now («catch_handlers» .entry)) p (now (tree .entry)) r (now (tree .exit)) ⌝ }
+{
+    let terminal = while_at(words, p.block);
+    if code_at(words, terminal.fallthrough) == 0 {
+        return refuse(p, 10, terminal.fallthrough);
+    }
+    if continues_scheduled(
+        scheduled,
+        terminal.fallthrough,
+        terminal.test,
+        terminal.loop_block,
+    ) {
+        return refuse(p, 15, terminal.test);
+    }
+    let label = unless_unreachable(words, scheduled, catch_handlers, terminal.fallthrough);
+    let values = plain_value(words, tree, p, no_values(p), terminal.test);
+    let blocks = Loop {
+        fallthrough: terminal.fallthrough,
+        label: label,
+        continue_block: terminal.test,
+        loop_block: terminal.loop_block,
+    };
+    enter_loop(scheduled, catch_handlers, p, values, blocks)
+}
+
+// A For continues at its update, if it has one.
+fn for_continues_at(test: u32, update: u32) -> u32
+    ensures { λ r. ⌜ r ≡ continuesAt (eqb update 65535) test update ⌝ }
+{
+    if update == NONE {
+        return test;
+    }
+    update
+}
+
+fn init_and_test(words: &[u32], tree: &mut [u32], p: Position, init: u32, test: u32) -> Values
+    requires { ⌜ Entered (now words) p ⌝ }
+    requires { ⌜ init < blockCount (now words) ⌝ }
+    requires { ⌜ test < blockCount (now words) ⌝ }
+    ensures { λ r. ⌜ MakesTested (now (words .entry)) p init test (now (tree .entry)) r (now (tree .exit)) ⌝ }
+{
+    let first = flat_value(words, tree, p, no_values(p), init);
+    plain_value(words, tree, p, first, test)
+}
+
+fn for_values(
+    words: &[u32],
+    tree: &mut [u32],
+    p: Position,
+    init: u32,
+    test: u32,
+    update: u32,
+) -> Values
+    requires { ⌜ Entered (now words) p ⌝ }
+    requires { ⌜ init < blockCount (now words) ⌝ }
+    requires { ⌜ test < blockCount (now words) ⌝ }
+    requires { ⌜ ((update ≡ 65535 → ⊥) → update < blockCount (now words)) ⌝ }
+    ensures { λ r. ⌜ Makes p (forValues (now (words .entry)) p init test update) (now (tree .entry)) r (now (tree .exit)) ⌝ }
+{
+    let tested = init_and_test(words, tree, p, init, test);
+    if update == NONE {
+        return tested;
+    }
+    plain_value(words, tree, p, tested, update)
+}
+
+pub fn visit_for<'a>(
+    words: &[u32],
+    tree: &mut [u32],
+    scheduled: &'a [bool; 1024],
+    catch_handlers: &'a [bool; 1024],
+    p: Position,
+) -> Plan
+    requires { ⌜ Entered (now words) p ⌝ }
+    requires { ⌜ codeAt (now words) (p .block) ≡ 10 ⌝ }
+    ensures { λ r. ⌜ PlannedRows (now (words .entry)) (now (scheduled .entry)) (now («catch_handlers» .entry)) p (now (tree .entry)) r (now (tree .exit)) ⌝ }
+{
+    let terminal = for_at(words, p.block);
+    let continue_block = for_continues_at(terminal.test, terminal.update);
+    if continues_scheduled(
+        scheduled,
+        terminal.fallthrough,
+        continue_block,
+        terminal.loop_block,
+    ) {
+        return refuse(p, 15, continue_block);
+    }
+    let label = unless_scheduled(scheduled, catch_handlers, terminal.fallthrough);
+    let values = for_values(
+        words,
+        tree,
+        p,
+        terminal.init,
+        terminal.test,
+        terminal.update,
+    );
+    let blocks = Loop {
+        fallthrough: terminal.fallthrough,
+        label: label,
+        continue_block: continue_block,
+        loop_block: terminal.loop_block,
+    };
+    enter_loop(scheduled, catch_handlers, p, values, blocks)
+}
+
+fn for_of_values(words: &[u32], tree: &mut [u32], p: Position, init: u32, test: u32) -> Values
+    requires { ⌜ Entered (now words) p ⌝ }
+    requires { ⌜ init < blockCount (now words) ⌝ }
+    requires { ⌜ test < blockCount (now words) ⌝ }
+    ensures { λ r. ⌜ Makes p (forOfValues (now (words .entry)) p init test) (now (tree .entry)) r (now (tree .exit)) ⌝ }
+{
+    let first = flat_value(words, tree, p, no_values(p), init);
+    flat_value(words, tree, p, first, test)
+}
+
+pub fn visit_for_of<'a>(
+    words: &[u32],
+    tree: &mut [u32],
+    scheduled: &'a [bool; 1024],
+    catch_handlers: &'a [bool; 1024],
+    p: Position,
+) -> Plan
+    requires { ⌜ Entered (now words) p ⌝ }
+    requires { ⌜ codeAt (now words) (p .block) ≡ 11 ⌝ }
+    ensures { λ r. ⌜ PlannedRows (now (words .entry)) (now (scheduled .entry)) (now («catch_handlers» .entry)) p (now (tree .entry)) r (now (tree .exit)) ⌝ }
+{
+    let terminal = for_of_at(words, p.block);
+    if continues_scheduled(
+        scheduled,
+        terminal.fallthrough,
+        terminal.init,
+        terminal.loop_block,
+    ) {
+        return refuse(p, 15, terminal.init);
+    }
+    let label = unless_scheduled(scheduled, catch_handlers, terminal.fallthrough);
+    let values = for_of_values(words, tree, p, terminal.init, terminal.test);
+    let blocks = Loop {
+        fallthrough: terminal.fallthrough,
+        label: label,
+        continue_block: terminal.init,
+        loop_block: terminal.loop_block,
+    };
+    enter_loop(scheduled, catch_handlers, p, values, blocks)
+}
+
+pub fn visit_for_in<'a>(
+    words: &[u32],
+    tree: &mut [u32],
+    scheduled: &'a [bool; 1024],
+    catch_handlers: &'a [bool; 1024],
+    p: Position,
+) -> Plan
+    requires { ⌜ Entered (now words) p ⌝ }
+    requires { ⌜ codeAt (now words) (p .block) ≡ 12 ⌝ }
+    ensures { λ r. ⌜ PlannedRows (now (words .entry)) (now (scheduled .entry)) (now («catch_handlers» .entry)) p (now (tree .entry)) r (now (tree .exit)) ⌝ }
+{
+    let terminal = for_in_at(words, p.block);
+    if continues_scheduled(
+        scheduled,
+        terminal.fallthrough,
+        terminal.init,
+        terminal.loop_block,
+    ) {
+        return refuse(p, 15, terminal.init);
+    }
+    let label = unless_scheduled(scheduled, catch_handlers, terminal.fallthrough);
+    let values = flat_value(words, tree, p, no_values(p), terminal.init);
+    let blocks = Loop {
+        fallthrough: terminal.fallthrough,
+        label: label,
+        continue_block: terminal.init,
+        loop_block: terminal.loop_block,
+    };
+    enter_loop(scheduled, catch_handlers, p, values, blocks)
+}
+
+fn schedule_briefly(label: u32) -> Change
+    requires { ⌜ label ≤ 65535 ⌝ }
+    ensures { λ r. ⌜ r ≡ brieflyIf (eqb label 65535) label ⌝ }
+{
+    if label == NONE {
+        return Change::Nothing;
+    }
+    Change::ScheduleBriefly(ControlFlowTarget::If {
+        block: narrow(label),
+    })
+}
+
+// A Logical, Ternary, Optional or Sequence with that fallthrough, as a statement: an INSTR with the terminal's own span.
+pub fn visit_value<'a>(
+    words: &[u32],
+    tree: &mut [u32],
+    scheduled: &'a [bool; 1024],
+    catch_handlers: &'a [bool; 1024],
+    p: Position,
+    fallthrough: u32,
+) -> Plan
+    requires { ⌜ Entered (now words) p ⌝ }
+    requires { ⌜ valueFallthrough (terminalAt (tableOf (now words)) (p .block)) ≡ some fallthrough ⌝ }
+    ensures { λ r. ⌜ PlannedRows (now (words .entry)) (now (scheduled .entry)) (now («catch_handlers» .entry)) p (now (tree .entry)) r (now (tree .exit)) ⌝ }
+{
+    let label = unless_scheduled(scheduled, catch_handlers, fallthrough);
+    let span = span_at(words, p.block);
+    let tally = Tally {
+        rows: p.rows,
+        visits: p.visits,
+    };
+    let result = visit_value_block_terminal(words, tree, tally, 127 - p.depth, p.block);
+    let after = result.tally;
+    if result.code != 0 {
+        let position = advance(p, p.count, after.rows, after.visits, Stage::Visit);
+        return refuse(position, result.code, result.at);
+    }
+    let rows = put(
+        tree,
+        after.rows,
+        INSTR,
+        result.id,
+        result.place,
+        span.from,
+        span.to,
+        0,
+    );
+    leave(
+        label,
+        p.depth,
+        p.count + 1,
+        rows,
+        after.visits,
+        schedule_briefly(label),
+    )
+}

@@ -1,0 +1,321 @@
+// What a turn of the walk decides: a Plan. A planner sees numbers and sets, never the Context's stack; the driver applies its plan.
+pub mod fallthrough;
+
+use control::ControlFlowTarget;
+ghost use mathlib.Core.Path.{_≡_};
+ghost use lib.Dec.{eqb};
+ghost use Rattle.plan.specs.Plans.{advanced, noFrame, openFrame, second, withCounts, refusing, stageAfter, leaving, nesting, choosingNext, poppingNext, accepting, withHandler, withScope};
+
+// No block: paper 01's 65,535.
+pub const NONE: u32 = 65535;
+
+// What the next turn does: visit a block, resume the statement whose list has ended, take a Switch's next case, or take an entry off the stack.
+pub enum Stage {
+    Visit,
+    Ended,
+    Choose,
+    Pop,
+    Halt,
+}
+
+// Where the walk stands: under `depth` frames, with `count` statements of the list in hand and `rows` rows out.
+pub struct Position {
+    pub block: u32,
+    pub depth: u32,
+    pub count: u32,
+    pub rows: u32,
+    pub visits: u32,
+    pub stage: Stage,
+}
+
+// A statement of which a nested list is awaited. `label` is the fallthrough, NONE where it is not taken; `entries` of the stack are its own.
+pub struct Frame {
+    pub block: u32,
+    pub label: u32,
+    pub entries: u32,
+    pub left: u32,
+    pub built: u32,
+    pub count: u32,
+    pub second: bool,
+}
+
+// What a turn does to the stack. A value statement's entry is pushed and popped in one turn: no visit of its value looks at the stack.
+pub enum Change {
+    Nothing,
+    Schedule(ControlFlowTarget),
+    ScheduleBriefly(ControlFlowTarget),
+    Unschedule,
+}
+
+// The next position, or a refusal, if `code` is not 0. With `keep` the frame is the innermost one then. `handler` and `scope` are marked, unless NONE.
+pub struct Plan {
+    pub code: u32,
+    pub at: u32,
+    pub position: Position,
+    pub frame: Frame,
+    pub keep: bool,
+    pub handler: u32,
+    pub scope: u32,
+    pub change: Change,
+}
+
+// Further on in the same block, at the same depth.
+pub fn advance(p: Position, count: u32, rows: u32, visits: u32, stage: Stage) -> Position
+    ensures { λ r. ⌜ r ≡ advanced p count rows visits stage ⌝ }
+{
+    Position {
+        block: p.block,
+        depth: p.depth,
+        count: count,
+        rows: rows,
+        visits: visits,
+        stage: stage,
+    }
+}
+
+pub fn no_frame() -> Frame
+    ensures { λ r. ⌜ r ≡ noFrame ⌝ }
+{
+    Frame {
+        block: 0,
+        label: NONE,
+        entries: 0,
+        left: 0,
+        built: 0,
+        count: 0,
+        second: false,
+    }
+}
+
+pub fn frame_of(p: Position, label: u32, entries: u32) -> Frame
+    ensures { λ r. ⌜ r ≡ openFrame p label entries ⌝ }
+{
+    Frame {
+        block: p.block,
+        label: label,
+        entries: entries,
+        left: 0,
+        built: 0,
+        count: p.count,
+        second: false,
+    }
+}
+
+pub fn second_part(frame: Frame) -> Frame
+    ensures { λ r. ⌜ r ≡ second frame ⌝ }
+{
+    Frame {
+        block: frame.block,
+        label: frame.label,
+        entries: frame.entries,
+        left: frame.left,
+        built: frame.built,
+        count: frame.count,
+        second: true,
+    }
+}
+
+pub fn with_counts(frame: Frame, entries: u32, left: u32, built: u32) -> Frame
+    ensures { λ r. ⌜ r ≡ withCounts frame entries left built ⌝ }
+{
+    Frame {
+        block: frame.block,
+        label: frame.label,
+        entries: entries,
+        left: left,
+        built: built,
+        count: frame.count,
+        second: frame.second,
+    }
+}
+
+pub fn refuse(p: Position, code: u32, at: u32) -> Plan
+    ensures { λ r. ⌜ r ≡ refusing p code at ⌝ }
+{
+    let frame = no_frame();
+    Plan {
+        code: code,
+        at: at,
+        position: p,
+        frame: frame,
+        keep: false,
+        handler: NONE,
+        scope: NONE,
+        change: Change::Nothing,
+    }
+}
+
+fn stage_after(next: u32) -> Stage
+    ensures { λ r. ⌜ r ≡ stageAfter (eqb next 65535) ⌝ }
+{
+    if next == NONE {
+        return Stage::Ended;
+    }
+    Stage::Visit
+}
+
+// On to the block at the same depth, if there is one: else the list has ended.
+pub fn leave(next: u32, depth: u32, count: u32, rows: u32, visits: u32, change: Change) -> Plan
+    ensures { λ r. ⌜ r ≡ leaving next depth count rows visits change ⌝ }
+{
+    let stage = stage_after(next);
+    let position = Position {
+        block: next,
+        depth: depth,
+        count: count,
+        rows: rows,
+        visits: visits,
+        stage: stage,
+    };
+    let frame = no_frame();
+    Plan {
+        code: 0,
+        at: 0,
+        position: position,
+        frame: frame,
+        keep: false,
+        handler: NONE,
+        scope: NONE,
+        change: change,
+    }
+}
+
+// A list nested in the statement of the frame, which is the innermost at that depth.
+pub fn traverse_block(
+    block: u32,
+    frame: Frame,
+    depth: u32,
+    rows: u32,
+    visits: u32,
+    change: Change,
+) -> Plan
+    ensures { λ r. ⌜ r ≡ nesting block frame depth rows visits 65535 65535 change ⌝ }
+{
+    let position = Position {
+        block: block,
+        depth: depth,
+        count: 0,
+        rows: rows,
+        visits: visits,
+        stage: Stage::Visit,
+    };
+    Plan {
+        code: 0,
+        at: 0,
+        position: position,
+        frame: frame,
+        keep: true,
+        handler: NONE,
+        scope: NONE,
+        change: change,
+    }
+}
+
+// A Switch's next case, of the frame, which is the innermost at that depth.
+pub fn choose(frame: Frame, depth: u32, rows: u32, visits: u32, change: Change) -> Plan
+    ensures { λ r. ⌜ r ≡ choosingNext frame depth rows visits change ⌝ }
+{
+    let position = Position {
+        block: 0,
+        depth: depth,
+        count: 0,
+        rows: rows,
+        visits: visits,
+        stage: Stage::Choose,
+    };
+    Plan {
+        code: 0,
+        at: 0,
+        position: position,
+        frame: frame,
+        keep: true,
+        handler: NONE,
+        scope: NONE,
+        change: change,
+    }
+}
+
+// One entry more comes off, of the frame, which is the innermost at that depth.
+pub fn pop(frame: Frame, depth: u32, rows: u32, visits: u32) -> Plan
+    ensures { λ r. ⌜ r ≡ poppingNext frame depth rows visits ⌝ }
+{
+    let position = Position {
+        block: 0,
+        depth: depth,
+        count: 0,
+        rows: rows,
+        visits: visits,
+        stage: Stage::Pop,
+    };
+    Plan {
+        code: 0,
+        at: 0,
+        position: position,
+        frame: frame,
+        keep: true,
+        handler: NONE,
+        scope: NONE,
+        change: Change::Unschedule,
+    }
+}
+
+// The root list has ended, and its BLOCK row is out.
+pub fn accept(rows: u32, visits: u32) -> Plan
+    ensures { λ r. ⌜ r ≡ accepting rows visits ⌝ }
+{
+    let position = Position {
+        block: 0,
+        depth: 0,
+        count: 0,
+        rows: rows,
+        visits: visits,
+        stage: Stage::Halt,
+    };
+    let frame = no_frame();
+    Plan {
+        code: 0,
+        at: 0,
+        position: position,
+        frame: frame,
+        keep: false,
+        handler: NONE,
+        scope: NONE,
+        change: Change::Nothing,
+    }
+}
+
+pub fn with_handler(plan: Plan, handler: u32) -> Plan
+    ensures { λ r. ⌜ r ≡ withHandler plan handler ⌝ }
+{
+    let position = plan.position;
+    let frame = plan.frame;
+    let change = plan.change;
+    Plan {
+        code: plan.code,
+        at: plan.at,
+        position: position,
+        frame: frame,
+        keep: plan.keep,
+        handler: handler,
+        scope: plan.scope,
+        change: change,
+    }
+}
+
+pub fn with_scope(plan: Plan, scope: u32) -> Plan
+    ensures { λ r. ⌜ r ≡ withScope plan scope ⌝ }
+{
+    let position = plan.position;
+    let frame = plan.frame;
+    let change = plan.change;
+    Plan {
+        code: plan.code,
+        at: plan.at,
+        position: position,
+        frame: frame,
+        keep: plan.keep,
+        handler: plan.handler,
+        scope: scope,
+        change: change,
+    }
+}
