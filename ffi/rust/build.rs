@@ -34,6 +34,9 @@ fn main() {
         link(&folder, "writer");
         link(&folder, "convert");
     }
+    if env::var_os("CARGO_FEATURE_TREE_RUN").is_some() {
+        link(&folder, "runner");
+    }
 }
 
 fn link(folder: &Path, name: &str) {

@@ -67,10 +67,10 @@ agree-on : (t : Table) (s : Statements) (answers : Answers) (e : Completion) →
     → LeadsOn t [] (t .entry) answers (runStatements s answers .rows) e (runStatements s answers .left) → Agree t s answers
 unfolding treeRun reasonOf
 agree-on t s answers normal h (b, k, p) = absurd (none-some k)
-agree-on t s answers (break none) h (b, k, p) = absurd (none-some k)
-agree-on t s answers (break (some x)) h (b, k, p) = absurd (none-some k)
-agree-on t s answers (continue none) h (b, k, p) = absurd (none-some k)
-agree-on t s answers (continue (some x)) h (b, k, p) = absurd (none-some k)
+agree-on t s answers (break none j) h (b, k, p) = absurd (none-some k)
+agree-on t s answers (break (some x) j) h (b, k, p) = absurd (none-some k)
+agree-on t s answers (continue none j) h (b, k, p) = absurd (none-some k)
+agree-on t s answers (continue (some x) j) h (b, k, p) = absurd (none-some k)
 agree-on t s answers (stop r) h p = record {
   steps = p .steps;
   performed = runStatements s answers .rows;

@@ -6,10 +6,11 @@ use mathlib.Core.List.{List, [], _∷_, _++_, append-nil, append-assoc}
 use mathlib.Core.Option.{Option}
 use mathlib.Core.Bool.{Bool, true, false}
 use lib.ListN.{length}
-use Rattle.definition.specs.Tree.{Value, Statement, INSTR, IF, SWITCH, DOWHILE, WHILE, FOR, FOROF, FORIN, LABEL, TRY, SCOPE, RETURN, THROW, BREAK, CONTINUE, Statements, done, _▸_}
+use Rattle.definition.specs.Tree.{Value, Statement, INSTR, IF, SWITCH, DOWHILE, WHILE, FOR, FOROF, FORIN, LABEL, TRY, SCOPE, RETURN, THROW, BREAK, CONTINUE, Statements, done, _▸_, Cases, no-cases, CASE}
 use Rattle.definition.specs.Run.{Answers, no-answer-left}
 use Rattle.definition.specs.Completion.{Completion, normal, break, continue, stop, labelSet, loopContinues, breakable, labelled}
-use Rattle.definition.specs.TreeRun.{Completed, completed, completing, prefix, thenOn, then, choose, performs, afterBody, whileRounds, whileLoop, loop, runStatement, runStatements}
+use Rattle.definition.specs.TreeRun.{Completed, completed, completing, prefix, thenOn, then, choose, performs, afterBody, whileRounds, whileLoop, forLoop, doWhileLoop, performsUpdate, loop}
+use Rattle.definition.specs.TreeRun.{switchEnds, entryAt, choosePlace, runStatement, runStatements, entriesFrom}
 
 -- ---- answers are taken from the front, and none is given back
 
@@ -31,7 +32,7 @@ shorter : (taken left : Answers) → length left ≤ length (taken ++ left)
 shorter [] left = le-refl (length left)
 shorter (x ∷ taken) left = le-step (shorter taken left)
 
-taken-shorter : {a b : Answers} → Taken a b → length b ≤ length a
+pub taken-shorter : {a b : Answers} → Taken a b → length b ≤ length a
 taken-shorter {a} {b} p = subst (λ (z : Answers). length b ≤ length z) (p .whole) (shorter (p .taken) b)
 
 abbrev Takes : (Answers → Completed) → Type 0
@@ -46,8 +47,8 @@ choose-takes y n p q (suc m ∷ a) = taken-one (suc m) (p a)
 then-on-takes : (e : Completion) (o : Completed) (k : Answers → Completed) → Takes k → Taken (o .left) (thenOn e o k .left)
 unfolding thenOn prefix completed
 then-on-takes normal o k p = p (o .left)
-then-on-takes (break x) o k p = taken-none (o .left)
-then-on-takes (continue x) o k p = taken-none (o .left)
+then-on-takes (break x i) o k p = taken-none (o .left)
+then-on-takes (continue x i) o k p = taken-none (o .left)
 then-on-takes (stop r) o k p = taken-none (o .left)
 
 then-takes : (a : Answers) (o : Completed) (k : Answers → Completed) → Taken a (o .left) → Takes k → Taken a (then o k .left)
@@ -72,8 +73,41 @@ rounds-takes l test body p (suc n) (suc m ∷ a) =
     taken-one (suc m) (taken-both (p a)
     (after-takes (loopContinues (body a .completion) l) (body a) (λ a′. whileRounds l test body n a′) (rounds-takes l test body p n)))
 
+round-takes : (l test : List ℕ) (body again : Answers → Completed) → Takes body → Takes again
+    → Takes (λ a. prefix test (choose (λ a′. afterBody l (body a′) again) (λ a′. completed [] normal a′) a))
+unfolding choose prefix completed afterBody
+round-takes l test body again p q [] = taken-none []
+round-takes l test body again p q (zero ∷ a) = taken-one zero (taken-none a)
+round-takes l test body again p q (suc m ∷ a) = taken-one (suc m) (taken-both (p a) (after-takes (loopContinues (body a .completion) l) (body a) again q))
+
+for-takes : (l test update : List ℕ) (body : Answers → Completed) → Takes body → Takes (forLoop l test update body)
+unfolding forLoop whileLoop
+for-takes l test update body p =
+    round-takes l test body (λ a. whileRounds l (update ++ test) body (length a) a) p (λ a. rounds-takes l (update ++ test) body p (length a) a)
+
+do-while-takes : (l test : List ℕ) (body : Answers → Completed) → Takes body → Takes (doWhileLoop l test body)
+unfolding doWhileLoop whileLoop afterBody
+do-while-takes l test body p a =
+    taken-both (p a)
+    (after-takes (loopContinues (body a .completion) l) (body a) (λ a′. whileRounds l test body (length a′) a′) (λ a′. rounds-takes l test body p (length a′) a′))
+
+abbrev AllTake : List (Answers → Completed) → Type 0
+AllTake [] = Unit {0}
+AllTake (entry ∷ entries) = Takes entry × AllTake entries
+
+entry-takes : (es : List (Answers → Completed)) → AllTake es → (k : ℕ) → Takes (entryAt es k)
+unfolding entryAt completed
+entry-takes [] p k a = taken-none a
+entry-takes (e ∷ es) (p, q) zero a = p a
+entry-takes (e ∷ es) (p, q) (suc k) a = entry-takes es q k a
+
+place-takes : (es : List (Answers → Completed)) → AllTake es → Takes (choosePlace es)
+unfolding choosePlace completed
+place-takes es p [] = taken-none []
+place-takes es p (k ∷ a) = taken-one k (entry-takes es p k a)
+
 mutual
-  unfolding runStatement completed completing loop whileLoop
+  unfolding runStatement completed completing prefix loop whileLoop switchEnds
 
   takes-statement : (s : Statement) (a : Answers) → Taken a (runStatement s a .left)
   takes-statement (INSTR i l s v) a = taken-none a
@@ -81,10 +115,11 @@ mutual
       choose-takes (λ a′. runStatements c a′) (λ a′. runStatements x a′) (λ a′. takes-statements c a′) (λ a′. takes-statements x a′) a
   takes-statement (IF t i l c false x) a =
       choose-takes (λ a′. runStatements c a′) (λ a′. completed [] normal a′) (λ a′. takes-statements c a′) (λ a′. taken-none a′) a
-  takes-statement (SWITCH t i l cs) a = taken-none a
-  takes-statement (DOWHILE i l b t) a = taken-none a
+  takes-statement (SWITCH t i l cs) a =
+      place-takes (entriesFrom cs (λ a′. completed [] normal a′) []) (takes-entries cs (λ a′. completed [] normal a′) (λ a′. taken-none a′) [] tt) a
+  takes-statement (DOWHILE i l b t) a = do-while-takes (labelSet l) (performs t) (λ a′. runStatements b a′) (λ a′. takes-statements b a′) a
   takes-statement (WHILE i l t b) a = rounds-takes (labelSet l) (performs t) (λ a′. runStatements b a′) (λ a′. takes-statements b a′) (length a) a
-  takes-statement (FOR i l n t u b) a = taken-none a
+  takes-statement (FOR i l n t u b) a = for-takes (labelSet l) (performs t) (performsUpdate u) (λ a′. runStatements b a′) (λ a′. takes-statements b a′) a
   takes-statement (FOROF i l s n t b) a = taken-none a
   takes-statement (FORIN i l s n b) a = taken-none a
   takes-statement (LABEL i l b) a = takes-statements b a
@@ -98,6 +133,12 @@ mutual
   pub takes-statements : (s : Statements) (a : Answers) → Taken a (runStatements s a .left)
   takes-statements done a = taken-none a
   takes-statements (s ▸ r) a = then-takes a (runStatement s a) (λ a′. runStatements r a′) (takes-statement s a) (λ a′. takes-statements r a′)
+
+  takes-entries : (cs : Cases) (after : Answers → Completed) → Takes after → (later : List (Answers → Completed)) → AllTake later → AllTake (entriesFrom cs after later)
+  takes-entries no-cases after p later q = q
+  takes-entries (CASE x b cs) after p later q =
+      takes-entries cs (λ a′. then (runStatements b a′) after) (λ a′. then-takes a′ (runStatements b a′) after (takes-statements b a′) p)
+      ((λ a′. then (runStatements b a′) after) ∷ later) ((λ a′. then-takes a′ (runStatements b a′) after (takes-statements b a′) p), q)
 
 -- ---- the rounds of a WHILE
 

@@ -146,17 +146,17 @@ module _ (t : Table) where
 
   -- a Labeled break goes to its block, whatever the stack made of its kind
   pub break-label : {scopes : Flags} {F : List Frame} {S : List Entry} → Framed scopes F S → (g : ℕ) (c : Resolution) → breakTargetFrom S g true 0 ≡ some c
-      → has scopes g ≡ false → target F (jumpCompletion labeled g break) ≡ some g
+      → has scopes g ≡ false → (i : ℕ) → target F (jumpCompletion labeled g i break) ≡ some g
   unfolding jumpCompletion
-  break-label p g c e n = break-at p g true 0 c n e
+  break-label p g c e n i = break-at p g true 0 c n e
 
   -- the break's row goes to its block
   pub break-target : {scopes : Flags} {F : List Frame} {S : List Entry} → Framed scopes F S → (g : ℕ) (c : Resolution) → breakTargetFrom S g true 0 ≡ some c
-      → has scopes g ≡ false → (k : Kind) → c .kind ≡ k → target F (jumpCompletion k g break) ≡ some g
+      → has scopes g ≡ false → (k : Kind) → c .kind ≡ k → (i : ℕ) → target F (jumpCompletion k g i break) ≡ some g
   unfolding jumpCompletion
-  break-target p g c e n implicit k = break-exit p g true 0 c e k
-  break-target p g c e n labeled k = break-label p g c e n
-  break-target p g c e n unlabeled k = break-out p g true c e k
+  break-target p g c e n implicit k i = break-exit p g true 0 c e k
+  break-target p g c e n labeled k i = break-label p g c e n i
+  break-target p g c e n unlabeled k i = break-out p g true c e k
 
   -- ---- continue
 
@@ -254,9 +254,9 @@ module _ (t : Table) where
         (λ h. absurd (z (ap (λ (y : Resolution). y .target) h))) (λ h. continue-at p g false (1 + above) c h n))
 
     pub continue-target : {scopes : Flags} {F : List Frame} {S : List Entry} → Framed scopes F S → (g : ℕ) (f : ℕ) (k : Kind) (n : ℕ)
-        → continueTargetFrom S g true 0 ≡ some (record { target = f; kind = k; loops = n }) → target F (jumpCompletion k f continue) ≡ some g
+        → continueTargetFrom S g true 0 ≡ some (record { target = f; kind = k; loops = n }) → (i : ℕ) → target F (jumpCompletion k f i continue) ≡ some g
     unfolding jumpCompletion
-    continue-target p g f implicit n e = continue-exit p g true 0 (record { target = f; kind = implicit; loops = n }) e refl
-    continue-target p g f labeled n e =
+    continue-target p g f implicit n e i = continue-exit p g true 0 (record { target = f; kind = implicit; loops = n }) e refl
+    continue-target p g f labeled n e i =
         continue-at p g true 0 (record { target = f; kind = labeled; loops = n }) e (continue-of p g true 0 (record { target = f; kind = labeled; loops = n }) e)
-    continue-target p g f unlabeled n e = continue-out p g true (record { target = f; kind = unlabeled; loops = n }) e refl
+    continue-target p g f unlabeled n e i = continue-out p g true (record { target = f; kind = unlabeled; loops = n }) e refl

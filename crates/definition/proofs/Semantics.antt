@@ -55,10 +55,10 @@ continueAt (in-loop l k ∷ F) t = cond (eqb l t) (some k) (continueAt F t)
 
 abbrev pub target : List Frame → Completion → Option ℕ
 target F normal = exit F
-target F (break none) = breakOut F
-target F (break (some t)) = breakAt F t
-target F (continue none) = continueOut F
-target F (continue (some t)) = continueAt F t
+target F (break none j) = breakOut F
+target F (break (some t) j) = breakAt F t
+target F (continue none j) = continueOut F
+target F (continue (some t) j) = continueAt F t
 target F (stop r) = none
 
 -- ---- the block run
@@ -83,8 +83,8 @@ module _ (t : Table) where
   -- a completion leads to a block, with the answers left, or it is a stop
   abbrev pub LeadsOn : List Frame → ℕ → Answers → List ℕ → Completion → Answers → Type 0
   LeadsOn F b answers rows normal left = (b′ : ℕ) × (exit F ≡ some b′) × Onward b answers rows b′ left
-  LeadsOn F b answers rows (break x) left = (b′ : ℕ) × (target F (break x) ≡ some b′) × Onward b answers rows b′ left
-  LeadsOn F b answers rows (continue x) left = (b′ : ℕ) × (target F (continue x) ≡ some b′) × Onward b answers rows b′ left
+  LeadsOn F b answers rows (break x j) left = (b′ : ℕ) × (target F (break x j) ≡ some b′) × Onward b answers rows b′ left
+  LeadsOn F b answers rows (continue x j) left = (b′ : ℕ) × (target F (continue x j) ≡ some b′) × Onward b answers rows b′ left
   LeadsOn F b answers rows (stop r) left = Stops b answers rows left r
 
   abbrev pub Leads : List Frame → ℕ → Answers → Completed → Type 0
@@ -93,8 +93,8 @@ module _ (t : Table) where
   -- the same of a statement whose normal completion leads to the block f
   abbrev pub EndsOn : List Frame → ℕ → ℕ → Answers → List ℕ → Completion → Answers → Type 0
   EndsOn F f b answers rows normal left = Onward b answers rows f left
-  EndsOn F f b answers rows (break x) left = LeadsOn F b answers rows (break x) left
-  EndsOn F f b answers rows (continue x) left = LeadsOn F b answers rows (continue x) left
+  EndsOn F f b answers rows (break x j) left = LeadsOn F b answers rows (break x j) left
+  EndsOn F f b answers rows (continue x j) left = LeadsOn F b answers rows (continue x j) left
   EndsOn F f b answers rows (stop r) left = Stops b answers rows left r
 
   abbrev pub Ends : List Frame → ℕ → ℕ → Answers → Completed → Type 0
@@ -148,15 +148,15 @@ module _ (t : Table) where
   leads-after : {b : ℕ} {answers : Answers} {rows : List ℕ} {b₁ : ℕ} {a₁ : Answers} (F : List Frame) (rows₁ : List ℕ) (e : Completion) (left : Answers)
       → Onward b answers rows b₁ a₁ → LeadsOn F b₁ a₁ rows₁ e left → LeadsOn F b answers (rows ++ rows₁) e left
   leads-after F rows₁ normal left p (b′, h, q) = (b′, h, onward-onward p q)
-  leads-after F rows₁ (break x) left p (b′, h, q) = (b′, h, onward-onward p q)
-  leads-after F rows₁ (continue x) left p (b′, h, q) = (b′, h, onward-onward p q)
+  leads-after F rows₁ (break x j) left p (b′, h, q) = (b′, h, onward-onward p q)
+  leads-after F rows₁ (continue x j) left p (b′, h, q) = (b′, h, onward-onward p q)
   leads-after F rows₁ (stop r) left p q = p .and-on rows₁ left r q
 
   ends-after : {b : ℕ} {answers : Answers} {rows : List ℕ} {b₁ : ℕ} {a₁ : Answers} (F : List Frame) (f : ℕ) (rows₁ : List ℕ) (e : Completion) (left : Answers)
       → Onward b answers rows b₁ a₁ → EndsOn F f b₁ a₁ rows₁ e left → EndsOn F f b answers (rows ++ rows₁) e left
   ends-after F f rows₁ normal left p q = onward-onward p q
-  ends-after F f rows₁ (break x) left p (b′, h, q) = (b′, h, onward-onward p q)
-  ends-after F f rows₁ (continue x) left p (b′, h, q) = (b′, h, onward-onward p q)
+  ends-after F f rows₁ (break x j) left p (b′, h, q) = (b′, h, onward-onward p q)
+  ends-after F f rows₁ (continue x j) left p (b′, h, q) = (b′, h, onward-onward p q)
   ends-after F f rows₁ (stop r) left p q = p .and-on rows₁ left r q
 
   -- the same over a whole part
@@ -179,8 +179,8 @@ module _ (t : Table) where
       → EndsOn F f b answers rows e left → ((a : Answers) → Leads F f a (k a)) → Leads F b answers (thenOn e (completed rows e left) k)
   unfolding thenOn completed
   then-on F f b answers rows normal left k p q = leads-prefix F (k left) p (q left)
-  then-on F f b answers rows (break x) left k p q = p
-  then-on F f b answers rows (continue x) left k p q = p
+  then-on F f b answers rows (break x j) left k p q = p
+  then-on F f b answers rows (continue x j) left k p q = p
   then-on F f b answers rows (stop r) left k p q = p
 
   pub leads-then : (F : List Frame) (f b : ℕ) (answers : Answers) (o : Completed) (k : Answers → Completed)
@@ -194,20 +194,20 @@ module _ (t : Table) where
   at {b} {answers} {rows} {left} x y e p = subst (λ (z : ℕ). Onward b answers rows z left) (sym (some-eq e)) p
 
   -- a label
-  label-break : (F : List Frame) (f b : ℕ) (answers : Answers) (rows : List ℕ) (x : ℕ) (left : Answers) (y : Bool) (b′ : ℕ)
+  label-break : (F : List Frame) (f b : ℕ) (answers : Answers) (rows : List ℕ) (x j : ℕ) (left : Answers) (y : Bool) (b′ : ℕ)
       → cond y (some f) (breakAt F x) ≡ some b′ → Onward b answers rows b′ left
-      → EndsOn F f b answers rows (elim (y || false) [ true ↦ normal | false ↦ break (some x) ]) left
-  label-break F f b answers rows x left true b′ h p = at f b′ h p
-  label-break F f b answers rows x left false b′ h p = (b′, h, p)
+      → EndsOn F f b answers rows (elim (y || false) [ true ↦ normal | false ↦ break (some x) j ]) left
+  label-break F f b answers rows x j left true b′ h p = at f b′ h p
+  label-break F f b answers rows x j left false b′ h p = (b′, h, p)
 
   label-on : (F : List Frame) (f b : ℕ) (answers : Answers) (rows : List ℕ) (e : Completion) (left : Answers)
       → LeadsOn (in-label f ∷ F) b answers rows e left → EndsOn F f b answers rows (labelled (some f) e) left
   unfolding labelled
   label-on F f b answers rows normal left (b′, h, p) = at f b′ h p
-  label-on F f b answers rows (break none) left p = p
-  label-on F f b answers rows (break (some x)) left (b′, h, p) = label-break F f b answers rows x left (eqb f x) b′ h p
-  label-on F f b answers rows (continue none) left p = p
-  label-on F f b answers rows (continue (some x)) left p = p
+  label-on F f b answers rows (break none j) left p = p
+  label-on F f b answers rows (break (some x) j) left (b′, h, p) = label-break F f b answers rows x j left (eqb f x) b′ h p
+  label-on F f b answers rows (continue none j) left p = p
+  label-on F f b answers rows (continue (some x) j) left p = p
   label-on F f b answers rows (stop r) left p = p
 
   pub ends-label : (F : List Frame) (f b : ℕ) (answers : Answers) (o : Completed) → Leads (in-label f ∷ F) b answers o → Ends F f b answers (completing (labelled (some f)) o)
@@ -218,31 +218,31 @@ module _ (t : Table) where
   scope-on : (F : List Frame) (f b : ℕ) (answers : Answers) (rows : List ℕ) (e : Completion) (left : Answers)
       → LeadsOn (in-scope f ∷ F) b answers rows e left → EndsOn F f b answers rows e left
   scope-on F f b answers rows normal left (b′, h, p) = at f b′ h p
-  scope-on F f b answers rows (break none) left p = p
-  scope-on F f b answers rows (break (some x)) left p = p
-  scope-on F f b answers rows (continue none) left p = p
-  scope-on F f b answers rows (continue (some x)) left p = p
+  scope-on F f b answers rows (break none j) left p = p
+  scope-on F f b answers rows (break (some x) j) left p = p
+  scope-on F f b answers rows (continue none j) left p = p
+  scope-on F f b answers rows (continue (some x) j) left p = p
   scope-on F f b answers rows (stop r) left p = p
 
   pub ends-scope : (F : List Frame) (f b : ℕ) (answers : Answers) (o : Completed) → Leads (in-scope f ∷ F) b answers o → Ends F f b answers o
   ends-scope F f b answers o p = scope-on F f b answers (o .rows) (o .completion) (o .left) p
 
   -- a round of a loop
-  loop-continue : (F : List Frame) (f x b : ℕ) (answers : Answers) (rows : List ℕ) (z : ℕ) (left : Answers) (y : Bool) (b′ : ℕ)
+  loop-continue : (F : List Frame) (f x b : ℕ) (answers : Answers) (rows : List ℕ) (z j : ℕ) (left : Answers) (y : Bool) (b′ : ℕ)
       → cond y (some x) (continueAt F z) ≡ some b′ → Onward b answers rows b′ left
-      → RoundOn F f x b answers rows (continue (some z)) (y || false) left
+      → RoundOn F f x b answers rows (continue (some z) j) (y || false) left
   unfolding labelled breakable
-  loop-continue F f x b answers rows z left true b′ h p = at x b′ h p
-  loop-continue F f x b answers rows z left false b′ h p = (b′, h, p)
+  loop-continue F f x b answers rows z j left true b′ h p = at x b′ h p
+  loop-continue F f x b answers rows z j left false b′ h p = (b′, h, p)
 
   loop-on : (F : List Frame) (f x b : ℕ) (answers : Answers) (rows : List ℕ) (e : Completion) (left : Answers)
       → LeadsOn (in-loop f x ∷ F) b answers rows e left → RoundOn F f x b answers rows e (loopContinues e (f ∷ [])) left
   unfolding loopContinues labelled breakable
   loop-on F f x b answers rows normal left (b′, h, p) = at x b′ h p
-  loop-on F f x b answers rows (break none) left (b′, h, p) = at f b′ h p
-  loop-on F f x b answers rows (break (some z)) left (b′, h, p) = label-break F f b answers rows z left (eqb f z) b′ h p
-  loop-on F f x b answers rows (continue none) left (b′, h, p) = at x b′ h p
-  loop-on F f x b answers rows (continue (some z)) left (b′, h, p) = loop-continue F f x b answers rows z left (eqb f z) b′ h p
+  loop-on F f x b answers rows (break none j) left (b′, h, p) = at f b′ h p
+  loop-on F f x b answers rows (break (some z) j) left (b′, h, p) = label-break F f b answers rows z j left (eqb f z) b′ h p
+  loop-on F f x b answers rows (continue none j) left (b′, h, p) = at x b′ h p
+  loop-on F f x b answers rows (continue (some z) j) left (b′, h, p) = loop-continue F f x b answers rows z j left (eqb f z) b′ h p
   loop-on F f x b answers rows (stop r) left p = p
 
   after-round : (F : List Frame) (f x b : ℕ) (answers : Answers) (rows : List ℕ) (m : Bool) (e : Completion) (left : Answers) (k : Answers → Completed)
@@ -317,8 +317,8 @@ module _ (t : Table) where
   jump-on : (F : List Frame) (b g : ℕ) (answers : Answers) (rows : List ℕ) (e : Completion) (left : Answers) → target F e ≡ some g → Onward b answers rows g left
       → LeadsOn F b answers rows e left
   jump-on F b g answers rows normal left h p = (g, h, p)
-  jump-on F b g answers rows (break x) left h p = (g, h, p)
-  jump-on F b g answers rows (continue x) left h p = (g, h, p)
+  jump-on F b g answers rows (break x j) left h p = (g, h, p)
+  jump-on F b g answers rows (continue x j) left h p = (g, h, p)
   jump-on F b g answers rows (stop r) left h p = absurd (none-some h)
 
   -- a statement whose part stands at the block c

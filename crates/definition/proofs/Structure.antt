@@ -334,13 +334,13 @@ module _ (t : Table) where
     pub data JumpOk (F : List Frame) (g : ℕ) (s : Option Statement) : Type 0 where
       goes-as : (e : Completion) → target F e ≡ some g → ((answers : Answers) → runStatements (followedBy s done) answers ≡ completed [] e answers) → JumpOk F g s
 
-    run-break : (g i : ℕ) (k : Kind) (n : ℕ) (answers : Answers) → runStatements (BREAK g i k n ▸ done) answers ≡ completed [] (jumpCompletion k g break) answers
+    run-break : (g i : ℕ) (k : Kind) (n : ℕ) (answers : Answers) → runStatements (BREAK g i k n ▸ done) answers ≡ completed [] (jumpCompletion k g i break) answers
     unfolding runStatements then thenOn prefix completed jumpCompletion
     run-break g i implicit n answers = refl
     run-break g i labeled n answers = refl
     run-break g i unlabeled n answers = refl
 
-    run-done : (g : ℕ) (answers : Answers) → runStatements done answers ≡ completed [] (jumpCompletion implicit g break) answers
+    run-done : (g : ℕ) (answers : Answers) → runStatements done answers ≡ completed [] (jumpCompletion implicit g 0 break) answers
     unfolding runStatements jumpCompletion
     run-done g answers = refl
 
@@ -357,10 +357,10 @@ module _ (t : Table) where
         at language false unlabeled = unfold kindBy in inl refl
 
     break-in : {F : List Frame} {c : Context} (o : Around) (g : ℕ) (r : Resolution) → StateOk t F c → breakTargetFrom (c .stack) g true 0 ≡ some r → has (c .scopeFallthroughs) g ≡ false
-        → target F (jumpCompletion (breakKindIn o (r .kind)) g break) ≡ some g
-    break-in {F} o g r p e n = elim (kind-in o (r .kind)) [
-      | inl h ↦ rw h (break-target t (p .framed) g r e n (r .kind) refl)
-      | inr h ↦ rw h (break-label t (p .framed) g r e n)
+        → (i : ℕ) → target F (jumpCompletion (breakKindIn o (r .kind)) g i break) ≡ some g
+    break-in {F} o g r p e n i = elim (kind-in o (r .kind)) [
+      | inl h ↦ rw h (break-target t (p .framed) g r e n (r .kind) refl i)
+      | inr h ↦ rw h (break-label t (p .framed) g r e n i)
     ]
 
     broke : {F : List Frame} {c : Context} (o : Around) (b v g i : ℕ) (r : Resolution) (s : Option Statement) (y : Bool) (x : Result (Option Statement)) → StateOk t F c
@@ -371,14 +371,14 @@ module _ (t : Table) where
     broke {F} {c} o b v g i r s false x p e q n h z =
         let (u, h₁, h₂) = bind-ok (refuseIf (breakUnnamed o r) 29 b v) _ s h in
         subst (λ (w : Option Statement). JumpOk F g w) (ok-eq h₂)
-        (goes-as (jumpCompletion (breakKindIn o (r .kind)) g break) (break-in o g r p e n) (run-break g i (breakKindIn o (r .kind)) (r .loops)))
+        (goes-as (jumpCompletion (breakKindIn o (r .kind)) g i break) (break-in o g r p e n i) (run-break g i (breakKindIn o (r .kind)) (r .loops)))
 
     -- to a scope: no row, as good as an Implicit one
     to-scope : {F : List Frame} (c : Context) (b g : ℕ) (r : Resolution) (s : Option Statement) (k : Kind) → StateOk t F c → breakTargetFrom (c .stack) g true 0 ≡ some r → r .kind ≡ k
         → breakToScope k b (c .visits) ≡ ok s → JumpOk F g s
     unfolding breakToScope jumpCompletion
     to-scope {F} c b g r s implicit p e k h =
-        subst (λ (w : Option Statement). JumpOk F g w) (ok-eq h) (goes-as (jumpCompletion implicit g break) (break-exit t (p .framed) g true 0 r e k) (run-done g))
+        subst (λ (w : Option Statement). JumpOk F g w) (ok-eq h) (goes-as (jumpCompletion implicit g 0 break) (break-exit t (p .framed) g true 0 r e k) (run-done g))
     to-scope c b g r s labeled p e k h = absurd (refused-ok h)
     to-scope c b g r s unlabeled p e k h = absurd (refused-ok h)
 
@@ -404,7 +404,7 @@ module _ (t : Table) where
               | false ↦ refuseIf (breakUnnamed o r) 29 b (c .visits) >>= λ _. ok (some (BREAK n i (breakKindIn o (r .kind)) (r .loops)))
             ] ≡ ok s) z k
 
-    run-continue : (f i : ℕ) (k : Kind) (n : ℕ) (answers : Answers) → runStatements (CONTINUE f i k n ▸ done) answers ≡ completed [] (jumpCompletion k f continue) answers
+    run-continue : (f i : ℕ) (k : Kind) (n : ℕ) (answers : Answers) → runStatements (CONTINUE f i k n ▸ done) answers ≡ completed [] (jumpCompletion k f i continue) answers
     unfolding runStatements then thenOn prefix completed jumpCompletion
     run-continue f i implicit n answers = refl
     run-continue f i labeled n answers = refl
@@ -417,7 +417,7 @@ module _ (t : Table) where
     continue-ok {F} o c b g i (some k) s p e h =
         let (u, h₁, h₂) = bind-ok (refuseIf (continueUnnamed o k) 29 b (c .visits)) _ s h in
         subst (λ (z : Statement). JumpOk F g (some z)) (ok-eq h₂)
-        (goes-as (jumpCompletion (k .kind) (k .target) continue) (continue-target t pl (p .framed) g (k .target) (k .kind) (k .loops) e) (run-continue (k .target) i (k .kind) (k .loops)))
+        (goes-as (jumpCompletion (k .kind) (k .target) i continue) (continue-target t pl (p .framed) g (k .target) (k .kind) (k .loops) e i) (run-continue (k .target) i (k .kind) (k .loops)))
 
     jump-built : {F : List Frame} (b g : ℕ) (v : Variant) (s : Option Statement) → terminalAt t b ≡ goto g v → JumpOk F g s
         → Built t F b (instructionStatements t (instructionRowsAt t b) (followedBy s done))

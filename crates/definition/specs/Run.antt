@@ -15,8 +15,8 @@ pub data Reason : Type 0 where
   no-answer-left : Reason
   -- a block that is missing, or a terminal or statement that is in no plain table or its tree
   not-plain : Reason
-  -- a jump with no statement around it to act on
-  no-target : Reason
+  -- a jump, by its id, with no statement around it to act on
+  no-target : (id : ℕ) → Reason
   end-of-tree : Reason
 
 -- a return, a throw, or no answer left
@@ -25,7 +25,7 @@ isGood (returned value id) = true
 isGood (threw value id) = true
 isGood no-answer-left = true
 isGood not-plain = false
-isGood no-target = false
+isGood (no-target id) = false
 isGood end-of-tree = false
 
 -- A run: the instruction rows performed, in order, the answers left, and the reason for stopping;

@@ -4,7 +4,7 @@ use mathlib.Core.List.{List, [], _∷_, _++_}
 use mathlib.Core.Option.{Option, none, some}
 use mathlib.Core.Bool.{true, false}
 use lib.ListN.{length}
-use Rattle.definition.specs.Tree.{Kind, implicit, labeled, unlabeled, Value, PLAIN, LOAD, UNDEF, SEQ, LOGICAL, COND, OPTIONAL, Instructions, no-instructions, instruction, Statement, INSTR, IF, SWITCH, DOWHILE, WHILE, FOR, FOROF, FORIN, LABEL, TRY, SCOPE, RETURN, THROW, BREAK, CONTINUE, Statements, done, _▸_}
+use Rattle.definition.specs.Tree.{Kind, implicit, labeled, unlabeled, Value, PLAIN, LOAD, UNDEF, SEQ, LOGICAL, COND, OPTIONAL, Instructions, no-instructions, instruction, Statement, INSTR, IF, SWITCH, DOWHILE, WHILE, FOR, FOROF, FORIN, LABEL, TRY, SCOPE, RETURN, THROW, BREAK, CONTINUE, Statements, done, _▸_, Cases, no-cases, CASE}
 use Rattle.definition.specs.Run.{Answers, Reason, returned, threw, no-answer-left, not-plain, no-target, end-of-tree, Run, stopped}
 use Rattle.definition.specs.Completion.{Completion, normal, break, continue, stop, labelSet, loopContinues, breakable, labelled}
 
@@ -28,8 +28,8 @@ prefix rows part = completed (rows ++ part .rows) (part .completion) (part .left
 -- "parts run in order": a part and, if it completed normally, the next
 unfoldable pub thenOn : Completion → Completed → (Answers → Completed) → Completed
 thenOn normal part next = prefix (part .rows) (next (part .left))
-thenOn (break target) part next = part
-thenOn (continue target) part next = part
+thenOn (break target id) part next = part
+thenOn (continue target id) part next = part
 thenOn (stop reason) part next = part
 
 unfoldable pub then : Completed → (Answers → Completed) → Completed
@@ -57,10 +57,10 @@ abbrev mutual
   performsAll (instruction id lvalue span value rest) = performs value ++ performsAll rest
 
 -- "Implicit jumps do nothing. An Unlabeled one acts on the nearest loop around it .., a Labeled one on the statement with that label"
-unfoldable pub jumpCompletion : Kind → (label : ℕ) → (Option ℕ → Completion) → Completion
-jumpCompletion implicit label jump = normal
-jumpCompletion unlabeled label jump = jump none
-jumpCompletion labeled label jump = jump (some label)
+unfoldable pub jumpCompletion : Kind → (label id : ℕ) → (Option ℕ → ℕ → Completion) → Completion
+jumpCompletion implicit label id jump = normal
+jumpCompletion unlabeled label id jump = jump none id
+jumpCompletion labeled label id jump = jump (some label) id
 
 -- the body's completion decides: LoopContinues, or the loop completes as the body did
 unfoldable pub afterBody : (labelSet : List ℕ) → Completed → (Answers → Completed) → Completed
@@ -76,11 +76,40 @@ whileRounds labels test body (suc count) answers =
 unfoldable pub whileLoop : (labelSet test : List ℕ) → (body : Answers → Completed) → Answers → Completed
 whileLoop labels test body answers = whileRounds labels test body (length answers) answers
 
+-- ForBodyEvaluation: the test; by one answer the body and then, unless the body ended the loop, the update and the test again (yes), or a normal completion (no).
+-- From its second round on a FOR is a WHILE whose test is the update and the test. M-103: "FOR runs its update after the body and after a continue."
+unfoldable pub forLoop : (labelSet test update : List ℕ) → (body : Answers → Completed) → Answers → Completed
+forLoop labels test update body answers =
+    prefix test (choose (λ left. afterBody labels (body left) (λ left′. whileLoop labels (update ++ test) body left′)) (λ left. completed [] normal left) answers)
+
+-- DoWhileLoopEvaluation: the body, and then, unless it ended the loop, a WHILE
+unfoldable pub doWhileLoop : (labelSet test : List ℕ) → (body : Answers → Completed) → Answers → Completed
+doWhileLoop labels test body answers = afterBody labels (body answers) (λ left. whileLoop labels test body left)
+
+-- a FOR without update performs none
+abbrev pub performsUpdate : Option Value → List ℕ
+performsUpdate none = []
+performsUpdate (some update) = performs update
+
 -- a loop with its label: LoopEvaluation within the two LabelledEvaluations
 unfoldable pub loop : (label : Option ℕ) → Completed → Completed
 loop label rounds = completing (λ c. labelled label (breakable c)) rounds
 
--- "IF by one answer runs its consequent (yes) or alternate, if any (no)". Statements that are in no plain table's tree stop the run
+-- a switch with its label: the same two LabelledEvaluations
+unfoldable pub switchEnds : (label : Option ℕ) → Completed → Completed
+switchEnds label cases = completing (λ c. labelled label (breakable c)) cases
+
+-- M-103: "For SWITCH it is the place of the case in source order, from 0, and a place beyond the last runs no case."
+unfoldable pub entryAt : (entries : List (Answers → Completed)) → (place : ℕ) → (left : Answers) → Completed
+entryAt [] place left = completed [] normal left
+entryAt (entry ∷ entries) zero left = entry left
+entryAt (entry ∷ entries) (suc place) left = entryAt entries place left
+
+unfoldable pub choosePlace : (entries : List (Answers → Completed)) → Answers → Completed
+choosePlace entries [] = completed [] (stop no-answer-left) []
+choosePlace entries (place ∷ left) = entryAt entries place left
+
+-- "IF by one answer runs its consequent (yes) or alternate, if any (no)". FOROF, FORIN and TRY, which no run is asked of, stop it
 unfoldable mutual
   pub runStatement : Statement → Answers → Completed
   runStatement (INSTR id lvalue span value) answers = completed (performs value) normal answers
@@ -92,11 +121,12 @@ unfoldable mutual
   runStatement (SCOPE pruned scope body) answers = runStatements body answers
   runStatement (RETURN value id) answers = completed [] (stop (returned value id)) answers
   runStatement (THROW value id) answers = completed [] (stop (threw value id)) answers
-  runStatement (BREAK target id kind loops) answers = completed [] (jumpCompletion kind target break) answers
-  runStatement (CONTINUE target id kind loops) answers = completed [] (jumpCompletion kind target continue) answers
-  runStatement (SWITCH test id label cases) answers = completed [] (stop not-plain) answers
-  runStatement (DOWHILE id label body test) answers = completed [] (stop not-plain) answers
-  runStatement (FOR id label init test update body) answers = completed [] (stop not-plain) answers
+  runStatement (BREAK target id kind loops) answers = completed [] (jumpCompletion kind target id break) answers
+  runStatement (CONTINUE target id kind loops) answers = completed [] (jumpCompletion kind target id continue) answers
+  runStatement (SWITCH test id label cases) answers = switchEnds label (choosePlace (entriesFrom cases (λ left. completed [] normal left) []) answers)
+  runStatement (DOWHILE id label body test) answers = loop label (doWhileLoop (labelSet label) (performs test) (λ left. runStatements body left) answers)
+  runStatement (FOR id label init test update body) answers =
+      prefix (performs init) (loop label (forLoop (labelSet label) (performs test) (performsUpdate update) (λ left. runStatements body left) answers))
   runStatement (FOROF id label span init test body) answers = completed [] (stop not-plain) answers
   runStatement (FORIN id label span init body) answers = completed [] (stop not-plain) answers
   runStatement (TRY id label binding body handler) answers = completed [] (stop not-plain) answers
@@ -105,11 +135,18 @@ unfoldable mutual
   runStatements done answers = completed [] normal answers
   runStatements (statement ▸ rest) answers = then (runStatement statement answers) (λ left. runStatements rest left)
 
+  -- where the cases are entered, in source order: before the entries `later` come those of these cases, the last first.
+  -- M-103: "A case that ends normally goes on into the next one in source order", or after the last to `after`
+  pub entriesFrom : Cases → (after : Answers → Completed) → (later : List (Answers → Completed)) → List (Answers → Completed)
+  entriesFrom no-cases after later = later
+  entriesFrom (CASE test body earlier) after later =
+      entriesFrom earlier (λ left. then (runStatements body left) after) ((λ left. then (runStatements body left) after) ∷ later)
+
 -- why the whole tree's run stops
 unfoldable pub reasonOf : Completion → Reason
 reasonOf normal = end-of-tree
-reasonOf (break target) = no-target
-reasonOf (continue target) = no-target
+reasonOf (break target id) = no-target id
+reasonOf (continue target id) = no-target id
 reasonOf (stop reason) = reason
 
 unfoldable pub treeRun : Statements → Answers → Run

@@ -10,6 +10,8 @@ pub mod order;
 pub mod tree_check;
 #[cfg(feature = "tree-lookup")]
 pub mod tree_lookup;
+#[cfg(feature = "tree-run")]
+pub mod tree_run;
 
 use std::ffi::c_uint;
 

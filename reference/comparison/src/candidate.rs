@@ -10,6 +10,7 @@ use crate::model::Outcome;
 use crate::model::convert::Placed;
 use crate::model::dot::Drawn;
 use crate::model::order::Moved;
+use crate::model::tree_run::Ran;
 
 pub type Candidate = fn(&[u32], &mut [u32]) -> Outcome;
 
@@ -27,6 +28,8 @@ pub struct CandidateTexts {
 }
 /// The rearrangement, and the inverse.
 pub type CandidateOrder = (fn(&[u32], &mut [u32], &mut [u32]) -> Moved, fn(&[u32], &[u32], &mut [u32]) -> Moved);
+/// Tree, answers, the buffer lent.
+pub type CandidateRun = fn(&[u32], &[u32], &mut [u32]) -> Ran;
 
 #[cfg(not(feature = "candidate"))]
 pub const CANDIDATE: Option<Candidate> = None;
@@ -154,4 +157,16 @@ fn rearrange(words: &[u32], new_words: &mut [u32], old_numbers: &mut [u32]) -> M
 fn restore(words: &[u32], old_numbers: &[u32], first_words: &mut [u32]) -> Moved {
     let reactive_build::order::Moved { code, at } = reactive_build::order::restore(words, old_numbers, first_words);
     Moved { code, at }
+}
+
+#[cfg(not(feature = "candidate-tree-run"))]
+pub const CANDIDATE_TREE_RUN: Option<CandidateRun> = None;
+
+#[cfg(feature = "candidate-tree-run")]
+pub const CANDIDATE_TREE_RUN: Option<CandidateRun> = Some(run_tree);
+
+#[cfg(feature = "candidate-tree-run")]
+fn run_tree(tree: &[u32], answers: &[u32], performed: &mut [u32]) -> Ran {
+    let reactive_build::tree_run::Ran { code, at, number, reason } = reactive_build::tree_run::run(tree, answers, performed);
+    Ran { code, at, number, reason }
 }

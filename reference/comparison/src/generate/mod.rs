@@ -13,6 +13,7 @@ pub mod rows;
 pub mod samples;
 pub mod shared;
 pub mod small;
+pub mod trees;
 pub mod words;
 
 use crate::rng::Rng;

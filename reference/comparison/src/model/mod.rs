@@ -12,6 +12,7 @@ mod statements;
 pub mod table;
 pub mod text;
 pub mod tree_check;
+pub mod tree_run;
 mod values;
 
 use table::{Span, Table};

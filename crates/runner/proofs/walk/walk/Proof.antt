@@ -1,0 +1,123 @@
+use native.Mathlib.Omega.{arith}
+use borrow.Author.Needs.{needs}
+use borrow.Author.Tests.{not-true, not-false}
+use Rattle.runner.specs.Abstraction.{linksOf}
+use Rattle.runner.proofs.WalkLaws.{Walking, left, walk-start, walk-full, walk-less, walk-next, walk-end}
+use Rattle.runner.proofs.walk.walk.Statement.{statement}
+use Rattle.runner.proofs.walk.walk.Tie as tie
+
+abbrev Inv-loop : tie.InvT-loop
+Inv-loop tree begin parent next child answers performed₀ rows place₀ asked₀ number₀ performed place asked number =
+    Walking tree (linksOf begin parent next child) rows answers performed₀ performed place asked number
+
+abbrev μ-loop : tie.MeasureT-loop
+μ-loop tree begin parent next child answers performed₀ rows place₀ asked₀ number₀ performed place asked number =
+    left tree (linksOf begin parent next child) rows answers place asked
+
+sub-enter : tie.Need-sub-enter Inv-loop μ-loop
+sub-enter c = search needs
+
+enter-requires : tie.Need-enter-requires Inv-loop μ-loop
+enter-requires c κs = search needs
+
+loop-holds : tie.Need-loop-holds Inv-loop μ-loop
+loop-holds c =
+    let entered : tie.After-enter Inv-loop μ-loop = search in
+    let start : tie.Start Inv-loop μ-loop = search in
+    walk-start _ _ _ _ (start .pre .1) (entered .enter .ensures)
+
+halted-requires : tie.Need-halted-requires Inv-loop μ-loop
+halted-requires c κs = search needs
+
+decide-requires : tie.Need-decide-requires Inv-loop μ-loop
+decide-requires c κs = search needs
+
+perform-turn-requires : tie.Need-perform-turn-requires Inv-loop μ-loop
+perform-turn-requires c κs = search needs
+
+refused-requires : tie.Need-refused-requires Inv-loop μ-loop
+refused-requires c κs = search needs
+
+same-length : tie.Need-same-length Inv-loop μ-loop
+same-length c = search needs
+
+returns : tie.Need-returns Inv-loop μ-loop
+returns c =
+    let did : tie.After-perform-turn Inv-loop μ-loop = search in
+    let full : tie.Then2 Inv-loop μ-loop = search in
+    let decided : tie.After-decide Inv-loop μ-loop = search in
+    let on : tie.Then1 Inv-loop μ-loop = search in
+    let asked : tie.After-halted Inv-loop μ-loop = search in
+    let at-loop : tie.At-loop Inv-loop μ-loop = search in
+    walk-full _ _ _ _ (at-loop .loop .inv) (asked .halted .ensures) (not-true _ (on .if1 .taken)) (decided .decide .result) (decided .decide .ensures)
+    (did .perform-turn .ensures) (full .if2 .taken) (c .refused .ensures)
+
+go-on-requires : tie.Need-go-on-requires Inv-loop μ-loop
+go-on-requires c κs = search needs
+
+loop-less : tie.Need-loop-less Inv-loop μ-loop
+loop-less c =
+    let went : tie.After-go-on Inv-loop μ-loop = search in
+    let fits : tie.Else2 Inv-loop μ-loop = search in
+    let did : tie.After-perform-turn Inv-loop μ-loop = search in
+    let decided : tie.After-decide Inv-loop μ-loop = search in
+    let on : tie.Then1 Inv-loop μ-loop = search in
+    let asked : tie.After-halted Inv-loop μ-loop = search in
+    let at-loop : tie.At-loop Inv-loop μ-loop = search in
+    let entered : tie.After-enter Inv-loop μ-loop = search in
+    let known : tie.After-shared-slice-known3 Inv-loop μ-loop = search in
+    let start : tie.Start Inv-loop μ-loop = search in
+    let a = start .args in
+    walk-less _ _ _ _ (at-loop .loop .inv) (asked .halted .ensures) (not-true _ (on .if1 .taken)) (decided .decide .result) (decided .decide .ensures) (did .perform-turn .ensures) (fits .if2 .left)
+    (went .go-on .result .place) (went .go-on .result .asked) (went .go-on .ensures (a .parent .now) (a .next .now) (a .child .now))
+
+loop-again : tie.Need-loop-again Inv-loop μ-loop
+loop-again c =
+    let went : tie.After-go-on Inv-loop μ-loop = search in
+    let fits : tie.Else2 Inv-loop μ-loop = search in
+    let did : tie.After-perform-turn Inv-loop μ-loop = search in
+    let decided : tie.After-decide Inv-loop μ-loop = search in
+    let on : tie.Then1 Inv-loop μ-loop = search in
+    let asked : tie.After-halted Inv-loop μ-loop = search in
+    let at-loop : tie.At-loop Inv-loop μ-loop = search in
+    let entered : tie.After-enter Inv-loop μ-loop = search in
+    let known : tie.After-shared-slice-known3 Inv-loop μ-loop = search in
+    let start : tie.Start Inv-loop μ-loop = search in
+    let a = start .args in
+    walk-next _ _ _ _ (at-loop .loop .inv) (asked .halted .ensures) (not-true _ (on .if1 .taken)) (decided .decide .result) (decided .decide .ensures) (did .perform-turn .ensures) (fits .if2 .left)
+    (went .go-on .result .place) (went .go-on .result .asked) (went .go-on .ensures (a .parent .now) (a .next .now) (a .child .now)) (omega (arith, did .perform-turn .kept .1 .1 .0))
+
+ended-requires : tie.Need-ended-requires Inv-loop μ-loop
+ended-requires c κs = search needs
+
+same-length-2 : tie.Need-same-length-2 Inv-loop μ-loop
+same-length-2 c = search needs
+
+returns-2 : tie.Need-returns-2 Inv-loop μ-loop
+returns-2 c =
+    let halts : tie.Else1 Inv-loop μ-loop = search in
+    let asked : tie.After-halted Inv-loop μ-loop = search in
+    let at-loop : tie.At-loop Inv-loop μ-loop = search in
+    walk-end _ _ _ _ (at-loop .loop .inv) (asked .halted .ensures) (not-false _ (halts .if1 .left)) (c .ended .ensures)
+
+pub walk-spec : {M : Type 1} → statement M
+walk-spec =
+    tie.close
+    (tie.spec
+    Inv-loop
+    μ-loop
+    sub-enter
+    enter-requires
+    loop-holds
+    halted-requires
+    decide-requires
+    perform-turn-requires
+    refused-requires
+    same-length
+    returns
+    go-on-requires
+    loop-less
+    loop-again
+    ended-requires
+    same-length-2
+    returns-2)

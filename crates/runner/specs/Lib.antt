@@ -1,0 +1,2 @@
+pub mod Abstraction
+pub mod Holds

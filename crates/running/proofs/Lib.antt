@@ -1,0 +1,11 @@
+pub mod Walk
+pub mod Lays
+pub mod Turns
+pub mod Images
+pub mod RowsRun
+pub mod Measure
+pub mod Appends
+pub mod Linking
+pub mod ActLaws
+pub mod OneOutcome
+pub mod Samples
