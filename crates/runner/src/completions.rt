@@ -34,17 +34,24 @@ pub fn complete(kind: u32, target: u32, jump: u32) -> Completion
     Completion { kind, target, jump }
 }
 
-// Whether a loop with this label goes on after its body completed so.
-pub fn loop_continues(c: Completion, label: u32) -> bool
-    ensures { λ r. ⌜ r ≡ loopContinues (completionOf c) (labelSet (unlessNone label)) ⌝ }
+// Whether a loop with this label goes on after its body completed so: ECMA-262, LoopContinues(completion, labelSet), step by step.
+pub fn loop_continues(completion: Completion, label: u32) -> bool
+    ensures { λ r. ⌜ r ≡ loopContinues (completionOf completion) (labelSet (unlessNone label)) ⌝ }
 {
-    if c.kind == CONTINUE {
-        if c.target == NONE {
-            return true;
-        }
-        return c.target == label;
+    // 1. If completion is a normal completion, return true.
+    if completion.kind == NORMAL {
+        return true;
     }
-    c.kind == NORMAL
+    // 2. If completion is not a continue completion, return false.
+    if completion.kind != CONTINUE {
+        return false;
+    }
+    // 3. If completion.[[Target]] is empty, return true.
+    if completion.target == NONE {
+        return true;
+    }
+    // 4. If labelSet contains completion.[[Target]], return true. 5. Return false.
+    completion.target == label
 }
 
 // A loop or a SWITCH takes a break without label.
