@@ -29,9 +29,22 @@ fn main() {
     if arguments.get(1).is_some_and(|verb| verb == "stack") {
         return stack::print();
     }
+    if let [_, verb, entry, case] = arguments.as_slice()
+        && verb == "once"
+    {
+        return once(entry, case.parse().expect("the case's number"));
+    }
     reference::install_panic_hook();
     println!("| table | rows | proved, µs | (a) Rust with vectors, µs | ratio | (b) the Rust, µs | ratio | language entry, µs | to the first |");
     println!("|---|---|---|---|---|---|---|---|---|");
+    for case in &cases() {
+        measure(case);
+    }
+    println!();
+    stack::print();
+}
+
+fn cases() -> Vec<Case> {
     let mut cases = Vec::new();
     for instructions in [0, 2] {
         cases.push(tables::fallthroughs(1_000, instructions));
@@ -41,11 +54,20 @@ fn main() {
     }
     cases.extend([10, 100, 900].map(tables::lowered));
     cases.extend([125, 250, 500, 1_000].map(|blocks| tables::fallthroughs(blocks, 0)));
-    for case in &cases {
-        measure(case);
-    }
-    println!();
-    stack::print();
+    cases
+}
+
+/// One call, for a count of its instructions: `valgrind --tool=callgrind --toggle-collect=reactive_build`
+/// (or `reactive_build_language`).
+fn once(entry: &str, number: usize) {
+    let case = &cases()[number];
+    let mut lent = vec![7; 60_000];
+    let built = match entry {
+        "first" => reactive_build::build(&case.words, &mut lent),
+        "language" => reactive_build::build_language(&case.words, &mut lent),
+        _ => panic!("first or language"),
+    };
+    println!("{}: code {}, {} rows", case.name, built.code, built.rows);
 }
 
 fn measure(case: &Case) {

@@ -11,6 +11,8 @@ use Rattle.definition.specs.Context.{Flags, add, targetBlock, continuesAt, getB
 use Rattle.definition.specs.Context as definition
 use Rattle.definition.specs.Around.{Rule, Around}
 use Rattle.definition.specs.Survey.{Survey}
+use Rattle.definition.specs.Tree.{Kind, implicit, labeled, unlabeled}
+use Rattle.survey.specs.Pass.{asksAround}
 use Rattle.definition.specs.Goal.{Goal, breakGoal, continueGoal, goals, surveyedBreak, surveyedContinue}
 use Rattle.control.specs.declared.Context.{Context}
 use Rattle.control.specs.Contract.{breakTo, continueTo}
@@ -48,6 +50,16 @@ abbrev pub resolvedAt : Jump → definition.ControlFlowTarget → (top : Bool) �
 resolvedAt Nothing found top loopsAbove = none
 resolvedAt (jump.Break block) found top loopsAbove = some (breakTo found top loopsAbove)
 resolvedAt (jump.Continue block) found top loopsAbove = some (continueTo found top loopsAbove)
+
+-- whether the statements around are asked: an Implicit jump's row does not depend on them
+abbrev pub askedOf : Kind → (asks : Bool) → Bool
+askedOf implicit asks = false
+askedOf labeled asks = asks
+askedOf unlabeled asks = asks
+
+abbrev pub asksOf : Rule → Option definition.Resolution → Bool
+asksOf rule none = false
+asksOf rule (some found) = askedOf (found .kind) (asksAround rule (some found))
 
 -- where the jump goes, by what is around; and the same from what a pass over it has seen
 abbrev pub goalBy : Jump → Around → Option definition.Resolution → Option Goal

@@ -1,5 +1,6 @@
 // The loop over the Context by value and the frames: each turn is planned, and its plan applied.
 use crate::search::aim_at;
+use crate::search::asks_around;
 use crate::search::jump_at;
 use crate::search::meets;
 use crate::search::resolve;
@@ -18,7 +19,6 @@ use plan::fallthrough::narrow;
 use plan::no_frame;
 use planner::turn::plan_turn;
 use survey::Rule;
-use survey::asks;
 use survey::pass;
 use survey::pass_from;
 use survey::target_of;
@@ -179,7 +179,7 @@ pub fn walk(rule: Rule, words: &[u32], tree: &mut [u32]) -> Walked
             loops = count_loop(loops, target);
         };
         let target = target_of(found);
-        let mut left = pass_from(asks(rule, found), p.depth);
+        let mut left = pass_from(asks_around(rule, found), p.depth);
         let mut seen = unseen(found);
         while left > 0 {
             left -= 1;

@@ -12,6 +12,7 @@ use plan::fallthrough::scheduled_at;
 use survey::Aim;
 use survey::Rule;
 use survey::Survey;
+use survey::asks;
 use survey::break_goal;
 use survey::continue_goal;
 use table::words::block_word;
@@ -24,7 +25,7 @@ ghost use Rattle.definition.specs.Goal.{goals, surveyedBreak, surveyedContinue}
 ghost use Rattle.control.specs.Abstraction.{targetOf, resolvedOf};
 ghost use Rattle.survey.specs.Abstraction.{ruleOf, surveyOf, aimOf};
 ghost use Rattle.plan.specs.declared.Stage.the-variants.{Visit};
-ghost use Rattle.build.specs.Driver.{searchedFrom, isMet, resolvedAt, surveyedBy, Searches};
+ghost use Rattle.build.specs.Driver.{searchedFrom, isMet, resolvedAt, asksOf, surveyedBy, Searches};
 
 pub enum Jump {
     Nothing,
@@ -62,6 +63,22 @@ pub fn resolve(jump: Jump, found: Entry, top: bool, loops: u32) -> Resolved
         Jump::Nothing => Resolved::Nothing,
         Jump::Break(_) => Resolved::Found(break_to(found, top, loops)),
         Jump::Continue(_) => Resolved::Found(continue_to(found, top, loops)),
+    }
+}
+
+// Whether the statements around are asked: in the language entry, of a jump that is not Implicit.
+pub fn asks_around(rule: Rule, found: Resolved) -> bool
+    ensures { λ r. ⌜ r ≡ asksOf (ruleOf rule) (resolvedOf found) ⌝ }
+{
+    match found {
+        Resolved::Nothing => false,
+        Resolved::Found(resolution) => {
+            let kind = resolution.kind;
+            if kind.number() == 0 {
+                return false;
+            }
+            asks(rule, found)
+        }
     }
 }
 

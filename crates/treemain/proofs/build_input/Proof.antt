@@ -12,9 +12,6 @@ file-bytes-requires c κs = search needs
 slice-aggregate-read-all : tie.Need-slice-aggregate-read-all
 slice-aggregate-read-all c = search needs
 
-slice-aggregate-read-all-2 : tie.Need-slice-aggregate-read-all-2
-slice-aggregate-read-all-2 c = search needs
-
 read-all-requires : tie.Need-read-all-requires
 read-all-requires c κs = search needs
 
@@ -39,17 +36,14 @@ build-file-requires c κs = search needs
 enum-known-written : tie.Need-enum-known-written
 enum-known-written c = search needs
 
-slice-aggregate-write-all : tie.Need-slice-aggregate-write-all
-slice-aggregate-write-all c = search needs
-
 array-share-prefix-out : tie.Need-array-share-prefix-out
 array-share-prefix-out c =
     let at-build : tie.After-build-file = search in
     let at-bytes : tie.After-written = search in
     omega (arith, bytes-within _ _ _ _ (at-build .build-file .ensures .written .answer) (at-bytes .written .given .1), at-build .build-file .kept .1 .1 .0)
 
-slice-aggregate-write-all-2 : tie.Need-slice-aggregate-write-all-2
-slice-aggregate-write-all-2 c =
+slice-aggregate-write-all : tie.Need-slice-aggregate-write-all
+slice-aggregate-write-all c =
     let at-build : tie.After-build-file = search in
     let at-bytes : tie.After-written = search in
     sym (length-take-le _ _ (omega (arith, bytes-within _ _ _ _ (at-build .build-file .ensures .written .answer) (at-bytes .written .given .1), at-build .build-file .kept .1 .1 .0)))
@@ -72,7 +66,6 @@ build-input-spec =
     (tie.spec
     file-bytes-requires
     slice-aggregate-read-all
-    slice-aggregate-read-all-2
     read-all-requires
     returns
     printed-bytes-requires
@@ -81,9 +74,8 @@ build-input-spec =
     slice-aggregate-build-file-2
     build-file-requires
     enum-known-written
-    slice-aggregate-write-all
     array-share-prefix-out
-    slice-aggregate-write-all-2
+    slice-aggregate-write-all
     write-all-requires
     enum-told
     returns-2

@@ -175,8 +175,8 @@ module _ (c : tie.Joined1 Inv-loop2 μ-loop2 Inv-loop3 μ-loop3 Inv-loop μ-loop
 target-of-requires : tie.Need-target-of-requires Inv-loop2 μ-loop2 Inv-loop3 μ-loop3 Inv-loop μ-loop
 target-of-requires c κs = below c
 
-asks-requires : tie.Need-asks-requires Inv-loop2 μ-loop2 Inv-loop3 μ-loop3 Inv-loop μ-loop
-asks-requires c κs = tt
+asks-around-requires : tie.Need-asks-around-requires Inv-loop2 μ-loop2 Inv-loop3 μ-loop3 Inv-loop μ-loop
+asks-around-requires c κs = tt
 
 pass-from-requires : tie.Need-pass-from-requires Inv-loop2 μ-loop2 Inv-loop3 μ-loop3 Inv-loop μ-loop
 pass-from-requires c κs = tt
@@ -187,8 +187,8 @@ unseen-requires c κs = tt
 loop3-holds : tie.Need-loop3-holds Inv-loop2 μ-loop2 Inv-loop3 μ-loop3 Inv-loop μ-loop
 loop3-holds c =
     let counted : tie.After-pass-from Inv-loop2 μ-loop2 Inv-loop3 μ-loop3 Inv-loop μ-loop = search in
-    let asked : tie.After-asks Inv-loop2 μ-loop2 Inv-loop3 μ-loop3 Inv-loop μ-loop = search in
-    survey-start _ _ _ _ _ _ _ _ (asked .asks .ensures) (counted .pass-from .ensures) (c .unseen .ensures)
+    let asked : tie.After-asks-around Inv-loop2 μ-loop2 Inv-loop3 μ-loop3 Inv-loop μ-loop = search in
+    survey-start _ _ _ _ _ _ _ _ (asked .asks-around .ensures) (counted .pass-from .ensures) (c .unseen .ensures)
 
 sub-left : tie.Need-sub-left Inv-loop2 μ-loop2 Inv-loop3 μ-loop3 Inv-loop μ-loop
 sub-left c = search needs
@@ -701,7 +701,7 @@ walk-spec =
     loop2-less
     loop2-again
     target-of-requires
-    asks-requires
+    asks-around-requires
     pass-from-requires
     unseen-requires
     loop3-holds
