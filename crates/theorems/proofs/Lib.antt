@@ -1,3 +1,4 @@
 pub mod Language
+pub mod Requests
 pub mod Theorems
 pub mod WalkingOrder
