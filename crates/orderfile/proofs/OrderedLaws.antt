@@ -1,26 +1,25 @@
 -- From the rearranged words and their text to what is printed.
-use Prim.Native.Nat.{ℕ, zero, suc, _+_, _*_, _≤_, _<_}
+use Prim.Native.Nat.{ℕ, zero, suc, _+_, _*_, _≤_}
 use mathlib.Core.Path.{_≡_, refl, sym, ap, _∙_}
-use mathlib.Core.Bool.{Bool, true, false, _&&_}
-use mathlib.Core.List.{List, [], _∷_, _++_}
+use mathlib.Core.Bool.{Bool, true, false}
+use mathlib.Core.List.{List, []}
 use native.Mathlib.Omega.{arith}
-use lib.Dec.{leb, eqb}
+use lib.Dec.{leb}
 use lib.ListN.{length, getD, take, drop, length-append, length-take}
 use lib.Seq.{length-take-le}
-use borrow.Author.Tests.{leb-true, leb-false, eq-eqb}
+use borrow.Author.Tests.{leb-false}
 use Rattle.table.specs.Words.{blockCount}
 use Rattle.table.specs.Check.{Verdict, accepted, refused, checked}
 use Rattle.table.specs.Answer.{verdictOf, codeOf, placeOf, isAccepted}
 use Rattle.table.specs.declared.Checked.{Checked}
 use Rattle.table.specs.declared.Checked.the-variants as answers
-use Rattle.table.specs.Table.{tableOf}
 use Rattle.table.specs.Promise.{Promise}
 use Rattle.table.proofs.PromiseLaws.{promised, promise-checked}
 use Rattle.text.specs.Layout.{Layout, layout}
 use Rattle.text.specs.Answer.{Accepted}
 use Rattle.text.proofs.AnswerLaws.{good-room}
 use Rattle.text.specs.Lent.{padded}
-use Rattle.text.specs.Line.{line, lines}
+use Rattle.text.specs.Line.{lines}
 use Rattle.text.specs.Printed.{printed, writtenOf, lentOf}
 use Rattle.text.specs.Placed.{Placing, refusal, placed}
 use Rattle.text.specs.Prints.{WrittenText}
@@ -28,8 +27,7 @@ use Rattle.text.specs.declared.version.Version.the-variants.{New}
 use Rattle.text.specs.declared.write.Written.{Written}
 use Rattle.text.specs.declared.write.Written.the-variants.{Bytes, NoRoom}
 use Rattle.text.proofs.WriteLaws.{Narrow, narrow-words, narrow-take, narrow-drop, line-most}
-use Rattle.text.proofs.PrintsLaws.{written-as}
-use Rattle.renaming.specs.Order.{Rearrangement, walkingOrder, rearranged, rearrangement}
+use Rattle.renaming.specs.Order.{Rearrangement, rearranged, rearrangement}
 use Rattle.renaming.proofs.Operations.{rearrangement-given}
 use Rattle.renaming.proofs.OrderLaws.{rearranged-checked}
 use Rattle.writer.specs.Cut.{cut, instructionsAt, casesAt, placesAt, identifiersAt, endAt, Shaped, tablesIn, textIn}
@@ -46,7 +44,8 @@ lines-most width zero words n = omega arith
 lines-most width (suc count) words n =
     let e : suc count * width ≡ width + count * width = omega arith in
     let l : length (take width words) ≤ width = rw (length-take width words) (omega arith) in
-    simp length-append (omega (arith, e, l, line-most (take width words) (narrow-words (take width words) (narrow-take width words n)), lines-most width count (drop width words) (narrow-drop width words n)))
+    let first = line-most (take width words) (narrow-words (take width words) (narrow-take width words n)) in
+    simp length-append (omega (arith, e, l, first, lines-most width count (drop width words) (narrow-drop width words n)))
 
 words-long : (words : List ℕ) → Shaped (layout New) words
     → length words ≡ 6 + getD words 1 0 * 11 + getD words 2 0 * 7 + getD words 3 0 * 2 + getD words 4 0 + getD words 5 0
@@ -104,10 +103,16 @@ module _ (words : List ℕ) (promise : Promise words) (few : length words ≤ 16
 
 -- ---- the rearranged words
 
-module _ (words : List ℕ) (promise : Promise words) (table : List ℕ) (lentTable lentList : ℕ) where
-  pub is-rearranged : {code at : ℕ} {list : List ℕ} → lentTable ≡ length words → lentList ≡ blockCount words
-      → record { code = code; at = at; table = table; list = list } ≡ rearrangement words lentTable lentList → table ≡ rearranged words
-  is-rearranged e f g = ap (λ (r : Rearrangement). r .table) (g ∙ sym (rearrangement-given words promise lentTable lentList e f refl refl))
+-- of the numbers lent, as many as there are blocks
+module _ (words : List ℕ) (promise : Promise words) (numbers : List ℕ) (lent : 1024 ≡ length numbers) (blocks : ℕ) (count : blocks ≡ blockCount words) where
+  pub numbers-enough : blocks ≤ length numbers
+  numbers-enough = omega (arith, lent, count, promise .sized .limited .blocks)
+
+  pub is-rearranged : (table list : List ℕ) (lentTable : ℕ) {code at : ℕ} → lentTable ≡ length words
+      → record { code = code; at = at; table = table; list = list } ≡ rearrangement words lentTable (length (take blocks numbers)) → table ≡ rearranged words
+  is-rearranged table list lentTable e g =
+      let f : length (take blocks numbers) ≡ blockCount words = length-take-le blocks numbers numbers-enough ∙ count in
+      ap (λ (r : Rearrangement). r .table) (g ∙ sym (rearrangement-given words promise lentTable (length (take blocks numbers)) e f refl refl))
 
 pub rearranged-promise : (words : List ℕ) → Promise words → Promise (rearranged words)
 rearranged-promise words promise = promised (rearranged words) (rearranged-checked words (promise-checked words promise))

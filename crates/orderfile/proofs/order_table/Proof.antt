@@ -1,8 +1,8 @@
 use borrow.Author.Needs.{needs}
 use native.Mathlib.Omega.{arith}
-use mathlib.Core.Path.{sym, _∙_}
+use mathlib.Core.Path.{sym}
 use lib.Seq.{length-take-le}
-use Rattle.orderfile.proofs.OrderedLaws.{is-rearranged, rearranged-promise}
+use Rattle.orderfile.proofs.OrderedLaws.{numbers-enough, is-rearranged, rearranged-promise}
 use Rattle.orderfile.proofs.order_table.Statement.{statement}
 use Rattle.orderfile.proofs.order_table.Tie as tie
 
@@ -22,14 +22,14 @@ array-borrow-prefix-old-numbers c =
     let counted : tie.After-block-count = search in
     let lent : tie.After-lent-numbers = search in
     let start : tie.Start = search in
-    omega (arith, counted .block-count .ensures, lent .lent-numbers .ensures, start .pre .0 .sized .limited .blocks)
+    numbers-enough _ (start .pre .0) (lent .lent-numbers .result) (lent .lent-numbers .ensures) _ (counted .block-count .ensures)
 
 slice-aggregate-rearrange : tie.Need-slice-aggregate-rearrange
 slice-aggregate-rearrange c =
     let counted : tie.After-block-count = search in
     let lent : tie.After-lent-numbers = search in
     let start : tie.Start = search in
-    sym (length-take-le _ _ (omega (arith, counted .block-count .ensures, lent .lent-numbers .ensures, start .pre .0 .sized .limited .blocks)))
+    sym (length-take-le _ _ (numbers-enough _ (start .pre .0) (lent .lent-numbers .result) (lent .lent-numbers .ensures) _ (counted .block-count .ensures)))
 
 rearrange-requires : tie.Need-rearrange-requires
 rearrange-requires c κs = search needs
@@ -40,7 +40,7 @@ print-table-requires c κs =
     let counted : tie.After-block-count = search in
     let lent : tie.After-lent-numbers = search in
     let start : tie.Start = search in
-    let new = is-rearranged _ (start .pre .0) _ _ _ (start .pre .1 .1) (length-take-le _ _ (omega (arith, counted .block-count .ensures, lent .lent-numbers .ensures, start .pre .0 .sized .limited .blocks)) ∙ counted .block-count .ensures) (moved .rearrange .ensures) in
+    let new = is-rearranged _ (start .pre .0) _ (lent .lent-numbers .ensures) _ (counted .block-count .ensures) _ _ _ (start .pre .1 .1) (moved .rearrange .ensures) in
     (rw new (rearranged-promise _ (start .pre .0)), omega (arith, moved .rearrange .kept, start .pre .1))
 
 same-length : tie.Need-same-length
@@ -56,7 +56,7 @@ returns c =
     let counted : tie.After-block-count = search in
     let lent : tie.After-lent-numbers = search in
     let start : tie.Start = search in
-    let new = is-rearranged _ (start .pre .0) _ _ _ (start .pre .1 .1) (length-take-le _ _ (omega (arith, counted .block-count .ensures, lent .lent-numbers .ensures, start .pre .0 .sized .limited .blocks)) ∙ counted .block-count .ensures) (moved .rearrange .ensures) in
+    let new = is-rearranged _ (start .pre .0) _ (lent .lent-numbers .ensures) _ (counted .block-count .ensures) _ _ _ (start .pre .1 .1) (moved .rearrange .ensures) in
     rw new at (printed .print-table .ensures)
 
 pub order-table-spec : {M : Type 1} → statement M
