@@ -1,0 +1,2 @@
+pub mod OrderedLaws
+pub mod OneText
