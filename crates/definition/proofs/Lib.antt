@@ -20,6 +20,7 @@ pub mod Surveys
 pub mod Goals
 pub mod Parting
 pub mod PlainEnough
+pub mod Runnable
 pub mod Loops
 pub mod Semantics
 pub mod Resolve
