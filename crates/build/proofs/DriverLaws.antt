@@ -230,9 +230,14 @@ entry-at : (w : List ℕ) → tableOf w .entry ≡ entryWord w
 unfolding tableOf
 entry-at w = refl
 
-scheduled-start : (cx : Context) → contextOf 0 cx ≡ definition.start → length (cx .scheduled) ≡ 1024
-unfolding contextOf definition.start
-scheduled-start cx e = ap (λ (C : definition.Context). length (C .scheduled)) e ∙ length-none
+-- with nothing pending the scheduled set is the array's
+as-stored : (visits : ℕ) (cx : Context) → cx .pending ≡ 0 → contextOf visits cx .scheduled ≡ cx .scheduled
+unfolding contextOf
+as-stored visits cx e = rw e refl
+
+scheduled-start : (cx : Context) → cx .pending ≡ 0 → contextOf 0 cx ≡ definition.start → length (cx .scheduled) ≡ 1024
+unfolding definition.start
+scheduled-start cx s e = sym (ap length (as-stored 0 cx s)) ∙ ap (λ (C : definition.Context). length (C .scheduled)) e ∙ length-none
 
 -- what a read past the array's end would give
 abbrev pub beyond : Frame
@@ -240,13 +245,13 @@ beyond = record { block = 0; label = 0; entries = 0; left = 0; built = 0; first 
 
 -- where the jump goes
 pub found-jump : (rule : Rule) (w : List ℕ) (cx : Context) (A : List Frame) (p : Position) (jump : Jump) (aim : Aim)
-    → (p .stage ≡ Visit → Searches w (cx .scheduled) (cx .«catch_handlers») (p .block) jump)
+    → cx .pending ≡ 0 → (p .stage ≡ Visit → Searches w (cx .scheduled) (cx .«catch_handlers») (p .block) jump)
     → ((visits : ℕ) → aimOf aim ≡ goalBy jump (aroundOf rule (tableOf w) (framesOf A (p .depth))) (foundBy jump (contextOf visits cx)))
     → p .stage ≡ Visit → Resolves (terminalAt (tableOf w) (p .block)) (aroundOf rule (tableOf w) (framesOf A (p .depth))) (contextOf (p .visits) cx) (aimOf aim)
 unfolding contextOf
-found-jump rule w cx A p jump aim S R e =
+found-jump rule w cx A p jump aim settled S R e =
     subst (λ (z : Option Goal). Resolves (terminalAt (tableOf w) (p .block)) (aroundOf rule (tableOf w) (framesOf A (p .depth))) (contextOf (p .visits) cx) z)
-    (sym (R (p .visits))) (S e .resolves (aroundOf rule (tableOf w) (framesOf A (p .depth))) (contextOf (p .visits) cx) refl refl)
+    (sym (R (p .visits))) (S e .resolves (aroundOf rule (tableOf w) (framesOf A (p .depth))) (contextOf (p .visits) cx) (as-stored (p .visits) cx settled) refl)
 
 -- its target is one of the 1,024 blocks, as every entry's is
 break-below : (entries : List Entry) (n b : ℕ) (top : Bool) (above : ℕ) → ((k : ℕ) → k < n → Named (getD entries k noEntry .target))
@@ -323,7 +328,7 @@ module _ (rule : Rule) (w : List ℕ) (pr : Promise w) (ck : Checked (tableOf w)
       entry-word = entry-at w
 
       flags : length (cx .scheduled) ≡ 1024
-      flags = scheduled-start cx (new .context)
+      flags = scheduled-start cx (new .settled) (new .context)
 
   frame-fits : (chosen over n rows : ℕ) (A : List Frame) (F : List machine.Frame) (R : Output) (m : ℕ) (C : definition.Context) (f : Frame) → f ≡ getD A (suc n - 1) noFrame → length (R .rows) ≡ rows
       → Framed (tableOf w) chosen (frameOf (getD A n noFrame)) → invariant.Holds over (frameOf (getD A n noFrame) ∷ F) R m C → FrameFits w chosen rows f
@@ -410,7 +415,7 @@ module _ (rule : Rule) (w : List ℕ) (pr : Promise w) (ck : Checked (tableOf w)
         (J : p .stage ≡ Visit → Resolves (terminalAt (tableOf w) (p .block)) inside C (aimOf aim)) where
       shown : Shown w (cx .emitted) (cx .scheduled) (cx .«catch_handlers») (cx .«scope_fallthroughs») p aim inside C
       unfolding contextOf
-      shown = record { emitted = refl; scheduled = refl; handlers = refl; scopes = refl; visits = refl; wide = I .whole .wide; jump = J }
+      shown = record { emitted = refl; scheduled = as-stored (p .visits) cx (I .whole .settled); handlers = refl; scopes = refl; visits = refl; wide = I .whole .wide; jump = J }
 
       together : inHand (p .stage) (p .depth) f ++ restOf A (p .stage) (p .depth) ≡ framesOf A (p .depth)
       together = in-hand A (p .stage) (p .depth) f read

@@ -9,8 +9,11 @@ use crate::search::search_from;
 use control::Context;
 use control::ControlFlowTarget;
 use control::Resolved;
+use control::SETTLED;
+use control::add_target;
 use control::count_loop;
 use control::insert;
+use control::remove_target;
 use plan::Change;
 use plan::NONE;
 use plan::Plan;
@@ -225,7 +228,9 @@ pub fn walk(rule: Rule, words: &[u32], tree: &mut [u32], index: &mut [u32]) -> W
                 }
                 let entry = cx.pushed;
                 cx.stack[cx.len - 1] = entry;
-                cx.pending = false;
+                let target = entry.target;
+                add_target(&mut cx.scheduled, target);
+                cx.pending = SETTLED;
             }
             Change::ScheduleBriefly(target) => {
                 cx = cx.schedule(target);
@@ -234,12 +239,21 @@ pub fn walk(rule: Rule, words: &[u32], tree: &mut [u32], index: &mut [u32]) -> W
                 }
                 let entry = cx.pushed;
                 cx.stack[cx.len - 1] = entry;
-                cx.pending = false;
-                cx = cx.unschedule(entry);
+                let target = entry.target;
+                add_target(&mut cx.scheduled, target);
+                cx.pending = SETTLED;
+                cx = cx.unschedule();
+                let off = cx.stack[cx.len];
+                let target = off.target;
+                remove_target(&mut cx.scheduled, target, off.owns_loop);
+                cx.pending = SETTLED;
             }
             Change::Unschedule => {
-                let entry = cx.stack[cx.len - 1];
-                cx = cx.unschedule(entry);
+                cx = cx.unschedule();
+                let off = cx.stack[cx.len];
+                let target = off.target;
+                remove_target(&mut cx.scheduled, target, off.owns_loop);
+                cx.pending = SETTLED;
             }
         }
     }

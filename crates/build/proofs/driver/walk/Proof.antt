@@ -6,8 +6,7 @@ use mathlib.Core.Bool.{false}
 use lib.ListN.{length, getD, set}
 use mathlib.Core.Logic.{⊎-elim}
 use borrow.Author.Needs.{needs}
-use Rattle.control.specs.Abstraction.{contextOf, resolvedOf, settled}
-use Rattle.control.specs.Contract.{Last}
+use Rattle.control.specs.Abstraction.{contextOf, resolvedOf}
 use Rattle.plan.specs.declared.Plan.{Plan}
 use Rattle.plan.specs.declared.Change.{Change}
 use Rattle.plan.specs.declared.Change.the-variants.{Schedule, ScheduleBriefly, Unschedule}
@@ -20,7 +19,8 @@ use Rattle.plan.specs.Plans.{noFrame, framesOf}
 use Rattle.definition.specs.Build.{report}
 use Rattle.build.specs.Driver.{foundBy, goalBy, visitedBlock, planEnds, blockedBy, Reported}
 use Rattle.build.proofs.ApplyLaws.{marks-as, withMarks, Whole, Changeable, Changed, Blocked, Applicable, Applied, nothing-changed, schedule-changed}
-use Rattle.build.proofs.ApplyLaws.{schedule-blocked, unschedule-changed, briefly-changed, briefly-blocked, last-scheduled, changeable-marked}
+use Rattle.build.proofs.ApplyLaws.{schedule-blocked, unschedule-changed, briefly-changed, briefly-blocked, changeable-marked}
+use Rattle.build.proofs.ApplyLaws.{settledBy, releasedBy, settled-by, released-by, named-entered, named-left}
 use Rattle.build.proofs.ApplyLaws.{whole-marked, plan-applied, last-entry}
 use Rattle.control.specs.declared.Context.{Context}
 use Rattle.plan.specs.declared.Position.{Position}
@@ -304,7 +304,7 @@ module _ (d : tie.After-put-line Inv-loop2 μ-loop2 Inv-loop3 μ-loop3 Inv-loop 
         aim = at-aim .aim-at .result;
         planned = planning .plan-turn .ensures;
         put = d .put-line .ensures;
-        jump = found-jump _ _ _ _ (at-head .loop .p) _ (at-aim .aim-at .result) (asked-jump (searched at-aim) .jump-at .ensures) (aimed at-aim);
+        jump = found-jump _ _ _ _ (at-head .loop .p) _ (at-aim .aim-at .result) (at-head .loop .inv .walking .whole .settled) (asked-jump (searched at-aim) .jump-at .ensures) (aimed at-aim);
       }
 
 plan-turn-requires : tie.Need-plan-turn-requires Inv-loop2 μ-loop2 Inv-loop3 μ-loop3 Inv-loop μ-loop
@@ -497,8 +497,17 @@ module _ (c : tie.After-schedule Inv-loop2 μ-loop2 Inv-loop3 μ-loop3 Inv-loop 
   schedulable : Changeable (Schedule (asked .change .given .0 .0)) (with-marks slotted)
   schedulable = changeable slotted _ (asked .change .given .1)
 
-  by-schedule : c .schedule .result .refused ≡ 0 → Changed (Schedule (asked .change .given .0 .0)) (with-marks slotted) (settled (c .schedule .result))
-  by-schedule z = schedule-changed _ _ _ _ (c .schedule .ensures) z refl (schedulable .1 .len) (whole slotted)
+module _ (c : tie.After-add-target Inv-loop2 μ-loop2 Inv-loop3 μ-loop3 Inv-loop μ-loop) where
+  abbrev begun-by : tie.After-schedule Inv-loop2 μ-loop2 Inv-loop3 μ-loop3 Inv-loop μ-loop
+  begun-by = search
+
+  abbrev else4 : tie.Else4 Inv-loop2 μ-loop2 Inv-loop3 μ-loop3 Inv-loop μ-loop
+  else4 = search
+
+  by-schedule : Changed (Schedule (asked begun-by .change .given .0 .0)) (with-marks (slotted begun-by)) (settledBy (c .add-target .last .0) (begun-by .schedule .result))
+  by-schedule =
+      schedule-changed _ _ _ _ (begun-by .schedule .ensures) (else4 .if4 .left) (settled-by _ _ (c .add-target .ensures .0)) (schedulable begun-by .1 .len)
+      (whole (slotted begun-by))
 
 module _ (c : tie.After-schedule2 Inv-loop2 μ-loop2 Inv-loop3 μ-loop3 Inv-loop μ-loop) where
   abbrev slotted2 : tie.After-frame-slot Inv-loop2 μ-loop2 Inv-loop3 μ-loop3 Inv-loop μ-loop
@@ -510,22 +519,27 @@ module _ (c : tie.After-schedule2 Inv-loop2 μ-loop2 Inv-loop3 μ-loop3 Inv-loop
   briefly : Changeable (ScheduleBriefly (asked2 .change2 .given .0 .0)) (with-marks slotted2)
   briefly = changeable slotted2 _ (asked2 .change2 .given .1)
 
-  pushed-first : c .schedule2 .result .refused ≡ 0 → Changed (Schedule (asked2 .change2 .given .0 .0)) (with-marks slotted2) (settled (c .schedule2 .result))
-  pushed-first z = schedule-changed _ _ _ _ (c .schedule2 .ensures) z refl (briefly .1 .len) (whole slotted2)
-
-  pushed-last : Last (settled (c .schedule2 .result)) (c .schedule2 .result .pushed)
-  pushed-last = last-scheduled _ _ _ (c .schedule2 .ensures) (briefly .0) (briefly .1 .len) (whole slotted2)
-
-module _ (c : tie.After-unschedule Inv-loop2 μ-loop2 Inv-loop3 μ-loop3 Inv-loop μ-loop) where
+module _ (c : tie.After-add-target2 Inv-loop2 μ-loop2 Inv-loop3 μ-loop3 Inv-loop μ-loop) where
   abbrev scheduled2 : tie.After-schedule2 Inv-loop2 μ-loop2 Inv-loop3 μ-loop3 Inv-loop μ-loop
   scheduled2 = search
 
   abbrev else5 : tie.Else5 Inv-loop2 μ-loop2 Inv-loop3 μ-loop3 Inv-loop μ-loop
   else5 = search
 
-  by-briefly : Changed (ScheduleBriefly (asked2 scheduled2 .change2 .given .0 .0)) (with-marks (slotted2 scheduled2)) (c .unschedule .result)
-  unfolding settled
-  by-briefly = briefly-changed _ _ _ _ _ (pushed-first scheduled2 (else5 .if5 .left)) (pushed-last scheduled2) (c .unschedule .ensures)
+  pushed-first : Changed (Schedule (asked2 scheduled2 .change2 .given .0 .0)) (with-marks (slotted2 scheduled2)) (settledBy (c .add-target2 .last .0) (scheduled2 .schedule2 .result))
+  pushed-first =
+      schedule-changed _ _ _ _ (scheduled2 .schedule2 .ensures) (else5 .if5 .left) (settled-by _ _ (c .add-target2 .ensures .0)) (briefly scheduled2 .1 .len)
+      (whole (slotted2 scheduled2))
+
+module _ (c : tie.After-remove-target Inv-loop2 μ-loop2 Inv-loop3 μ-loop3 Inv-loop μ-loop) where
+  abbrev added2 : tie.After-add-target2 Inv-loop2 μ-loop2 Inv-loop3 μ-loop3 Inv-loop μ-loop
+  added2 = search
+
+  abbrev popped-at : tie.After-unschedule Inv-loop2 μ-loop2 Inv-loop3 μ-loop3 Inv-loop μ-loop
+  popped-at = search
+
+  by-briefly : Changed (ScheduleBriefly (asked2 (scheduled2 added2) .change2 .given .0 .0)) (with-marks (slotted2 (scheduled2 added2))) (releasedBy (c .remove-target .last .0) (popped-at .unschedule .result))
+  by-briefly = briefly-changed _ _ _ _ _ (pushed-first added2) (popped-at .unschedule .ensures) (released-by _ _ (c .remove-target .ensures))
 
 module _ (c : tie.After-unschedule2 Inv-loop2 μ-loop2 Inv-loop3 μ-loop3 Inv-loop μ-loop) where
   abbrev slotted3 : tie.After-frame-slot Inv-loop2 μ-loop2 Inv-loop3 μ-loop3 Inv-loop μ-loop
@@ -534,9 +548,15 @@ module _ (c : tie.After-unschedule2 Inv-loop2 μ-loop2 Inv-loop3 μ-loop3 Inv-lo
   abbrev told : tie.After-enum-told2 Inv-loop2 μ-loop2 Inv-loop3 μ-loop3 Inv-loop μ-loop
   told = search
 
-  by-unschedule : Changed Unschedule (with-marks slotted3) (c .unschedule2 .result)
-  by-unschedule =
-      unschedule-changed _ _ _ (last-entry _ (changeable slotted3 _ (told .enum-told2 .given .1)) (whole slotted3)) (c .unschedule2 .ensures) (whole slotted3)
+  some-entry : 0 < with-marks slotted3 .len
+  some-entry = changeable slotted3 _ (told .enum-told2 .given .1)
+
+module _ (c : tie.After-remove-target2 Inv-loop2 μ-loop2 Inv-loop3 μ-loop3 Inv-loop μ-loop) where
+  abbrev popped2 : tie.After-unschedule2 Inv-loop2 μ-loop2 Inv-loop3 μ-loop3 Inv-loop μ-loop
+  popped2 = search
+
+  by-unschedule : Changed Unschedule (with-marks (slotted3 popped2)) (releasedBy (c .remove-target2 .last .0) (popped2 .unschedule2 .result))
+  by-unschedule = unschedule-changed _ _ _ (popped2 .unschedule2 .ensures) (released-by _ _ (c .remove-target2 .ensures)) (whole (slotted3 popped2))
 
 mul-frames : tie.Need-mul-frames Inv-loop2 μ-loop2 Inv-loop3 μ-loop3 Inv-loop μ-loop
 mul-frames c = omega (arith, c .frame-slot .ensures, turn-slot (turn (written c)) (goes-on c))
@@ -602,19 +622,16 @@ element-set-from-entry c =
     let at-schedule : tie.After-schedule Inv-loop2 μ-loop2 Inv-loop3 μ-loop3 Inv-loop μ-loop = search in
     omega (arith, at-schedule .schedule .ensures .len, schedulable at-schedule .1 .len)
 
-loop-less-2 : tie.Need-loop-less-2 Inv-loop2 μ-loop2 Inv-loop3 μ-loop3 Inv-loop μ-loop
-unfolding settled
-loop-less-2 c =
-    let else4 : tie.Else4 Inv-loop2 μ-loop2 Inv-loop3 μ-loop3 Inv-loop μ-loop = search in
+add-target-requires : tie.Need-add-target-requires Inv-loop2 μ-loop2 Inv-loop3 μ-loop3 Inv-loop μ-loop
+add-target-requires c κs =
     let at-schedule : tie.After-schedule Inv-loop2 μ-loop2 Inv-loop3 μ-loop3 Inv-loop μ-loop = search in
-    lower (slotted at-schedule) _ (asked at-schedule .change .given .1) _ (by-schedule at-schedule (else4 .if4 .left))
+    named-entered _ _ _ (at-schedule .schedule .ensures) (schedulable at-schedule .0)
+
+loop-less-2 : tie.Need-loop-less-2 Inv-loop2 μ-loop2 Inv-loop3 μ-loop3 Inv-loop μ-loop
+loop-less-2 c = lower (slotted (begun-by c)) _ (asked (begun-by c) .change .given .1) _ (by-schedule c)
 
 loop-again-2 : tie.Need-loop-again-2 Inv-loop2 μ-loop2 Inv-loop3 μ-loop3 Inv-loop μ-loop
-unfolding settled
-loop-again-2 c =
-    let else4 : tie.Else4 Inv-loop2 μ-loop2 Inv-loop3 μ-loop3 Inv-loop μ-loop = search in
-    let at-schedule : tie.After-schedule Inv-loop2 μ-loop2 Inv-loop3 μ-loop3 Inv-loop μ-loop = search in
-    next (slotted at-schedule) _ (asked at-schedule .change .given .1) _ (by-schedule at-schedule (else4 .if4 .left))
+loop-again-2 c = next (slotted (begun-by c)) _ (asked (begun-by c) .change .given .1) _ (by-schedule c)
 
 enum-known-change-2 : tie.Need-enum-known-change-2 Inv-loop2 μ-loop2 Inv-loop3 μ-loop3 Inv-loop μ-loop
 enum-known-change-2 c = search needs
@@ -661,35 +678,43 @@ element-set-from-entry-2 c =
     let at-schedule2 : tie.After-schedule2 Inv-loop2 μ-loop2 Inv-loop3 μ-loop3 Inv-loop μ-loop = search in
     omega (arith, at-schedule2 .schedule2 .ensures .len, briefly at-schedule2 .1 .len)
 
+add-target-requires-2 : tie.Need-add-target-requires-2 Inv-loop2 μ-loop2 Inv-loop3 μ-loop3 Inv-loop μ-loop
+add-target-requires-2 c κs =
+    let at-schedule2 : tie.After-schedule2 Inv-loop2 μ-loop2 Inv-loop3 μ-loop3 Inv-loop μ-loop = search in
+    named-entered _ _ _ (at-schedule2 .schedule2 .ensures) (briefly at-schedule2 .0)
+
 unschedule-requires : tie.Need-unschedule-requires Inv-loop2 μ-loop2 Inv-loop3 μ-loop3 Inv-loop μ-loop
-unfolding settled
 unschedule-requires c κs =
     let at-schedule2 : tie.After-schedule2 Inv-loop2 μ-loop2 Inv-loop3 μ-loop3 Inv-loop μ-loop = search in
-    pushed-last at-schedule2
+    record { nonempty = omega (arith, at-schedule2 .schedule2 .ensures .len); settled = refl }
+
+mul-off : tie.Need-mul-off Inv-loop2 μ-loop2 Inv-loop3 μ-loop3 Inv-loop μ-loop
+mul-off c =
+    let at-schedule2 : tie.After-schedule2 Inv-loop2 μ-loop2 Inv-loop3 μ-loop3 Inv-loop μ-loop = search in
+    let at-unschedule : tie.After-unschedule Inv-loop2 μ-loop2 Inv-loop3 μ-loop3 Inv-loop μ-loop = search in
+    omega (arith, at-unschedule .unschedule .ensures .len, at-schedule2 .schedule2 .ensures .len, briefly at-schedule2 .1 .len)
+
+element-copy-out-off : tie.Need-element-copy-out-off Inv-loop2 μ-loop2 Inv-loop3 μ-loop3 Inv-loop μ-loop
+element-copy-out-off c =
+    let at-schedule2 : tie.After-schedule2 Inv-loop2 μ-loop2 Inv-loop3 μ-loop3 Inv-loop μ-loop = search in
+    let at-unschedule : tie.After-unschedule Inv-loop2 μ-loop2 Inv-loop3 μ-loop3 Inv-loop μ-loop = search in
+    omega (arith, at-unschedule .unschedule .ensures .len, at-schedule2 .schedule2 .ensures .len, briefly at-schedule2 .1 .len)
+
+remove-target-requires : tie.Need-remove-target-requires Inv-loop2 μ-loop2 Inv-loop3 μ-loop3 Inv-loop μ-loop
+remove-target-requires c κs =
+    let at-unschedule : tie.After-unschedule Inv-loop2 μ-loop2 Inv-loop3 μ-loop3 Inv-loop μ-loop = search in
+    let at-added2 : tie.After-add-target2 Inv-loop2 μ-loop2 Inv-loop3 μ-loop3 Inv-loop μ-loop = search in
+    let at-schedule2 : tie.After-schedule2 Inv-loop2 μ-loop2 Inv-loop3 μ-loop3 Inv-loop μ-loop = search in
+    named-left _ _ (at-unschedule .unschedule .ensures) (omega (arith, at-schedule2 .schedule2 .ensures .len)) (pushed-first at-added2 .whole)
 
 loop-less-3 : tie.Need-loop-less-3 Inv-loop2 μ-loop2 Inv-loop3 μ-loop3 Inv-loop μ-loop
-loop-less-3 c = lower (slotted2 (scheduled2 c)) _ (asked2 (scheduled2 c) .change2 .given .1) _ (by-briefly c)
+loop-less-3 c = lower (slotted2 (scheduled2 (added2 c))) _ (asked2 (scheduled2 (added2 c)) .change2 .given .1) _ (by-briefly c)
 
 loop-again-3 : tie.Need-loop-again-3 Inv-loop2 μ-loop2 Inv-loop3 μ-loop3 Inv-loop μ-loop
-loop-again-3 c = next (slotted2 (scheduled2 c)) _ (asked2 (scheduled2 c) .change2 .given .1) _ (by-briefly c)
+loop-again-3 c = next (slotted2 (scheduled2 (added2 c))) _ (asked2 (scheduled2 (added2 c)) .change2 .given .1) _ (by-briefly c)
 
 enum-told-2 : tie.Need-enum-told-2 Inv-loop2 μ-loop2 Inv-loop3 μ-loop3 Inv-loop μ-loop
 enum-told-2 c = search needs
-
-sub-entry-3 : tie.Need-sub-entry-3 Inv-loop2 μ-loop2 Inv-loop3 μ-loop3 Inv-loop μ-loop
-sub-entry-3 c =
-    let at-frame-slot : tie.After-frame-slot Inv-loop2 μ-loop2 Inv-loop3 μ-loop3 Inv-loop μ-loop = search in
-    changeable (at-frame-slot) _ (c .enum-told2 .given .1)
-
-mul-entry-4 : tie.Need-mul-entry-4 Inv-loop2 μ-loop2 Inv-loop3 μ-loop3 Inv-loop μ-loop
-mul-entry-4 c =
-    let at-frame-slot : tie.After-frame-slot Inv-loop2 μ-loop2 Inv-loop3 μ-loop3 Inv-loop μ-loop = search in
-    omega (arith, whole (at-frame-slot) .bounded .most)
-
-element-copy-out-entry-2 : tie.Need-element-copy-out-entry-2 Inv-loop2 μ-loop2 Inv-loop3 μ-loop3 Inv-loop μ-loop
-element-copy-out-entry-2 c =
-    let at-frame-slot : tie.After-frame-slot Inv-loop2 μ-loop2 Inv-loop3 μ-loop3 Inv-loop μ-loop = search in
-    omega (arith, changeable (at-frame-slot) _ (c .enum-told2 .given .1), whole (at-frame-slot) .bounded .most)
 
 unschedule-requires-2 : tie.Need-unschedule-requires-2 Inv-loop2 μ-loop2 Inv-loop3 μ-loop3 Inv-loop μ-loop
 unschedule-requires-2 c κs =
@@ -697,17 +722,26 @@ unschedule-requires-2 c κs =
     let at-frame-slot : tie.After-frame-slot Inv-loop2 μ-loop2 Inv-loop3 μ-loop3 Inv-loop μ-loop = search in
     last-entry _ (changeable (at-frame-slot) _ (at-enum-told2 .enum-told2 .given .1)) (whole (at-frame-slot))
 
+mul-off-2 : tie.Need-mul-off-2 Inv-loop2 μ-loop2 Inv-loop3 μ-loop3 Inv-loop μ-loop
+mul-off-2 c =
+    let at-unschedule2 : tie.After-unschedule2 Inv-loop2 μ-loop2 Inv-loop3 μ-loop3 Inv-loop μ-loop = search in
+    omega (arith, at-unschedule2 .unschedule2 .ensures .len, whole (slotted3 at-unschedule2) .bounded .most)
+
+element-copy-out-off-2 : tie.Need-element-copy-out-off-2 Inv-loop2 μ-loop2 Inv-loop3 μ-loop3 Inv-loop μ-loop
+element-copy-out-off-2 c =
+    let at-unschedule2 : tie.After-unschedule2 Inv-loop2 μ-loop2 Inv-loop3 μ-loop3 Inv-loop μ-loop = search in
+    omega (arith, at-unschedule2 .unschedule2 .ensures .len, some-entry at-unschedule2, whole (slotted3 at-unschedule2) .bounded .most)
+
+remove-target-requires-2 : tie.Need-remove-target-requires-2 Inv-loop2 μ-loop2 Inv-loop3 μ-loop3 Inv-loop μ-loop
+remove-target-requires-2 c κs =
+    let at-unschedule2 : tie.After-unschedule2 Inv-loop2 μ-loop2 Inv-loop3 μ-loop3 Inv-loop μ-loop = search in
+    named-left _ _ (at-unschedule2 .unschedule2 .ensures) (some-entry at-unschedule2) (whole (slotted3 at-unschedule2))
+
 loop-less-4 : tie.Need-loop-less-4 Inv-loop2 μ-loop2 Inv-loop3 μ-loop3 Inv-loop μ-loop
-loop-less-4 c =
-    let at-enum-told2 : tie.After-enum-told2 Inv-loop2 μ-loop2 Inv-loop3 μ-loop3 Inv-loop μ-loop = search in
-    let at-frame-slot : tie.After-frame-slot Inv-loop2 μ-loop2 Inv-loop3 μ-loop3 Inv-loop μ-loop = search in
-    lower (at-frame-slot) _ (at-enum-told2 .enum-told2 .given .1) _ (by-unschedule c)
+loop-less-4 c = lower (slotted3 (popped2 c)) _ (told (popped2 c) .enum-told2 .given .1) _ (by-unschedule c)
 
 loop-again-4 : tie.Need-loop-again-4 Inv-loop2 μ-loop2 Inv-loop3 μ-loop3 Inv-loop μ-loop
-loop-again-4 c =
-    let at-enum-told2 : tie.After-enum-told2 Inv-loop2 μ-loop2 Inv-loop3 μ-loop3 Inv-loop μ-loop = search in
-    let at-frame-slot : tie.After-frame-slot Inv-loop2 μ-loop2 Inv-loop3 μ-loop3 Inv-loop μ-loop = search in
-    next (at-frame-slot) _ (at-enum-told2 .enum-told2 .given .1) _ (by-unschedule c)
+loop-again-4 c = next (slotted3 (popped2 c)) _ (told (popped2 c) .enum-told2 .given .1) _ (by-unschedule c)
 
 pub walk-spec : {M : Type 1} → statement M
 walk-spec =
@@ -775,6 +809,7 @@ walk-spec =
     sub-entry
     mul-entry-2
     element-set-from-entry
+    add-target-requires
     loop-less-2
     loop-again-2
     enum-known-change-2
@@ -786,13 +821,17 @@ walk-spec =
     sub-entry-2
     mul-entry-3
     element-set-from-entry-2
+    add-target-requires-2
     unschedule-requires
+    mul-off
+    element-copy-out-off
+    remove-target-requires
     loop-less-3
     loop-again-3
     enum-told-2
-    sub-entry-3
-    mul-entry-4
-    element-copy-out-entry-2
     unschedule-requires-2
+    mul-off-2
+    element-copy-out-off-2
+    remove-target-requires-2
     loop-less-4
     loop-again-4)
