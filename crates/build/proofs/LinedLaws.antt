@@ -44,7 +44,7 @@ module _ (index : List ℕ) (n label first closing : ℕ) where
   placed-take : n < length index / 3 → take ((n + 1) * 3) (linePlaced index n label first closing) ≡ take (n * 3) index ++ words
   placed-take h =
       let split : linePlaced index n label first closing ≡ (take (n * 3) index ++ words) ++ drop (n * 3 + 3) index =
-          sym (placed-here h) ∙ sets-eq words index (n * 3) (omega (arith, h)) in
+      sym (placed-here h) ∙ sets-eq words index (n * 3) (omega (arith, h)) in
       ap (λ (z : List ℕ). take ((n + 1) * 3) z) split
       ∙ take-at (take (n * 3) index ++ words) (drop (n * 3 + 3) index) ((n + 1) * 3)
       (omega (arith, length-append (take (n * 3) index) words, length-take-le (n * 3) index (omega (arith, h))))

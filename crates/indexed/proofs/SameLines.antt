@@ -84,6 +84,7 @@ same-label (in-scope y s p) = refl
 
 mutual
   unfolding inParts inList inCases
+
   parts-alike : {s s′ : Statement} → Relabeled s s′ → (n : ℕ) → Alike (inParts n s) (inParts n s′)
   parts-alike (the-same s) n = refl
   parts-alike (a-break target id loops) n = refl
