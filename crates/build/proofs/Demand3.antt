@@ -4,13 +4,13 @@ use mathlib.Core.Path.{_≡_, sym, ap, _∙_, subst}
 use mathlib.Core.List.{List}
 use lib.ListN.{length}
 use Rattle.table.specs.Table.{tableOf}
-use Rattle.definition.specs.Around.{Rule}
+use Rattle.definition.specs.Around.{Rule, language}
 use Rattle.definition.specs.Build.{built}
 use Rattle.definition.specs.Build as definition
-use Rattle.definition.specs.Plain.{Plain}
+use Rattle.definition.specs.Plain.{paper-01, with-switch, Plain}
 use Rattle.definition.specs.Reading.{OneTree}
-use Rattle.definition.specs.RunLaw.{RunLaw}
-use Rattle.definition.proofs.Law.{one-tree, run-law}
+use Rattle.definition.specs.RunLaw.{RunLaw, SwitchLaw}
+use Rattle.definition.proofs.Law.{one-tree, run-law, switch-law}
 use Rattle.build.specs.declared.Outcome.{Outcome}
 use Rattle.build.specs.Entry.{outcome}
 
@@ -23,5 +23,12 @@ module _ (rule : Rule) (words buffer buffer′ : List ℕ) (r : Outcome) (ensure
   pub entry-tree : OneTree (outcome r buffer′)
   entry-tree = subst OneTree (sym ensured) (one-tree rule words (length buffer) accepts)
 
-  pub entry-law : Plain (tableOf words) → RunLaw words (outcome r buffer′)
+  pub entry-law : Plain paper-01 (tableOf words) → RunLaw words (outcome r buffer′)
   entry-law plain = subst (λ (o : definition.Outcome). RunLaw words o) (sym ensured) (run-law rule words (length buffer) accepts plain)
+
+-- M-113: plain tables with switches, for build_language
+module _ (words buffer buffer′ : List ℕ) (r : Outcome) (ensured : outcome r buffer′ ≡ built language words (length buffer)) (accepted : r .code ≡ 0) where
+  pub language-law : Plain with-switch (tableOf words) → SwitchLaw words (outcome r buffer′)
+  language-law plain =
+      subst (λ (o : definition.Outcome). SwitchLaw words o) (sym ensured)
+      (switch-law words (length buffer) (accepts language words buffer buffer′ r ensured accepted) plain)

@@ -24,9 +24,9 @@ use Rattle.definition.specs.Build as definition
 use Rattle.definition.specs.Machine.{State, begin, Gives, run}
 use Rattle.definition.specs.Run.{Answers, Reason, stopped}
 use Rattle.definition.specs.BlockRun.{blockRun}
-use Rattle.definition.specs.Plain.{Plain}
+use Rattle.definition.specs.Plain.{paper-01, Plain}
 use Rattle.definition.specs.Reading.{OneTree, JumpsWithin}
-use Rattle.definition.specs.RunLaw.{RunLaw}
+use Rattle.definition.specs.RunLaw.{RunLaw, SwitchLaw, LawOfSwitches}
 use Rattle.definition.proofs.Outcomes.{ofInput, acceptance, outcome-code, refused-form, refused-rows, accepted-form}
 use Rattle.definition.proofs.Visits.{visits-most}
 use Rattle.definition.proofs.Never.{target-known, never-already-scheduled, never-unschedule-out-of-order, never-maybe-throw-in-value-terminal}
@@ -34,10 +34,10 @@ use Rattle.definition.proofs.Simulation.{machine-builds}
 use Rattle.definition.proofs.Invariant.{Reached, contextOf, framesOf, Small, sound-small, reached-going, stack-bound, machine-turns}
 use Rattle.definition.proofs.Enough.{blocks-enough}
 use Rattle.definition.proofs.PlainEnough.{PlainEnough}
-use Rattle.definition.proofs.Law.{run-law-enough, more-steps, one-tree}
+use Rattle.definition.proofs.Law.{run-law-enough, switch-law, more-steps, one-tree}
 use Rattle.definition.proofs.Crossed.{Found, break-found, continue-found}
 use Rattle.definition.proofs.JumpRows.{built-within}
-use Rattle.definition.proofs.Example.{W, loops, W-law, loops-law}
+use Rattle.definition.proofs.Example.{W, loops, picks, W-law, loops-law, picks-law, not-for-rust}
 use Rattle.definition.proofs.Samples.{Sample, samples, builtFor, the-samples}
 use Rattle.definition.specs.Tree.{Row}
 use Rattle.definition.specs.Reading.{ReadAs}
@@ -186,11 +186,11 @@ module _ (rule : Rule) (words buffer buffer′ : List ℕ) (answer : Outcome) (e
   accepted-rows-are-one-tree h = entry-tree rule words buffer buffer′ answer ensured h
 
   -- on a plain table that is accepted the block run and that tree's run agree, over every finite list of answers
-  pub the-runs-of-a-plain-table-agree : answer .code ≡ 0 → Plain (tableOf words) → RunLaw words (outcome answer buffer′)
+  pub the-runs-of-a-plain-table-agree : answer .code ≡ 0 → Plain paper-01 (tableOf words) → RunLaw words (outcome answer buffer′)
   the-runs-of-a-plain-table-agree h plain = entry-law rule words buffer buffer′ answer ensured h plain
 
 -- the same from less than the paper's plainness: no use is made of "one While" naming each Branch block
-pub the-runs-agree-from-less : (rule : Rule) (words : List ℕ) (lent : ℕ) → built rule words lent .code ≡ 0 → PlainEnough (tableOf words) → RunLaw words (built rule words lent)
+pub the-runs-agree-from-less : (rule : Rule) (words : List ℕ) (lent : ℕ) → built rule words lent .code ≡ 0 → PlainEnough paper-01 (tableOf words) → RunLaw words (built rule words lent)
 the-runs-agree-from-less = run-law-enough
 
 -- it is not empty: W with instructions, and two loops of which the inner continues the outer
@@ -199,6 +199,17 @@ the-runs-of-W-agree = W-law
 
 pub the-runs-of-two-loops-agree : (rule : Rule) → RunLaw loops (built rule loops 600)
 the-runs-of-two-loops-agree = loops-law
+
+-- M-113: the same of plain tables with switches, in the language entry, over every list whose answers name existing cases
+pub the-runs-with-switches-agree : LawOfSwitches
+the-runs-with-switches-agree = switch-law
+
+-- it is not empty: a loop with a switch of three cases, one of which leaves the loop; and it is not so for the first entry
+pub the-runs-of-a-switch-agree : SwitchLaw picks (built language picks 900)
+the-runs-of-a-switch-agree = picks-law
+
+pub the-first-entry-has-no-such-law : SwitchLaw picks (built rust picks 900) → ⊥
+the-first-entry-has-no-such-law = not-for-rust
 
 -- ---- "Four Rust messages never occur and are proved so": over any table, by either rule
 
