@@ -988,17 +988,45 @@ pub record Small (state : State) : Type 0 where
 
 pub sound-small : (t : Table) (s : State) → Sound t s → Small s
 sound-small t (visiting b F R m c) (k, f, h) =
-    record { visits = h .visits; frames = h .depth; stack = omega (arith, stack-most t 0 F R m c f h); ids = omega (arith, h .ids);
-    rows = omega (arith, h .paid, h .visits); lines = omega (arith, h .marked, marks-below (c .emitted), h .flags); count = h .tallied }
+    record {
+      visits = h .visits;
+      frames = h .depth;
+      stack = omega (arith, stack-most t 0 F R m c f h);
+      ids = omega (arith, h .ids);
+      rows = omega (arith, h .paid, h .visits);
+      lines = omega (arith, h .marked, marks-below (c .emitted), h .flags);
+      count = h .tallied;
+    }
 sound-small t (ended F R m c) (f, h) =
-    record { visits = h .visits; frames = h .depth; stack = omega (arith, stack-most t 1 F R m c f h); ids = omega (arith, h .ids);
-    rows = omega (arith, h .paid, h .visits); lines = omega (arith, h .marked, marks-below (c .emitted), h .flags); count = h .tallied }
+    record {
+      visits = h .visits;
+      frames = h .depth;
+      stack = omega (arith, stack-most t 1 F R m c f h);
+      ids = omega (arith, h .ids);
+      rows = omega (arith, h .paid, h .visits);
+      lines = omega (arith, h .marked, marks-below (c .emitted), h .flags);
+      count = h .tallied;
+    }
 sound-small t (choosing fr F R c) (q, o, f, h) =
-    record { visits = h .visits; frames = h .depth; stack = omega (arith, light t 0 fr F R 0 c o f h); ids = omega (arith, h .ids);
-    rows = omega (arith, h .paid, h .visits); lines = omega (arith, h .marked, marks-below (c .emitted), h .flags); count = h .tallied }
+    record {
+      visits = h .visits;
+      frames = h .depth;
+      stack = omega (arith, light t 0 fr F R 0 c o f h);
+      ids = omega (arith, h .ids);
+      rows = omega (arith, h .paid, h .visits);
+      lines = omega (arith, h .marked, marks-below (c .emitted), h .flags);
+      count = h .tallied;
+    }
 sound-small t (popping fr F R c) (o, f, h) =
-    record { visits = h .visits; frames = h .depth; stack = omega (arith, light t 0 fr F R 0 c o f h); ids = omega (arith, h .ids);
-    rows = omega (arith, h .paid, h .visits); lines = omega (arith, h .marked, marks-below (c .emitted), h .flags); count = h .tallied }
+    record {
+      visits = h .visits;
+      frames = h .depth;
+      stack = omega (arith, light t 0 fr F R 0 c o f h);
+      ids = omega (arith, h .ids);
+      rows = omega (arith, h .paid, h .visits);
+      lines = omega (arith, h .marked, marks-below (c .emitted), h .flags);
+      count = h .tallied;
+    }
 
 -- "The stack holds at most 1,152 entries": in every state that is reached. (1,024 is what it comes to.)
 pub stack-bound : (rule : Rule) (t : Table) → Checked t → (s : State) → Reached rule t s → length (contextOf s .stack) ≤ 1152

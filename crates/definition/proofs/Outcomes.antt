@@ -170,13 +170,16 @@ module _ (rule : Rule) (words : List ℕ) (lent lentIndex : ℕ) where
       × (length (rows root) * 6 ≤ lent)
       × (built rule words lent lentIndex ≡ acceptance lent lentIndex (rows root) (lines root) (built rule words lent lentIndex .visits))
   accepted-form h =
-      let a : Accepted rule words lent lentIndex = accepted-of rule words lent lentIndex h in
-      (a .root .statements, omega (arith, accepted-fits h .0, a .number), (λ i. record {
-        code = h i;
-        at = accepted-at h i;
-        rows = a .number i;
-        visits = built rule words lent lentIndex .visits;
-        lines = a .indexNumber i;
-        buffer = a .held i;
-        index = a .indexed i;
-      }))
+      let a : Accepted rule words lent lentIndex = accepted-of rule words lent lentIndex h in (
+        a .root .statements,
+        omega (arith, accepted-fits h .0, a .number),
+        (λ i. record {
+          code = h i;
+          at = accepted-at h i;
+          rows = a .number i;
+          visits = built rule words lent lentIndex .visits;
+          lines = a .indexNumber i;
+          buffer = a .held i;
+          index = a .indexed i;
+        }),
+      )

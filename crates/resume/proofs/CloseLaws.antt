@@ -271,7 +271,7 @@ module _ (w : List ℕ) (p : Position) (frame : Frame) (cl : Closing w p frame) 
   closed-complete plan buffer buffer′ last rows h r put {own = own} l u q e =
       let away : ℕ → Change → Plan = λ n change. leaving (frame .label) (p .depth - 1) (frame .count + 1) n (p .visits) change in
       let is : plan ≡ withLine (away rows (unscheduleIf (eqb (frame .entries) 0))) (lineAt w frame) =
-          e ∙ ap (λ (z : Plan). withLine z own) (q ∙ ap (away rows) u) ∙ ap (withLine (away rows (unscheduleIf (eqb (frame .entries) 0)))) l in
+      e ∙ ap (λ (z : Plan). withLine z own) (q ∙ ap (away rows) u) ∙ ap (withLine (away rows (unscheduleIf (eqb (frame .entries) 0)))) l in
       subst (λ (y : Plan). PlannedClose w p frame buffer y buffer′) (sym is) (record {
         out = closingRowAt w frame ∷ [];
         held = λ _ before k. rw (← r, ← (push-row-after last before)) (written-held put (stack.pushed before []) k);
@@ -301,5 +301,9 @@ module _ (w : List ℕ) (p : Position) (frame : Frame) (cl : Closing w p frame) 
           (R ⊕ (closingRowAt w frame ∷ [])) C _ (unscheduled-but (eqb (frame .entries) 0) _) (lineAt w frame)
           ∙ let s : frame .count + 1 ≡ suc (frame .count) = omega arith in
           let one : rows ≡ length (R .rows) + 1 = omega (arith, put .count, d .many) in
-          rw (visits-same (p .visits) C on, within-rest (p .depth) (frameOf frame) F (d .deep), s,
-          line-closed (enclosingLabel (enclosingBy (terminalAt (tableOf w) (frame .block)) (unlessNone (frame .label)))) (frame .first) rows R (closingRowAt w frame) one))
+          rw (
+            visits-same (p .visits) C on,
+            within-rest (p .depth) (frameOf frame) F (d .deep),
+            s,
+            line-closed (enclosingLabel (enclosingBy (terminalAt (tableOf w) (frame .block)) (unlessNone (frame .label)))) (frame .first) rows R (closingRowAt w frame) one,
+          ))
