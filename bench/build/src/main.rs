@@ -61,34 +61,35 @@ fn cases() -> Vec<Case> {
 /// (or `reactive_build_language`).
 fn once(entry: &str, number: usize) {
     let case = &cases()[number];
-    let mut lent = vec![7; 60_000];
+    let (mut lent, mut index) = (vec![7; 60_000], vec![7; 3_069]);
     let built = match entry {
-        "first" => reactive_build::build(&case.words, &mut lent),
-        "language" => reactive_build::build_language(&case.words, &mut lent),
+        "first" => reactive_build::build(&case.words, &mut lent, &mut index),
+        "language" => reactive_build::build_language(&case.words, &mut lent, &mut index),
         _ => panic!("first or language"),
     };
-    println!("{}: code {}, {} rows", case.name, built.code, built.rows);
+    println!("{}: code {}, {} rows, {} lines", case.name, built.code, built.rows, built.lines);
 }
 
 fn measure(case: &Case) {
     let words = &case.words;
-    let mut lent = vec![7; 60_000];
-    let ours = reactive_build::build(words, &mut lent);
+    let (mut lent, mut index) = (vec![7; 60_000], vec![7; 3_069]);
+    let ours = reactive_build::build(words, &mut lent, &mut index);
     assert!(plain::checked_by_rows(words).is_some(), "{}: (a) takes its slow check", case.name);
     let mut theirs_lent = vec![7; 60_000];
     let theirs = plain::build(words, &mut theirs_lent);
     assert_eq!((ours.code, ours.rows, ours.visits), (0, theirs.rows, theirs.visits), "{}", case.name);
     assert!(lent == theirs_lent, "{}", case.name);
-    // A buffer of just the rows, so that the zeros after them cost nothing.
+    // Buffers of just the rows and the lines, so that the zeros after them cost nothing.
     lent.truncate(6 * ours.rows as usize);
+    index.truncate(3 * ours.lines as usize);
     let calls = (200_000 / words.len()).clamp(20, 2_000) as u32;
     let mut least = [Duration::MAX; 4];
     for _ in 0..ROUNDS {
         let times = [
-            time(calls, || black_box(reactive_build::build(black_box(words), &mut lent)).code),
+            time(calls, || black_box(reactive_build::build(black_box(words), &mut lent, &mut index)).code),
             time(calls, || black_box(plain::build(black_box(words), &mut lent)).code),
             of_reference(words, calls),
-            time(calls, || black_box(reactive_build::build_language(black_box(words), &mut lent)).code),
+            time(calls, || black_box(reactive_build::build_language(black_box(words), &mut lent, &mut index)).code),
         ];
         least = std::array::from_fn(|which| least[which].min(times[which]));
     }

@@ -25,6 +25,7 @@ use Rattle.definition.specs.Statement.{traverseAlternate, traverseConseq
 use Rattle.definition.specs.Statement.{traverseCases, unscheduleAll, visitValueStatement, visitTerminal, instructionStatements, thenNext, visitBlock}
 use Rattle.definition.specs.Statement.{traverseBlock, buildTree}
 use Rattle.definition.specs.Around.{Rule, rust, language, switchInside, kindBy, breakKindIn, isLabel, namesStatement, namesLoop, unnamed, breakUnnamed, continueUnnamed}
+use Rattle.definition.specs.Index.{inList, lines, lineWords}
 use Rattle.definition.specs.Build.{reported, report, refusal, wordsOf, placed, outcomeOf, afterCheck, built}
 use Rattle.definition.specs.Tree.{Statements, done}
 use Rattle.definition.specs.Result.{Result, ok, refused}
@@ -170,7 +171,7 @@ PicksRun rust =
     × (treeRun (treeOf (buildTree rust (tableOf picks))) (1 ∷ 1 ∷ []) ≡ stopped (0 ∷ 1 ∷ 2 ∷ 5 ∷ 7 ∷ 1 ∷ []) [] no-answer-left)
 
 abbrev AllAccepted : Rule → Type 0
-AllAccepted rule = (built rule W 600 .code ≡ 0) × (built rule loops 600 .code ≡ 0) × (built rule picks 900 .code ≡ 0)
+AllAccepted rule = (built rule W 600 300 .code ≡ 0) × (built rule loops 600 300 .code ≡ 0) × (built rule picks 900 300 .code ≡ 0)
 
 -- what computation shows: the runs, and that the tables are accepted
 computed : (rule : Rule) → WRuns rule × LoopsRun rule × PicksRun rule × AllAccepted rule
@@ -185,7 +186,7 @@ unfolding word entryWord blockCount instructionCount caseCount placeCount identi
     markScopeFallthroughIf switchInside kindBy breakKindIn isLabel namesStatement namesLoop unnamed breakUnnamed continueUnnamed breakToScope breakResolved
     visitBreak continueResolved visitContinue visitGoto traverseUnscheduled traverseAlternate
     traverseConsequent traverseEnclosed loopIsTaken traverseLoop visitUpdate casesLastFirst traverseCases unscheduleAll visitValueStatement visitTerminal
-    instructionStatements thenNext visitBlock traverseBlock buildTree reported report refusal wordsOf placed outcomeOf afterCheck built performing move byAnswer
+    instructionStatements thenNext visitBlock traverseBlock buildTree reported report refusal wordsOf inList lines lineWords placed outcomeOf afterCheck built performing move byAnswer
     caseList atPlace byPlace blockRun loopContinues breakable labelled completed completing prefix thenOn then choose afterBody whileRounds whileLoop loop
     switchEnds entryAt choosePlace jumpCompletion runStatement reasonOf treeRun
 computed rust = (((refl, refl), (refl, refl), (refl, refl)), (refl, refl), (refl, refl), (refl, refl, refl))
@@ -193,14 +194,14 @@ computed language = (((refl, refl), (refl, refl), (refl, refl)), (refl, refl), (
 
 -- ---- the law
 
-pub W-law : (rule : Rule) → RunLaw W (built rule W 600)
-W-law rule = run-law rule W 600 (computed rule .3 .0) (all-plain .0)
+pub W-law : (rule : Rule) → RunLaw W (built rule W 600 300)
+W-law rule = run-law rule W 600 300 (computed rule .3 .0) (all-plain .0)
 
-pub loops-law : (rule : Rule) → RunLaw loops (built rule loops 600)
-loops-law rule = run-law rule loops 600 (computed rule .3 .1) (all-plain .1)
+pub loops-law : (rule : Rule) → RunLaw loops (built rule loops 600 300)
+loops-law rule = run-law rule loops 600 300 (computed rule .3 .1) (all-plain .1)
 
-pub picks-law : SwitchLaw picks (built language picks 900)
-picks-law = switch-law picks 900 (computed language .3 .2) (all-plain .2)
+pub picks-law : SwitchLaw picks (built language picks 900 300)
+picks-law = switch-law picks 900 300 (computed language .3 .2) (all-plain .2)
 
 -- the three lists are spoken of, so that the law says something of each
 picks-spoken : Spoken (tableOf picks) (1 ∷ 0 ∷ 1 ∷ 2 ∷ 1 ∷ 1 ∷ 5 ∷ []) × Spoken (tableOf picks) (1 ∷ 1 ∷ []) × Spoken (tableOf picks) (1 ∷ 2 ∷ 1 ∷ [])
@@ -233,13 +234,13 @@ returns (stopped performed left end-of-tree) = false
 returns (stopped performed left no-such-case) = false
 
 -- whichever tree is in the buffer, it is the one that was built
-picks-tree : (law : SwitchLaw picks (built rust picks 900)) → law .one .tree ≡ treeOf (buildTree rust (tableOf picks))
+picks-tree : (law : SwitchLaw picks (built rust picks 900 300)) → law .one .tree ≡ treeOf (buildTree rust (tableOf picks))
 picks-tree law =
-    let a : Accepted rust picks 900 = accepted-of rust picks 900 (computed rust .3 .2) in
-    tree-is-built rust picks 900 a (law .one) ∙ sym (ap treeOf (a .builds))
+    let a : Accepted rust picks 900 300 = accepted-of rust picks 900 300 (computed rust .3 .2) in
+    tree-is-built rust picks 900 300 a (law .one) ∙ sym (ap treeOf (a .builds))
 
 -- the table is plain with switches and accepted, and the law does not hold of what the first entry gave
-pub not-for-rust : SwitchLaw picks (built rust picks 900) → ⊥
+pub not-for-rust : SwitchLaw picks (built rust picks 900 300) → ⊥
 not-for-rust law =
     true-false (ap returns (stop-alike (tableOf picks) (law .one .tree) (1 ∷ 1 ∷ []) 40 (stopped (0 ∷ 1 ∷ 2 ∷ 5 ∷ 3 ∷ []) [] (returned 0 4))
     (stopped (0 ∷ 1 ∷ 2 ∷ 5 ∷ 7 ∷ 1 ∷ []) [] no-answer-left) (0 ∷ 1 ∷ 2 ∷ 5 ∷ 3 ∷ []) [] (returned 0 4) refl

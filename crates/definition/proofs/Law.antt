@@ -181,45 +181,50 @@ spoken-of t answers n performed left r e h m performed′ left′ e′ =
 -- ---- the tree in the buffer
 
 -- the build's own tree, and no other: one list of rows is read as one tree
-module _ (rule : Rule) (words : List ℕ) (lent : ℕ) (a : Accepted rule words lent) where
-  tree-held : TreeOf (built rule words lent) (a .root .statements)
+module _ (rule : Rule) (words : List ℕ) (lent lentIndex : ℕ) (a : Accepted rule words lent lentIndex) where
+  tree-held : TreeOf (built rule words lent lentIndex) (a .root .statements)
   tree-held = record {
     well-formed = tree-formed (tableOf words) (ranged words (a .checks)) rule (a .root) (a .builds);
     number = sym (a .number);
-    held = sym (rows-of-buffer rule words lent a);
+    held = sym (rows-of-buffer rule words lent lentIndex a);
   }
 
-  tree-only : (other : Statements) → TreeOf (built rule words lent) other → other ≡ a .root .statements
+  tree-only : (other : Statements) → TreeOf (built rule words lent lentIndex) other → other ≡ a .root .statements
   tree-only other o =
       one-reading (rows (a .root .statements)) other (a .root .statements)
-      (record { well-formed = o .well-formed; same-rows = words-rows (rows other) (rows (a .root .statements)) (o .held ∙ rows-of-buffer rule words lent a) })
+      (record { well-formed = o .well-formed; same-rows = words-rows (rows other) (rows (a .root .statements)) (o .held ∙ rows-of-buffer rule words lent lentIndex a) })
       (record { well-formed = tree-held .well-formed; same-rows = refl })
 
-  tree-one : OneTree (built rule words lent)
+  tree-one : OneTree (built rule words lent lentIndex)
   tree-one = record { tree = a .root .statements; held = tree-held; only = tree-only }
 
 -- whatever table was accepted, plain or not
-pub one-tree : (rule : Rule) (words : List ℕ) (lent : ℕ) → built rule words lent .code ≡ 0 → OneTree (built rule words lent)
-one-tree rule words lent h = tree-one rule words lent (accepted-of rule words lent h)
+pub one-tree : (rule : Rule) (words : List ℕ) (lent lentIndex : ℕ) → built rule words lent lentIndex .code ≡ 0 → OneTree (built rule words lent lentIndex)
+one-tree rule words lent lentIndex h = tree-one rule words lent lentIndex (accepted-of rule words lent lentIndex h)
+
+-- it is the build's own
+pub read-tree : (rule : Rule) (words : List ℕ) (lent lentIndex : ℕ) (h : built rule words lent lentIndex .code ≡ 0) (root : Statements) → TreeOf (built rule words lent lentIndex) root
+    → root ≡ accepted-of rule words lent lentIndex h .root .statements
+read-tree rule words lent lentIndex h root held = tree-only rule words lent lentIndex (accepted-of rule words lent lentIndex h) root held
 
 -- whoever says that there is one tree means the one that was built
-pub tree-is-built : (rule : Rule) (words : List ℕ) (lent : ℕ) (a : Accepted rule words lent) (one : OneTree (built rule words lent)) → one .tree ≡ a .root .statements
-tree-is-built rule words lent a one = sym (one .only (a .root .statements) (tree-held rule words lent a))
+pub tree-is-built : (rule : Rule) (words : List ℕ) (lent lentIndex : ℕ) (a : Accepted rule words lent lentIndex) (one : OneTree (built rule words lent lentIndex)) → one .tree ≡ a .root .statements
+tree-is-built rule words lent lentIndex a one = sym (one .only (a .root .statements) (tree-held rule words lent lentIndex a))
 
 -- ---- demand 3, and M-113
 
-module _ (rule : Rule) {width : Width} (words : List ℕ) (lent : ℕ) (covers : Covers (tableOf words) rule width) (h : built rule words lent .code ≡ 0) (pl : PlainEnough width (tableOf words)) where
-  root-agrees : (answers : Answers) → Spoken (tableOf words) answers → Agree (tableOf words) (one-tree rule words lent h .tree) answers
+module _ (rule : Rule) {width : Width} (words : List ℕ) (lent lentIndex : ℕ) (covers : Covers (tableOf words) rule width) (h : built rule words lent lentIndex .code ≡ 0) (pl : PlainEnough width (tableOf words)) where
+  root-agrees : (answers : Answers) → Spoken (tableOf words) answers → Agree (tableOf words) (one-tree rule words lent lentIndex h .tree) answers
   unfolding one-tree tree-one
   root-agrees =
-      let a : Accepted rule words lent = accepted-of rule words lent h in
+      let a : Accepted rule words lent lentIndex = accepted-of rule words lent lentIndex h in
       built-agrees (tableOf words) (a .root .statements) (tree-built rule (tableOf words) covers pl (ranged words (a .checks)) (a .root) (a .builds))
 
   -- M-103 runs such a tree: nothing in it is refused 64
-  pub tree-runnable : (one : OneTree (built rule words lent)) → Runnable (one .tree)
+  pub tree-runnable : (one : OneTree (built rule words lent lentIndex)) → Runnable (one .tree)
   tree-runnable one =
-      let a : Accepted rule words lent = accepted-of rule words lent h in
-      subst (λ (s : Statements). Runnable s) (sym (tree-is-built rule words lent a one))
+      let a : Accepted rule words lent lentIndex = accepted-of rule words lent lentIndex h in
+      subst (λ (s : Statements). Runnable s) (sym (tree-is-built rule words lent lentIndex a one))
       (runnable (tableOf words) (tree-built rule (tableOf words) covers pl (ranged words (a .checks)) (a .root) (a .builds)))
 
 covers-paper : (t : Table) (rule : Rule) → Covers t rule paper-01
@@ -227,18 +232,18 @@ covers-paper t rust = tt
 covers-paper t language = tt
 
 -- "the run law of plain tables covers both" entries, and from less than the paper's plainness (proofs/PlainEnough)
-pub run-law-enough : (rule : Rule) (words : List ℕ) (lent : ℕ) → built rule words lent .code ≡ 0 → PlainEnough paper-01 (tableOf words) → RunLaw words (built rule words lent)
-run-law-enough rule words lent h pl = record {
-  one = one-tree rule words lent h;
-  agree = λ answers. root-agrees rule words lent (covers-paper (tableOf words) rule) h pl answers (all-spoken (tableOf words) pl answers);
+pub run-law-enough : (rule : Rule) (words : List ℕ) (lent lentIndex : ℕ) → built rule words lent lentIndex .code ≡ 0 → PlainEnough paper-01 (tableOf words) → RunLaw words (built rule words lent lentIndex)
+run-law-enough rule words lent lentIndex h pl = record {
+  one = one-tree rule words lent lentIndex h;
+  agree = λ answers. root-agrees rule words lent lentIndex (covers-paper (tableOf words) rule) h pl answers (all-spoken (tableOf words) pl answers);
 }
 
-pub run-law : (rule : Rule) (words : List ℕ) (lent : ℕ) → built rule words lent .code ≡ 0 → Plain paper-01 (tableOf words) → RunLaw words (built rule words lent)
-run-law rule words lent h pl = run-law-enough rule words lent h (plain-enough (tableOf words) pl)
+pub run-law : (rule : Rule) (words : List ℕ) (lent lentIndex : ℕ) → built rule words lent lentIndex .code ≡ 0 → Plain paper-01 (tableOf words) → RunLaw words (built rule words lent lentIndex)
+run-law rule words lent lentIndex h pl = run-law-enough rule words lent lentIndex h (plain-enough (tableOf words) pl)
 
 -- M-113: the run law with switches, for the language entry
-pub switch-law-enough : (words : List ℕ) (lent : ℕ) → built language words lent .code ≡ 0 → PlainEnough with-switch (tableOf words) → SwitchLaw words (built language words lent)
-switch-law-enough words lent h pl = record { one = one-tree language words lent h; agree = root-agrees language words lent tt h pl }
+pub switch-law-enough : (words : List ℕ) (lent lentIndex : ℕ) → built language words lent lentIndex .code ≡ 0 → PlainEnough with-switch (tableOf words) → SwitchLaw words (built language words lent lentIndex)
+switch-law-enough words lent lentIndex h pl = record { one = one-tree language words lent lentIndex h; agree = root-agrees language words lent lentIndex tt h pl }
 
 pub switch-law : LawOfSwitches
-switch-law words lent h pl = switch-law-enough words lent h (plain-enough (tableOf words) pl)
+switch-law words lent lentIndex h pl = switch-law-enough words lent lentIndex h (plain-enough (tableOf words) pl)

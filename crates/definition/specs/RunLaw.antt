@@ -46,4 +46,5 @@ pub record SwitchLaw (words : List ℕ) (outcome : Outcome) : Type 0 where
 -- M-113, the claim: "Widen plain tables, for the language entry of M-102, by Switch"
 abbrev pub LawOfSwitches : Type 0
 LawOfSwitches =
-    (words : List ℕ) (lent : ℕ) → built language words lent .code ≡ 0 → Plain with-switch (tableOf words) → SwitchLaw words (built language words lent)
+    (words : List ℕ) (lent lentIndex : ℕ) → built language words lent lentIndex .code ≡ 0 → Plain with-switch (tableOf words)
+    → SwitchLaw words (built language words lent lentIndex)

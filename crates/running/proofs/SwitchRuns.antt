@@ -202,9 +202,9 @@ runs-as root w p answers lent performed left reason e g =
 
 -- ---- the trees of plain tables with switches
 
-module _ (words : List ℕ) (lent : ℕ) (h : built language words lent .code ≡ 0) (pl : Plain with-switch (tableOf words)) where
-  pub the-law : SwitchLaw words (built language words lent)
-  the-law = switch-law words lent h pl
+module _ (words : List ℕ) (lent lentIndex : ℕ) (h : built language words lent lentIndex .code ≡ 0) (pl : Plain with-switch (tableOf words)) where
+  pub the-law : SwitchLaw words (built language words lent lentIndex)
+  the-law = switch-law words lent lentIndex h pl
 
   -- "The runner of M-103 is proved to do what this law's tree run does": for a list spoken of both runs agree, and the runner gives the rows that they perform and
   -- the reason, or 65; so that 63 and 64 never come
@@ -212,7 +212,7 @@ module _ (words : List ℕ) (lent : ℕ) (h : built language words lent .code �
       → RunsAs (the-law .one .tree) answers room (the-law .agree answers spoken .performed) (the-law .agree answers spoken .reason)
   runner-runs answers spoken room =
       let a : Agree (tableOf words) (the-law .one .tree) answers = the-law .agree answers spoken in
-      runs-as (the-law .one .tree) (the-law .one .held .well-formed) (tree-runnable language words lent tt h (plain-enough (tableOf words) pl) (the-law .one)) answers room
+      runs-as (the-law .one .tree) (the-law .one .held .well-formed) (tree-runnable language words lent lentIndex tt h (plain-enough (tableOf words) pl) (the-law .one)) answers room
       (a .performed) (a .left) (a .reason) (a .tree-run) (a .good)
 
   pub runner-does : (answers : Answers) (spoken : Spoken (tableOf words) answers) (room : ℕ) → (ran (the-law .one .tree) answers room .code ≡ 65 → ⊥)
@@ -224,11 +224,11 @@ module _ (words : List ℕ) (lent : ℕ) (h : built language words lent .code �
   never-63-64 answers spoken room = nought-or-65 (runner-runs answers spoken room) (the-law .agree answers spoken .good)
 
   -- "on trees of such tables that M-100's check accepts": what the runner gives for the words in the buffer is what is said of the tree
-  pub runner-gives : (answers : Answers) (room at : ℕ) (o : Outcome) → Answer (take (built language words lent .rows * 6) (built language words lent .buffer)) 0 at
-      → Gives (take (built language words lent .rows * 6) (built language words lent .buffer)) answers room o → o ≡ ran (the-law .one .tree) answers room
+  pub runner-gives : (answers : Answers) (room at : ℕ) (o : Outcome) → Answer (take (built language words lent lentIndex .rows * 6) (built language words lent lentIndex .buffer)) 0 at
+      → Gives (take (built language words lent lentIndex .rows * 6) (built language words lent lentIndex .buffer)) answers room o → o ≡ ran (the-law .one .tree) answers room
   runner-gives answers room at o q (refused code at′ p f) =
-      absurd (f (words-answer-is (take (built language words lent .rows * 6) (built language words lent .buffer)) p .0
-      ∙ sym (words-answer-is (take (built language words lent .rows * 6) (built language words lent .buffer)) q .0)))
+      absurd (f (words-answer-is (take (built language words lent lentIndex .rows * 6) (built language words lent lentIndex .buffer)) p .0
+      ∙ sym (words-answer-is (take (built language words lent lentIndex .rows * 6) (built language words lent lentIndex .buffer)) q .0)))
   runner-gives answers room at o q (runs list w l m r root d) =
       let s : list ≡ rows (the-law .one .tree) = words-inj list (rows (the-law .one .tree)) (w ∙ sym (the-law .one .held .held)) in
       ap (λ (z : Statements). ran z answers room)

@@ -104,25 +104,25 @@ a-run-has-one-outcome = one-outcome
 
 -- ---- M-113: the runner on the trees of plain tables with switches. The law itself stands in Theorems
 
-module _ (words : List ℕ) (lent : ℕ) (h : built language words lent .code ≡ 0) (plain : Plain with-switch (tableOf words)) where
+module _ (words : List ℕ) (lent lentIndex : ℕ) (h : built language words lent lentIndex .code ≡ 0) (plain : Plain with-switch (tableOf words)) where
   -- the rows of the tree, in the lent buffer
   abbrev tree : List ℕ
-  tree = take (built language words lent .rows * 6) (built language words lent .buffer)
+  tree = take (built language words lent lentIndex .rows * 6) (built language words lent lentIndex .buffer)
 
   -- the law: the block run and the tree's run agree over every list spoken of
-  abbrev law : SwitchLaw words (built language words lent)
-  law = the-law words lent h plain
+  abbrev law : SwitchLaw words (built language words lent lentIndex)
+  law = the-law words lent lentIndex h plain
 
   -- "The runner of M-103 is proved to do what this law's tree run does, on trees of such tables that M-100's check accepts, for the lists spoken of, where none of
   -- 63, 64 and 65 is given": it gives the rows that both runs perform, then zeros, and their reason
   pub the-runner-does-what-the-runs-do : (answers : Answers) (spoken : Spoken (tableOf words) answers) (room at : ℕ) (o : Outcome) → Answer tree 0 at
       → Gives tree answers room o → (o .code ≡ 65 → ⊥) → o ≡ ended (law .agree answers spoken .performed) room (law .agree answers spoken .reason)
   the-runner-does-what-the-runs-do answers spoken room at o check gives f =
-      let e = runner-gives words lent h plain answers room at o check gives in
-      e ∙ runner-does words lent h plain answers spoken room (λ q. f (ap (λ (z : Outcome). z .code) e ∙ q))
+      let e = runner-gives words lent lentIndex h plain answers room at o check gives in
+      e ∙ runner-does words lent lentIndex h plain answers spoken room (λ q. f (ap (λ (z : Outcome). z .code) e ∙ q))
 
   -- 63 and 64 never come there
   pub the-runner-refuses-only-a-short-buffer : (answers : Answers) → Spoken (tableOf words) answers → (room at : ℕ) (o : Outcome) → Answer tree 0 at
       → Gives tree answers room o → (o .code ≡ 0) ⊎ (o .code ≡ 65)
   the-runner-refuses-only-a-short-buffer answers spoken room at o check gives =
-      subst (λ (z : Outcome). (z .code ≡ 0) ⊎ (z .code ≡ 65)) (sym (runner-gives words lent h plain answers room at o check gives)) (never-63-64 words lent h plain answers spoken room)
+      subst (λ (z : Outcome). (z .code ≡ 0) ⊎ (z .code ≡ 65)) (sym (runner-gives words lent lentIndex h plain answers room at o check gives)) (never-63-64 words lent lentIndex h plain answers spoken room)

@@ -12,7 +12,11 @@ use crate::model::dot::Drawn;
 use crate::model::order::Moved;
 use crate::model::tree_run::Ran;
 
-pub type Candidate = fn(&[u32], &mut [u32]) -> Outcome;
+/// Words; the tree buffer and the index lent.
+pub type Candidate = fn(&[u32], &mut [u32], &mut [u32]) -> Outcome;
+
+/// M-106: the words alone.
+pub type CandidatePreview = fn(&[u32]) -> Outcome;
 
 /// Code and place.
 pub type CandidateCheck = fn(&[u32]) -> (u32, u32);
@@ -51,17 +55,30 @@ pub const CANDIDATE_CHECK: Option<CandidateCheck> = None;
 pub const CANDIDATE_CHECK: Option<CandidateCheck> = Some(check);
 
 #[cfg(feature = "candidate")]
-fn build(words: &[u32], buffer: &mut [u32]) -> Outcome {
-    let reactive_build::Outcome { code, at, rows, visits } = reactive_build::build(words, buffer);
-    Outcome { code, at, rows, visits }
+fn build(words: &[u32], buffer: &mut [u32], index: &mut [u32]) -> Outcome {
+    outcome(reactive_build::build(words, buffer, index))
 }
 
 #[cfg(feature = "candidate")]
-fn build_language(words: &[u32], buffer: &mut [u32]) -> Outcome {
-    let reactive_build::Outcome { code, at, rows, visits } =
-        reactive_build::build_language(words, buffer);
-    Outcome { code, at, rows, visits }
+fn build_language(words: &[u32], buffer: &mut [u32], index: &mut [u32]) -> Outcome {
+    outcome(reactive_build::build_language(words, buffer, index))
 }
+
+#[cfg(any(feature = "candidate", feature = "candidate-preview"))]
+fn outcome(outcome: reactive_build::Outcome) -> Outcome {
+    let reactive_build::Outcome { code, at, rows, visits, lines } = outcome;
+    Outcome { code, at, rows, visits, lines }
+}
+
+/// The previews of both entries.
+#[cfg(not(feature = "candidate-preview"))]
+pub const CANDIDATE_PREVIEWS: Option<[CandidatePreview; 2]> = None;
+
+#[cfg(feature = "candidate-preview")]
+pub const CANDIDATE_PREVIEWS: Option<[CandidatePreview; 2]> = Some([
+    |words| outcome(reactive_build::preview::preview(words)),
+    |words| outcome(reactive_build::preview::preview_language(words)),
+]);
 
 #[cfg(feature = "candidate-check")]
 fn check(words: &[u32]) -> (u32, u32) {
