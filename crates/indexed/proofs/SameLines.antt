@@ -9,7 +9,7 @@ use lib.ListN.{length, length-append}
 use Rattle.definition.specs.Index.{labelOf, rowsIn, Labelled, labelledBy, inParts, inList, inCases, Line, lineOf, lines}
 use Rattle.definition.specs.Relabeled.{Relabeled, the-same, a-break, in-if, in-switch, in-do-while, in-while, in-for, in-for-of, in-for-in, in-label, in-try, in-scope}
 use Rattle.definition.specs.Relabeled.{RelabeledAll, none-left, and-then, RelabeledCases, no-case-left, a-case}
-use Rattle.definition.specs.Tree.{Value, Statement, Statements, Cases, Row, valueRows, updateRows, statementRows, statementsRows, blockRows, casesRows}
+use Rattle.definition.specs.Tree.{Value, Statement, Statements, _▸_, Cases, Row, valueRows, updateRows, statementRows, statementsRows, blockRows, casesRows}
 use Rattle.definition.proofs.Rows.{value-append, update-append, statement-append}
 
 -- ---- as many rows
@@ -82,13 +82,40 @@ same-label (in-label i g p) = refl
 same-label (in-try i g m p q) = refl
 same-label (in-scope y s p) = refl
 
+-- the same lines from another row, which is the same
+list-moved : (xs : List Labelled) (s : Statements) (n m : ℕ) → n ≡ m → Alike xs (inList n s) → Alike xs (inList m s)
+list-moved xs s n m e p = p ∙ ap (λ (k : ℕ). map lineOf (inList k s)) e
+
+cases-moved : (xs : List Labelled) (s : Cases) (n m : ℕ) → n ≡ m → Alike xs (inCases n s) → Alike xs (inCases m s)
+cases-moved xs s n m e p = p ∙ ap (λ (k : ℕ). map lineOf (inCases k s)) e
+
+-- two nested lists, the second behind the first
+two-alike : (c c′ a a′ : Statements) (n : ℕ) → rowsIn (blockRows c) ≡ rowsIn (blockRows c′) → Alike (inList n c) (inList n c′)
+    → Alike (inList (n + rowsIn (blockRows c)) a) (inList (n + rowsIn (blockRows c)) a′)
+    → Alike (inList n c ++ inList (n + rowsIn (blockRows c)) a) (inList n c′ ++ inList (n + rowsIn (blockRows c′)) a′)
+two-alike c c′ a a′ n e p q =
+    alike-append (inList n c) (inList (n + rowsIn (blockRows c)) a) (inList n c′) (inList (n + rowsIn (blockRows c′)) a′) p
+    (list-moved (inList (n + rowsIn (blockRows c)) a) a′ (n + rowsIn (blockRows c)) (n + rowsIn (blockRows c′)) (ap (λ (m : ℕ). n + m) e) q)
+
+-- a statement and the rest of its list
+rest-alike : (s s′ : Statement) (r r′ : Statements) (n : ℕ) → rowsIn (statementRows s) ≡ rowsIn (statementRows s′) → labelOf s ≡ labelOf s′ → Alike (inParts n s) (inParts n s′)
+    → Alike (inList (n + rowsIn (statementRows s)) r) (inList (n + rowsIn (statementRows s)) r′) → Alike (inList n (s ▸ r)) (inList n (s′ ▸ r′))
+unfolding inList
+rest-alike s s′ r r′ n e l p q =
+    alike-append (inParts n s ++ labelledBy (labelOf s) n s) (inList (n + rowsIn (statementRows s)) r)
+    (inParts n s′ ++ labelledBy (labelOf s′) n s′) (inList (n + rowsIn (statementRows s′)) r′)
+    (alike-append (inParts n s) (labelledBy (labelOf s) n s) (inParts n s′) (labelledBy (labelOf s′) n s′) p
+    (own-alike (labelOf s) n s s′ e ∙ ap (λ (g : Option ℕ). map lineOf (labelledBy g n s′)) l))
+    (list-moved (inList (n + rowsIn (statementRows s)) r) r′ (n + rowsIn (statementRows s)) (n + rowsIn (statementRows s′)) (ap (λ (m : ℕ). n + m) e) q)
+
 mutual
   unfolding inParts inList inCases
 
   parts-alike : {s s′ : Statement} → Relabeled s s′ → (n : ℕ) → Alike (inParts n s) (inParts n s′)
   parts-alike (the-same s) n = refl
   parts-alike (a-break target id loops) n = refl
-  parts-alike (in-if x i g true p q) n = alike-append _ _ _ _ (list-alike p n) (list-alike-at q _ _ (ap (λ (m : ℕ). n + m) (block-many p [] [] refl)))
+  parts-alike (in-if x i g true {first = c} {first′ = c′} {second = a} {second′ = a′} p q) n =
+      two-alike c c′ a a′ n (block-many p [] [] refl) (list-alike p n) (list-alike q (n + rowsIn (blockRows c)))
   parts-alike (in-if x i g false p q) n = list-alike p n
   parts-alike (in-switch x i g p) n = cases-alike p n
   parts-alike (in-do-while i g v p) n = list-alike p n
@@ -97,25 +124,20 @@ mutual
   parts-alike (in-for-of i g s a v p) n = list-alike p _
   parts-alike (in-for-in i g s a p) n = list-alike p _
   parts-alike (in-label i g p) n = list-alike p n
-  parts-alike (in-try i g m p q) n = alike-append _ _ _ _ (list-alike p n) (list-alike-at q _ _ (ap (λ (m : ℕ). n + m) (block-many p [] [] refl)))
+  parts-alike (in-try i g m {first = c} {first′ = c′} {second = a} {second′ = a′} p q) n =
+      two-alike c c′ a a′ n (block-many p [] [] refl) (list-alike p n) (list-alike q (n + rowsIn (blockRows c)))
   parts-alike (in-scope y s p) n = list-alike p n
 
   list-alike : {s s′ : Statements} → RelabeledAll s s′ → (n : ℕ) → Alike (inList n s) (inList n s′)
   list-alike none-left n = refl
-  list-alike (and-then {statement = s} {statement′ = s′} p q) n =
-      let many : rowsIn (statementRows s) ≡ rowsIn (statementRows s′) = statement-many p [] [] refl in
-      alike-append _ _ _ _
-      (alike-append _ _ _ _ (parts-alike p n) (own-alike (labelOf s) n s s′ many ∙ ap (λ (g : Option ℕ). map lineOf (labelledBy g n s′)) (same-label p)))
-      (list-alike-at q _ _ (ap (λ (m : ℕ). n + m) many))
-
-  list-alike-at : {s s′ : Statements} → RelabeledAll s s′ → (n m : ℕ) → n ≡ m → Alike (inList n s) (inList m s′)
-  list-alike-at {s} {s′} p n m e = list-alike p n ∙ ap (λ (k : ℕ). map lineOf (inList k s′)) e
+  list-alike (and-then {statement = a} {statement′ = a′} {rest = r} {rest′ = r′} p q) n =
+      rest-alike a a′ r r′ n (statement-many p [] [] refl) (same-label p) (parts-alike p n) (list-alike q (n + rowsIn (statementRows a)))
 
   cases-alike : {s s′ : Cases} → RelabeledCases s s′ → (n : ℕ) → Alike (inCases n s) (inCases n s′)
   cases-alike no-case-left n = refl
-  cases-alike (a-case x {rest′ = r′} p q) n =
-      let many = ap (λ (m : ℕ). n + (m + 1)) (block-many p [] [] refl) in
-      alike-append _ _ _ _ (list-alike p n) (cases-alike q _ ∙ ap (λ (k : ℕ). map lineOf (inCases k r′)) many)
+  cases-alike (a-case x {body = b} {body′ = b′} {rest = r} {rest′ = r′} p q) n =
+      alike-append (inList n b) (inCases (n + (rowsIn (blockRows b) + 1)) r) (inList n b′) (inCases (n + (rowsIn (blockRows b′) + 1)) r′) (list-alike p n)
+      (cases-moved _ r′ _ _ (ap (λ (m : ℕ). n + (m + 1)) (block-many p [] [] refl)) (cases-alike q (n + (rowsIn (blockRows b) + 1))))
 
 pub same-lines : (first second : Statements) → RelabeledAll first second → lines first ≡ lines second
 unfolding lines
