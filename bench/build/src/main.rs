@@ -63,11 +63,12 @@ fn cases() -> Vec<Case> {
 /// (or `reactive_build_language`, `reactive_preview`).
 fn once(entry: &str, number: usize) {
     let case = &cases()[number];
-    let (mut lent, mut index) = (vec![7; 60_000], vec![7; INDEX_WORDS]);
+    let told = preview(&case.words);
+    let (mut lent, mut index) = (vec![7; 6 * told.rows as usize], vec![7; 3 * told.lines as usize]);
     let built = match entry {
         "first" => reactive_build::build(&case.words, &mut lent, &mut index),
         "language" => reactive_build::build_language(&case.words, &mut lent, &mut index),
-        "preview" => preview(&case.words),
+        "preview" => told,
         _ => panic!("first, language or preview"),
     };
     println!("{}: code {}, {} rows", case.name, built.code, built.rows);
