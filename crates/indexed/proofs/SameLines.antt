@@ -137,7 +137,8 @@ mutual
   cases-alike no-case-left n = refl
   cases-alike (a-case x {body = b} {body′ = b′} {rest = r} {rest′ = r′} p q) n =
       alike-append (inList n b) (inCases (n + (rowsIn (blockRows b) + 1)) r) (inList n b′) (inCases (n + (rowsIn (blockRows b′) + 1)) r′) (list-alike p n)
-      (cases-moved _ r′ _ _ (ap (λ (m : ℕ). n + (m + 1)) (block-many p [] [] refl)) (cases-alike q (n + (rowsIn (blockRows b) + 1))))
+      (cases-moved (inCases (n + (rowsIn (blockRows b) + 1)) r) r′ (n + (rowsIn (blockRows b) + 1)) (n + (rowsIn (blockRows b′) + 1))
+      (ap (λ (m : ℕ). n + (m + 1)) (block-many p [] [] refl)) (cases-alike q (n + (rowsIn (blockRows b) + 1))))
 
 pub same-lines : (first second : Statements) → RelabeledAll first second → lines first ≡ lines second
 unfolding lines

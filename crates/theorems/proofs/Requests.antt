@@ -1,9 +1,11 @@
 -- The entries of paper 02's requests beside the build: each contract is met for any input and demands nothing; what a caller learns from it fixes every lent word.
 -- Statements only, each by the lemma that proves it. M-111's stand in WalkingOrder.
-use Prim.Native.Nat.{ℕ, _≤_}
-use mathlib.Core.Path.{_≡_}
+use Prim.Native.Nat.{ℕ, _*_, _≤_}
+use mathlib.Core.Path.{_≡_, ap, sym, _∙_, subst}
 use mathlib.Core.List.{List}
-use lib.ListN.{length}
+use mathlib.Core.Logic.{_⊎_}
+use lib.ListN.{length, take}
+use Rattle.table.specs.Table.{tableOf}
 use Rattle.table.specs.Check.{accepted, checked}
 use Rattle.text.specs.Layout.{Layout, layout}
 use Rattle.text.specs.declared.version.Version.the-variants.{Old, New}
@@ -14,10 +16,16 @@ use Rattle.control.specs.Contract.{Scheduled}
 use Rattle.control.specs.declared.Context.{Context}
 use Rattle.control.specs.declared.ControlFlowTarget.{ControlFlowTarget}
 use Rattle.definition.specs.Context.{schedule, blockAsked}
+use Rattle.definition.specs.Around.{language}
+use Rattle.definition.specs.Build.{built}
+use Rattle.definition.specs.Plain.{with-switch, Plain}
 use Rattle.definition.specs.Run.{Answers}
+use Rattle.definition.specs.RunLaw.{Spoken, SwitchLaw}
+use Rattle.reading.specs.Grammar.{Answer}
 use Rattle.running.specs.Given.{Gives}
-use Rattle.running.specs.Ran.{Outcome}
+use Rattle.running.specs.Ran.{Outcome, ended}
 use Rattle.running.proofs.OneOutcome.{one-outcome}
+use Rattle.running.proofs.SwitchRuns.{the-law, runner-gives, runner-does, never-63-64}
 use Rattle.writer.specs.Write.{tableText}
 use Rattle.convert.specs.OldCheck.{oldChecked}
 use Rattle.convert.specs.Widen.{widened}
@@ -93,3 +101,28 @@ run-tree-meets-its-contract = run-proved.met
 -- any words, answers and length have one outcome, every lent word of it
 pub a-run-has-one-outcome : (words : List ℕ) (answers : Answers) (lent : ℕ) {o o′ : Outcome} → Gives words answers lent o → Gives words answers lent o′ → o ≡ o′
 a-run-has-one-outcome = one-outcome
+
+-- ---- M-113: the runner on the trees of plain tables with switches. The law itself stands in Theorems
+
+module _ (words : List ℕ) (lent lentIndex : ℕ) (h : built language words lent lentIndex .code ≡ 0) (plain : Plain with-switch (tableOf words)) where
+  -- the rows of the tree, in the lent buffer
+  abbrev tree : List ℕ
+  tree = take (built language words lent lentIndex .rows * 6) (built language words lent lentIndex .buffer)
+
+  -- the law: the block run and the tree's run agree over every list spoken of
+  abbrev law : SwitchLaw words (built language words lent lentIndex)
+  law = the-law words lent lentIndex h plain
+
+  -- "The runner of M-103 is proved to do what this law's tree run does, on trees of such tables that M-100's check accepts, for the lists spoken of, where none of
+  -- 63, 64 and 65 is given": it gives the rows that both runs perform, then zeros, and their reason
+  pub the-runner-does-what-the-runs-do : (answers : Answers) (spoken : Spoken (tableOf words) answers) (room at : ℕ) (o : Outcome) → Answer tree 0 at
+      → Gives tree answers room o → (o .code ≡ 65 → ⊥) → o ≡ ended (law .agree answers spoken .performed) room (law .agree answers spoken .reason)
+  the-runner-does-what-the-runs-do answers spoken room at o check gives f =
+      let e = runner-gives words lent lentIndex h plain answers room at o check gives in
+      e ∙ runner-does words lent lentIndex h plain answers spoken room (λ q. f (ap (λ (z : Outcome). z .code) e ∙ q))
+
+  -- 63 and 64 never come there
+  pub the-runner-refuses-only-a-short-buffer : (answers : Answers) → Spoken (tableOf words) answers → (room at : ℕ) (o : Outcome) → Answer tree 0 at
+      → Gives tree answers room o → (o .code ≡ 0) ⊎ (o .code ≡ 65)
+  the-runner-refuses-only-a-short-buffer answers spoken room at o check gives =
+      subst (λ (z : Outcome). (z .code ≡ 0) ⊎ (z .code ≡ 65)) (sym (runner-gives words lent lentIndex h plain answers room at o check gives)) (never-63-64 words lent lentIndex h plain answers spoken room)

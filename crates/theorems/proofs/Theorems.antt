@@ -24,7 +24,7 @@ use Rattle.definition.specs.Build as definition
 use Rattle.definition.specs.Machine.{State, begin, Gives, run}
 use Rattle.definition.specs.Run.{Answers, Reason, stopped}
 use Rattle.definition.specs.BlockRun.{blockRun}
-use Rattle.definition.specs.Plain.{paper-01, Plain}
+use Rattle.definition.specs.Plain.{paper-01, with-switch, Plain}
 use Rattle.definition.specs.Reading.{OneTree, TreeOf, JumpsWithin}
 use Rattle.definition.specs.Index.{lines}
 use Rattle.definition.proofs.Preview.{never-41}
@@ -62,7 +62,7 @@ use Rattle.text.proofs.DecimalLaws.{steps}
 use Rattle.build.specs.declared.Outcome.{Outcome}
 use Rattle.build.specs.Entry.{outcome}
 use Rattle.build.proofs.CheckedLaws.{checked-table}
-use Rattle.build.proofs.Demand3.{entry-tree, entry-law}
+use Rattle.build.proofs.Demand3.{entry-tree, entry-law, language-law}
 use Rattle.build.proofs.build_reactive_function.Statement as entry-stated
 use Rattle.build.proofs.build_reactive_function.Met as entry-proved
 use Rattle.build.proofs.build_reactive_function.Reads as entry
@@ -211,9 +211,15 @@ the-runs-of-W-agree = W-law
 pub the-runs-of-two-loops-agree : (rule : Rule) → RunLaw loops (built rule loops 600 300)
 the-runs-of-two-loops-agree = loops-law
 
--- M-113: the same of plain tables with switches, in the language entry, over every list whose answers name existing cases
+-- M-113: the same of plain tables with switches, in the language entry, over every list whose answers name existing cases. The runner on them: Requests
 pub the-runs-with-switches-agree : LawOfSwitches
 the-runs-with-switches-agree = switch-law
+
+-- the same of what build_language gave and left in the lent buffer
+pub the-runs-with-switches-agree-for-a-caller : (words buffer index buffer′ index′ : List ℕ) (answer : Outcome)
+    → outcome answer buffer′ index′ ≡ built language words (length buffer) (length index)
+    → answer .code ≡ 0 → Plain with-switch (tableOf words) → SwitchLaw words (outcome answer buffer′ index′)
+the-runs-with-switches-agree-for-a-caller = language-law
 
 -- it is not empty: a loop with a switch of three cases, one of which leaves the loop; and it is not so for the first entry
 pub the-runs-of-a-switch-agree : SwitchLaw picks (built language picks 900 300)

@@ -16,7 +16,7 @@ use comparison::model::table::Table;
 use comparison::model::{self, Outcome, Rule, Walked};
 use comparison::reference;
 use comparison::rng::Rng;
-use comparison::runs::{block_run, is_plain, tree_run};
+use comparison::runs::{Width, block_run, is_plain, tree_run};
 
 /// A run this long meets everything.
 const LONG_ENOUGH: u64 = 100_000;
@@ -132,7 +132,7 @@ fn compare(seed: u64, number: u64, Generated { family, words }: Generated, cover
             coverage.walk(&words, &seen);
             compare_language(number, &table, &walked, coverage);
             if let Ok(rows) = &walked.result
-                && is_plain(&table)
+                && is_plain(&table, Width::Paper01)
             {
                 compare_runs(number, &table, rows, &mut lent, coverage);
             }
@@ -231,7 +231,7 @@ fn compare_runs(
 ) {
     for _ in 0..4 {
         let yes = rng.pick(&[20, 50, 80]);
-        let answers: Vec<bool> = (0..rng.below(60)).map(|_| rng.percent(yes)).collect();
+        let answers: Vec<u32> = (0..rng.below(60)).map(|_| u32::from(rng.percent(yes))).collect();
         let (blocks, tree) = (block_run(table, &answers), tree_run(rows, &answers));
         coverage.runs += 1;
         if blocks != tree {
