@@ -22,6 +22,9 @@ returns c = search needs
 array-share-prefix-file : tie.Need-array-share-prefix-file
 array-share-prefix-file c = search needs
 
+lent-bytes-requires : tie.Need-lent-bytes-requires
+lent-bytes-requires c κs = search needs
+
 slice-aggregate-run-file : tie.Need-slice-aggregate-run-file
 slice-aggregate-run-file c = search needs
 
@@ -69,6 +72,7 @@ main-spec =
     slice-aggregate-read-all-2
     read-all-requires
     returns
+    lent-bytes-requires
     array-share-prefix-file
     slice-aggregate-run-file
     slice-aggregate-run-file-2
