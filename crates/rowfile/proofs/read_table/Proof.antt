@@ -1,20 +1,17 @@
--- `rowfile::read_rows` meets its contract.
+-- `rowfile::read_table` meets its contract.
 use Prim.Native.Nat.{_-_}
 use native.Mathlib.Omega.{arith}
 use borrow.Author.Needs.{needs}
 use lib.ListN.{length}
 use Rattle.rowfile.proofs.FileLaws.{names-refused, Scanning, scanning-start, scan-refused, scan-on, scan-ends}
-use Rattle.rowfile.proofs.read_rows.Statement.{statement}
-use Rattle.rowfile.proofs.read_rows.Tie as tie
+use Rattle.rowfile.proofs.read_table.Statement.{statement}
+use Rattle.rowfile.proofs.read_table.Tie as tie
 
 abbrev Inv-loop : tie.InvT-loop
-Inv-loop file words₀ start scan₀ count₀ at₀ words scan count at = Scanning file (length words₀) words scan count at
+Inv-loop file names last words₀ start scan₀ count₀ at₀ words scan count at = Scanning names last file (length words₀) words scan count at
 
 abbrev μ-loop : tie.MeasureT-loop
-μ-loop file words₀ start scan₀ count₀ at₀ words scan count at = length file - at
-
-slice-aggregate-names-end : tie.Need-slice-aggregate-names-end Inv-loop μ-loop
-slice-aggregate-names-end c = search needs
+μ-loop file names last words₀ start scan₀ count₀ at₀ words scan count at = length file - at
 
 names-end-requires : tie.Need-names-end-requires Inv-loop μ-loop
 names-end-requires c κs = search needs
@@ -37,7 +34,7 @@ loop-holds c =
     let begun : tie.After-start-scan Inv-loop μ-loop = search in
     let whole : tie.Else1 Inv-loop μ-loop = search in
     let start : tie.After-names-end Inv-loop μ-loop = search in
-    scanning-start _ (start .names-end .ensures) (whole .if1 .left) (begun .start-scan .ensures)
+    scanning-start _ _ _ (start .names-end .ensures) (whole .if1 .left) (begun .start-scan .ensures)
 
 shared-slice-read-step : tie.Need-shared-slice-read-step Inv-loop μ-loop
 shared-slice-read-step c = search needs
@@ -60,7 +57,7 @@ returns-2 c =
     let stepped : tie.After-step Inv-loop μ-loop = search in
     let turn : tie.In-loop Inv-loop μ-loop = search in
     let at-loop : tie.At-loop Inv-loop μ-loop = search in
-    scan-refused _ (at-loop .loop .inv) (turn .loop-test .taken) (stepped .step .ensures) (out .if2 .taken) (made .rows-refused2 .ensures)
+    scan-refused _ _ _ (at-loop .loop .inv) (turn .loop-test .taken) (stepped .step .ensures) (out .if2 .taken) (made .rows-refused2 .ensures)
 
 keep-requires : tie.Need-keep-requires Inv-loop μ-loop
 keep-requires c κs =
@@ -82,7 +79,7 @@ loop-again c =
     let stepped : tie.After-step Inv-loop μ-loop = search in
     let turn : tie.In-loop Inv-loop μ-loop = search in
     let at-loop : tie.At-loop Inv-loop μ-loop = search in
-    scan-on _ (at-loop .loop .inv) (turn .loop-test .taken) (stepped .step .ensures) (on .if2 .left) (kept .keep .ensures)
+    scan-on _ _ _ (at-loop .loop .inv) (turn .loop-test .taken) (stepped .step .ensures) (on .if2 .left) (kept .keep .ensures)
 
 scan-end-requires : tie.Need-scan-end-requires Inv-loop μ-loop
 scan-end-requires c κs = search needs
@@ -97,15 +94,14 @@ returns-3 c =
     let made : tie.After-scan-end Inv-loop μ-loop = search in
     let ended : tie.After-loop Inv-loop μ-loop = search in
     let at-loop : tie.At-loop Inv-loop μ-loop = search in
-    scan-ends _ (at-loop .loop .inv) (ended .loop-test .left) (made .scan-end .ensures)
+    scan-ends _ _ _ (at-loop .loop .inv) (ended .loop-test .left) (made .scan-end .ensures)
 
-pub read-rows-spec : {M : Type 1} → statement M
-read-rows-spec =
+pub read-table-spec : {M : Type 1} → statement M
+read-table-spec =
     tie.close
     (tie.spec
     Inv-loop
     μ-loop
-    slice-aggregate-names-end
     names-end-requires
     rows-refused-requires
     returns
