@@ -29,9 +29,10 @@ use Rattle.running.proofs.SwitchRuns.{the-law, runner-gives, runner-does, never
 use Rattle.writer.specs.Write.{tableText}
 use Rattle.convert.specs.OldCheck.{oldChecked}
 use Rattle.convert.specs.Widen.{widened}
-use Rattle.convert.specs.Convert.{Converted, OldToNew, NewToOld, spansVerdict, oldText}
-use Rattle.convert.proofs.OneAnswer.{converted-one}
-use Rattle.convert.proofs.RoundTrip.{textOfAnswer, wholly, old-new-old, new-old-new}
+use Rattle.convert.specs.Convert.{Converted, newOfOld, oldOfNew, oldToNew, newToOld, spansVerdict, oldText}
+use Rattle.convert.proofs.OneAnswer.{converted-so, converted-one}
+use Rattle.convert.proofs.RoundTrip.{textOfAnswer, wholly, new-wholly, old-wholly}
+use Rattle.convert.proofs.Trips.{old-again, new-again}
 use Rattle.dot.proofs.dot.Statement as dot-stated
 use Rattle.dot.proofs.dot.Met as dot-proved
 use Rattle.writer.proofs.write_table.Statement as write-stated
@@ -69,21 +70,36 @@ old-to-new-meets-its-contract = old-to-new-proved.met
 pub new-to-old-meets-its-contract : {M : Type 1} → new-to-old-stated.statement M
 new-to-old-meets-its-contract = new-to-old-proved.met
 
--- a file and a length have one answer, every byte of it
+-- what the converters give, with no reader in it: of a good file what its words give, of any other its refusal
+pub old-to-new-is-of-the-file : (file : List ℕ) (lent : ℕ) → Converted (layout Old) newOfOld file lent (oldToNew file lent)
+unfolding oldToNew
+old-to-new-is-of-the-file file lent = converted-so (layout Old) newOfOld file lent
+
+pub new-to-old-is-of-the-file : (file : List ℕ) (lent : ℕ) → Converted (layout New) oldOfNew file lent (newToOld file lent)
+unfolding newToOld
+new-to-old-is-of-the-file file lent = converted-so (layout New) oldOfNew file lent
+
+-- and a file and a length have one such answer, every byte of it
 pub a-conversion-has-one-answer : (f : Layout) (of : List ℕ → ℕ → Placing) (file : List ℕ) (lent : ℕ) (a b : Placing) → Converted f of file lent a → Converted f of file lent b → a ≡ b
 a-conversion-has-one-answer = converted-one
 
--- "old to new to old gives again any old text that is not refused where the new one is at most 32,768 bytes"
-pub old-to-new-to-old : (file words : List ℕ) → Accepted (layout Old) file words → (lent lent′ : ℕ) (answer answer′ : Placing) → oldChecked words ≡ accepted
-    → length (tableText (widened words)) ≤ 32768 → length (tableText (widened words)) ≤ lent → length file ≤ lent′ → OldToNew file lent answer
-    → NewToOld (textOfAnswer answer) lent′ answer′ → (answer ≡ wholly lent (tableText (widened words))) × (answer′ ≡ wholly lent′ file)
-old-to-new-to-old = old-new-old
+-- "Given room, old to new to old gives again any old text that is not refused where the new one is at most 32,768 bytes": code 0 says that it is not refused and has room
+pub old-to-new-to-old : (file : List ℕ) (lent lent′ : ℕ) → oldToNew file lent .code ≡ 0 → oldToNew file lent .length ≤ 32768 → length file ≤ lent′
+    → newToOld (textOfAnswer (oldToNew file lent)) lent′ ≡ wholly lent′ file
+old-to-new-to-old = old-again
 
 -- "and new to old to new gives the new text where it was possible"
-pub new-to-old-to-new : (file words : List ℕ) → Accepted (layout New) file words → checked words ≡ accepted → spansVerdict words ≡ accepted
-    → (lent lent′ : ℕ) (answer answer′ : Placing) → length (oldText words) ≤ lent → length file ≤ lent′ → NewToOld file lent answer
-    → OldToNew (textOfAnswer answer) lent′ answer′ → (answer ≡ wholly lent (oldText words)) × (answer′ ≡ wholly lent′ file)
-new-to-old-to-new = new-old-new
+pub new-to-old-to-new : (file : List ℕ) (lent lent′ : ℕ) → newToOld file lent .code ≡ 0 → length file ≤ lent′ → oldToNew (textOfAnswer (newToOld file lent)) lent′ ≡ wholly lent′ file
+new-to-old-to-new = new-again
+
+-- a file that is not refused has code 0 wherever its text has room
+pub old-to-new-has-room : (file words : List ℕ) (lent : ℕ) → Accepted (layout Old) file words → oldChecked words ≡ accepted → length (tableText (widened words)) ≤ lent
+    → oldToNew file lent ≡ wholly lent (tableText (widened words))
+old-to-new-has-room = new-wholly
+
+pub new-to-old-has-room : (file words : List ℕ) (lent : ℕ) → Accepted (layout New) file words → checked words ≡ accepted → spansVerdict words ≡ accepted → length (oldText words) ≤ lent
+    → newToOld file lent ≡ wholly lent (oldText words)
+new-to-old-has-room = old-wholly
 
 -- ---- M-101: the lookup
 
