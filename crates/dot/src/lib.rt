@@ -4,7 +4,7 @@ mod write;
 
 use crate::graph::write_graph;
 use crate::write::clear;
-use table::check;
+use table_check::check;
 ghost use mathlib.Core.Path.{_≡_};
 ghost use mathlib.Core.List.{List};
 ghost use Prim.Native.Nat.{ℕ};
