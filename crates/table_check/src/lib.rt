@@ -1,6 +1,7 @@
 // Refusals 1 to 4 of paper 01.
 mod rows;
 
+use block_check::check_blocks;
 use table::Checked;
 use table::words;
 ghost use mathlib.Core.Path.{_≡_};
@@ -39,7 +40,7 @@ fn check_tables(words: &[u32]) -> Checked
     requires { ⌜ Sized (now words) ⌝ }
     ensures { λ r. ⌜ verdictOf r ≡ wordsVerdict (now (words .entry)) ⌝ }
 {
-    let blocks = rows::check_blocks(words);
+    let blocks = check_blocks(words);
     if !blocks.is_accepted() {
         return blocks;
     }

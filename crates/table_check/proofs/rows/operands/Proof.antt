@@ -1,6 +1,6 @@
 -- `table_check::rows::operands` meets its contract.
 use borrow.Author.Needs.{needs}
-use Rattle.table_check.proofs.RowLaws.{is-below, is-not-below, all-below}
+use Rattle.block_check.proofs.RowLaws.{is-below, is-not-below, all-below}
 use Rattle.table_check.proofs.rows.operands.Statement.{statement}
 use Rattle.table_check.proofs.rows.operands.Tie as tie
 
