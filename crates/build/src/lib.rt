@@ -3,7 +3,7 @@ use crate::driver::Walked;
 use crate::driver::walk;
 use rows::clear;
 use survey::Rule;
-use table::check;
+use table_check::check;
 ghost use mathlib.Core.Path.{_≡_};
 ghost use lib.ListN.{length};
 ghost use Rattle.definition.specs.Around.{rust, language};

@@ -5,7 +5,7 @@ mod widen;
 use crate::spans::first_apart;
 use crate::spans::old_place;
 use crate::widen::widen;
-use table::check;
+use table_check::check;
 use text::placed::Placed;
 use text::placed::finish;
 use text::placed::refuse;

@@ -3,7 +3,7 @@ mod graph;
 mod write;
 
 use crate::graph::write_graph;
-use table::check;
+use table_check::check;
 use text::placed::Placed;
 use text::placed::finish;
 use text::placed::refuse;

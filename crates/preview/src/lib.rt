@@ -4,7 +4,7 @@ use build::Outcome;
 use build::driver::Walked;
 use build::driver::walk;
 use survey::Rule;
-use table::check;
+use table_check::check;
 ghost use mathlib.Core.Path.{_≡_};
 ghost use mathlib.Core.List.{List};
 ghost use Prim.Native.Nat.{ℕ};

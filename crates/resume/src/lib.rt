@@ -45,7 +45,7 @@ use table::terminals::scope_at;
 use table::terminals::switch_at;
 use table::terminals::try_at;
 use value::result::Tally;
-use value::walk::visit_value_block;
+use value_walk::walk::visit_value_block;
 ghost use mathlib.Core.Path.{_≡_};
 ghost use Prim.Native.Nat.{_+_, _<_};
 ghost use lib.Dec.{eqb};

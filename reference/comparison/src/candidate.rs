@@ -3,7 +3,7 @@
 //! their answers against the reference or the model; with `candidate-dot`, `candidate-tree-check`, `candidate-lookup` and
 //! `candidate-texts` their own comparisons run the drawing, the check of trees, the lookup, the writer and the converters.
 //!
-//! The archives (`libbuild.a`, `libtable.a`, `libdot.a`, ..) are looked for in the folder that the variable CANDIDATE_DIR names.
+//! The archives (`libbuild.a`, `libtable_check.a`, `libdot.a`, ..) are looked for in the folder that the variable CANDIDATE_DIR names.
 //! All but the check are called through the safe wrappers of ffi/rust.
 
 use crate::model::Outcome;
@@ -82,7 +82,7 @@ pub const CANDIDATE_PREVIEWS: Option<[CandidatePreview; 2]> = Some([
 
 #[cfg(feature = "candidate-check")]
 fn check(words: &[u32]) -> (u32, u32) {
-    #[link(name = "table", kind = "static")]
+    #[link(name = "table_check", kind = "static")]
     unsafe extern "C" {
         fn table_check(words: *const u32, word_count: usize, at: *mut u32) -> u32;
     }
