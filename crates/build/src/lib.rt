@@ -12,7 +12,7 @@ ghost use Rattle.survey.specs.Abstraction.{ruleOf};
 ghost use Rattle.build.specs.Driver.{Reported};
 ghost use Rattle.build.specs.Entry.{outcome};
 
-mod driver;
+pub mod driver;
 mod index;
 mod search;
 

@@ -2,7 +2,7 @@
 
 use crate::model::check::check;
 use crate::model::index::{LINE_WORDS, MOST_LINES, lines};
-use crate::model::text::{LENT_ROWS, parse, print};
+use crate::model::text::{LENT_ROWS, parse, print, print_size};
 use crate::model::{self, Outcome, ROW_WORDS};
 use crate::reference;
 
@@ -47,6 +47,15 @@ pub fn printed(file: &[u8]) -> String {
         }
         Err(refusal) => print(Outcome::refused(refusal, 0), &[]),
     }
+}
+
+/// What treesize prints of a file (M-106).
+pub fn sized(file: &[u8]) -> String {
+    let told = parse(file).map(|words| match check(&words) {
+        Ok(table) => model::previewed(&reference::walk_counted(&table).0),
+        Err(refusal) => Outcome::refused(refusal, 0),
+    });
+    print_size(told.unwrap_or_else(|refusal| Outcome::refused(refusal, 0)))
 }
 
 /// Each number in groups of seven bits, the lowest first; a byte of 128 or more has a group after

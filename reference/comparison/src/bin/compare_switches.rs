@@ -12,6 +12,7 @@ use comparison::generate::mutate::{mutate, shuffle};
 use comparison::generate::plain::plain;
 use comparison::generate::small_plain::{Bound, each};
 use comparison::model::check::check;
+use comparison::model::index::{LINE_WORDS, MOST_LINES};
 use comparison::model::table::Table;
 use comparison::model::tree_check::MAX_ROWS;
 use comparison::model::tree_run::{Ran, run as run_tree};
@@ -144,8 +145,8 @@ impl Met {
     fn built<'t>(&mut self, table: Table<'t>) -> Option<Built<'t>> {
         let rows = walk_by(Rule::Language, &table).result.ok()?;
         if let Some(candidate) = CANDIDATE_LANGUAGE {
-            let mut buffer = vec![7; 6 * rows.len()];
-            let Outcome { code, rows: count, .. } = candidate(table.words, &mut buffer);
+            let (mut buffer, mut index) = (vec![7; 6 * rows.len()], [7; LINE_WORDS * MOST_LINES]);
+            let Outcome { code, rows: count, .. } = candidate(table.words, &mut buffer, &mut index);
             self.hold((code, count as usize, buffer) == (0, rows.len(), rows.concat()), &table, "the library's tree");
         }
         let first = walk_by(Rule::Rust, &table).result.ok().filter(|first| *first != rows);

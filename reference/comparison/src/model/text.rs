@@ -132,6 +132,14 @@ pub fn print(outcome: Outcome, buffer: &[u32]) -> String {
     out
 }
 
+/// The same of treesize (M-106).
+pub fn print_size(told: Outcome) -> String {
+    let Outcome { code, at, rows, visits, lines } = told;
+    let mut out = String::from("code at rows visits lines\n");
+    push_line(&mut out, &[code, at, rows, visits, lines]);
+    out
+}
+
 fn push_line(text: &mut String, numbers: &[u32]) {
     let numbers: Vec<String> = numbers.iter().map(u32::to_string).collect();
     *text += &numbers.join(" ");
