@@ -19,6 +19,7 @@ pub mod Labels
 pub mod Surveys
 pub mod Goals
 pub mod Parting
+pub mod PartingRows
 pub mod PlainEnough
 pub mod Loops
 pub mod Semantics

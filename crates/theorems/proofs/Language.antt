@@ -1,6 +1,6 @@
 -- M-102 from the outcomes that a caller sees: the entries differ only so, the first entry never gives 29, and the labels of an accepted tree are there.
 use mathlib.Core.Path.{_≡_, refl, sym, ap, _∙_, subst}
-use Prim.Native.Nat.{ℕ, _*_, _-_, _/_}
+use Prim.Native.Nat.{ℕ, _*_, _-_, _/_, _≤_}
 use native.Mathlib.Omega.{arith}
 use mathlib.Core.List.{List, [], _++_}
 use mathlib.Core.Logic.{⊎-elim}
@@ -16,23 +16,35 @@ use Rattle.definition.specs.Statement.{BlockResult, buildTree}
 use Rattle.definition.specs.Tree.{Statements, Row, rows}
 use Rattle.definition.specs.Named.{Named}
 use Rattle.definition.specs.Build.{Outcome, report, reported, refusal, wordsOf, placed, outcomeOf, afterCheck, built}
-use Rattle.definition.specs.Relabeled.{Apart, AlikeBlocks, alike-blocks}
+use Rattle.definition.specs.Relabeled.{Apart, AlikeBlocks, alike-blocks, visitsAfter}
 use Rattle.theorems.specs.Parted.{Parted, refused-alike, unnamed, relabeled}
 use Rattle.definition.proofs.Checked.{ofCheck, Coded, coded}
 use Rattle.definition.proofs.RustCodes.{rust-never-29}
 use Rattle.definition.proofs.Parting.{differs-only-so}
+use Rattle.definition.proofs.PartingRows.{rows-part}
 use Rattle.definition.proofs.Labels.{tree-named}
 use Rattle.definition.proofs.Accepted.{Accepted, accepted-of, rows-of-buffer}
 
 -- ---- "differs only as follows"
 
 module _ (words : List ℕ) (lent : ℕ) where
-  results-part : (m n : Result BlockResult) → Apart AlikeBlocks m n → Parted lent (outcomeOf lent (reported m)) (outcomeOf lent (reported n))
-  unfolding outcomeOf reported
-  results-part (ok a) (ok b) (alike-blocks first second cx p) = relabeled first second (cx .visits) p
-  results-part (ok a) (refused code at visits) e = rw e (unnamed _ at visits)
+  placed-visits : (list : List Row) (visits : ℕ) → placed lent list visits .visits ≡ visits
+  unfolding placed refusal
+  placed-visits list visits = by (leb (length list) (lent / 6)) refl
+    where
+      by : (y : Bool) → leb (length list) (lent / 6) ≡ y → placed lent list visits .visits ≡ visits
+      by true e = rw (e, placed)
+      by false e = rw (e, placed)
+
+  results-part : (m n : Result BlockResult) → Apart AlikeBlocks visitsAfter m n → Parted lent (outcomeOf lent (reported m)) (outcomeOf lent (reported n))
+  unfolding outcomeOf reported refusal
+  results-part (ok a) (ok b) (alike-blocks first second cx p) = relabeled first second (cx .visits) p (rows-part first second p)
+  results-part (ok a) (refused code at visits) e =
+      let given : Outcome = placed lent (rows (a .statements)) (visitsAfter a) in
+      let fewer : visits ≤ given .visits = rw (placed-visits (rows (a .statements)) (visitsAfter a)) (e .1) in
+      rw (e .0) (unnamed given at visits fewer)
   results-part (refused code at visits) (ok b) e = absurd e
-  results-part (refused code at visits) (refused code′ at′ visits′) e = ⊎-elim (λ q. rw (q .0, q .1, q .2) (refused-alike _)) (λ q. rw q (unnamed _ at′ visits′)) e
+  results-part (refused code at visits) (refused code′ at′ visits′) e = ⊎-elim (λ q. rw (q .0, q .1, q .2) (refused-alike _)) (λ q. rw (q .0) (unnamed _ at′ visits′ (q .1))) e
 
   pub entries-part : Parted lent (built rust words lent) (built language words lent)
   unfolding built afterCheck report

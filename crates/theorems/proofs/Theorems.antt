@@ -75,6 +75,7 @@ use Rattle.survey.specs.declared.Rule as code
 use Rattle.survey.specs.Abstraction.{ruleOf}
 use Rattle.theorems.specs.Parted.{Parted}
 use Rattle.theorems.proofs.Language.{entries-part, first-never-29, LabelsThere, labels-there}
+use Rattle.theorems.proofs.Parting.{Unnamed, AcceptedAlike, where-refused, where-accepted}
 use Rattle.treefile.specs.Prints.{Prints, FileBuilt}
 use Rattle.text.proofs.PrintsLaws.{file-printed-one}
 use Rattle.treefile.proofs.Sample.{sample-prints}
@@ -277,6 +278,17 @@ what-the-build-makes-is-accepted = built-answered
 -- BREAKs that are Labeled in place of Unlabeled
 pub the-entries-differ-only-so : (words : List ℕ) (lent : ℕ) → Parted lent (built rust words lent) (built language words lent)
 the-entries-differ-only-so = entries-part
+
+-- where the first entry refuses (40 included), the language entry refuses alike, or gives 29 with no more visits
+pub where-the-first-entry-refuses : (words : List ℕ) (lent : ℕ) → (built rust words lent .code ≡ 0 → ⊥)
+    → (built language words lent ≡ built rust words lent) ⊎ Unnamed (built rust words lent) (built language words lent)
+where-the-first-entry-refuses = where-refused
+
+-- where it accepts, the language entry accepts after the same visits with equally many rows, the same but for BREAK kinds that go from Unlabeled to Labeled,
+-- or gives 29 with no more visits
+pub where-the-first-entry-accepts : (words : List ℕ) (lent : ℕ) → built rust words lent .code ≡ 0
+    → AcceptedAlike lent (built rust words lent) (built language words lent) ⊎ Unnamed (built rust words lent) (built language words lent)
+where-the-first-entry-accepts = where-accepted
 
 -- "29 in the new entry"
 pub the-first-entry-never-gives-29 : (words : List ℕ) (lent : ℕ) → built rust words lent .code ≡ 29 → ⊥
