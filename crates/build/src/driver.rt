@@ -247,6 +247,7 @@ pub fn walk(rule: Rule, words: &[u32], tree: &mut [u32], index: &mut [u32]) -> W
                 entries: kept.entries,
                 left: kept.left,
                 built: kept.built,
+                first: kept.first,
                 count: kept.count,
                 second: kept.second,
             };
