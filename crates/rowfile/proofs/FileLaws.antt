@@ -82,7 +82,7 @@ pub with-more : (first second : List ℕ) (s : Scanned) → withWords first (wit
 with-more first second (stopped at) = refl
 with-more first second (words list) = ap (λ (l : List ℕ). words l) (sym (append-assoc first second list))
 
-next-low : (last column : ℕ) → column ≤ last → nextColumn last column ≤ last
+pub next-low : (last column : ℕ) → column ≤ last → nextColumn last column ≤ last
 next-low last column h = by (eqb column last) refl
   where
     by : (y : Bool) → eqb column last ≡ y → cond y 0 (column + 1) ≤ last
@@ -106,7 +106,7 @@ module _ (last column value byte : ℕ) (h : column ≤ last) where
       (cond (follows value byte) (record { refused = false; ended = false; begun = true; column = column; value = value * 10 + (byte - 48) }) refusedScan) (next-low last column h)
       (either last (follows value byte) (record { refused = false; ended = false; begun = true; column = column; value = value * 10 + (byte - 48) }) refusedScan h (omega arith))
 
-column-low : (last : ℕ) (scan : Scan) (byte : ℕ) → scan .column ≤ last → stepped last scan byte .column ≤ last
+pub column-low : (last : ℕ) (scan : Scan) (byte : ℕ) → scan .column ≤ last → stepped last scan byte .column ≤ last
 unfolding stepped
 column-low last scan byte h =
     either last (scan .begun) (inNumber last (scan .column) (scan .value) byte) (firstDigit (scan .column) byte)

@@ -20,10 +20,10 @@ use Rattle.rowfile.specs.Scan.{Scanned, stopped, words, digitOf, nextCol
 use Rattle.rowfile.proofs.FileLaws.{with-none, with-more}
 
 module _ (last : ℕ) where
-  abbrev opened : (column value : ℕ) → Scan
+  abbrev pub opened : (column value : ℕ) → Scan
   opened column value = record { refused = false; ended = false; begun = true; column = column; value = value }
 
-  abbrev closed : (column value : ℕ) → Scan
+  abbrev pub closed : (column value : ℕ) → Scan
   closed column value = record { refused = false; ended = true; begun = false; column = nextColumn last column; value = value }
 
   -- ---- one byte
@@ -66,7 +66,7 @@ module _ (last : ℕ) where
   abbrev onward : (refused : Bool) → (next : Scan) → (at : ℕ) → List ℕ → Scanned
   onward refused next at rest = elim refused [ true ↦ stopped at | false ↦ withWords (endedWord next) (scanned last next (suc at) rest) ]
 
-  goes-on : (scan next : Scan) (at byte : ℕ) (rest : List ℕ) → stepped last scan byte ≡ next → next .refused ≡ false
+  pub goes-on : (scan next : Scan) (at byte : ℕ) (rest : List ℕ) → stepped last scan byte ≡ next → next .refused ≡ false
       → scanned last scan at (byte ∷ rest) ≡ withWords (endedWord next) (scanned last next (suc at) rest)
   unfolding scanned
   goes-on scan next at byte rest e f = ap (λ (n : Scan). onward (n .refused) n at rest) e ∙ ap (λ (y : Bool). onward y next at rest) f
@@ -118,27 +118,27 @@ module _ (last : ℕ) where
     pub first : next .column ≡ 0
     pub same : scanned last scan at (line numbers ++ rest) ≡ withWords numbers (scanned last next place rest)
 
-  line-one : (n : ℕ) (rest : List ℕ) → line (n ∷ []) ++ rest ≡ decimal n ++ (10 ∷ rest)
+  pub line-one : (n : ℕ) (rest : List ℕ) → line (n ∷ []) ++ rest ≡ decimal n ++ (10 ∷ rest)
   unfolding line
   line-one n rest = append-assoc (decimal n) (10 ∷ []) rest
 
-  line-more : (n m : ℕ) (numbers rest : List ℕ) → line (n ∷ m ∷ numbers) ++ rest ≡ decimal n ++ (32 ∷ (line (m ∷ numbers) ++ rest))
+  pub line-more : (n m : ℕ) (numbers rest : List ℕ) → line (n ∷ m ∷ numbers) ++ rest ≡ decimal n ++ (32 ∷ (line (m ∷ numbers) ++ rest))
   unfolding line
   line-more n m numbers rest = append-assoc (decimal n) (32 ∷ line (m ∷ numbers)) rest
 
-  last-ending : (column : ℕ) → column ≡ last → 10 ≡ ending (eqb column last)
+  pub last-ending : (column : ℕ) → column ≡ last → 10 ≡ ending (eqb column last)
   last-ending column e = rw (eq-eqb column last e)
 
-  other-ending : (column : ℕ) → (column ≡ last → ⊥) → 32 ≡ ending (eqb column last)
+  pub other-ending : (column : ℕ) → (column ≡ last → ⊥) → 32 ≡ ending (eqb column last)
   other-ending column f = rw (ne-eqb column last f)
 
-  first-column : (column : ℕ) → column ≡ last → nextColumn last column ≡ 0
+  pub first-column : (column : ℕ) → column ≡ last → nextColumn last column ≡ 0
   first-column column e = rw (eq-eqb column last e)
 
-  later-column : (column : ℕ) → (column ≡ last → ⊥) → nextColumn last column ≡ column + 1
+  pub later-column : (column : ℕ) → (column ≡ last → ⊥) → nextColumn last column ≡ column + 1
   later-column column f = rw (ne-eqb column last f)
 
-  line-read : (numbers : List ℕ) (n : ℕ) (scan : Scan) (at : ℕ) (rest : List ℕ) → Words (n ∷ numbers) → scan .begun ≡ false → scan .column + suc (length numbers) ≡ suc last
+  pub line-read : (numbers : List ℕ) (n : ℕ) (scan : Scan) (at : ℕ) (rest : List ℕ) → Words (n ∷ numbers) → scan .begun ≡ false → scan .column + suc (length numbers) ≡ suc last
       → LineRead scan at (n ∷ numbers) rest
   line-read [] n scan at rest w outside e =
       let at-last : scan .column ≡ last = omega arith in
@@ -180,7 +180,7 @@ module _ (last : ℕ) where
       l .same ∙ ap (withWords (n ∷ numbers)) (lines-read rows (w .1) (l .next) (l .place) (l .outside) (l .first))
 
 -- a line of names is there, and the rest comes after it
-names-there : (names rest : List ℕ) → alike names (names ++ rest) ≡ length names
+pub names-there : (names rest : List ℕ) → alike names (names ++ rest) ≡ length names
 unfolding alike
 names-there [] rest = refl
 names-there (name ∷ names) rest = rw (eq-eqb name name refl, names-there names rest)

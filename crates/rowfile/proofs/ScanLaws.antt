@@ -31,7 +31,7 @@ digit-is byte {value} d = by (leb 48 byte) refl (leb byte 57) refl
         none-is f = omega (arith, f, d .most)
 
 -- a digit that follows
-follows-true : (value byte : ℕ) → follows value byte ≡ true → Follows value byte (byte - 48)
+pub follows-true : (value byte : ℕ) → follows value byte ≡ true → Follows value byte (byte - 48)
 follows-true value byte e =
     let a : (leb 48 byte ≡ true) × (leb byte 57 && (ltb 0 value && ltb (value * 10 + (byte - 48)) (2 ^ 32)) ≡ true) = and-both (leb 48 byte) _ e in
     let b : (leb byte 57 ≡ true) × (ltb 0 value && ltb (value * 10 + (byte - 48)) (2 ^ 32) ≡ true) = and-both (leb byte 57) _ (a .1) in

@@ -15,7 +15,7 @@ use Rattle.text.specs.Prints.{WrittenText}
 use Rattle.text.proofs.WriteLaws.{Narrow, narrow-words, narrow-take, narrow-drop, line-most, text-fits, wrote-then}
 use Rattle.writer.specs.Cut.{cut}
 use Rattle.definition.specs.Tree.{Statements, rows}
-use Rattle.definition.specs.Run.{Answers, Reason, returned, threw, no-answer-left, not-plain, no-target, end-of-tree, Run, unfinished, stopped}
+use Rattle.definition.specs.Run.{Answers, Reason, returned, threw, no-answer-left, not-plain, no-target, end-of-tree, no-such-case, Run, unfinished, stopped}
 use Rattle.definition.specs.TreeRun.{treeRun}
 use Rattle.running.specs.Numbered.{numbered}
 use Rattle.running.specs.Ran.{Outcome, refusal, firstNotRun, performedAll, ended, given, afterSorts, ran}
@@ -45,6 +45,7 @@ ended-within performed lent end-of-tree = all-within performed 3 lent
 ended-within performed lent no-answer-left = all-within performed 4 lent
 ended-within performed lent (no-target at) = refusal-within 63 at lent
 ended-within performed lent not-plain = refusal-within 64 0 lent
+ended-within performed lent no-such-case = refusal-within 64 0 lent
 
 given-within : (lent : ℕ) (run numberedRun : Run) → Within (given lent run numberedRun)
 unfolding given
