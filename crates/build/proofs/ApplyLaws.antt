@@ -5,7 +5,6 @@ use mathlib.Core.Path.{_≡_, refl, sym, ap, _∙_, subst}
 use mathlib.Core.Bool.{Bool, true, false}
 use mathlib.Core.Option.{Option, none, some}
 use lib.ListN.{length, getD, set, length-set}
-use lib.Seq.{getD-set-same}
 use lib.Dec.{eqb}
 use borrow.Author.Tests.{eq-eqb, ne-eqb}
 use Rattle.table.specs.Table.{unlessNone}
@@ -18,9 +17,9 @@ use Rattle.definition.specs.Result.{Result, ok, refused, _>>=_}
 use Rattle.control.specs.declared.ControlFlowTarget as code
 use Rattle.control.specs.declared.Context.{Context}
 use Rattle.control.specs.declared.Entry.{Entry}
-use Rattle.control.specs.Abstraction.{targetOf, noEntry, contextOf, resultOf, settled}
+use Rattle.control.specs.Abstraction.{targetOf, noEntry, contextOf, resultOf, settled, released}
 use Rattle.control.specs.Contract.{Named, Room, Bounded, Last, Scheduled, Unscheduled}
-use Rattle.control.proofs.ContextLaws.{settles}
+use Rattle.control.proofs.ContextLaws.{settles, releases}
 use Rattle.definition.specs.Framed.{Below}
 use Rattle.plan.specs.declared.Change.{Change}
 use Rattle.plan.specs.declared.Change.the-variants.{Nothing, Schedule, ScheduleBriefly, Unschedule}
@@ -75,7 +74,7 @@ Changeable Unschedule cx = 0 < cx .len
 
 -- what the driver carries along: nothing is pending, the stack's bound, the blocks of its entries, and the arrays' lengths
 pub record Whole (cx : Context) : Type 0 where
-  pub settled : cx .pending ≡ false
+  pub settled : cx .pending ≡ 0
   pub bounded : Bounded (cx .stack) (cx .len)
   pub wide : length (cx .scheduled) ≡ 1024
   pub tall : length (cx .stack) ≡ 1152
@@ -135,7 +134,7 @@ schedule-changed target cx r s h z e small w = rw e (record {
   whole = unfold settled in record {
     settled = refl;
     bounded = h .bounded (w .bounded);
-    wide = ap (λ (z : Context). length (z .scheduled)) (h .state) ∙ length-scheduled (targetOf target) (cx .scheduled) ∙ w .wide;
+    wide = length-scheduled (targetOf (r .pushed .target)) (r .scheduled) ∙ ap (λ (z : Context). length (z .scheduled)) (h .state) ∙ w .wide;
     tall = length-set (r .stack) (r .len - 1) (r .pushed) ∙ long;
   };
 })
@@ -151,35 +150,71 @@ length-removed (target-case b) o s = length-set s b false
 length-removed (target-loop b c l) false s = length-set (set s b false) c false ∙ length-set s b false
 length-removed (target-loop b c l) true s = length-set (set (set s b false) c false) l false ∙ length-set (set s b false) c false ∙ length-set s b false
 
-pub unschedule-changed : (cx r : Context) (last : Entry) → Last cx last → Unscheduled last cx r → Whole cx → Changed Unschedule cx r
-unschedule-changed cx r last top h w = record {
-  context = λ visits. ap ok (sym (h .pops visits));
-  whole = record {
-    settled = h .settled;
+pub unschedule-changed : (cx r s : Context) → Unscheduled cx r → s ≡ released r → Whole cx → Changed Unschedule cx s
+unschedule-changed cx r s h e w = rw e (record {
+  context = λ visits. ap ok (sym (h .pops visits) ∙ sym (releases visits r (h .pending)));
+  whole = unfold released in record {
+    settled = refl;
     bounded = h .bounded (w .bounded);
-    wide = ap (λ (z : Context). length (z .scheduled)) (h .state) ∙ length-removed (targetOf (last .target)) (last .«owns_loop») (cx .scheduled) ∙ w .wide;
+    wide =
+        length-removed (targetOf (getD (r .stack) (r .len) noEntry .target)) (getD (r .stack) (r .len) noEntry .«owns_loop») (r .scheduled) ∙
+        ap (λ (z : Context). length (z .scheduled)) (h .state) ∙ w .wide;
     tall = ap (λ (z : Context). length (z .stack)) (h .state) ∙ w .tall;
   };
-}
+})
 
--- pushed, settled and popped
-pub last-scheduled : (target : code.ControlFlowTarget) (cx r : Context) → Scheduled target cx r → Named target → cx .len < 1152 → Whole cx → Last (settled r) (r .pushed)
-unfolding settled
-last-scheduled target cx r h named small w = record {
-  nonempty = omega (arith, h .len);
-  settled = refl;
-  read = sym (getD-set-same (r .stack) (r .len - 1) (r .pushed) noEntry (omega (arith, h .len, small, long)));
-  named = rw (h .state) named;
-}
-  where
-    long : length (r .stack) ≡ 1152
-    long = ap (λ (z : Context). length (z .stack)) (h .state) ∙ w .tall
-
-pub briefly-changed : (target : code.ControlFlowTarget) (cx s r : Context) (last : Entry) → Changed (Schedule target) cx s → Last s last → Unscheduled last s r → Changed (ScheduleBriefly target) cx r
+pub briefly-changed : (target : code.ControlFlowTarget) (cx s r t : Context) → Changed (Schedule target) cx s → Unscheduled s r → t ≡ released r → Changed (ScheduleBriefly target) cx t
 unfolding _>>=_
-briefly-changed target cx s r last h top u =
-    let off : Changed Unschedule s r = unschedule-changed s r last top u (h .whole) in
+briefly-changed target cx s r t h u e =
+    let off : Changed Unschedule s t = unschedule-changed s r t u e (h .whole) in
     record { context = λ visits. ap (λ (m : Result definition.Context). m >>= λ inside. ok (unscheduled inside)) (h .context visits) ∙ off .context visits; whole = off .whole }
+
+-- ---- what the driver settles
+
+abbrev pub settledBy : Flags → Context → Context
+settledBy flags cx = record {
+  emitted = cx .emitted;
+  «catch_handlers» = cx .«catch_handlers»;
+  «scope_fallthroughs» = cx .«scope_fallthroughs»;
+  len = cx .len;
+  scheduled = flags;
+  pushed = cx .pushed;
+  pending = 0;
+  refused = cx .refused;
+  «next_schedule_id» = cx .«next_schedule_id»;
+  stack = set (cx .stack) (cx .len - 1) (cx .pushed);
+}
+
+abbrev pub releasedBy : Flags → Context → Context
+releasedBy flags cx = record {
+  emitted = cx .emitted;
+  «catch_handlers» = cx .«catch_handlers»;
+  «scope_fallthroughs» = cx .«scope_fallthroughs»;
+  len = cx .len;
+  scheduled = flags;
+  pushed = cx .pushed;
+  pending = 0;
+  refused = cx .refused;
+  «next_schedule_id» = cx .«next_schedule_id»;
+  stack = cx .stack;
+}
+
+pub settled-by : (r : Context) (flags : Flags) → flags ≡ scheduledBy (targetOf (r .pushed .target)) (r .scheduled) → settledBy flags r ≡ settled r
+unfolding settled
+settled-by r flags e = ap (λ (f : Flags). settledBy f r) e
+
+pub released-by : (r : Context) (flags : Flags)
+    → flags ≡ unscheduledBy (targetOf (getD (r .stack) (r .len) noEntry .target)) (getD (r .stack) (r .len) noEntry .«owns_loop») (r .scheduled)
+    → releasedBy flags r ≡ released r
+unfolding released
+released-by r flags e = ap (λ (f : Flags). releasedBy f r) e
+
+pub named-entered : (target : code.ControlFlowTarget) (cx r : Context) → Scheduled target cx r → Named target → Named (r .pushed .target)
+named-entered target cx r h named = rw (h .state) named
+
+-- the entry that came off stands just above the stack
+pub named-left : (cx r : Context) → Unscheduled cx r → 0 < cx .len → Whole cx → Named (getD (r .stack) (r .len) noEntry .target)
+named-left cx r u on w = rw (u .state) (w .bounded .named (cx .len - 1) (omega arith))
 
 -- ---- the sets
 
@@ -234,5 +269,5 @@ whole-marked visited handler fallthrough cx w = record { settled = w .settled; b
 
 -- ---- what the methods ask
 
-pub last-entry : (cx : Context) → 0 < cx .len → Whole cx → Last cx (getD (cx .stack) (cx .len - 1) noEntry)
-last-entry cx h w = record { nonempty = h; settled = w .settled; read = refl; named = w .bounded .named (cx .len - 1) (omega arith) }
+pub last-entry : (cx : Context) → 0 < cx .len → Whole cx → Last cx
+last-entry cx h w = record { nonempty = h; settled = w .settled }

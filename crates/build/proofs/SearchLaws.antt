@@ -115,11 +115,11 @@ foundAmong (jump.Continue block) entries top loopsAbove = continueTargetFrom ent
 
 -- the first so many entries give what all give; the innermost is the last of all
 pub record Searching (sought : Jump) (cx : Context) (at : ℕ) (loopsAbove : ℕ) : Type 0 where
-  pub settled : cx .pending ≡ false
+  pub settled : cx .pending ≡ 0
   pub within : loopsAbove + at ≤ cx .len
   pub rest : foundAmong sought (stackOf (cx .stack) (cx .len)) true 0 ≡ foundAmong sought (stackOf (cx .stack) at) (eqb at (cx .len)) loopsAbove
 
-pub search-start : (sought : Jump) (cx : Context) (n : ℕ) → cx .pending ≡ false → n ≡ searchedFrom sought (cx .len) → Searching sought cx n 0
+pub search-start : (sought : Jump) (cx : Context) (n : ℕ) → cx .pending ≡ 0 → n ≡ searchedFrom sought (cx .len) → Searching sought cx n 0
 search-start Nothing cx n s e = record { settled = s; within = omega (arith, e); rest = refl }
 search-start (jump.Break b) cx n s e = record { settled = s; within = omega (arith, e); rest = rw (eq-eqb n (cx .len) e, e) refl }
 search-start (jump.Continue b) cx n s e = record { settled = s; within = omega (arith, e); rest = rw (eq-eqb n (cx .len) e, e) refl }

@@ -1,4 +1,5 @@
 // The loop over the Context by value and the frames: each turn is planned, and its plan applied.
+use crate::index::put_line;
 use crate::search::aim_at;
 use crate::search::asks_around;
 use crate::search::jump_at;
@@ -8,8 +9,11 @@ use crate::search::search_from;
 use control::Context;
 use control::ControlFlowTarget;
 use control::Resolved;
+use control::SETTLED;
+use control::add_target;
 use control::count_loop;
 use control::insert;
+use control::remove_target;
 use plan::Change;
 use plan::NONE;
 use plan::Plan;
@@ -36,12 +40,13 @@ ghost use Rattle.control.specs.Abstraction.{targetOf};
 ghost use Rattle.survey.specs.Abstraction.{ruleOf};
 ghost use Rattle.build.specs.Driver.{visitedBlock, marked, startingAt, planEnds, isHalt, slot, walkedBy, blockedBy, Reported};
 
-// Where the walk ended: a refusal, or the rows that are out.
+// Where the walk ended: a refusal, or the rows and the lines that are out.
 pub struct Walked {
     pub code: u32,
     pub at: u32,
     pub rows: u32,
     pub visits: u32,
+    pub lines: u32,
 }
 
 fn start(words: &[u32]) -> Position
@@ -105,8 +110,8 @@ fn ends(plan: Plan) -> bool
     halted(stage)
 }
 
-fn answer(plan: Plan) -> Walked
-    ensures { λ r. ⌜ r ≡ walkedBy plan ⌝ }
+fn answer(plan: Plan, lines: u32) -> Walked
+    ensures { λ r. ⌜ r ≡ walkedBy plan lines ⌝ }
 {
     let position = plan.position;
     Walked {
@@ -114,6 +119,7 @@ fn answer(plan: Plan) -> Walked
         at: plan.at,
         rows: position.rows,
         visits: position.visits,
+        lines: lines,
     }
 }
 
@@ -126,6 +132,7 @@ fn blocked(code: u16, target: ControlFlowTarget, p: Position) -> Walked
         at: target.block_asked() as u32,
         rows: p.rows,
         visits: p.visits,
+        lines: 0,
     }
 }
 
@@ -152,14 +159,15 @@ fn frame_slot(keep: bool, depth: u32) -> usize
 // The one function over 40 lines: a function that is handed the Context by value and indexes its entries copies it, 18 KB a turn (docs/PERFORMANCE.md).
 // So the search of the stack (the Rust's `get_break_target` and `get_continue_target`), the pass over the frames (M-102, in the language entry alone) and the
 // plan's change stand in the loop, each method called once.
-pub fn walk(rule: Rule, words: &[u32], tree: &mut [u32]) -> Walked
+pub fn walk(rule: Rule, words: &[u32], tree: &mut [u32], index: &mut [u32]) -> Walked
     requires { ⌜ Promise (now words) ⌝ }
-    ensures { λ r. ⌜ Reported (report (ruleOf rule) (tableOf (now (words .entry)))) r (now (tree .exit)) ⌝ }
+    ensures { λ r. ⌜ Reported (report (ruleOf rule) (tableOf (now (words .entry)))) r (now (tree .exit)) (now (index .exit)) ⌝ }
 {
     let mut cx = Context::new();
     let none = no_frame();
     let mut frames = [none; 129];
     let mut p = start(words);
+    let mut lines: u32 = 0;
     loop {
         let frame = frames[innermost(p.depth)];
         let jump = jump_at(words, &cx.scheduled, &cx.catch_handlers, p);
@@ -198,13 +206,16 @@ pub fn walk(rule: Rule, words: &[u32], tree: &mut [u32]) -> Walked
             frame,
             aim,
         );
+        let position = plan.position;
+        let line = plan.line;
+        lines = put_line(index, lines, line, position.rows);
         if ends(plan) {
-            return answer(plan);
+            return answer(plan, lines);
         }
         mark(&mut cx.emitted, visited_block(p));
         mark(&mut cx.catch_handlers, plan.handler);
         mark(&mut cx.scope_fallthroughs, plan.scope);
-        p = plan.position;
+        p = position;
         let kept = plan.frame;
         frames[frame_slot(plan.keep, p.depth)] = kept;
         let change = plan.change;
@@ -217,7 +228,9 @@ pub fn walk(rule: Rule, words: &[u32], tree: &mut [u32]) -> Walked
                 }
                 let entry = cx.pushed;
                 cx.stack[cx.len - 1] = entry;
-                cx.pending = false;
+                let target = entry.target;
+                add_target(&mut cx.scheduled, target);
+                cx.pending = SETTLED;
             }
             Change::ScheduleBriefly(target) => {
                 cx = cx.schedule(target);
@@ -226,12 +239,21 @@ pub fn walk(rule: Rule, words: &[u32], tree: &mut [u32]) -> Walked
                 }
                 let entry = cx.pushed;
                 cx.stack[cx.len - 1] = entry;
-                cx.pending = false;
-                cx = cx.unschedule(entry);
+                let target = entry.target;
+                add_target(&mut cx.scheduled, target);
+                cx.pending = SETTLED;
+                cx = cx.unschedule();
+                let off = cx.stack[cx.len];
+                let target = off.target;
+                remove_target(&mut cx.scheduled, target, off.owns_loop);
+                cx.pending = SETTLED;
             }
             Change::Unschedule => {
-                let entry = cx.stack[cx.len - 1];
-                cx = cx.unschedule(entry);
+                cx = cx.unschedule();
+                let off = cx.stack[cx.len];
+                let target = off.target;
+                remove_target(&mut cx.scheduled, target, off.owns_loop);
+                cx.pending = SETTLED;
             }
         }
     }

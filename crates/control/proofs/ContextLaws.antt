@@ -15,14 +15,14 @@ use borrow.Author.Tests.{eq-eqb, ne-eqb}
 use Rattle.definition.specs.Result.{ok, refused, _>>=_, refuseIf}
 use Rattle.definition.specs.Context as definition
 use Rattle.definition.specs.Context.{Flags, has, add, noFlags, start, isScheduled, emit, markScopeFallthrough, scheduleCatchHandler, targetBlock, target-if}
-use Rattle.definition.specs.Context.{target-switch, target-case, target-loop, isBlocked, blockAsked, blockedCode, pushed, popped, schedule, unscheduledBy}
+use Rattle.definition.specs.Context.{target-switch, target-case, target-loop, isBlocked, blockAsked, blockedCode, pushed, popped, schedule, scheduledBy, unscheduledBy}
 use Rattle.definition.specs.Context.{unschedule, unscheduleTop}
 use Rattle.definition.specs.Machine as machine
 use Rattle.control.specs.declared.ControlFlowTarget.{ControlFlowTarget}
 use Rattle.control.specs.declared.ControlFlowTarget.the-variants.{If, Switch, Case, Loop}
 use Rattle.control.specs.declared.Entry.{Entry}
 use Rattle.control.specs.declared.Context.{Context}
-use Rattle.control.specs.Abstraction.{targetOf, entryOf, noEntry, stackOf, entriesOf, contextOf, settled}
+use Rattle.control.specs.Abstraction.{targetOf, entryOf, noEntry, stackOf, entriesOf, setOf, contextOf, settled, released}
 use Rattle.control.specs.Contract.{continueScheduled, blockedIn, Named, Bounded, Room, Last, refusalIf, withEntry, withoutLast, Created, Scheduled, Unscheduled}
 
 -- ---- targets
@@ -124,9 +124,9 @@ module _ (visits block : ℕ) (cx : Context) where
   unfolding contextOf scheduleCatchHandler
   schedules-catch-handler = refl
 
-  pub is-scheduled : isScheduled (contextOf visits cx) block ≡ has (cx .scheduled) block || has (cx .«catch_handlers») block
+  pub is-scheduled : cx .pending ≡ 0 → isScheduled (contextOf visits cx) block ≡ has (cx .scheduled) block || has (cx .«catch_handlers») block
   unfolding contextOf isScheduled
-  is-scheduled = refl
+  is-scheduled e = rw e refl
 
 -- ---- the steps
 
@@ -137,7 +137,7 @@ pub created : Created (record {
   len = 0;
   scheduled = replicate 1024 false;
   pushed = noEntry;
-  pending = false;
+  pending = 0;
   refused = 0;
   «next_schedule_id» = 0;
   stack = replicate 1152 noEntry;
@@ -154,22 +154,20 @@ created =
     }
 
 -- settling changes the form of a Context, and not what it stands for
-pub settles : (visits : ℕ) (cx : Context) → cx .pending ≡ true → 0 < cx .len → cx .len ≤ length (cx .stack) → contextOf visits (settled cx) ≡ contextOf visits cx
+pub settles : (visits : ℕ) (cx : Context) → cx .pending ≡ 1 → 0 < cx .len → cx .len ≤ length (cx .stack) → contextOf visits (settled cx) ≡ contextOf visits cx
 unfolding contextOf settled
 settles visits cx e h k =
     let n : ℕ = cx .len - 1 in
     let l : cx .len ≡ suc n = omega arith in
     let s : stackOf (set (cx .stack) n (cx .pushed)) (cx .len) ≡ entriesOf (cx .pending) (cx .pushed) (cx .stack) (cx .len) =
-    ap (stackOf (set (cx .stack) n (cx .pushed))) l ∙ stack-stored (cx .stack) n (cx .pushed) (omega arith) ∙ sym (ap (λ (pending : Bool). entriesOf pending (cx .pushed) (cx .stack) (cx .len)) e) in
-    ap (λ (stack : List definition.Entry). record {
-      nextId = cx .«next_schedule_id»;
-      emitted = cx .emitted;
-      scopeFallthroughs = cx .«scope_fallthroughs»;
-      scheduled = cx .scheduled;
-      catchHandlers = cx .«catch_handlers»;
-      stack = stack;
-      visits = visits;
-    }) s
+    ap (stackOf (set (cx .stack) n (cx .pushed))) l ∙ stack-stored (cx .stack) n (cx .pushed) (omega arith) ∙ sym (ap (λ (pending : ℕ). entriesOf pending (cx .pushed) (cx .stack) (cx .len)) e) in
+    let f : scheduledBy (targetOf (cx .pushed .target)) (cx .scheduled) ≡ setOf (cx .pending) (cx .pushed) (getD (cx .stack) (cx .len) noEntry) (cx .scheduled) =
+    sym (ap (λ (pending : ℕ). setOf pending (cx .pushed) (getD (cx .stack) (cx .len) noEntry) (cx .scheduled)) e) in
+    rw (s, f)
+
+pub releases : (visits : ℕ) (cx : Context) → cx .pending ≡ 2 → contextOf visits (released cx) ≡ contextOf visits cx
+unfolding contextOf released
+releases visits cx e = rw e
 
 -- a refusal that is asked as a number
 asked : (blocked : Bool) (code at visits : ℕ) (next : definition.Context) → (code ≡ 0 → ⊥)
@@ -185,7 +183,7 @@ blocked-code (target-switch block) e = omega (arith, e)
 blocked-code (target-case block) e = omega (arith, e)
 blocked-code (target-loop block continueBlock loopBlock) e = omega (arith, e)
 
-pub pushes : (visits : ℕ) (target : ControlFlowTarget) (cx : Context) → cx .pending ≡ false → contextOf visits (withEntry target cx) ≡ pushed (targetOf target) (contextOf visits cx)
+pub pushes : (visits : ℕ) (target : ControlFlowTarget) (cx : Context) → cx .pending ≡ 0 → contextOf visits (withEntry target cx) ≡ pushed (targetOf target) (contextOf visits cx)
 unfolding contextOf pushed
 pushes visits target cx e =
     let l : cx .len + 1 - 1 ≡ cx .len = omega arith in
@@ -204,18 +202,18 @@ bounded-stored entries n entry named h small bounded =
     let e : n + 1 - 1 ≡ n = omega arith in
     record { most = omega arith; named = λ k below. rw e (named-stored entries n k entry named h (omega arith) (bounded .named)) }
 
-by-definition : (visits : ℕ) (target : definition.ControlFlowTarget) (cx : Context)
+by-definition : (visits : ℕ) (target : definition.ControlFlowTarget) (cx : Context) → cx .pending ≡ 0
     → schedule target (contextOf visits cx) ≡
     (refuseIf (isBlocked target (cx .scheduled)) (blockedCode target) (blockAsked target) visits >>= λ _. ok (pushed target (contextOf visits cx)))
 unfolding schedule contextOf
-by-definition visits target cx = refl
+by-definition visits target cx e = rw e refl
 
 module _ (target : ControlFlowTarget) (cx : Context) (named : Named target) (room : Room cx) (inside : cx .len < length (cx .stack)) where
   pub scheduled : Scheduled target cx (withEntry target cx)
   scheduled = record {
     state = refl;
     context =
-        λ visits. by-definition visits (targetOf target) cx ∙ ap
+        λ visits. by-definition visits (targetOf target) cx (room .settled) ∙ ap
         (λ (next : definition.Context). refuseIf (isBlocked (targetOf target) (cx .scheduled)) (blockedCode (targetOf target)) (blockAsked (targetOf target))
         visits >>= λ _. ok next) (sym (pushes visits target cx (room .settled)))
         ∙ asked (isBlocked (targetOf target) (cx .scheduled)) (blockedCode (targetOf target)) (blockAsked (targetOf target)) visits
@@ -238,21 +236,24 @@ unscheduled-top : (cx : definition.Context) (top : definition.Entry) (below : Li
 unfolding machine.unscheduled machine.unscheduledTop
 unscheduled-top cx top below e = ap (λ (stack : List definition.Entry). machine.unscheduledTop stack cx) e
 
-module _ (cx : Context) (last : Entry) (top : Last cx last) where
+module _ (cx : Context) (top : Last cx) where
+  abbrev last : Entry
+  last = getD (cx .stack) (cx .len - 1) noEntry
+
   on-top : (visits : ℕ) → contextOf visits cx .stack ≡ entryOf last ∷ stackOf (cx .stack) (cx .len - 1)
   unfolding contextOf
-  on-top visits = ap (λ (pending : Bool). entriesOf pending (cx .pushed) (cx .stack) (cx .len)) (top .settled) ∙ stack-last (cx .stack) (cx .len) last (top .nonempty) (top .read)
+  on-top visits = ap (λ (pending : ℕ). entriesOf pending (cx .pushed) (cx .stack) (cx .len)) (top .settled) ∙ stack-last (cx .stack) (cx .len) last (top .nonempty) refl
 
   off : (visits : ℕ) → popped (stackOf (cx .stack) (cx .len - 1)) (unscheduledBy (targetOf (last .target)) (last .«owns_loop») (contextOf visits cx .scheduled))
-      (contextOf visits cx) ≡ contextOf visits (withoutLast (unscheduledBy (targetOf (last .target)) (last .«owns_loop») (cx .scheduled)) cx)
+      (contextOf visits cx) ≡ contextOf visits (withoutLast cx)
   unfolding contextOf popped
   off visits = rw (top .settled)
 
   -- the machine takes the last entry off whatever its id
-  pub pops : (visits : ℕ) → machine.unscheduled (contextOf visits cx) ≡ contextOf visits (withoutLast (unscheduledBy (targetOf (last .target)) (last .«owns_loop») (cx .scheduled)) cx)
+  pub pops : (visits : ℕ) → machine.unscheduled (contextOf visits cx) ≡ contextOf visits (withoutLast cx)
   pops visits = unscheduled-top (contextOf visits cx) (entryOf last) (stackOf (cx .stack) (cx .len - 1)) (on-top visits) ∙ off visits
 
-  pub unscheduled : Unscheduled last cx (withoutLast (unscheduledBy (targetOf (last .target)) (last .«owns_loop») (cx .scheduled)) cx)
+  pub unscheduled : Unscheduled cx (withoutLast cx)
   unscheduled = record {
     state = refl;
     context =
@@ -261,6 +262,6 @@ module _ (cx : Context) (last : Entry) (top : Last cx last) where
     pops = λ visits. sym (pops visits);
     len = refl;
     id = refl;
-    settled = top .settled;
+    pending = refl;
     bounded = λ bounded. record { most = omega (arith, bounded .most); named = λ k below. bounded .named k (omega arith) };
   }

@@ -8,7 +8,7 @@ use lib.ListN.{getD, set, replicate}
 use Rattle.definition.specs.Result.{ok}
 use Rattle.definition.specs.Context as definition
 use Rattle.definition.specs.Machine as machine
-use Rattle.definition.specs.Context.{Flags, has, target-if, target-switch, target-case, target-loop, targetBlock, isLoop, breakKind, continueKind, isBlocked, blockedCode, blockAsked, owns, scheduledBy, unscheduledBy, start, schedule, unschedule}
+use Rattle.definition.specs.Context.{Flags, has, target-if, target-switch, target-case, target-loop, targetBlock, isLoop, breakKind, continueKind, isBlocked, blockedCode, blockAsked, owns, start, schedule, unschedule}
 use Rattle.control.specs.declared.ControlFlowTarget.{ControlFlowTarget}
 use Rattle.control.specs.declared.ControlFlowTarget.the-variants.{If, Switch, Case, Loop}
 use Rattle.control.specs.declared.Entry.{Entry}
@@ -27,17 +27,15 @@ pub record Bounded (entries : List Entry) (len : ℕ) : Type 0 where
   pub most : len ≤ 1152
   pub named : (k : ℕ) → k < len → Named (getD entries k noEntry .target)
 
--- what the methods ask: nothing is pending, and there is room for one entry more and its id; the stack's last entry, as the caller reads it
+-- what the methods ask: nothing is pending, and there is room for one entry more and its id, or there is one to take off
 pub record Room (cx : Context) : Type 0 where
   pub len : cx .len < 1152
   pub id : cx .«next_schedule_id» < 65535
-  pub settled : cx .pending ≡ false
+  pub settled : cx .pending ≡ 0
 
-pub record Last (cx : Context) (entry : Entry) : Type 0 where
+pub record Last (cx : Context) : Type 0 where
   pub nonempty : 0 < cx .len
-  pub settled : cx .pending ≡ false
-  pub read : entry ≡ getD (cx .stack) (cx .len - 1) noEntry
-  pub named : Named (entry .target)
+  pub settled : cx .pending ≡ 0
 
 -- whether the continue block is scheduled once the fallthrough is inserted
 abbrev pub continueScheduled : Flags → (fallthrough continueBlock : ℕ) → Bool
@@ -57,13 +55,13 @@ refusalIf false code = 0
 
 -- ---- the Contexts that the methods hand back, field by field
 
--- a target under the next id, pending
+-- a target under the next id, pending with its blocks
 abbrev pub withEntry : ControlFlowTarget → Context → Context
-withEntry target cx = record { emitted = cx .emitted; «catch_handlers» = cx .«catch_handlers»; «scope_fallthroughs» = cx .«scope_fallthroughs»; len = cx .len + 1; scheduled = scheduledBy (targetOf target) (cx .scheduled); pushed = record { id = cx .«next_schedule_id»; target = target; «owns_loop» = owns (targetOf target) (cx .scheduled) }; pending = true; refused = refusalIf (isBlocked (targetOf target) (cx .scheduled)) (blockedCode (targetOf target)); «next_schedule_id» = cx .«next_schedule_id» + 1; stack = cx .stack }
+withEntry target cx = record { emitted = cx .emitted; «catch_handlers» = cx .«catch_handlers»; «scope_fallthroughs» = cx .«scope_fallthroughs»; len = cx .len + 1; scheduled = cx .scheduled; pushed = record { id = cx .«next_schedule_id»; target = target; «owns_loop» = owns (targetOf target) (cx .scheduled) }; pending = 1; refused = refusalIf (isBlocked (targetOf target) (cx .scheduled)) (blockedCode (targetOf target)); «next_schedule_id» = cx .«next_schedule_id» + 1; stack = cx .stack }
 
--- one entry less; the array of entries is as it was
-abbrev pub withoutLast : Flags → Context → Context
-withoutLast scheduled cx = record { emitted = cx .emitted; «catch_handlers» = cx .«catch_handlers»; «scope_fallthroughs» = cx .«scope_fallthroughs»; len = cx .len - 1; scheduled = scheduled; pushed = cx .pushed; pending = cx .pending; refused = cx .refused; «next_schedule_id» = cx .«next_schedule_id»; stack = cx .stack }
+-- one entry less, its blocks pending; the array of entries is as it was
+abbrev pub withoutLast : Context → Context
+withoutLast cx = record { emitted = cx .emitted; «catch_handlers» = cx .«catch_handlers»; «scope_fallthroughs» = cx .«scope_fallthroughs»; len = cx .len - 1; scheduled = cx .scheduled; pushed = cx .pushed; pending = 2; refused = cx .refused; «next_schedule_id» = cx .«next_schedule_id»; stack = cx .stack }
 
 -- ---- the promises. `context` is the equation with the definition, refusals included; `pops` that of the machine, which asks none; `state` says
 -- every field
@@ -72,7 +70,7 @@ pub record Created (r : Context) : Type 0 where
   pub context : contextOf 0 r ≡ start
   pub len : r .len ≡ 0
   pub id : r .«next_schedule_id» ≡ 0
-  pub settled : r .pending ≡ false
+  pub settled : r .pending ≡ 0
   pub stack : r .stack ≡ replicate 1152 noEntry
   pub bounded : Bounded (r .stack) (r .len)
 
@@ -81,16 +79,16 @@ pub record Scheduled (target : ControlFlowTarget) (self r : Context) : Type 0 wh
   pub context : (visits : ℕ) → schedule (targetOf target) (contextOf visits self) ≡ resultOf (blockAsked (targetOf target)) visits r
   pub len : r .len ≡ self .len + 1
   pub id : r .«next_schedule_id» ≡ self .«next_schedule_id» + 1
-  pub pending : r .pending ≡ true
+  pub pending : r .pending ≡ 1
   pub bounded : Bounded (self .stack) (self .len) → Bounded (set (r .stack) (r .len - 1) (r .pushed)) (r .len)
 
-pub record Unscheduled (last : Entry) (self r : Context) : Type 0 where
-  pub state : r ≡ withoutLast (unscheduledBy (targetOf (last .target)) (last .«owns_loop») (self .scheduled)) self
-  pub context : (visits : ℕ) → unschedule (last .id) (contextOf visits self) ≡ ok (contextOf visits r)
+pub record Unscheduled (self r : Context) : Type 0 where
+  pub state : r ≡ withoutLast self
+  pub context : (visits : ℕ) → unschedule (getD (self .stack) (self .len - 1) noEntry .id) (contextOf visits self) ≡ ok (contextOf visits r)
   pub pops : (visits : ℕ) → contextOf visits r ≡ machine.unscheduled (contextOf visits self)
   pub len : r .len ≡ self .len - 1
   pub id : r .«next_schedule_id» ≡ self .«next_schedule_id»
-  pub settled : r .pending ≡ false
+  pub pending : r .pending ≡ 2
   pub bounded : Bounded (self .stack) (self .len) → Bounded (r .stack) (r .len)
 
 -- ---- a jump's entry, once it is found

@@ -1,11 +1,11 @@
 // The Rust's ControlFlowTarget and Context: which blocks are emitted, scheduled, catch handlers or scope fallthroughs, and the stack of the
 // statements that a jump can leave. Each step takes the Context and hands the next one back.
 //
-// The stack has `len` entries: those of the array, and where the last one is `pending`, `pushed` in its place. A step never indexes the array: inside a
-// method that is handed the Context, a store into it or a read from it would copy the whole array. So `schedule` leaves its entry pending, and the
-// caller settles it at `len - 1`, which changes the form of the Context alone (`settles`); `unschedule` is handed the entry that the caller reads there.
-// For the same reason a step copies the set that it changes into a local and back, each step writes `len`, and the scalars stand between the arrays.
-// (docs/PERFORMANCE.md has the times.)
+// A step never indexes an array of the Context that it is handed: a store into it or a read from it would copy the whole. So a step tells by `pending` what
+// is left to do in the arrays. The stack has `len` entries: those of the array, with `pushed` as the last where it ENTERED. The scheduled set is the array's,
+// with the blocks of `pushed` in it where it ENTERED, and without those of the entry just above the stack where it LEFT. The caller settles that, which
+// changes the form of the Context alone (`settles`, `releases`). For the same reason `schedule` asks a copy of the set, each step writes `len`, and the
+// scalars stand between the arrays. (docs/PERFORMANCE.md has the times.)
 ghost use mathlib.Core.Path.{_≡_};
 ghost use Prim.Native.Nat.{_+_, _≤_, _<_};
 ghost use mathlib.Core.Bool.{_||_};
@@ -57,6 +57,13 @@ pub enum Resolved {
     Found(Resolution),
 }
 
+// What is pending: nothing, the entry that went on the stack, or the one that came off.
+pub const SETTLED: u8 = 0;
+
+pub const ENTERED: u8 = 1;
+
+pub const LEFT: u8 = 2;
+
 pub struct Context {
     pub emitted: [bool; 1024],
     pub catch_handlers: [bool; 1024],
@@ -64,7 +71,7 @@ pub struct Context {
     pub len: usize,
     pub scheduled: [bool; 1024],
     pub pushed: Entry,
-    pub pending: bool,
+    pub pending: u8,
     pub refused: u16,
     pub next_schedule_id: u16,
     pub stack: [Entry; 1152],
@@ -216,7 +223,7 @@ pub fn is_blocked(scheduled: &[bool; 1024], target: ControlFlowTarget) -> bool
 }
 
 // Puts a target's blocks into the scheduled set. Gives whether the target owns its loop block.
-fn add_target(scheduled: &mut [bool; 1024], target: ControlFlowTarget) -> bool
+pub fn add_target(scheduled: &mut [bool; 1024], target: ControlFlowTarget) -> bool
     requires { ⌜ Named target ⌝ }
     ensures { λ r. ⌜ (now (scheduled .exit) ≡ scheduledBy (targetOf target) (now (scheduled .entry))) × (r ≡ owns (targetOf target) (now (scheduled .entry))) ⌝ }
 {
@@ -249,7 +256,7 @@ fn add_target(scheduled: &mut [bool; 1024], target: ControlFlowTarget) -> bool
 
 // What a target's statement takes out of the scheduled set where it ends: a loop its fallthrough and continue block, whoever put them there, and
 // its loop block only if it owns it.
-fn remove_target(scheduled: &mut [bool; 1024], target: ControlFlowTarget, owns_loop: bool)
+pub fn remove_target(scheduled: &mut [bool; 1024], target: ControlFlowTarget, owns_loop: bool)
     requires { ⌜ Named target ⌝ }
     ensures { λ _. ⌜ now (scheduled .exit) ≡ unscheduledBy (targetOf target) «owns_loop» (now (scheduled .entry)) ⌝ }
 {
@@ -378,15 +385,15 @@ impl Context {
             len: 0,
             scheduled: [false; 1024],
             pushed: entry,
-            pending: false,
+            pending: SETTLED,
             refused: 0,
             next_schedule_id: 0,
             stack: [entry; 1152],
         }
     }
 
-    // The one way to schedule: any target, a loop with its three blocks. The entry is pending. `refused` is 15 where a loop's continue block is
-    // scheduled, and such a Context goes no further.
+    // The one way to schedule: any target, a loop with its three blocks. The entry is pending, and so are its blocks. `refused` is 15 where a loop's
+    // continue block is scheduled, and such a Context goes no further.
     pub fn schedule(mut self, target: ControlFlowTarget) -> Context
         requires { ⌜ Named target ⌝ }
         requires { ⌜ Room self ⌝ }
@@ -395,7 +402,6 @@ impl Context {
         let mut scheduled = self.scheduled;
         let blocked = is_blocked(&scheduled, target);
         let owns_loop = add_target(&mut scheduled, target);
-        self.scheduled = scheduled;
         self.refused = target.refusal(blocked);
         let entry = Entry {
             id: self.next_schedule_id,
@@ -403,21 +409,18 @@ impl Context {
             owns_loop: owns_loop,
         };
         self.pushed = entry;
-        self.pending = true;
+        self.pending = ENTERED;
         self.next_schedule_id = self.next_schedule_id + 1;
         self.len = self.len + 1;
         self
     }
 
-    // Takes the stack's last entry off, which the caller read at `len - 1`.
-    pub fn unschedule(mut self, last: Entry) -> Context
-        requires { ⌜ Last self last ⌝ }
-        ensures { λ r. ⌜ Unscheduled last self r ⌝ }
+    // Takes the stack's last entry off. Its blocks are pending.
+    pub fn unschedule(mut self) -> Context
+        requires { ⌜ Last self ⌝ }
+        ensures { λ r. ⌜ Unscheduled self r ⌝ }
     {
-        let target = last.target;
-        let mut scheduled = self.scheduled;
-        remove_target(&mut scheduled, target, last.owns_loop);
-        self.scheduled = scheduled;
+        self.pending = LEFT;
         self.len = self.len - 1;
         self
     }

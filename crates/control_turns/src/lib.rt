@@ -4,7 +4,10 @@ ghost use Prim.Native.Nat.{_+_, _<_};
 ghost use Rattle.definition.specs.Tree.{flagOf};
 use control::Context;
 use control::ControlFlowTarget;
+use control::SETTLED;
+use control::add_target;
 use control::is_scheduled;
+use control::remove_target;
 
 // A walk through the 1,024 blocks.
 fn next_block(block: u16) -> u16
@@ -37,10 +40,15 @@ pub extern "C" fn control_turns_schedule(turns: u16) -> u16
         let at = cx.len - 1;
         let entry = cx.pushed;
         cx.stack[at] = entry;
-        cx.pending = false;
+        let target = entry.target;
+        add_target(&mut cx.scheduled, target);
+        cx.pending = SETTLED;
         seen = count(seen, is_scheduled(&cx.scheduled, &cx.catch_handlers, block));
-        let last = cx.stack[at];
-        cx = cx.unschedule(last);
+        cx = cx.unschedule();
+        let left = cx.stack[at];
+        let target = left.target;
+        remove_target(&mut cx.scheduled, target, left.owns_loop);
+        cx.pending = SETTLED;
         turn += 1;
     }
     seen
@@ -67,13 +75,18 @@ pub extern "C" fn control_turns_schedule_loop(turns: u16) -> u16
         let at = cx.len - 1;
         let entry = cx.pushed;
         cx.stack[at] = entry;
-        cx.pending = false;
+        let target = entry.target;
+        add_target(&mut cx.scheduled, target);
+        cx.pending = SETTLED;
         seen = count(
             seen,
             is_scheduled(&cx.scheduled, &cx.catch_handlers, loop_block),
         );
-        let last = cx.stack[at];
-        cx = cx.unschedule(last);
+        cx = cx.unschedule();
+        let left = cx.stack[at];
+        let target = left.target;
+        remove_target(&mut cx.scheduled, target, left.owns_loop);
+        cx.pending = SETTLED;
         block = continue_block;
         turn += 1;
     }

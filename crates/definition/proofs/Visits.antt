@@ -395,7 +395,7 @@ module _ (Q : ℕ → Type 0) (again : (visits : ℕ) → visits < mostVisits �
 -- ---- every outcome
 
 visitsOf : Report → ℕ
-visitsOf (accepted rows visits) = visits
+visitsOf (accepted rows lines visits) = visits
 visitsOf (rejected code at visits) = visits
 
 reported-counted : (Q : ℕ → Type 0) (result : Result BlockResult) → Counted Q (λ r. r .context .visits) result → Q (visitsOf (reported result))
@@ -403,31 +403,32 @@ unfolding reported visitsOf
 reported-counted Q (ok root) h = h
 reported-counted Q (refused code at visits) h = h
 
-outcome-visits : (lent : ℕ) (r : Report) → outcomeOf lent r .visits ≡ visitsOf r
+outcome-visits : (lent lentIndex : ℕ) (r : Report) → outcomeOf lent lentIndex r .visits ≡ visitsOf r
 unfolding outcomeOf placed refusal visitsOf
-outcome-visits lent (accepted rows visits) = by (leb (length rows) (lent / 6)) refl
+outcome-visits lent lentIndex (accepted rows lines visits) = by (leb (length rows) (lent / 6)) (leb (length lines) (lentIndex / 3)) refl refl
   where
-    by : (fits : Bool) → leb (length rows) (lent / 6) ≡ fits → placed lent rows visits .visits ≡ visits
-    by true e = rw (e, placed)
-    by false e = rw (e, placed)
-outcome-visits lent (rejected code at visits) = refl
+    by : (fits indexFits : Bool) → leb (length rows) (lent / 6) ≡ fits → leb (length lines) (lentIndex / 3) ≡ indexFits → placed lent lentIndex rows lines visits .visits ≡ visits
+    by true true e f = rw (e, f, placed)
+    by true false e f = rw (e, f, placed)
+    by false indexFits e f = rw (e, placed)
+outcome-visits lent lentIndex (rejected code at visits) = refl
 
 abbrev Most : ℕ → Type 0
 Most visits = visits ≤ mostVisits
 
 -- "visits in the result, at most 8,192"
-pub visits-most : (rule : Rule) (words : List ℕ) (lent : ℕ) → built rule words lent .visits ≤ mostVisits
+pub visits-most : (rule : Rule) (words : List ℕ) (lent lentIndex : ℕ) → built rule words lent lentIndex .visits ≤ mostVisits
 unfolding built afterCheck refusal report buildTree WalkCounted start
-visits-most rule words lent = at (checked words)
+visits-most rule words lent lentIndex = at (checked words)
   where
     table : Table
     table = tableOf words
 
-    at : (verdict : Verdict) → afterCheck rule lent verdict words .visits ≤ mostVisits
+    at : (verdict : Verdict) → afterCheck rule lent lentIndex verdict words .visits ≤ mostVisits
     at (check.refused code place) = omega arith
     at check.accepted =
         omega (
           arith,
-          outcome-visits lent (report rule table),
+          outcome-visits lent lentIndex (report rule table),
           reported-counted Most (buildTree rule table) (statements-counted Most (λ _ h _. h) table 128 (outermost rule) (table .entry) start (omega arith)),
         )

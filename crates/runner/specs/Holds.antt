@@ -5,7 +5,7 @@ use mathlib.Core.List.{List, []}
 use mathlib.Core.Bool.{Bool, true, false}
 use lib.ListN.{length, getD}
 use Rattle.treerows.specs.Found.{wordAt}
-use Rattle.definition.specs.Run.{Answers, Reason, returned, threw, no-answer-left, not-plain, no-target, end-of-tree}
+use Rattle.definition.specs.Run.{Answers, Reason, returned, threw, no-answer-left, not-plain, no-target, end-of-tree, no-such-case}
 use Rattle.definition.specs.TreeRun.{Completed, reasonOf}
 use Rattle.running.specs.Links.{before}
 use Rattle.running.specs.Layout.{Layout}
@@ -45,6 +45,7 @@ told number end-of-tree = record { code = 0; at = 0; number = number; reason = 3
 told number no-answer-left = record { code = 0; at = 0; number = number; reason = 4 }
 told number (no-target at) = record { code = 63; at = at; number = 0; reason = 0 }
 told number not-plain = record { code = 64; at = 0; number = 0; reason = 0 }
+told number no-such-case = record { code = 64; at = 0; number = 0; reason = 0 }
 
 -- what the walk leaves and tells where it came to this end
 pub data Ends (words buffer : List ℕ) (ran : Ran) (end : Completed) : Type 0 where

@@ -1,5 +1,6 @@
 pub mod Language
 pub mod Parting
+pub mod Previews
 pub mod Requests
 pub mod Theorems
 pub mod WalkingOrder

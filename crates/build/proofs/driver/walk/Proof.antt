@@ -6,8 +6,7 @@ use mathlib.Core.Bool.{false}
 use lib.ListN.{length, getD, set}
 use mathlib.Core.Logic.{⊎-elim}
 use borrow.Author.Needs.{needs}
-use Rattle.control.specs.Abstraction.{contextOf, resolvedOf, settled}
-use Rattle.control.specs.Contract.{Last}
+use Rattle.control.specs.Abstraction.{contextOf, resolvedOf}
 use Rattle.plan.specs.declared.Plan.{Plan}
 use Rattle.plan.specs.declared.Change.{Change}
 use Rattle.plan.specs.declared.Change.the-variants.{Schedule, ScheduleBriefly, Unschedule}
@@ -20,12 +19,13 @@ use Rattle.plan.specs.Plans.{noFrame, framesOf}
 use Rattle.definition.specs.Build.{report}
 use Rattle.build.specs.Driver.{foundBy, goalBy, visitedBlock, planEnds, blockedBy, Reported}
 use Rattle.build.proofs.ApplyLaws.{marks-as, withMarks, Whole, Changeable, Changed, Blocked, Applicable, Applied, nothing-changed, schedule-changed}
-use Rattle.build.proofs.ApplyLaws.{schedule-blocked, unschedule-changed, briefly-changed, briefly-blocked, last-scheduled, changeable-marked}
+use Rattle.build.proofs.ApplyLaws.{schedule-blocked, unschedule-changed, briefly-changed, briefly-blocked, changeable-marked}
+use Rattle.build.proofs.ApplyLaws.{settledBy, releasedBy, settled-by, released-by, named-entered, named-left}
 use Rattle.build.proofs.ApplyLaws.{whole-marked, plan-applied, last-entry}
 use Rattle.control.specs.declared.Context.{Context}
 use Rattle.plan.specs.declared.Position.{Position}
 use Rattle.plan.specs.declared.Frame.{Frame}
-use Rattle.build.proofs.DriverLaws.{Walking, turnsLeft, walking-start, frame-read, found-jump, found-below, ready, shallow, visit-below, beyond, frame-block, frame-at, AtTurn}
+use Rattle.build.proofs.DriverLaws.{Walking, turnsLeft, walking-start, frame-read, found-jump, found-below, ready, shallow, few-lines, visit-below, beyond, frame-block, frame-at, AtTurn}
 use Rattle.build.proofs.DriverLaws.{turn-ends, turn-applicable, turn-slot, turn-blocked, turn-again, turn-lower}
 use denote.Ref.{now}
 use Rattle.build.proofs.AroundLaws.{Surveying, survey-start, survey-on, survey-done, aim-below}
@@ -34,30 +34,31 @@ use Rattle.build.proofs.SearchLaws.{Searching, search-start, search-on,
 use Rattle.build.proofs.driver.walk.Statement.{statement}
 use Rattle.build.proofs.driver.walk.Tie as tie
 
-record Inv (rule : Rule) (words buffer₀ buffer : List ℕ) (cx : Context) (frames : List Frame) (p : Position) : Type 0 where
-  walking : Walking rule words buffer cx frames p
-  long : length buffer ≡ length buffer₀
+record Inv (rule : Rule) (words tree₀ index₀ tree index : List ℕ) (cx : Context) (frames : List Frame) (p : Position) (lines : ℕ) : Type 0 where
+  walking : Walking rule words (record { tree = tree; index = index; lines = lines }) cx frames p
+  long : length tree ≡ length tree₀
+  wide : length index ≡ length index₀
 
 abbrev Inv-loop2 : tie.InvT-loop2
-Inv-loop2 rule words tree cx frames p frame jump at₀ loops₀ at loops =
+Inv-loop2 rule words tree index cx frames p lines frame jump at₀ loops₀ at loops =
     Searching jump cx at loops
 
 abbrev μ-loop2 : tie.MeasureT-loop2
-μ-loop2 rule words tree cx frames p frame jump at₀ loops₀ at loops =
+μ-loop2 rule words tree index cx frames p lines frame jump at₀ loops₀ at loops =
     at
 
 abbrev Inv-loop3 : tie.InvT-loop3
-Inv-loop3 rule words tree cx frames p frame jump at loops found target left₀ seen₀ left seen =
+Inv-loop3 rule words tree index cx frames p lines frame jump at loops found target left₀ seen₀ left seen =
     Surveying (ruleOf rule) words frames (p .depth) (resolvedOf found) left (surveyOf seen)
 
 abbrev μ-loop3 : tie.MeasureT-loop3
-μ-loop3 rule words tree cx frames p frame jump at loops found target left₀ seen₀ left seen = left
+μ-loop3 rule words tree index cx frames p lines frame jump at loops found target left₀ seen₀ left seen = left
 
 abbrev Inv-loop : tie.InvT-loop
-Inv-loop rule words tree₀ cx₀ frames₀ p₀ tree cx frames p = Inv (ruleOf rule) words tree₀ tree cx frames p
+Inv-loop rule words tree₀ index₀ cx₀ frames₀ p₀ lines₀ tree index cx frames p lines = Inv (ruleOf rule) words tree₀ index₀ tree index cx frames p lines
 
 abbrev μ-loop : tie.MeasureT-loop
-μ-loop rule words tree₀ cx₀ frames₀ p₀ tree cx frames p = turnsLeft p frames cx
+μ-loop rule words tree₀ index₀ cx₀ frames₀ p₀ lines₀ tree index cx frames p lines = turnsLeft p frames cx
 
 new-requires : tie.Need-new-requires Inv-loop2 μ-loop2 Inv-loop3 μ-loop3 Inv-loop μ-loop
 new-requires c κs = tt
@@ -72,7 +73,7 @@ loop-holds : tie.Need-loop-holds Inv-loop2 μ-loop2 Inv-loop3 μ-loop3 Inv-loop 
 loop-holds c =
     let at-new : tie.After-new Inv-loop2 μ-loop2 Inv-loop3 μ-loop3 Inv-loop μ-loop = search in
     let start : tie.Start Inv-loop2 μ-loop2 Inv-loop3 μ-loop3 Inv-loop μ-loop = search in
-    record { walking = walking-start _ _ (start .pre) (checked-table _ (start .pre)) _ _ _ _ (at-new .new .ensures) refl (c .start .ensures); long = refl }
+    record { walking = walking-start _ _ (start .pre) (checked-table _ (start .pre)) _ refl _ _ _ (at-new .new .ensures) refl (c .start .ensures); long = refl; wide = refl }
 
 innermost-requires : tie.Need-innermost-requires Inv-loop2 μ-loop2 Inv-loop3 μ-loop3 Inv-loop μ-loop
 innermost-requires c κs = tt
@@ -269,10 +270,14 @@ module _ (c : tie.After-aim-at Inv-loop2 μ-loop2 Inv-loop3 μ-loop3 Inv-loop μ
   aims-below = aim-below (asked-jump searched .jump-at .result) (ruleOf (started searched .args .rule))
       (surveyOf (surveyed .loop3 .seen)) (searched .if1 .found) (c .aim-at .result) (c .aim-at .ensures) (below searched)
 
--- where the turn is planned
-module _ (c : tie.After-plan-turn Inv-loop2 μ-loop2 Inv-loop3 μ-loop3 Inv-loop μ-loop) where
+-- where the turn is planned, and its line is written
+module _ (d : tie.After-put-line Inv-loop2 μ-loop2 Inv-loop3 μ-loop3 Inv-loop μ-loop) where
+  abbrev planning : tie.After-plan-turn Inv-loop2 μ-loop2 Inv-loop3 μ-loop3 Inv-loop μ-loop
+  planning = search
+
   abbrev at-aim : tie.After-aim-at Inv-loop2 μ-loop2 Inv-loop3 μ-loop3 Inv-loop μ-loop
   at-aim =
+      let after : tie.After-plan-turn Inv-loop2 μ-loop2 Inv-loop3 μ-loop3 Inv-loop μ-loop = planning in
       let at-cx2 : tie.After-cx2 Inv-loop2 μ-loop2 Inv-loop3 μ-loop3 Inv-loop μ-loop = search in
       search
 
@@ -288,7 +293,8 @@ module _ (c : tie.After-plan-turn Inv-loop2 μ-loop2 Inv-loop3 μ-loop3 Inv-loop
       search
 
   turn : AtTurn (ruleOf (begun .args .rule)) (now (begun .args .words))
-      (at-head .loop .tree) (at-head .loop .cx) (at-head .loop .frames) (at-head .loop .p) (c .plan-turn .last .1 .0) (c .plan-turn .result)
+      (record { tree = at-head .loop .tree; index = at-head .loop .index; lines = at-head .loop .lines }) (at-head .loop .cx) (at-head .loop .frames) (at-head .loop .p)
+      (record { tree = planning .plan-turn .last .1 .0; index = d .put-line .last .0; lines = d .put-line .result }) (planning .plan-turn .result)
   turn =
       record {
         promise = begun .pre;
@@ -296,8 +302,9 @@ module _ (c : tie.After-plan-turn Inv-loop2 μ-loop2 Inv-loop3 μ-loop3 Inv-loop
         frame = _;
         read = frame-read _ _ (begun .pre) (checked-table _ (begun .pre)) _ _ _ _ (at-head .loop .inv .walking) _ (innermost-at .innermost .ensures);
         aim = at-aim .aim-at .result;
-        planned = c .plan-turn .ensures;
-        jump = found-jump _ _ _ _ (at-head .loop .p) _ (at-aim .aim-at .result) (asked-jump (searched at-aim) .jump-at .ensures) (aimed at-aim);
+        planned = planning .plan-turn .ensures;
+        put = d .put-line .ensures;
+        jump = found-jump _ _ _ _ (at-head .loop .p) _ (at-aim .aim-at .result) (at-head .loop .inv .walking .whole .settled) (asked-jump (searched at-aim) .jump-at .ensures) (aimed at-aim);
       }
 
 plan-turn-requires : tie.Need-plan-turn-requires Inv-loop2 μ-loop2 Inv-loop3 μ-loop3 Inv-loop μ-loop
@@ -312,6 +319,14 @@ plan-turn-requires c κs =
       aims-below at-aim,
     )
 
+put-line-requires : tie.Need-put-line-requires Inv-loop2 μ-loop2 Inv-loop3 μ-loop3 Inv-loop μ-loop
+put-line-requires c κs =
+    let planned-at : tie.After-plan-turn Inv-loop2 μ-loop2 Inv-loop3 μ-loop3 Inv-loop μ-loop = search in
+    let at-cx2 : tie.After-cx2 Inv-loop2 μ-loop2 Inv-loop3 μ-loop3 Inv-loop μ-loop = search in
+    let at-aim : tie.After-aim-at Inv-loop2 μ-loop2 Inv-loop3 μ-loop3 Inv-loop μ-loop = search in
+    let start = started (searched at-aim) in
+    few-lines _ _ (start .pre) (checked-table _ (start .pre)) _ _ _ _ (head (searched at-aim) .loop .inv .walking)
+
 ends-requires : tie.Need-ends-requires Inv-loop2 μ-loop2 Inv-loop3 μ-loop3 Inv-loop μ-loop
 ends-requires c κs = tt
 
@@ -320,14 +335,19 @@ answer-requires c κs = tt
 
 same-length : tie.Need-same-length Inv-loop2 μ-loop2 Inv-loop3 μ-loop3 Inv-loop μ-loop
 same-length c =
-    let at-plan-turn : tie.After-plan-turn Inv-loop2 μ-loop2 Inv-loop3 μ-loop3 Inv-loop μ-loop = search in
-    omega (arith, at-plan-turn .plan-turn .kept .1 .0, at-head at-plan-turn .loop .inv .long)
+    let at-plan-turn : tie.After-put-line Inv-loop2 μ-loop2 Inv-loop3 μ-loop3 Inv-loop μ-loop = search in
+    omega (arith, planning at-plan-turn .plan-turn .kept .1 .0, at-head at-plan-turn .loop .inv .long)
+
+same-length-2 : tie.Need-same-length-2 Inv-loop2 μ-loop2 Inv-loop3 μ-loop3 Inv-loop μ-loop
+same-length-2 c =
+    let at-plan-turn : tie.After-put-line Inv-loop2 μ-loop2 Inv-loop3 μ-loop3 Inv-loop μ-loop = search in
+    omega (arith, at-plan-turn .put-line .kept .0, at-head at-plan-turn .loop .inv .wide)
 
 returns : tie.Need-returns Inv-loop2 μ-loop2 Inv-loop3 μ-loop3 Inv-loop μ-loop
 returns c =
     let then3 : tie.Then3 Inv-loop2 μ-loop2 Inv-loop3 μ-loop3 Inv-loop μ-loop = search in
     let at-ends : tie.After-ends Inv-loop2 μ-loop2 Inv-loop3 μ-loop3 Inv-loop μ-loop = search in
-    let at-plan-turn : tie.After-plan-turn Inv-loop2 μ-loop2 Inv-loop3 μ-loop3 Inv-loop μ-loop = search in
+    let at-plan-turn : tie.After-put-line Inv-loop2 μ-loop2 Inv-loop3 μ-loop3 Inv-loop μ-loop = search in
     rw (c .answer .ensures) (turn-ends (turn (at-plan-turn)) (sym (at-ends .ends .ensures) ∙ then3 .if3 .taken))
 
 visited-block-requires : tie.Need-visited-block-requires Inv-loop2 μ-loop2 Inv-loop3 μ-loop3 Inv-loop μ-loop
@@ -337,21 +357,21 @@ mark-requires : tie.Need-mark-requires Inv-loop2 μ-loop2 Inv-loop3 μ-loop3 Inv
 mark-requires c κs =
     let else3 : tie.Else3 Inv-loop2 μ-loop2 Inv-loop3 μ-loop3 Inv-loop μ-loop = search in
     let at-ends : tie.After-ends Inv-loop2 μ-loop2 Inv-loop3 μ-loop3 Inv-loop μ-loop = search in
-    let at-plan-turn : tie.After-plan-turn Inv-loop2 μ-loop2 Inv-loop3 μ-loop3 Inv-loop μ-loop = search in
+    let at-plan-turn : tie.After-put-line Inv-loop2 μ-loop2 Inv-loop3 μ-loop3 Inv-loop μ-loop = search in
     rw (c .visited-block .ensures) (turn-applicable (turn (at-plan-turn)) (sym (at-ends .ends .ensures) ∙ else3 .if3 .left) .block)
 
 mark-requires-2 : tie.Need-mark-requires-2 Inv-loop2 μ-loop2 Inv-loop3 μ-loop3 Inv-loop μ-loop
 mark-requires-2 c κs =
     let else3 : tie.Else3 Inv-loop2 μ-loop2 Inv-loop3 μ-loop3 Inv-loop μ-loop = search in
     let at-ends : tie.After-ends Inv-loop2 μ-loop2 Inv-loop3 μ-loop3 Inv-loop μ-loop = search in
-    let at-plan-turn : tie.After-plan-turn Inv-loop2 μ-loop2 Inv-loop3 μ-loop3 Inv-loop μ-loop = search in
+    let at-plan-turn : tie.After-put-line Inv-loop2 μ-loop2 Inv-loop3 μ-loop3 Inv-loop μ-loop = search in
     turn-applicable (turn (at-plan-turn)) (sym (at-ends .ends .ensures) ∙ else3 .if3 .left) .handler
 
 mark-requires-3 : tie.Need-mark-requires-3 Inv-loop2 μ-loop2 Inv-loop3 μ-loop3 Inv-loop μ-loop
 mark-requires-3 c κs =
     let else3 : tie.Else3 Inv-loop2 μ-loop2 Inv-loop3 μ-loop3 Inv-loop μ-loop = search in
     let at-ends : tie.After-ends Inv-loop2 μ-loop2 Inv-loop3 μ-loop3 Inv-loop μ-loop = search in
-    let at-plan-turn : tie.After-plan-turn Inv-loop2 μ-loop2 Inv-loop3 μ-loop3 Inv-loop μ-loop = search in
+    let at-plan-turn : tie.After-put-line Inv-loop2 μ-loop2 Inv-loop3 μ-loop3 Inv-loop μ-loop = search in
     turn-applicable (turn (at-plan-turn)) (sym (at-ends .ends .ensures) ∙ else3 .if3 .left) .scope
 
 frame-slot-requires : tie.Need-frame-slot-requires Inv-loop2 μ-loop2 Inv-loop3 μ-loop3 Inv-loop μ-loop
@@ -385,19 +405,22 @@ module _ (c : tie.After-frame-slot Inv-loop2 μ-loop2 Inv-loop3 μ-loop3 Inv-loo
       let after : tie.Else3 Inv-loop2 μ-loop2 Inv-loop3 μ-loop3 Inv-loop μ-loop = left-at in
       search
 
-  abbrev planned : tie.After-plan-turn Inv-loop2 μ-loop2 Inv-loop3 μ-loop3 Inv-loop μ-loop
-  planned =
+  abbrev written : tie.After-put-line Inv-loop2 μ-loop2 Inv-loop3 μ-loop3 Inv-loop μ-loop
+  written =
       let after : tie.After-ends Inv-loop2 μ-loop2 Inv-loop3 μ-loop3 Inv-loop μ-loop = ended in
       search
+
+  abbrev planned : tie.After-plan-turn Inv-loop2 μ-loop2 Inv-loop3 μ-loop3 Inv-loop μ-loop
+  planned = planning written
 
   abbrev plan : Plan
   plan = planned .plan-turn .result
 
   abbrev p : Position
-  p = at-head planned .loop .p
+  p = at-head written .loop .p
 
   abbrev cx : Context
-  cx = at-head planned .loop .cx
+  cx = at-head written .loop .cx
 
   abbrev visited : ℕ
   visited = visitedBlock (p .stage) (p .block)
@@ -419,7 +442,7 @@ module _ (c : tie.After-frame-slot Inv-loop2 μ-loop2 Inv-loop3 μ-loop3 Inv-loo
       }
 
   abbrev frames : List Frame
-  frames = set (at-head planned .loop .frames) (c .frame-slot .result) (plan .frame)
+  frames = set (at-head written .loop .frames) (c .frame-slot .result) (plan .frame)
 
   goes-on : planEnds plan ≡ false
   goes-on = sym (ended .ends .ensures) ∙ left-at .if3 .left
@@ -430,7 +453,7 @@ module _ (c : tie.After-frame-slot Inv-loop2 μ-loop2 Inv-loop3 μ-loop3 Inv-loo
       (marked2 .mark2 .ensures) (marked3 .mark3 .ensures)
 
   applicable : Applicable visited plan cx
-  applicable = turn-applicable (turn planned) goes-on
+  applicable = turn-applicable (turn written) goes-on
 
   whole : Whole with-marks
   whole = subst Whole (sym marks-made) (whole-marked visited (plan .handler) (plan .scope) cx (applicable .whole))
@@ -442,21 +465,25 @@ module _ (c : tie.After-frame-slot Inv-loop2 μ-loop2 Inv-loop3 μ-loop3 Inv-loo
         (changeable-marked change visited (plan .handler) (plan .scope) cx (subst (λ (z : Change). Changeable z cx) e (applicable .change)))
 
     blocks : {code at : ℕ} → Blocked change with-marks code at
-        → Reported (report (ruleOf (begun planned .args .rule)) (tableOf (now (begun planned .args .words)))) (blockedBy code at (plan .position)) (planned .plan-turn .last .1 .0)
+        → Reported (report (ruleOf (begun written .args .rule)) (tableOf (now (begun written .args .words)))) (blockedBy code at (plan .position)) (planned .plan-turn .last .1 .0) (written .put-line .last .0)
     blocks {code} {at} E =
-        turn-blocked (turn planned) goes-on (subst (λ (z : Change). Blocked z (withMarks visited (plan .handler) (plan .scope) cx) code at) (sym e)
+        turn-blocked (turn written) goes-on (subst (λ (z : Change). Blocked z (withMarks visited (plan .handler) (plan .scope) cx) code at) (sym e)
         (subst (λ (z : Context). Blocked change z code at) marks-made E))
 
     module _ (r : Context) (E : Changed change with-marks r) where
       changed : Applied visited plan cx r
       changed = plan-applied visited plan cx with-marks r marks-made (subst (λ (z : Change). Changed z with-marks r) (sym e) E)
 
-      next : Inv (ruleOf (begun planned .args .rule)) (now (begun planned .args .words))
-          (now (begun planned .args .tree)) (planned .plan-turn .last .1 .0) r frames (plan .position)
-      next = record { walking = turn-again (turn planned) goes-on changed (c .frame-slot .ensures); long = omega (arith, planned .plan-turn .kept .1 .0, at-head planned .loop .inv .long) }
+      next : Inv (ruleOf (begun written .args .rule)) (now (begun written .args .words)) (now (begun written .args .tree)) (now (begun written .args .index))
+          (planned .plan-turn .last .1 .0) (written .put-line .last .0) r frames (plan .position) (written .put-line .result)
+      next = record {
+        walking = turn-again (turn written) goes-on changed (c .frame-slot .ensures);
+        long = omega (arith, planned .plan-turn .kept .1 .0, at-head written .loop .inv .long);
+        wide = omega (arith, written .put-line .kept .0, at-head written .loop .inv .wide);
+      }
 
-      lower : turnsLeft (plan .position) frames r < turnsLeft p (at-head planned .loop .frames) cx
-      lower = turn-lower (turn planned) goes-on changed (c .frame-slot .ensures)
+      lower : turnsLeft (plan .position) frames r < turnsLeft p (at-head written .loop .frames) cx
+      lower = turn-lower (turn written) goes-on changed (c .frame-slot .ensures)
 
 -- ---- what each change leaves
 
@@ -470,8 +497,17 @@ module _ (c : tie.After-schedule Inv-loop2 μ-loop2 Inv-loop3 μ-loop3 Inv-loop 
   schedulable : Changeable (Schedule (asked .change .given .0 .0)) (with-marks slotted)
   schedulable = changeable slotted _ (asked .change .given .1)
 
-  by-schedule : c .schedule .result .refused ≡ 0 → Changed (Schedule (asked .change .given .0 .0)) (with-marks slotted) (settled (c .schedule .result))
-  by-schedule z = schedule-changed _ _ _ _ (c .schedule .ensures) z refl (schedulable .1 .len) (whole slotted)
+module _ (c : tie.After-add-target Inv-loop2 μ-loop2 Inv-loop3 μ-loop3 Inv-loop μ-loop) where
+  abbrev begun-by : tie.After-schedule Inv-loop2 μ-loop2 Inv-loop3 μ-loop3 Inv-loop μ-loop
+  begun-by = search
+
+  abbrev else4 : tie.Else4 Inv-loop2 μ-loop2 Inv-loop3 μ-loop3 Inv-loop μ-loop
+  else4 = search
+
+  by-schedule : Changed (Schedule (asked begun-by .change .given .0 .0)) (with-marks (slotted begun-by)) (settledBy (c .add-target .last .0) (begun-by .schedule .result))
+  by-schedule =
+      schedule-changed _ _ _ _ (begun-by .schedule .ensures) (else4 .if4 .left) (settled-by _ _ (c .add-target .ensures .0)) (schedulable begun-by .1 .len)
+      (whole (slotted begun-by))
 
 module _ (c : tie.After-schedule2 Inv-loop2 μ-loop2 Inv-loop3 μ-loop3 Inv-loop μ-loop) where
   abbrev slotted2 : tie.After-frame-slot Inv-loop2 μ-loop2 Inv-loop3 μ-loop3 Inv-loop μ-loop
@@ -483,22 +519,27 @@ module _ (c : tie.After-schedule2 Inv-loop2 μ-loop2 Inv-loop3 μ-loop3 Inv-loop
   briefly : Changeable (ScheduleBriefly (asked2 .change2 .given .0 .0)) (with-marks slotted2)
   briefly = changeable slotted2 _ (asked2 .change2 .given .1)
 
-  pushed-first : c .schedule2 .result .refused ≡ 0 → Changed (Schedule (asked2 .change2 .given .0 .0)) (with-marks slotted2) (settled (c .schedule2 .result))
-  pushed-first z = schedule-changed _ _ _ _ (c .schedule2 .ensures) z refl (briefly .1 .len) (whole slotted2)
-
-  pushed-last : Last (settled (c .schedule2 .result)) (c .schedule2 .result .pushed)
-  pushed-last = last-scheduled _ _ _ (c .schedule2 .ensures) (briefly .0) (briefly .1 .len) (whole slotted2)
-
-module _ (c : tie.After-unschedule Inv-loop2 μ-loop2 Inv-loop3 μ-loop3 Inv-loop μ-loop) where
+module _ (c : tie.After-add-target2 Inv-loop2 μ-loop2 Inv-loop3 μ-loop3 Inv-loop μ-loop) where
   abbrev scheduled2 : tie.After-schedule2 Inv-loop2 μ-loop2 Inv-loop3 μ-loop3 Inv-loop μ-loop
   scheduled2 = search
 
   abbrev else5 : tie.Else5 Inv-loop2 μ-loop2 Inv-loop3 μ-loop3 Inv-loop μ-loop
   else5 = search
 
-  by-briefly : Changed (ScheduleBriefly (asked2 scheduled2 .change2 .given .0 .0)) (with-marks (slotted2 scheduled2)) (c .unschedule .result)
-  unfolding settled
-  by-briefly = briefly-changed _ _ _ _ _ (pushed-first scheduled2 (else5 .if5 .left)) (pushed-last scheduled2) (c .unschedule .ensures)
+  pushed-first : Changed (Schedule (asked2 scheduled2 .change2 .given .0 .0)) (with-marks (slotted2 scheduled2)) (settledBy (c .add-target2 .last .0) (scheduled2 .schedule2 .result))
+  pushed-first =
+      schedule-changed _ _ _ _ (scheduled2 .schedule2 .ensures) (else5 .if5 .left) (settled-by _ _ (c .add-target2 .ensures .0)) (briefly scheduled2 .1 .len)
+      (whole (slotted2 scheduled2))
+
+module _ (c : tie.After-remove-target Inv-loop2 μ-loop2 Inv-loop3 μ-loop3 Inv-loop μ-loop) where
+  abbrev added2 : tie.After-add-target2 Inv-loop2 μ-loop2 Inv-loop3 μ-loop3 Inv-loop μ-loop
+  added2 = search
+
+  abbrev popped-at : tie.After-unschedule Inv-loop2 μ-loop2 Inv-loop3 μ-loop3 Inv-loop μ-loop
+  popped-at = search
+
+  by-briefly : Changed (ScheduleBriefly (asked2 (scheduled2 added2) .change2 .given .0 .0)) (with-marks (slotted2 (scheduled2 added2))) (releasedBy (c .remove-target .last .0) (popped-at .unschedule .result))
+  by-briefly = briefly-changed _ _ _ _ _ (pushed-first added2) (popped-at .unschedule .ensures) (released-by _ _ (c .remove-target .ensures))
 
 module _ (c : tie.After-unschedule2 Inv-loop2 μ-loop2 Inv-loop3 μ-loop3 Inv-loop μ-loop) where
   abbrev slotted3 : tie.After-frame-slot Inv-loop2 μ-loop2 Inv-loop3 μ-loop3 Inv-loop μ-loop
@@ -507,15 +548,21 @@ module _ (c : tie.After-unschedule2 Inv-loop2 μ-loop2 Inv-loop3 μ-loop3 Inv-lo
   abbrev told : tie.After-enum-told2 Inv-loop2 μ-loop2 Inv-loop3 μ-loop3 Inv-loop μ-loop
   told = search
 
-  by-unschedule : Changed Unschedule (with-marks slotted3) (c .unschedule2 .result)
-  by-unschedule =
-      unschedule-changed _ _ _ (last-entry _ (changeable slotted3 _ (told .enum-told2 .given .1)) (whole slotted3)) (c .unschedule2 .ensures) (whole slotted3)
+  some-entry : 0 < with-marks slotted3 .len
+  some-entry = changeable slotted3 _ (told .enum-told2 .given .1)
+
+module _ (c : tie.After-remove-target2 Inv-loop2 μ-loop2 Inv-loop3 μ-loop3 Inv-loop μ-loop) where
+  abbrev popped2 : tie.After-unschedule2 Inv-loop2 μ-loop2 Inv-loop3 μ-loop3 Inv-loop μ-loop
+  popped2 = search
+
+  by-unschedule : Changed Unschedule (with-marks (slotted3 popped2)) (releasedBy (c .remove-target2 .last .0) (popped2 .unschedule2 .result))
+  by-unschedule = unschedule-changed _ _ _ (popped2 .unschedule2 .ensures) (released-by _ _ (c .remove-target2 .ensures)) (whole (slotted3 popped2))
 
 mul-frames : tie.Need-mul-frames Inv-loop2 μ-loop2 Inv-loop3 μ-loop3 Inv-loop μ-loop
-mul-frames c = omega (arith, c .frame-slot .ensures, turn-slot (turn (planned c)) (goes-on c))
+mul-frames c = omega (arith, c .frame-slot .ensures, turn-slot (turn (written c)) (goes-on c))
 
 array-set-from-frames : tie.Need-array-set-from-frames Inv-loop2 μ-loop2 Inv-loop3 μ-loop3 Inv-loop μ-loop
-array-set-from-frames c = rw (c .frame-slot .ensures) (turn-slot (turn (planned c)) (goes-on c))
+array-set-from-frames c = rw (c .frame-slot .ensures) (turn-slot (turn (written c)) (goes-on c))
 
 enum-told : tie.Need-enum-told Inv-loop2 μ-loop2 Inv-loop3 μ-loop3 Inv-loop μ-loop
 enum-told c = search needs
@@ -542,10 +589,15 @@ schedule-requires c κs =
 blocked-requires : tie.Need-blocked-requires Inv-loop2 μ-loop2 Inv-loop3 μ-loop3 Inv-loop μ-loop
 blocked-requires c κs = tt
 
-same-length-2 : tie.Need-same-length-2 Inv-loop2 μ-loop2 Inv-loop3 μ-loop3 Inv-loop μ-loop
-same-length-2 c =
+same-length-3 : tie.Need-same-length-3 Inv-loop2 μ-loop2 Inv-loop3 μ-loop3 Inv-loop μ-loop
+same-length-3 c =
     let at-frame-slot : tie.After-frame-slot Inv-loop2 μ-loop2 Inv-loop3 μ-loop3 Inv-loop μ-loop = search in
-    omega (arith, planned at-frame-slot .plan-turn .kept .1 .0, at-head (planned at-frame-slot) .loop .inv .long)
+    omega (arith, planned at-frame-slot .plan-turn .kept .1 .0, at-head (written at-frame-slot) .loop .inv .long)
+
+same-length-4 : tie.Need-same-length-4 Inv-loop2 μ-loop2 Inv-loop3 μ-loop3 Inv-loop μ-loop
+same-length-4 c =
+    let at-frame-slot : tie.After-frame-slot Inv-loop2 μ-loop2 Inv-loop3 μ-loop3 Inv-loop μ-loop = search in
+    omega (arith, written at-frame-slot .put-line .kept .0, at-head (written at-frame-slot) .loop .inv .wide)
 
 returns-2 : tie.Need-returns-2 Inv-loop2 μ-loop2 Inv-loop3 μ-loop3 Inv-loop μ-loop
 returns-2 c =
@@ -570,19 +622,16 @@ element-set-from-entry c =
     let at-schedule : tie.After-schedule Inv-loop2 μ-loop2 Inv-loop3 μ-loop3 Inv-loop μ-loop = search in
     omega (arith, at-schedule .schedule .ensures .len, schedulable at-schedule .1 .len)
 
-loop-less-2 : tie.Need-loop-less-2 Inv-loop2 μ-loop2 Inv-loop3 μ-loop3 Inv-loop μ-loop
-unfolding settled
-loop-less-2 c =
-    let else4 : tie.Else4 Inv-loop2 μ-loop2 Inv-loop3 μ-loop3 Inv-loop μ-loop = search in
+add-target-requires : tie.Need-add-target-requires Inv-loop2 μ-loop2 Inv-loop3 μ-loop3 Inv-loop μ-loop
+add-target-requires c κs =
     let at-schedule : tie.After-schedule Inv-loop2 μ-loop2 Inv-loop3 μ-loop3 Inv-loop μ-loop = search in
-    lower (slotted at-schedule) _ (asked at-schedule .change .given .1) _ (by-schedule at-schedule (else4 .if4 .left))
+    named-entered _ _ _ (at-schedule .schedule .ensures) (schedulable at-schedule .0)
+
+loop-less-2 : tie.Need-loop-less-2 Inv-loop2 μ-loop2 Inv-loop3 μ-loop3 Inv-loop μ-loop
+loop-less-2 c = lower (slotted (begun-by c)) _ (asked (begun-by c) .change .given .1) _ (by-schedule c)
 
 loop-again-2 : tie.Need-loop-again-2 Inv-loop2 μ-loop2 Inv-loop3 μ-loop3 Inv-loop μ-loop
-unfolding settled
-loop-again-2 c =
-    let else4 : tie.Else4 Inv-loop2 μ-loop2 Inv-loop3 μ-loop3 Inv-loop μ-loop = search in
-    let at-schedule : tie.After-schedule Inv-loop2 μ-loop2 Inv-loop3 μ-loop3 Inv-loop μ-loop = search in
-    next (slotted at-schedule) _ (asked at-schedule .change .given .1) _ (by-schedule at-schedule (else4 .if4 .left))
+loop-again-2 c = next (slotted (begun-by c)) _ (asked (begun-by c) .change .given .1) _ (by-schedule c)
 
 enum-known-change-2 : tie.Need-enum-known-change-2 Inv-loop2 μ-loop2 Inv-loop3 μ-loop3 Inv-loop μ-loop
 enum-known-change-2 c = search needs
@@ -596,10 +645,15 @@ schedule-requires-2 c κs =
 blocked-requires-2 : tie.Need-blocked-requires-2 Inv-loop2 μ-loop2 Inv-loop3 μ-loop3 Inv-loop μ-loop
 blocked-requires-2 c κs = tt
 
-same-length-3 : tie.Need-same-length-3 Inv-loop2 μ-loop2 Inv-loop3 μ-loop3 Inv-loop μ-loop
-same-length-3 c =
+same-length-5 : tie.Need-same-length-5 Inv-loop2 μ-loop2 Inv-loop3 μ-loop3 Inv-loop μ-loop
+same-length-5 c =
     let at-frame-slot : tie.After-frame-slot Inv-loop2 μ-loop2 Inv-loop3 μ-loop3 Inv-loop μ-loop = search in
-    omega (arith, planned at-frame-slot .plan-turn .kept .1 .0, at-head (planned at-frame-slot) .loop .inv .long)
+    omega (arith, planned at-frame-slot .plan-turn .kept .1 .0, at-head (written at-frame-slot) .loop .inv .long)
+
+same-length-6 : tie.Need-same-length-6 Inv-loop2 μ-loop2 Inv-loop3 μ-loop3 Inv-loop μ-loop
+same-length-6 c =
+    let at-frame-slot : tie.After-frame-slot Inv-loop2 μ-loop2 Inv-loop3 μ-loop3 Inv-loop μ-loop = search in
+    omega (arith, written at-frame-slot .put-line .kept .0, at-head (written at-frame-slot) .loop .inv .wide)
 
 returns-3 : tie.Need-returns-3 Inv-loop2 μ-loop2 Inv-loop3 μ-loop3 Inv-loop μ-loop
 returns-3 c =
@@ -624,35 +678,43 @@ element-set-from-entry-2 c =
     let at-schedule2 : tie.After-schedule2 Inv-loop2 μ-loop2 Inv-loop3 μ-loop3 Inv-loop μ-loop = search in
     omega (arith, at-schedule2 .schedule2 .ensures .len, briefly at-schedule2 .1 .len)
 
+add-target-requires-2 : tie.Need-add-target-requires-2 Inv-loop2 μ-loop2 Inv-loop3 μ-loop3 Inv-loop μ-loop
+add-target-requires-2 c κs =
+    let at-schedule2 : tie.After-schedule2 Inv-loop2 μ-loop2 Inv-loop3 μ-loop3 Inv-loop μ-loop = search in
+    named-entered _ _ _ (at-schedule2 .schedule2 .ensures) (briefly at-schedule2 .0)
+
 unschedule-requires : tie.Need-unschedule-requires Inv-loop2 μ-loop2 Inv-loop3 μ-loop3 Inv-loop μ-loop
-unfolding settled
 unschedule-requires c κs =
     let at-schedule2 : tie.After-schedule2 Inv-loop2 μ-loop2 Inv-loop3 μ-loop3 Inv-loop μ-loop = search in
-    pushed-last at-schedule2
+    record { nonempty = omega (arith, at-schedule2 .schedule2 .ensures .len); settled = refl }
+
+mul-off : tie.Need-mul-off Inv-loop2 μ-loop2 Inv-loop3 μ-loop3 Inv-loop μ-loop
+mul-off c =
+    let at-schedule2 : tie.After-schedule2 Inv-loop2 μ-loop2 Inv-loop3 μ-loop3 Inv-loop μ-loop = search in
+    let at-unschedule : tie.After-unschedule Inv-loop2 μ-loop2 Inv-loop3 μ-loop3 Inv-loop μ-loop = search in
+    omega (arith, at-unschedule .unschedule .ensures .len, at-schedule2 .schedule2 .ensures .len, briefly at-schedule2 .1 .len)
+
+element-copy-out-off : tie.Need-element-copy-out-off Inv-loop2 μ-loop2 Inv-loop3 μ-loop3 Inv-loop μ-loop
+element-copy-out-off c =
+    let at-schedule2 : tie.After-schedule2 Inv-loop2 μ-loop2 Inv-loop3 μ-loop3 Inv-loop μ-loop = search in
+    let at-unschedule : tie.After-unschedule Inv-loop2 μ-loop2 Inv-loop3 μ-loop3 Inv-loop μ-loop = search in
+    omega (arith, at-unschedule .unschedule .ensures .len, at-schedule2 .schedule2 .ensures .len, briefly at-schedule2 .1 .len)
+
+remove-target-requires : tie.Need-remove-target-requires Inv-loop2 μ-loop2 Inv-loop3 μ-loop3 Inv-loop μ-loop
+remove-target-requires c κs =
+    let at-unschedule : tie.After-unschedule Inv-loop2 μ-loop2 Inv-loop3 μ-loop3 Inv-loop μ-loop = search in
+    let at-added2 : tie.After-add-target2 Inv-loop2 μ-loop2 Inv-loop3 μ-loop3 Inv-loop μ-loop = search in
+    let at-schedule2 : tie.After-schedule2 Inv-loop2 μ-loop2 Inv-loop3 μ-loop3 Inv-loop μ-loop = search in
+    named-left _ _ (at-unschedule .unschedule .ensures) (omega (arith, at-schedule2 .schedule2 .ensures .len)) (pushed-first at-added2 .whole)
 
 loop-less-3 : tie.Need-loop-less-3 Inv-loop2 μ-loop2 Inv-loop3 μ-loop3 Inv-loop μ-loop
-loop-less-3 c = lower (slotted2 (scheduled2 c)) _ (asked2 (scheduled2 c) .change2 .given .1) _ (by-briefly c)
+loop-less-3 c = lower (slotted2 (scheduled2 (added2 c))) _ (asked2 (scheduled2 (added2 c)) .change2 .given .1) _ (by-briefly c)
 
 loop-again-3 : tie.Need-loop-again-3 Inv-loop2 μ-loop2 Inv-loop3 μ-loop3 Inv-loop μ-loop
-loop-again-3 c = next (slotted2 (scheduled2 c)) _ (asked2 (scheduled2 c) .change2 .given .1) _ (by-briefly c)
+loop-again-3 c = next (slotted2 (scheduled2 (added2 c))) _ (asked2 (scheduled2 (added2 c)) .change2 .given .1) _ (by-briefly c)
 
 enum-told-2 : tie.Need-enum-told-2 Inv-loop2 μ-loop2 Inv-loop3 μ-loop3 Inv-loop μ-loop
 enum-told-2 c = search needs
-
-sub-entry-3 : tie.Need-sub-entry-3 Inv-loop2 μ-loop2 Inv-loop3 μ-loop3 Inv-loop μ-loop
-sub-entry-3 c =
-    let at-frame-slot : tie.After-frame-slot Inv-loop2 μ-loop2 Inv-loop3 μ-loop3 Inv-loop μ-loop = search in
-    changeable (at-frame-slot) _ (c .enum-told2 .given .1)
-
-mul-entry-4 : tie.Need-mul-entry-4 Inv-loop2 μ-loop2 Inv-loop3 μ-loop3 Inv-loop μ-loop
-mul-entry-4 c =
-    let at-frame-slot : tie.After-frame-slot Inv-loop2 μ-loop2 Inv-loop3 μ-loop3 Inv-loop μ-loop = search in
-    omega (arith, whole (at-frame-slot) .bounded .most)
-
-element-copy-out-entry-2 : tie.Need-element-copy-out-entry-2 Inv-loop2 μ-loop2 Inv-loop3 μ-loop3 Inv-loop μ-loop
-element-copy-out-entry-2 c =
-    let at-frame-slot : tie.After-frame-slot Inv-loop2 μ-loop2 Inv-loop3 μ-loop3 Inv-loop μ-loop = search in
-    omega (arith, changeable (at-frame-slot) _ (c .enum-told2 .given .1), whole (at-frame-slot) .bounded .most)
 
 unschedule-requires-2 : tie.Need-unschedule-requires-2 Inv-loop2 μ-loop2 Inv-loop3 μ-loop3 Inv-loop μ-loop
 unschedule-requires-2 c κs =
@@ -660,17 +722,26 @@ unschedule-requires-2 c κs =
     let at-frame-slot : tie.After-frame-slot Inv-loop2 μ-loop2 Inv-loop3 μ-loop3 Inv-loop μ-loop = search in
     last-entry _ (changeable (at-frame-slot) _ (at-enum-told2 .enum-told2 .given .1)) (whole (at-frame-slot))
 
+mul-off-2 : tie.Need-mul-off-2 Inv-loop2 μ-loop2 Inv-loop3 μ-loop3 Inv-loop μ-loop
+mul-off-2 c =
+    let at-unschedule2 : tie.After-unschedule2 Inv-loop2 μ-loop2 Inv-loop3 μ-loop3 Inv-loop μ-loop = search in
+    omega (arith, at-unschedule2 .unschedule2 .ensures .len, whole (slotted3 at-unschedule2) .bounded .most)
+
+element-copy-out-off-2 : tie.Need-element-copy-out-off-2 Inv-loop2 μ-loop2 Inv-loop3 μ-loop3 Inv-loop μ-loop
+element-copy-out-off-2 c =
+    let at-unschedule2 : tie.After-unschedule2 Inv-loop2 μ-loop2 Inv-loop3 μ-loop3 Inv-loop μ-loop = search in
+    omega (arith, at-unschedule2 .unschedule2 .ensures .len, some-entry at-unschedule2, whole (slotted3 at-unschedule2) .bounded .most)
+
+remove-target-requires-2 : tie.Need-remove-target-requires-2 Inv-loop2 μ-loop2 Inv-loop3 μ-loop3 Inv-loop μ-loop
+remove-target-requires-2 c κs =
+    let at-unschedule2 : tie.After-unschedule2 Inv-loop2 μ-loop2 Inv-loop3 μ-loop3 Inv-loop μ-loop = search in
+    named-left _ _ (at-unschedule2 .unschedule2 .ensures) (some-entry at-unschedule2) (whole (slotted3 at-unschedule2))
+
 loop-less-4 : tie.Need-loop-less-4 Inv-loop2 μ-loop2 Inv-loop3 μ-loop3 Inv-loop μ-loop
-loop-less-4 c =
-    let at-enum-told2 : tie.After-enum-told2 Inv-loop2 μ-loop2 Inv-loop3 μ-loop3 Inv-loop μ-loop = search in
-    let at-frame-slot : tie.After-frame-slot Inv-loop2 μ-loop2 Inv-loop3 μ-loop3 Inv-loop μ-loop = search in
-    lower (at-frame-slot) _ (at-enum-told2 .enum-told2 .given .1) _ (by-unschedule c)
+loop-less-4 c = lower (slotted3 (popped2 c)) _ (told (popped2 c) .enum-told2 .given .1) _ (by-unschedule c)
 
 loop-again-4 : tie.Need-loop-again-4 Inv-loop2 μ-loop2 Inv-loop3 μ-loop3 Inv-loop μ-loop
-loop-again-4 c =
-    let at-enum-told2 : tie.After-enum-told2 Inv-loop2 μ-loop2 Inv-loop3 μ-loop3 Inv-loop μ-loop = search in
-    let at-frame-slot : tie.After-frame-slot Inv-loop2 μ-loop2 Inv-loop3 μ-loop3 Inv-loop μ-loop = search in
-    next (at-frame-slot) _ (at-enum-told2 .enum-told2 .given .1) _ (by-unschedule c)
+loop-again-4 c = next (slotted3 (popped2 c)) _ (told (popped2 c) .enum-told2 .given .1) _ (by-unschedule c)
 
 pub walk-spec : {M : Type 1} → statement M
 walk-spec =
@@ -713,9 +784,11 @@ walk-spec =
     loop3-again
     aim-at-requires
     plan-turn-requires
+    put-line-requires
     ends-requires
     answer-requires
     same-length
+    same-length-2
     returns
     visited-block-requires
     mark-requires
@@ -730,28 +803,35 @@ walk-spec =
     enum-known-change
     schedule-requires
     blocked-requires
-    same-length-2
+    same-length-3
+    same-length-4
     returns-2
     sub-entry
     mul-entry-2
     element-set-from-entry
+    add-target-requires
     loop-less-2
     loop-again-2
     enum-known-change-2
     schedule-requires-2
     blocked-requires-2
-    same-length-3
+    same-length-5
+    same-length-6
     returns-3
     sub-entry-2
     mul-entry-3
     element-set-from-entry-2
+    add-target-requires-2
     unschedule-requires
+    mul-off
+    element-copy-out-off
+    remove-target-requires
     loop-less-3
     loop-again-3
     enum-told-2
-    sub-entry-3
-    mul-entry-4
-    element-copy-out-entry-2
     unschedule-requires-2
+    mul-off-2
+    element-copy-out-off-2
+    remove-target-requires-2
     loop-less-4
     loop-again-4)

@@ -32,7 +32,6 @@ returns c =
       at-refusal .refusal .ensures,
       at-is-blocked .is-blocked .ensures,
       blocked-asked (start .args .target) (start .args .self .scheduled) (start .pre .0) (omega (arith, flags)),
-      at-add-target .add-target .ensures .0,
       at-add-target .add-target .ensures .1,
     )
     (scheduled (start .args .target) (start .args .self) (start .pre .0) (start .pre .1) (omega (arith, long, start .pre .1 .len)))
