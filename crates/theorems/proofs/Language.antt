@@ -1,6 +1,6 @@
 -- M-102 from the outcomes that a caller sees: the entries differ only so, the first entry never gives 29, and the labels of an accepted tree are there.
 use mathlib.Core.Path.{_≡_, refl, sym, ap, _∙_, subst}
-use Prim.Native.Nat.{ℕ, _*_, _-_, _/_}
+use Prim.Native.Nat.{ℕ, _*_, _-_, _/_, _≤_}
 use native.Mathlib.Omega.{arith}
 use mathlib.Core.List.{List, [], _++_}
 use mathlib.Core.Logic.{⊎-elim}
@@ -18,25 +18,38 @@ use Rattle.definition.specs.Named.{Named}
 use Rattle.definition.specs.Index.{Line, lines}
 use Rattle.indexed.proofs.SameLines.{same-lines}
 use Rattle.definition.specs.Build.{Outcome, report, reported, refusal, wordsOf, placed, outcomeOf, afterCheck, built}
-use Rattle.definition.specs.Relabeled.{Apart, AlikeBlocks, alike-blocks}
+use Rattle.definition.specs.Relabeled.{Apart, AlikeBlocks, alike-blocks, visitsAfter}
 use Rattle.theorems.specs.Parted.{Parted, refused-alike, unnamed, relabeled}
 use Rattle.definition.proofs.Checked.{ofCheck, Coded, coded}
 use Rattle.definition.proofs.RustCodes.{rust-never-29}
 use Rattle.definition.proofs.Parting.{differs-only-so}
+use Rattle.definition.proofs.PartingRows.{rows-part}
 use Rattle.definition.proofs.Labels.{tree-named}
 use Rattle.definition.proofs.Accepted.{Accepted, accepted-of, rows-of-buffer}
 
 -- ---- "differs only as follows"
 
 module _ (words : List ℕ) (lent lentIndex : ℕ) where
-  results-part : (m n : Result BlockResult) → Apart AlikeBlocks m n → Parted lent lentIndex (outcomeOf lent lentIndex (reported m)) (outcomeOf lent lentIndex (reported n))
-  unfolding outcomeOf reported
+  placed-visits : (list : List Row) (index : List Line) (visits : ℕ) → placed lent lentIndex list index visits .visits ≡ visits
+  unfolding placed refusal
+  placed-visits list index visits = by (leb (length list) (lent / 6)) (leb (length index) (lentIndex / 3)) refl refl
+    where
+      by : (y z : Bool) → leb (length list) (lent / 6) ≡ y → leb (length index) (lentIndex / 3) ≡ z → placed lent lentIndex list index visits .visits ≡ visits
+      by true true e f = rw (e, f, placed)
+      by true false e f = rw (e, f, placed)
+      by false z e f = rw (e, placed)
+
+  results-part : (m n : Result BlockResult) → Apart AlikeBlocks visitsAfter m n → Parted lent lentIndex (outcomeOf lent lentIndex (reported m)) (outcomeOf lent lentIndex (reported n))
+  unfolding outcomeOf reported refusal
   results-part (ok a) (ok b) (alike-blocks first second cx p) =
       subst (λ (z : List Line). Parted lent lentIndex (placed lent lentIndex (rows first) (lines first) (cx .visits)) (placed lent lentIndex (rows second) z (cx .visits)))
-      (same-lines first second p) (relabeled first second (cx .visits) p)
-  results-part (ok a) (refused code at visits) e = rw e (unnamed _ at visits)
+      (same-lines first second p) (relabeled first second (cx .visits) p (rows-part first second p))
+  results-part (ok a) (refused code at visits) e =
+      let given : Outcome = placed lent lentIndex (rows (a .statements)) (lines (a .statements)) (visitsAfter a) in
+      let fewer : visits ≤ given .visits = rw (placed-visits (rows (a .statements)) (lines (a .statements)) (visitsAfter a)) (e .1) in
+      rw (e .0) (unnamed given at visits fewer)
   results-part (refused code at visits) (ok b) e = absurd e
-  results-part (refused code at visits) (refused code′ at′ visits′) e = ⊎-elim (λ q. rw (q .0, q .1, q .2) (refused-alike _)) (λ q. rw q (unnamed _ at′ visits′)) e
+  results-part (refused code at visits) (refused code′ at′ visits′) e = ⊎-elim (λ q. rw (q .0, q .1, q .2) (refused-alike _)) (λ q. rw (q .0) (unnamed _ at′ visits′ (q .1))) e
 
   pub entries-part : Parted lent lentIndex (built rust words lent lentIndex) (built language words lent lentIndex)
   unfolding built afterCheck report

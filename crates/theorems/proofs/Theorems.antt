@@ -79,6 +79,7 @@ use Rattle.survey.specs.declared.Rule as code
 use Rattle.survey.specs.Abstraction.{ruleOf}
 use Rattle.theorems.specs.Parted.{Parted}
 use Rattle.theorems.proofs.Language.{entries-part, first-never-29, LabelsThere, labels-there}
+use Rattle.theorems.proofs.Parting.{Unnamed, AcceptedAlike, where-refused, where-accepted}
 use Rattle.treefile.specs.Prints.{lentWords, lentIndex, Prints, FileBuilt}
 use Rattle.treefile.proofs.OutcomeLaws.{never-41 as file-never-41}
 use Rattle.text.proofs.PrintsLaws.{file-printed-one}
@@ -305,6 +306,18 @@ what-the-build-makes-is-accepted = built-answered
 -- BREAKs that are Labeled in place of Unlabeled, with the same lines
 pub the-entries-differ-only-so : (words : List ℕ) (lent lentIndex : ℕ) → Parted lent lentIndex (built rust words lent lentIndex) (built language words lent lentIndex)
 the-entries-differ-only-so = entries-part
+
+-- where the first entry refuses (40 and 41 included), the language entry refuses alike, or gives 29 with no more visits
+pub where-the-first-entry-refuses : (words : List ℕ) (lent lentIndex : ℕ) → (built rust words lent lentIndex .code ≡ 0 → ⊥)
+    → (built language words lent lentIndex ≡ built rust words lent lentIndex) ⊎ Unnamed (built rust words lent lentIndex) (built language words lent lentIndex)
+where-the-first-entry-refuses = where-refused
+
+-- where it accepts, the language entry accepts after the same visits with equally many rows, the same but for BREAK kinds that go from Unlabeled to Labeled,
+-- and the same lines, or gives 29 with no more visits
+pub where-the-first-entry-accepts : (words : List ℕ) (lent lentIndex : ℕ) → built rust words lent lentIndex .code ≡ 0
+    → AcceptedAlike lent lentIndex (built rust words lent lentIndex) (built language words lent lentIndex)
+    ⊎ Unnamed (built rust words lent lentIndex) (built language words lent lentIndex)
+where-the-first-entry-accepts = where-accepted
 
 -- "29 in the new entry"
 pub the-first-entry-never-gives-29 : (words : List ℕ) (lent lentIndex : ℕ) → built rust words lent lentIndex .code ≡ 29 → ⊥
