@@ -24,6 +24,7 @@ pub mod Preview
 pub mod Surveys
 pub mod Goals
 pub mod Parting
+pub mod PartingRows
 pub mod PlainEnough
 pub mod Runnable
 pub mod Loops

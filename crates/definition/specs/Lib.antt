@@ -20,3 +20,4 @@ pub mod Machine
 pub mod Framed
 pub mod RunLaw
 pub mod Relabeled
+pub mod RelabeledRows
