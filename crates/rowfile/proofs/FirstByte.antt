@@ -397,7 +397,7 @@ module _ (names : List ℕ) (last : ℕ) where
   names-read file e = rw (tableWords, eq-eqb (alike names file) (length names) e)
 
   -- a good file is read
-  good-read : {file : List ℕ} (t : TableFile names last file) → tableWords names last file ≡ words (flat (t .rows))
+  pub good-read : {file : List ℕ} (t : TableFile names last file) → tableWords names last file ≡ words (flat (t .rows))
   good-read t = ap (tableWords names last) (t .text) ∙ table-back names last (t .rows) (t .formed)
 
   not-good : {file : List ℕ} {n : ℕ} → tableWords names last file ≡ stopped n → TableFile names last file → ⊥

@@ -1,3 +1,4 @@
 pub mod FileLaws
 pub mod PrintLaws
 pub mod OneRun
+pub mod FirstByte

@@ -1,3 +1,4 @@
 pub mod Given
+pub mod Good
 pub mod Prints
 pub mod Samples
