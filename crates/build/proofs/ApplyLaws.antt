@@ -5,11 +5,9 @@ use mathlib.Core.Path.{_≡_, refl, sym, ap, _∙_, subst}
 use mathlib.Core.Bool.{Bool, true, false}
 use mathlib.Core.Option.{Option, none, some}
 use lib.ListN.{length, getD, set, length-set}
-use lib.Dec.{eqb}
-use borrow.Author.Tests.{eq-eqb, ne-eqb}
 use Rattle.table.specs.Table.{unlessNone}
 use Rattle.table.proofs.BlockLaws.{no-number, some-number}
-use Rattle.definition.specs.Context.{Flags, add, emit, remove, blockAsked, scheduledBy, scheduleCatchHandler, markScopeFallthrough, unscheduledBy}
+use Rattle.definition.specs.Context.{Flags, add, emit, remove, isBlocked, blockedCode, blockAsked, owns, scheduledBy, scheduleCatchHandler, markScopeFallthrough, unscheduledBy}
 use Rattle.definition.specs.Context.{ControlFlowTarget, target-if, target-switch, target-case, target-loop}
 use Rattle.definition.specs.Context as definition
 use Rattle.definition.specs.Machine.{unscheduled}
@@ -17,9 +15,9 @@ use Rattle.definition.specs.Result.{Result, ok, refused, _>>=_}
 use Rattle.control.specs.declared.ControlFlowTarget as code
 use Rattle.control.specs.declared.Context.{Context}
 use Rattle.control.specs.declared.Entry.{Entry}
-use Rattle.control.specs.Abstraction.{targetOf, noEntry, contextOf, resultOf, settled, released}
-use Rattle.control.specs.Contract.{Named, Room, Bounded, Last, Scheduled, Unscheduled}
-use Rattle.control.proofs.ContextLaws.{settles, releases}
+use Rattle.control.specs.Abstraction.{targetOf, noEntry, enteredIn, contextOf, resultOf, settled, released}
+use Rattle.control.specs.Contract.{blockedIn, Named, Room, Bounded, Last, Scheduled, Unscheduled}
+use Rattle.control.proofs.ContextLaws.{blocked-asked, settles, releases}
 use Rattle.definition.specs.Framed.{Below}
 use Rattle.plan.specs.declared.Change.{Change}
 use Rattle.plan.specs.declared.Change.the-variants.{Nothing, Schedule, ScheduleBriefly, Unschedule}
@@ -43,7 +41,6 @@ withMarks visited handler fallthrough cx = record {
   scheduled = cx .scheduled;
   pushed = cx .pushed;
   pending = cx .pending;
-  refused = cx .refused;
   «next_schedule_id» = cx .«next_schedule_id»;
   stack = cx .stack;
 }
@@ -59,7 +56,6 @@ pub marks-as : (visited handler fallthrough asked : ℕ) (cx : Context) (emitted
       scheduled = cx .scheduled;
       pushed = cx .pushed;
       pending = cx .pending;
-      refused = cx .refused;
       «next_schedule_id» = cx .«next_schedule_id»;
       stack = cx .stack;
     } ≡ withMarks visited handler fallthrough cx
@@ -111,36 +107,45 @@ length-scheduled (target-switch b) s = length-set s b true
 length-scheduled (target-case b) s = length-set s b true
 length-scheduled (target-loop b c l) s = length-set (set (set s b true) c true) l true ∙ length-set (set s b true) c true ∙ length-set s b true
 
-result-by : (at visits : ℕ) (r : Context) (y : Bool) → eqb (r .refused) 0 ≡ y → resultOf at visits r ≡ elim y [ true ↦ ok (contextOf visits r) | false ↦ refused (r .refused) at visits ]
-result-by at visits r y e = ap (λ (z : Bool). elim z [ true ↦ ok (contextOf visits r) | false ↦ refused (r .refused) at visits ]) e
+-- whether the target that went on is refused, as the driver asks it
+module _ (target : code.ControlFlowTarget) (cx r : Context) (h : Scheduled target cx r) (named : Named target) (w : Whole cx) where
+  abbrev went-on : ControlFlowTarget
+  went-on = targetOf (r .pushed .target)
 
-pub schedule-blocked : (target : code.ControlFlowTarget) (cx r : Context) → Scheduled target cx r → (r .refused ≡ 0 → ⊥) → Blocked (Schedule target) cx (r .refused) (blockAsked (targetOf target))
-schedule-blocked target cx r h z = record { context = λ visits. h .context visits ∙ result-by _ visits r false (ne-eqb (r .refused) 0 z); refuses = z }
+  asks : (y : Bool) → blockedIn went-on (r .scheduled) ≡ y → isBlocked went-on (r .scheduled) ≡ y
+  asks y e = sym (blocked-asked (r .pushed .target) (r .scheduled) (rw (h .state) named) (rw (h .state) (omega (arith, w .wide)))) ∙ e
 
-pub briefly-blocked : (target : code.ControlFlowTarget) (cx r : Context) → Scheduled target cx r → (r .refused ≡ 0 → ⊥)
-    → Blocked (ScheduleBriefly target) cx (r .refused) (blockAsked (targetOf target))
-unfolding _>>=_
-briefly-blocked target cx r h z =
-    record {
-      context = λ visits. ap (λ (m : Result definition.Context). m >>= λ inside. ok (unscheduled inside)) (schedule-blocked target cx r h z .context
-          visits);
-      refuses = z;
-    }
+  result-by : (visits : ℕ) (y : Bool) → blockedIn went-on (r .scheduled) ≡ y
+      → resultOf visits r ≡ elim y [ true ↦ refused (blockedCode went-on) (blockAsked went-on) visits | false ↦ ok (contextOf visits r) ]
+  result-by visits y e = ap (λ (z : Bool). elim z [ true ↦ refused (blockedCode went-on) (blockAsked went-on) visits | false ↦ ok (contextOf visits r) ]) (asks y e)
 
-pub schedule-changed : (target : code.ControlFlowTarget) (cx r s : Context) → Scheduled target cx r → r .refused ≡ 0 → s ≡ settled r → cx .len < 1152 → Whole cx
-    → Changed (Schedule target) cx s
-schedule-changed target cx r s h z e small w = rw e (record {
-  context = λ visits. h .context visits ∙ result-by _ visits r true (eq-eqb (r .refused) 0 z) ∙ ap ok (sym (settles visits r (h .pending) (omega (arith, h .len)) (omega (arith, h .len, long))));
-  whole = unfold settled in record {
-    settled = refl;
-    bounded = h .bounded (w .bounded);
-    wide = length-scheduled (targetOf (r .pushed .target)) (r .scheduled) ∙ ap (λ (z : Context). length (z .scheduled)) (h .state) ∙ w .wide;
-    tall = length-set (r .stack) (r .len - 1) (r .pushed) ∙ long;
-  };
-})
-  where
-    long : length (r .stack) ≡ 1152
-    long = ap (λ (z : Context). length (z .stack)) (h .state) ∙ w .tall
+  refusing : (t : ControlFlowTarget) → blockedCode t ≡ 0 → ⊥
+  refusing (target-if b) e = omega (arith, e)
+  refusing (target-switch b) e = omega (arith, e)
+  refusing (target-case b) e = omega (arith, e)
+  refusing (target-loop b c l) e = omega (arith, e)
+
+  pub schedule-blocked : blockedIn went-on (r .scheduled) ≡ true → Blocked (Schedule target) cx (blockedCode went-on) (blockAsked went-on)
+  schedule-blocked b = record { context = λ visits. h .context visits ∙ result-by visits true b; refuses = refusing went-on }
+
+  pub briefly-blocked : blockedIn went-on (r .scheduled) ≡ true → Blocked (ScheduleBriefly target) cx (blockedCode went-on) (blockAsked went-on)
+  unfolding _>>=_
+  briefly-blocked b =
+      record { context = λ visits. ap (λ (m : Result definition.Context). m >>= λ inside. ok (unscheduled inside)) (schedule-blocked b .context visits); refuses = refusing went-on }
+
+  pub schedule-changed : (s : Context) → blockedIn went-on (r .scheduled) ≡ false → s ≡ settled r → cx .len < 1152 → Changed (Schedule target) cx s
+  schedule-changed s b e small = rw e (record {
+    context = λ visits. h .context visits ∙ result-by visits false b ∙ ap ok (sym (settles visits r (h .pending) (omega (arith, h .len)) (omega (arith, h .len, long))));
+    whole = unfold settled in record {
+      settled = refl;
+      bounded = h .bounded (w .bounded);
+      wide = length-scheduled went-on (r .scheduled) ∙ ap (λ (z : Context). length (z .scheduled)) (h .state) ∙ w .wide;
+      tall = length-set (r .stack) (r .len - 1) (enteredIn (r .scheduled) (r .pushed)) ∙ long;
+    };
+  })
+    where
+      long : length (r .stack) ≡ 1152
+      long = ap (λ (z : Context). length (z .stack)) (h .state) ∙ w .tall
 
 length-removed : (target : ControlFlowTarget) (owner : Bool) (flags : Flags) → length (unscheduledBy target owner flags) ≡ length flags
 unfolding unscheduledBy remove
@@ -171,8 +176,8 @@ briefly-changed target cx s r t h u e =
 
 -- ---- what the driver settles
 
-abbrev pub settledBy : Flags → Context → Context
-settledBy flags cx = record {
+abbrev pub settledBy : Flags → (owner : Bool) → Context → Context
+settledBy flags owner cx = record {
   emitted = cx .emitted;
   «catch_handlers» = cx .«catch_handlers»;
   «scope_fallthroughs» = cx .«scope_fallthroughs»;
@@ -180,9 +185,8 @@ settledBy flags cx = record {
   scheduled = flags;
   pushed = cx .pushed;
   pending = 0;
-  refused = cx .refused;
   «next_schedule_id» = cx .«next_schedule_id»;
-  stack = set (cx .stack) (cx .len - 1) (cx .pushed);
+  stack = set (cx .stack) (cx .len - 1) (record { id = cx .pushed .id; target = cx .pushed .target; «owns_loop» = owner });
 }
 
 abbrev pub releasedBy : Flags → Context → Context
@@ -194,14 +198,14 @@ releasedBy flags cx = record {
   scheduled = flags;
   pushed = cx .pushed;
   pending = 0;
-  refused = cx .refused;
   «next_schedule_id» = cx .«next_schedule_id»;
   stack = cx .stack;
 }
 
-pub settled-by : (r : Context) (flags : Flags) → flags ≡ scheduledBy (targetOf (r .pushed .target)) (r .scheduled) → settledBy flags r ≡ settled r
+pub settled-by : (r : Context) (flags : Flags) (owner : Bool) → flags ≡ scheduledBy (targetOf (r .pushed .target)) (r .scheduled)
+    → owner ≡ owns (targetOf (r .pushed .target)) (r .scheduled) → settledBy flags owner r ≡ settled r
 unfolding settled
-settled-by r flags e = ap (λ (f : Flags). settledBy f r) e
+settled-by r flags owner e o = ap (λ (f : Flags). settledBy f owner r) e ∙ ap (λ (y : Bool). settledBy (scheduledBy (targetOf (r .pushed .target)) (r .scheduled)) y r) o
 
 pub released-by : (r : Context) (flags : Flags)
     → flags ≡ unscheduledBy (targetOf (getD (r .stack) (r .len) noEntry .target)) (getD (r .stack) (r .len) noEntry .«owns_loop») (r .scheduled)
@@ -226,7 +230,6 @@ marks-by : (visited handler fallthrough : Option ℕ) (cx : Context) (visits : �
   scheduled = cx .scheduled;
   pushed = cx .pushed;
   pending = cx .pending;
-  refused = cx .refused;
   «next_schedule_id» = cx .«next_schedule_id»;
   stack = cx .stack;
 }) ≡ scoped fallthrough (handled handler (emitted visited (contextOf visits cx)))

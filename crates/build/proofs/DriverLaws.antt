@@ -54,7 +54,7 @@ use Rattle.build.specs.declared.search.Jump.the-variants as search
 use Rattle.plan.specs.Plans.{frameOf, noFrame, framesOf, stateAt, changed, handled, scoped, within, kept, contextAfter, onward, applied}
 use Rattle.plan.specs.Planned.{NamedChange, entriesOnTop, deepest, Nested, Fitting}
 use Rattle.plan.specs.Turn.{Resolves, Shown, inHand, FrameFits, StageFits, Ready, emitting, PlannedTurn}
-use Rattle.build.specs.Driver.{foundBy, goalBy, Searches, visitedBlock, slot, isHalt, planEnds, startingAt, walkedBy, blockedBy, Reported}
+use Rattle.build.specs.Driver.{foundBy, goalBy, Searches, visitedBlock, isHalt, planEnds, startingAt, walkedBy, blockedBy, Reported}
 use Rattle.build.proofs.ApplyLaws.{emitted, withMarks, Whole, Changeable, Blocked, Applicable, Applied, marks}
 use Rattle.build.proofs.CheckedLaws.{checked-table}
 
@@ -90,15 +90,30 @@ frames-within A n d h = rw (frames-length A n) (go (n - d) n d (omega arith))
     go (suc k) zero d e = absurd (omega arith)
     go (suc k) (suc n) d e = go k n d (omega arith)
 
+-- the frames with a plan's as the innermost, where it is kept
+abbrev pub storedBy : (keep : Bool) → (depth : ℕ) → Frame → List Frame → List Frame
+storedBy true depth frame frames = set frames (depth - 1) frame
+storedBy false depth frame frames = frames
+
+pub stored-kept : (keep : Bool) (i depth : ℕ) (frame : Frame) (A frames : List Frame) → keep ≡ true → i ≡ depth - 1 → frames ≡ set A i frame → frames ≡ storedBy keep depth frame A
+stored-kept keep i depth frame A frames k e s = s ∙ rw (e, k) refl
+
+pub stored-not : (keep : Bool) (depth : ℕ) (frame : Frame) (A frames : List Frame) → keep ≡ false → frames ≡ A → frames ≡ storedBy keep depth frame A
+stored-not keep depth frame A frames k s = s ∙ rw k refl
+
+stored-length : (keep : Bool) (depth : ℕ) (frame : Frame) (frames : List Frame) → length (storedBy keep depth frame frames) ≡ length frames
+stored-length true depth frame frames = length-set frames (depth - 1) frame
+stored-length false depth frame frames = refl
+
 -- what a plan keeps of the frames is what its store leaves
-frames-kept : (A : List Frame) (n d : ℕ) (keep : Bool) (f : Frame) → (keep ≡ true → 1 ≤ d) → d ≤ deepest keep n → slot keep d < length A
-    → kept keep f d (framesOf A n) ≡ framesOf (set A (slot keep d) f) d
+frames-kept : (A : List Frame) (n d : ℕ) (keep : Bool) (f : Frame) → (keep ≡ true → 1 ≤ d) → d ≤ deepest keep n → d ≤ length A
+    → kept keep f d (framesOf A n) ≡ framesOf (storedBy keep d f A) d
 unfolding framesOf
 frames-kept A n zero true f deep next room = absurd (let z : 1 ≤ 0 = deep refl in omega arith)
 frames-kept A n (suc d) true f deep next room =
     let e : suc d - 1 ≡ d = omega arith in
-    rw (e, frames-within A n d (omega arith), getD-set-same A d f noFrame (rw e at room), frames-above A d d f (le-refl d))
-frames-kept A n d false f deep next room = frames-within A n d next ∙ sym (frames-above A d d f (le-refl d))
+    rw (e, frames-within A n d (omega arith), getD-set-same A d f noFrame (omega arith), frames-above A d d f (le-refl d))
+frames-kept A n d false f deep next room = frames-within A n d next
 
 kept-length : (A : List Frame) (n d : ℕ) (keep : Bool) (f : Frame) → (keep ≡ true → 1 ≤ d) → d ≤ deepest keep n → length (kept keep f d (framesOf A n)) ≡ d
 kept-length A n d true f deep next = let one : 1 ≤ d = deep refl in rw (frames-within A n (d - 1) (omega arith), frames-length A (d - 1)) (omega arith)
@@ -511,7 +526,7 @@ module _ (rule : Rule) (w : List ℕ) (pr : Promise w) (ck : Checked (tableOf w)
           unfolding contextOf
           changeable = at (plan .change) (fit .change)
             where
-              len : length (control.entriesOf (cx .pending) (cx .pushed) (cx .stack) (cx .len)) ≡ cx .len
+              len : length (control.entriesOf (cx .pending) (cx .pushed) (cx .scheduled) (cx .stack) (cx .len)) ≡ cx .len
               len = rw (I .whole .settled) (stack-length (cx .stack) (cx .len))
 
               room : Room cx
@@ -519,7 +534,7 @@ module _ (rule : Rule) (w : List ℕ) (pr : Promise w) (ck : Checked (tableOf w)
 
               filled : entriesOnTop (inHand (p .stage) (p .depth) f) ≤ cx .len
               filled =
-                  let z : length (control.entriesOf (cx .pending) (cx .pushed) (cx .stack) (cx .len)) ≡ entriesOf
+                  let z : length (control.entriesOf (cx .pending) (cx .pushed) (cx .scheduled) (cx .stack) (cx .len)) ≡ entriesOf
                   (inHand (p .stage) (p .depth) f ++ restOf A (p .stage) (p .depth)) = numbered .entries ∙ ap entriesOf (sym together) in
                   omega (arith, entries-top (p .stage) (p .depth) f (restOf A (p .stage) (p .depth)), len, z)
 
@@ -541,10 +556,10 @@ module _ (rule : Rule) (w : List ℕ) (pr : Promise w) (ck : Checked (tableOf w)
               at Pop h = subst (λ (o : Option ℕ). Below 1024 o) (sym no-number) tt
               at Halt h = subst (λ (o : Option ℕ). Below 1024 o) (sym no-number) tt
 
-          pub slot-below : slot (plan .keep) (plan .position .depth) < 129
-          slot-below = at (plan .keep) (fit .next)
+          pub depth-below : plan .position .depth ≤ 129
+          depth-below = at (plan .keep) (fit .next)
             where
-              at : (keep : Bool) → plan .position .depth ≤ deepest keep (p .depth) → slot keep (plan .position .depth) < 129
+              at : (keep : Bool) → plan .position .depth ≤ deepest keep (p .depth) → plan .position .depth ≤ 129
               at true h = omega (arith, shallow)
               at false h = omega (arith, shallow)
 
@@ -569,7 +584,7 @@ module _ (rule : Rule) (w : List ℕ) (pr : Promise w) (ck : Checked (tableOf w)
 
           module _ (r : Context) (E : Applied visited plan cx r) where
             abbrev pub A′ : List Frame
-            A′ = set A (slot (plan .keep) (plan .position .depth)) (plan .frame)
+            A′ = storedBy (plan .keep) (plan .position .depth) (plan .frame) A
 
             next : State
             next = stateAt (plan .position .stage) (plan .position .block) K after (plan .position .count) (contextOf (plan .position .visits) r)
@@ -605,7 +620,7 @@ module _ (rule : Rule) (w : List ℕ) (pr : Promise w) (ck : Checked (tableOf w)
             arrived : next ≡ stateOf (plan .position) A′ after r
             unfolding next K
             arrived = ap (λ (F : List machine.Frame). stateAt (plan .position .stage) (plan .position .block) F after (plan .position .count) (contextOf (plan .position .visits) r))
-                (frames-kept A (p .depth) (plan .position .depth) (plan .keep) (plan .frame) (fit .deep) (fit .next) (rw (I .frames) slot-below))
+                (frames-kept A (p .depth) (plan .position .depth) (plan .keep) (plan .frame) (fit .deep) (fit .next) (rw (I .frames) depth-below))
 
             pub walking-again : Walking rule w buffer′ r A′ (plan .position)
             walking-again = record {
@@ -614,7 +629,7 @@ module _ (rule : Rule) (w : List ℕ) (pr : Promise w) (ck : Checked (tableOf w)
               held = rows-held;
               live = next-live;
               whole = E .whole;
-              frames = length-set A (slot (plan .keep) (plan .position .depth)) (plan .frame) ∙ I .frames;
+              frames = stored-length (plan .keep) (plan .position .depth) (plan .frame) A ∙ I .frames;
             }
 
             pub turns-lower : turnsLeft (plan .position) A′ r < turnsLeft p A cx
@@ -663,16 +678,16 @@ module _ {rule : Rule} {w buffer : List ℕ} {cx : Context} {A : List Frame} {p 
     pub turn-applicable : Applicable (visitedBlock (p .stage) (p .block)) plan cx
     turn-applicable = applicable rule w (t .promise) ck buffer cx A p (t .walking) (t .frame) (t .read) (t .aim) buffer′ plan (t .planned _) (t .jump) (fine-on .0) (fine-on .1)
 
-    pub turn-slot : slot (plan .keep) (plan .position .depth) < 129
-    turn-slot = slot-below rule w (t .promise) ck buffer cx A p (t .walking) (t .frame) (t .read) (t .aim) buffer′ plan (t .planned _) (t .jump) (fine-on .0) (fine-on .1)
+    pub turn-shallow : plan .position .depth ≤ 129
+    turn-shallow = depth-below rule w (t .promise) ck buffer cx A p (t .walking) (t .frame) (t .read) (t .aim) buffer′ plan (t .planned _) (t .jump) (fine-on .0) (fine-on .1)
 
     pub turn-blocked : {code at : ℕ} → Blocked (plan .change) (withMarks (visitedBlock (p .stage) (p .block)) (plan .handler) (plan .scope) cx) code at
         → Reported (report rule (tableOf w)) (blockedBy code at (plan .position)) buffer′
     turn-blocked {code} {at} E = blocked-reported rule w (t .promise) ck buffer cx A p (t .walking) (t .frame) (t .read) (t .aim) buffer′ plan (t .planned _) (t .jump) (fine-on .0) (fine-on .1) code at E
 
-    module _ {r : Context} (E : Applied (visitedBlock (p .stage) (p .block)) plan cx r) {i : ℕ} (stored : i ≡ slot (plan .keep) (plan .position .depth)) where
-      pub turn-again : Walking rule w buffer′ r (set A i (plan .frame)) (plan .position)
+    module _ {r : Context} (E : Applied (visitedBlock (p .stage) (p .block)) plan cx r) {frames : List Frame} (stored : frames ≡ storedBy (plan .keep) (plan .position .depth) (plan .frame) A) where
+      pub turn-again : Walking rule w buffer′ r frames (plan .position)
       turn-again = rw stored (walking-again rule w (t .promise) ck buffer cx A p (t .walking) (t .frame) (t .read) (t .aim) buffer′ plan (t .planned _) (t .jump) (fine-on .0) (fine-on .1) r E)
 
-      pub turn-lower : turnsLeft (plan .position) (set A i (plan .frame)) r < turnsLeft p A cx
+      pub turn-lower : turnsLeft (plan .position) frames r < turnsLeft p A cx
       turn-lower = rw stored (turns-lower rule w (t .promise) ck buffer cx A p (t .walking) (t .frame) (t .read) (t .aim) buffer′ plan (t .planned _) (t .jump) (fine-on .0) (fine-on .1) r E)

@@ -7,12 +7,11 @@ use mathlib.Core.List.{List}
 use mathlib.Core.Option.{Option, none}
 use lib.Dec.{eqb}
 use borrow.Author.Tests.{eq-eqb, ne-eqb, eqb-true, eqb-false}
-use Rattle.table.specs.Words.{blockCount, placeCount, caseCount, blockWord}
-use Rattle.table.specs.Promise.{Promise, InRange}
+use Rattle.table.specs.Words.{blockCount, codeAt}
+use Rattle.table.specs.Promise.{Promise, Ends}
 use Rattle.table.specs.Table.{Terminal, absent, unreachable, throw, return, goto, if, branch, switch, do-while, while, for, for-of, for-in, logical, ternary}
-use Rattle.table.specs.Table.{optional, label, sequence, maybe-throw, try, scope, Break, Continue, Try, codeOf, tableOf, terminalOf, terminalAt, variantOf}
-use Rattle.table.proofs.RangeLaws.{in-range}
-use Rattle.table.proofs.BlockLaws.{end-by, code-at, goto-at, branch-at, try-variant}
+use Rattle.table.specs.Table.{optional, label, sequence, maybe-throw, try, scope, Break, Continue, Try, codeOf, tableOf, terminalAt, variantOf}
+use Rattle.table.proofs.BlockLaws.{code-at, try-variant}
 use Rattle.definition.specs.Context.{Flags, has, isScheduled, loopsOf, breakTargetFrom, continueTargetFrom, getBreakTarget, getContinueTarget}
 use Rattle.definition.specs.Context as definition
 use Rattle.definition.specs.Around.{Around}
@@ -51,57 +50,43 @@ quiet (maybe-throw continuation) around cx aim f g = tt
 quiet (try body handler fallthrough binding) around cx aim f g = tt
 quiet (scope pruned body fallthrough number) around cx aim f g = tt
 
-module _ (w : List ℕ) (b : ℕ) (pr : Promise w) (below : b < blockCount w) where
-  pub goto-target : blockWord w b 2 ≡ 4 → blockWord w b 3 < 1024
-  unfolding terminalOf
-  goto-target code =
-      let r : blockWord w b 3 < blockCount w = subst (λ (z : Terminal). InRange (blockCount w) (placeCount w) (caseCount w) z) (end-by w b below 4 code)
-      (in-range w pr b below) in omega (arith, r, pr .sized .limited .blocks)
-
-  pub branch-consequent : blockWord w b 2 ≡ 6 → blockWord w b 4 < 1024
-  unfolding terminalOf
-  branch-consequent code =
-      let r : InRange (blockCount w) (placeCount w) (caseCount w) (branch (blockWord w b 3) (blockWord w b 4) (blockWord w b 5)) = subst
-      (λ (z : Terminal). InRange (blockCount w) (placeCount w) (caseCount w) z) (end-by w b below 6 code) (in-range w pr b below) in
-      omega (arith, r .1, pr .sized .limited .blocks)
-
-module _ (w : List ℕ) (S H : Flags) (b : ℕ) (pr : Promise w) (below : b < blockCount w) where
-  pub no-jump : (blockWord w b 2 ≡ 4 → ⊥) → (blockWord w b 2 ≡ 6 → ⊥) → Searches w S H b Nothing
-  no-jump f g = record { resolves = λ around cx s h. quiet (terminalAt (tableOf w) b) around cx none (λ e. f (sym (code-at w b pr below) ∙ e)) (λ e. g (sym (code-at w b pr below) ∙ e)) }
+module _ (w : List ℕ) (S H : Flags) (b : ℕ) where
+  pub no-jump : Promise w → b < blockCount w → (codeAt w b ≡ 4 → ⊥) → (codeAt w b ≡ 6 → ⊥) → Searches w S H b Nothing
+  no-jump pr below f g =
+      record { resolves = λ around cx s h. quiet (terminalAt (tableOf w) b) around cx none (λ e. f (sym (code-at w b pr below) ∙ e)) (λ e. g (sym (code-at w b pr below) ∙ e)) }
 
   -- ---- Goto
 
-  module _ (code : blockWord w b 2 ≡ 4) where
-    pub goto-breaks : (n : ℕ) → n ≡ blockWord w b 3 → blockWord w b 4 ≡ 0 → Searches w S H b (jump.Break n)
+  module _ {target variant : ℕ} (ends : Ends w b (goto target (variantOf variant))) where
+    pub goto-breaks : (n : ℕ) → n ≡ target → variant ≡ 0 → Searches w S H b (jump.Break n)
     unfolding variantOf
     goto-breaks n s e = record {
-      resolves = λ around cx _ _. subst (λ (z : Terminal). Resolves z around cx (goals (breakGoal around) (getBreakTarget cx n))) (sym (goto-at w b below code Break (ap variantOf e)))
+      resolves = λ around cx _ _. subst (λ (z : Terminal). Resolves z around cx (goals (breakGoal around) (getBreakTarget cx n))) (sym (ends .is ∙ ap (λ (v : ℕ). goto target (variantOf v)) e))
           (ap (λ (k : ℕ). goals (breakGoal around) (getBreakTarget cx k)) s);
     }
 
-    pub goto-continues : (n : ℕ) → n ≡ blockWord w b 3 → blockWord w b 4 ≡ 1 → Searches w S H b (jump.Continue n)
+    pub goto-continues : (n : ℕ) → n ≡ target → variant ≡ 1 → Searches w S H b (jump.Continue n)
     unfolding variantOf
-    goto-continues n s e =
-        record {
-          resolves = λ around cx _ _. subst (λ (z : Terminal). Resolves z around cx (goals (continueGoal around) (getContinueTarget cx n)))
-              (sym (goto-at w b below code Continue (ap variantOf e))) (ap (λ (k : ℕ). goals (continueGoal around) (getContinueTarget cx k)) s);
-        }
+    goto-continues n s e = record {
+      resolves = λ around cx _ _. subst (λ (z : Terminal). Resolves z around cx (goals (continueGoal around) (getContinueTarget cx n)))
+          (sym (ends .is ∙ ap (λ (v : ℕ). goto target (variantOf v)) e)) (ap (λ (k : ℕ). goals (continueGoal around) (getContinueTarget cx k)) s);
+    }
 
-    pub goto-tries : (blockWord w b 4 ≡ 0 → ⊥) → (blockWord w b 4 ≡ 1 → ⊥) → Searches w S H b Nothing
-    goto-tries f g = record { resolves = λ around cx _ _. subst (λ (z : Terminal). Resolves z around cx none) (sym (goto-at w b below code Try (try-variant (blockWord w b 4) f g))) tt }
+    pub goto-tries : (variant ≡ 0 → ⊥) → (variant ≡ 1 → ⊥) → Searches w S H b Nothing
+    goto-tries f g = record { resolves = λ around cx _ _. subst (λ (z : Terminal). Resolves z around cx none) (sym (ends .is ∙ ap (goto target) (try-variant variant f g))) tt }
 
   -- ---- Branch
 
-  module _ (code : blockWord w b 2 ≡ 6) where
-    pub branch-breaks : (n : ℕ) → n ≡ blockWord w b 4 → Searches w S H b (jump.Break n)
+  module _ {test consequent alternate : ℕ} (ends : Ends w b (branch test consequent alternate)) where
+    pub branch-breaks : (n : ℕ) → n ≡ consequent → Searches w S H b (jump.Break n)
     branch-breaks n s = record {
-      resolves = λ around cx _ _. subst (λ (z : Terminal). Resolves z around cx (goals (breakGoal around) (getBreakTarget cx n))) (sym (branch-at w b below code))
+      resolves = λ around cx _ _. subst (λ (z : Terminal). Resolves z around cx (goals (breakGoal around) (getBreakTarget cx n))) (sym (ends .is))
           (λ _. ap (λ (k : ℕ). goals (breakGoal around) (getBreakTarget cx k)) s);
     }
 
-    pub branch-goes : has S (blockWord w b 4) || has H (blockWord w b 4) ≡ false → Searches w S H b Nothing
+    pub branch-goes : has S consequent || has H consequent ≡ false → Searches w S H b Nothing
     unfolding isScheduled
-    branch-goes e = record { resolves = λ around cx s h. subst (λ (z : Terminal). Resolves z around cx none) (sym (branch-at w b below code)) (λ q. absurd (differ (sym q ∙ rw (s, h) e))) }
+    branch-goes e = record { resolves = λ around cx s h. subst (λ (z : Terminal). Resolves z around cx none) (sym (ends .is)) (λ q. absurd (differ (sym q ∙ rw (s, h) e))) }
       where
         differ : _≡_ {A = Bool} true false → ⊥
         differ e = let o : _≡_ {A = ℕ} 0 1 = ap (λ (y : Bool). elim y [ true ↦ 0 | false ↦ 1 ]) e in omega arith

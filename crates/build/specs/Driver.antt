@@ -72,6 +72,21 @@ surveyedBy Nothing rule seen found = none
 surveyedBy (jump.Break block) rule seen found = goals (surveyedBreak rule seen) found
 surveyedBy (jump.Continue block) rule seen found = goals (surveyedContinue rule seen) found
 
+-- A Labeled break asks of the statements around only whether one has its label: so the first that has it is enough.
+abbrev pub enoughFor : Kind → (named : Bool) → Bool
+enoughFor implicit named = false
+enoughFor labeled named = named
+enoughFor unlabeled named = false
+
+abbrev pub enoughIn : Option definition.Resolution → (named : Bool) → Bool
+enoughIn none named = false
+enoughIn (some found) named = enoughFor (found .kind) named
+
+abbrev pub knownBy : Jump → Option definition.Resolution → (named : Bool) → Bool
+knownBy Nothing found named = false
+knownBy (jump.Break block) found named = enoughIn found named
+knownBy (jump.Continue block) found named = false
+
 -- a search that finds what the block's terminal looks for
 pub record Searches (words : List ℕ) (scheduledSet handlerSet : Flags) (block : ℕ) (found : Jump) : Type 0 where
   pub resolves : (around : Around) (cx : definition.Context) → cx .scheduled ≡ scheduledSet → cx .catchHandlers ≡ handlerSet → Resolves (terminalAt (tableOf words) block) around cx (goalBy found around (foundBy found cx))
@@ -89,11 +104,6 @@ visitedBlock Halt block = 65535
 abbrev pub marked : Option ℕ → Flags → Flags
 marked none flags = flags
 marked (some block) flags = add flags block
-
--- where the frame of a plan is stored: one that is not kept goes above the frames in use
-abbrev pub slot : (keep : Bool) → (depth : ℕ) → ℕ
-slot true depth = depth - 1
-slot false depth = depth
 
 abbrev pub isHalt : Stage → Bool
 isHalt Visit = false

@@ -2,18 +2,22 @@
 use crate::search::aim_at;
 use crate::search::asks_around;
 use crate::search::jump_at;
+use crate::search::knows;
 use crate::search::meets;
 use crate::search::resolve;
 use crate::search::search_from;
 use control::Context;
 use control::ControlFlowTarget;
+use control::Entry;
 use control::Resolved;
 use control::SETTLED;
 use control::add_target;
 use control::count_loop;
 use control::insert;
+use control::is_blocked;
 use control::remove_target;
 use plan::Change;
+use plan::Frame;
 use plan::NONE;
 use plan::Plan;
 use plan::Position;
@@ -28,16 +32,16 @@ use survey::target_of;
 use survey::unseen;
 use table::words::entry;
 ghost use mathlib.Core.Path.{_≡_};
-ghost use Prim.Native.Nat.{_-_};
+ghost use Prim.Native.Nat.{_-_, _<_};
 ghost use Rattle.table.specs.Words.{entryWord};
 ghost use Rattle.table.specs.Table.{tableOf, unlessNone};
 ghost use Rattle.table.specs.Promise.{Promise};
 ghost use Rattle.definition.specs.Build.{report};
 ghost use Rattle.definition.specs.Framed.{Below};
-ghost use Rattle.definition.specs.Context.{blockAsked};
+ghost use Rattle.definition.specs.Context.{blockedCode, blockAsked};
 ghost use Rattle.control.specs.Abstraction.{targetOf};
 ghost use Rattle.survey.specs.Abstraction.{ruleOf};
-ghost use Rattle.build.specs.Driver.{visitedBlock, marked, startingAt, planEnds, isHalt, slot, walkedBy, blockedBy, Reported};
+ghost use Rattle.build.specs.Driver.{visitedBlock, marked, startingAt, planEnds, isHalt, walkedBy, blockedBy, Reported};
 
 // Where the walk ended: a refusal, or the rows that are out.
 pub struct Walked {
@@ -120,13 +124,15 @@ fn answer(plan: Plan) -> Walked
     }
 }
 
-// What `schedule` itself refuses, at the block that it asked about.
-fn blocked(code: u16, target: ControlFlowTarget, p: Position) -> Walked
-    ensures { λ r. ⌜ r ≡ blockedBy code (blockAsked (targetOf target)) p ⌝ }
+// What `schedule` itself refuses, at the block that it asks about.
+fn blocked(target: ControlFlowTarget, p: Position) -> Walked
+    ensures { λ r. ⌜ r ≡ blockedBy (blockedCode (targetOf target)) (blockAsked (targetOf target)) p ⌝ }
 {
+    let code = target.blocked_code();
+    let at = target.block_asked() as u32;
     Walked {
-        code: code as u32,
-        at: target.block_asked() as u32,
+        code: code,
+        at: at,
         rows: p.rows,
         visits: p.visits,
     }
@@ -142,14 +148,15 @@ fn innermost(depth: u32) -> usize
     (depth - 1) as usize
 }
 
-// Where a plan's frame is stored: one that is not kept goes above the frames in use.
-fn frame_slot(keep: bool, depth: u32) -> usize
-    ensures { λ r. ⌜ r ≡ slot keep depth ⌝ }
+// Where to look first for the statement of the entry that was found: there, if each statement around has one entry.
+fn likely_owner(at: usize, depth: usize) -> usize
+    requires { ⌜ 0 < depth ⌝ }
+    ensures { λ r. ⌜ r < depth ⌝ }
 {
-    if keep {
-        return innermost(depth);
+    if at < depth {
+        return at;
     }
-    depth as usize
+    0
 }
 
 // The one function over 40 lines: a function that is handed the Context by value and indexes its entries copies it, 18 KB a turn (docs/PERFORMANCE.md).
@@ -184,6 +191,14 @@ pub fn walk(rule: Rule, words: &[u32], tree: &mut [u32]) -> Walked
         let target = target_of(found);
         let mut left = pass_from(asks_around(rule, found), p.depth);
         let mut seen = unseen(found);
+        if left > 0 {
+            let owner = frames[likely_owner(at, left)];
+            let looked = pass(words, target, owner.block, owner.label, seen);
+            if knows(jump, found, looked) {
+                left = 0;
+                seen = looked;
+            }
+        }
         while left > 0 {
             left -= 1;
             let around = frames[left];
@@ -207,32 +222,63 @@ pub fn walk(rule: Rule, words: &[u32], tree: &mut [u32]) -> Walked
         mark(&mut cx.emitted, visited_block(p));
         mark(&mut cx.catch_handlers, plan.handler);
         mark(&mut cx.scope_fallthroughs, plan.scope);
-        p = plan.position;
-        let kept = plan.frame;
-        frames[frame_slot(plan.keep, p.depth)] = kept;
+        let next = plan.position;
+        let stage = next.stage;
+        p = Position {
+            block: next.block,
+            depth: next.depth,
+            count: next.count,
+            rows: next.rows,
+            visits: next.visits,
+            stage: stage,
+        };
+        if plan.keep {
+            let kept = plan.frame;
+            frames[innermost(p.depth)] = Frame {
+                block: kept.block,
+                label: kept.label,
+                entries: kept.entries,
+                left: kept.left,
+                built: kept.built,
+                count: kept.count,
+                second: kept.second,
+            };
+        }
         let change = plan.change;
         match change {
             Change::Nothing => {}
             Change::Schedule(target) => {
                 cx = cx.schedule(target);
-                if cx.refused != 0 {
-                    return blocked(cx.refused, target, p);
+                let pushed = cx.pushed;
+                let target = pushed.target;
+                let busy = is_blocked(&cx.scheduled, target); // catch handlers play no part
+                if busy {
+                    return blocked(target, p);
                 }
-                let entry = cx.pushed;
+                let owns_loop = add_target(&mut cx.scheduled, target); // its blocks go in
+                let entry = Entry {
+                    id: pushed.id,
+                    target: target,
+                    owns_loop: owns_loop,
+                };
                 cx.stack[cx.len - 1] = entry;
-                let target = entry.target;
-                add_target(&mut cx.scheduled, target);
-                cx.pending = SETTLED;
+                cx.pending = SETTLED; // the arrays have the entry and its blocks
             }
             Change::ScheduleBriefly(target) => {
                 cx = cx.schedule(target);
-                if cx.refused != 0 {
-                    return blocked(cx.refused, target, p);
+                let pushed = cx.pushed;
+                let target = pushed.target;
+                let busy = is_blocked(&cx.scheduled, target);
+                if busy {
+                    return blocked(target, p);
                 }
-                let entry = cx.pushed;
+                let owns_loop = add_target(&mut cx.scheduled, target);
+                let entry = Entry {
+                    id: pushed.id,
+                    target: target,
+                    owns_loop: owns_loop,
+                };
                 cx.stack[cx.len - 1] = entry;
-                let target = entry.target;
-                add_target(&mut cx.scheduled, target);
                 cx.pending = SETTLED;
                 cx = cx.unschedule();
                 let off = cx.stack[cx.len];
@@ -242,9 +288,9 @@ pub fn walk(rule: Rule, words: &[u32], tree: &mut [u32]) -> Walked
             }
             Change::Unschedule => {
                 cx = cx.unschedule();
-                let off = cx.stack[cx.len];
+                let off = cx.stack[cx.len]; // just above the stack
                 let target = off.target;
-                remove_target(&mut cx.scheduled, target, off.owns_loop);
+                remove_target(&mut cx.scheduled, target, off.owns_loop); // and its blocks come out
                 cx.pending = SETTLED;
             }
         }

@@ -2,6 +2,7 @@
 // neither the stack nor the statements around.
 use control::ControlFlowTarget;
 use control::Entry;
+use control::ReactiveTerminalTargetKind;
 use control::Resolved;
 use control::break_to;
 use control::continue_to;
@@ -15,17 +16,19 @@ use survey::Survey;
 use survey::asks;
 use survey::break_goal;
 use survey::continue_goal;
-use table::words::block_word;
+use table::columns::code_at;
+use table::terminals::branch_at;
+use table::terminals::goto_at;
 ghost use mathlib.Core.Path.{_≡_};
 ghost use Prim.Native.Nat.{_<_};
-ghost use Rattle.table.specs.Words.{blockCount, blockWord};
+ghost use Rattle.table.specs.Words.{blockCount, codeAt};
 ghost use Rattle.table.specs.Promise.{Promise};
 ghost use Rattle.definition.specs.Context.{Flags};
 ghost use Rattle.definition.specs.Goal.{goals, surveyedBreak, surveyedContinue};
-ghost use Rattle.control.specs.Abstraction.{targetOf, resolvedOf};
+ghost use Rattle.control.specs.Abstraction.{targetOf, kindOf, resolvedOf};
 ghost use Rattle.survey.specs.Abstraction.{ruleOf, surveyOf, aimOf};
 ghost use Rattle.plan.specs.declared.Stage.the-variants.{Visit};
-ghost use Rattle.build.specs.Driver.{searchedFrom, isMet, resolvedAt, asksOf, surveyedBy, Searches};
+ghost use Rattle.build.specs.Driver.{searchedFrom, isMet, resolvedAt, asksOf, surveyedBy, enoughFor, enoughIn, knownBy, Searches};
 
 pub enum Jump {
     Nothing,
@@ -82,6 +85,39 @@ pub fn asks_around(rule: Rule, found: Resolved) -> bool
     }
 }
 
+fn enough_for(kind: ReactiveTerminalTargetKind, named: bool) -> bool
+    ensures { λ r. ⌜ r ≡ enoughFor (kindOf kind) named ⌝ }
+{
+    match kind {
+        ReactiveTerminalTargetKind::Implicit => false,
+        ReactiveTerminalTargetKind::Labeled => named,
+        ReactiveTerminalTargetKind::Unlabeled => false,
+    }
+}
+
+fn enough_in(found: Resolved, named: bool) -> bool
+    ensures { λ r. ⌜ r ≡ enoughIn (resolvedOf found) named ⌝ }
+{
+    match found {
+        Resolved::Nothing => false,
+        Resolved::Found(resolution) => {
+            let kind = resolution.kind;
+            enough_for(kind, named)
+        }
+    }
+}
+
+// Whether a statement that was looked at tells all that the jump asks: a Labeled break asks only whether one of those around has its label.
+pub fn knows(jump: Jump, found: Resolved, looked: Survey) -> bool
+    ensures { λ r. ⌜ r ≡ knownBy jump (resolvedOf found) (looked .named) ⌝ }
+{
+    match jump {
+        Jump::Nothing => false,
+        Jump::Break(_) => enough_in(found, looked.named),
+        Jump::Continue(_) => false,
+    }
+}
+
 fn break_aim(rule: Rule, found: Resolved, seen: Survey) -> Aim
     ensures { λ r. ⌜ aimOf r ≡ goals (surveyedBreak (ruleOf rule) (surveyOf seen)) (resolvedOf found) ⌝ }
 {
@@ -114,11 +150,13 @@ pub fn aim_at(rule: Rule, jump: Jump, found: Resolved, seen: Survey) -> Aim
 fn goto_jump(words: &[u32], block: u32) -> Jump
     requires { ⌜ Promise (now words) ⌝ }
     requires { ⌜ block < blockCount (now words) ⌝ }
-    requires { ⌜ blockWord (now words) block 2 ≡ 4 ⌝ }
+    requires { ⌜ codeAt (now words) block ≡ 4 ⌝ }
     ensures { λ r. ⌜ ((scheduledSet handlerSet : Flags) → Searches (now (words .entry)) scheduledSet handlerSet block r) ⌝ }
 {
-    let target = narrow(block_word(words, block, 3));
-    match block_word(words, block, 4) {
+    let terminal = goto_at(words, block);
+    let target = narrow(terminal.block);
+    let variant = terminal.variant;
+    match variant {
         0 => Jump::Break(target),
         1 => Jump::Continue(target),
         _ => Jump::Nothing,
@@ -134,12 +172,12 @@ fn branch_jump<'a>(
 ) -> Jump
     requires { ⌜ Promise (now words) ⌝ }
     requires { ⌜ block < blockCount (now words) ⌝ }
-    requires { ⌜ blockWord (now words) block 2 ≡ 6 ⌝ }
+    requires { ⌜ codeAt (now words) block ≡ 6 ⌝ }
     ensures { λ r. ⌜ Searches (now (words .entry)) (now (scheduled .entry)) (now («catch_handlers» .entry)) block r ⌝ }
 {
-    let consequent = block_word(words, block, 4);
-    if scheduled_at(scheduled, catch_handlers, consequent) {
-        return Jump::Break(narrow(consequent));
+    let terminal = branch_at(words, block);
+    if scheduled_at(scheduled, catch_handlers, terminal.consequent) {
+        return Jump::Break(narrow(terminal.consequent));
     }
     Jump::Nothing
 }
@@ -154,7 +192,7 @@ fn block_jump<'a>(
     requires { ⌜ block < blockCount (now words) ⌝ }
     ensures { λ r. ⌜ Searches (now (words .entry)) (now (scheduled .entry)) (now («catch_handlers» .entry)) block r ⌝ }
 {
-    match block_word(words, block, 2) {
+    match code_at(words, block) {
         4 => goto_jump(words, block),
         6 => branch_jump(words, scheduled, catch_handlers, block),
         _ => Jump::Nothing,

@@ -22,8 +22,8 @@ use Rattle.control.specs.declared.ControlFlowTarget.{ControlFlowTarget}
 use Rattle.control.specs.declared.ControlFlowTarget.the-variants.{If, Switch, Case, Loop}
 use Rattle.control.specs.declared.Entry.{Entry}
 use Rattle.control.specs.declared.Context.{Context}
-use Rattle.control.specs.Abstraction.{targetOf, entryOf, noEntry, stackOf, entriesOf, setOf, contextOf, settled, released}
-use Rattle.control.specs.Contract.{continueScheduled, blockedIn, Named, Bounded, Room, Last, refusalIf, withEntry, withoutLast, Created, Scheduled, Unscheduled}
+use Rattle.control.specs.Abstraction.{targetOf, entryOf, noEntry, stackOf, enteredIn, entriesOf, setOf, contextOf, settled, released}
+use Rattle.control.specs.Contract.{continueScheduled, blockedIn, Named, Bounded, Room, Last, withEntry, withoutLast, Created, Scheduled, Unscheduled}
 
 -- ---- targets
 
@@ -82,8 +82,6 @@ module _ (visits block : ℕ) (cx : Context) where
     scheduled = cx .scheduled;
     pushed = cx .pushed;
     pending = cx .pending;
-    refused =
-        cx .refused;
     «next_schedule_id» = cx .«next_schedule_id»;
     stack = cx .stack;
   }) ≡ emit block (contextOf visits cx)
@@ -99,7 +97,6 @@ module _ (visits block : ℕ) (cx : Context) where
         scheduled = cx .scheduled;
         pushed = cx .pushed;
         pending = cx .pending;
-        refused = cx .refused;
         «next_schedule_id» = cx .«next_schedule_id»;
         stack =
             cx .stack;
@@ -116,7 +113,6 @@ module _ (visits block : ℕ) (cx : Context) where
         scheduled = cx .scheduled;
         pushed = cx .pushed;
         pending = cx .pending;
-        refused = cx .refused;
         «next_schedule_id» = cx .«next_schedule_id»;
         stack =
             cx .stack;
@@ -138,7 +134,6 @@ pub created : Created (record {
   scheduled = replicate 1024 false;
   pushed = noEntry;
   pending = 0;
-  refused = 0;
   «next_schedule_id» = 0;
   stack = replicate 1152 noEntry;
 })
@@ -159,8 +154,9 @@ unfolding contextOf settled
 settles visits cx e h k =
     let n : ℕ = cx .len - 1 in
     let l : cx .len ≡ suc n = omega arith in
-    let s : stackOf (set (cx .stack) n (cx .pushed)) (cx .len) ≡ entriesOf (cx .pending) (cx .pushed) (cx .stack) (cx .len) =
-    ap (stackOf (set (cx .stack) n (cx .pushed))) l ∙ stack-stored (cx .stack) n (cx .pushed) (omega arith) ∙ sym (ap (λ (pending : ℕ). entriesOf pending (cx .pushed) (cx .stack) (cx .len)) e) in
+    let entry : Entry = enteredIn (cx .scheduled) (cx .pushed) in
+    let s : stackOf (set (cx .stack) n entry) (cx .len) ≡ entriesOf (cx .pending) (cx .pushed) (cx .scheduled) (cx .stack) (cx .len) =
+    ap (stackOf (set (cx .stack) n entry)) l ∙ stack-stored (cx .stack) n entry (omega arith) ∙ sym (ap (λ (pending : ℕ). entriesOf pending (cx .pushed) (cx .scheduled) (cx .stack) (cx .len)) e) in
     let f : scheduledBy (targetOf (cx .pushed .target)) (cx .scheduled) ≡ setOf (cx .pending) (cx .pushed) (getD (cx .stack) (cx .len) noEntry) (cx .scheduled) =
     sym (ap (λ (pending : ℕ). setOf pending (cx .pushed) (getD (cx .stack) (cx .len) noEntry) (cx .scheduled)) e) in
     rw (s, f)
@@ -169,19 +165,12 @@ pub releases : (visits : ℕ) (cx : Context) → cx .pending ≡ 2 → contextOf
 unfolding contextOf released
 releases visits cx e = rw e
 
--- a refusal that is asked as a number
-asked : (blocked : Bool) (code at visits : ℕ) (next : definition.Context) → (code ≡ 0 → ⊥)
-    → (refuseIf blocked code at visits >>= λ _. ok next) ≡ elim (eqb (refusalIf blocked code) 0)
-    [ true ↦ ok next | false ↦ refused (refusalIf blocked code) at visits ]
+-- a refusal, or the next Context
+asked : (blocked : Bool) (code at visits : ℕ) (next : definition.Context)
+    → (refuseIf blocked code at visits >>= λ _. ok next) ≡ elim blocked [ true ↦ refused code at visits | false ↦ ok next ]
 unfolding refuseIf _>>=_
-asked true code at visits next h = rw (ne-eqb code 0 h)
-asked false code at visits next h = refl
-
-blocked-code : (target : definition.ControlFlowTarget) → blockedCode target ≡ 0 → ⊥
-blocked-code (target-if block) e = omega (arith, e)
-blocked-code (target-switch block) e = omega (arith, e)
-blocked-code (target-case block) e = omega (arith, e)
-blocked-code (target-loop block continueBlock loopBlock) e = omega (arith, e)
+asked true code at visits next = refl
+asked false code at visits next = refl
 
 pub pushes : (visits : ℕ) (target : ControlFlowTarget) (cx : Context) → cx .pending ≡ 0 → contextOf visits (withEntry target cx) ≡ pushed (targetOf target) (contextOf visits cx)
 unfolding contextOf pushed
@@ -217,7 +206,7 @@ module _ (target : ControlFlowTarget) (cx : Context) (named : Named target) (roo
         (λ (next : definition.Context). refuseIf (isBlocked (targetOf target) (cx .scheduled)) (blockedCode (targetOf target)) (blockAsked (targetOf target))
         visits >>= λ _. ok next) (sym (pushes visits target cx (room .settled)))
         ∙ asked (isBlocked (targetOf target) (cx .scheduled)) (blockedCode (targetOf target)) (blockAsked (targetOf target)) visits
-        (contextOf visits (withEntry target cx)) (blocked-code (targetOf target));
+        (contextOf visits (withEntry target cx));
     len = refl;
     id = refl;
     pending = refl;
@@ -242,7 +231,7 @@ module _ (cx : Context) (top : Last cx) where
 
   on-top : (visits : ℕ) → contextOf visits cx .stack ≡ entryOf last ∷ stackOf (cx .stack) (cx .len - 1)
   unfolding contextOf
-  on-top visits = ap (λ (pending : ℕ). entriesOf pending (cx .pushed) (cx .stack) (cx .len)) (top .settled) ∙ stack-last (cx .stack) (cx .len) last (top .nonempty) refl
+  on-top visits = ap (λ (pending : ℕ). entriesOf pending (cx .pushed) (cx .scheduled) (cx .stack) (cx .len)) (top .settled) ∙ stack-last (cx .stack) (cx .len) last (top .nonempty) refl
 
   off : (visits : ℕ) → popped (stackOf (cx .stack) (cx .len - 1)) (unscheduledBy (targetOf (last .target)) (last .«owns_loop») (contextOf visits cx .scheduled))
       (contextOf visits cx) ≡ contextOf visits (withoutLast cx)

@@ -8,12 +8,12 @@ use lib.ListN.{getD, set, replicate}
 use Rattle.definition.specs.Result.{ok}
 use Rattle.definition.specs.Context as definition
 use Rattle.definition.specs.Machine as machine
-use Rattle.definition.specs.Context.{Flags, has, target-if, target-switch, target-case, target-loop, targetBlock, isLoop, breakKind, continueKind, isBlocked, blockedCode, blockAsked, owns, start, schedule, unschedule}
+use Rattle.definition.specs.Context.{Flags, has, target-if, target-switch, target-case, target-loop, targetBlock, isLoop, breakKind, continueKind, start, schedule, unschedule}
 use Rattle.control.specs.declared.ControlFlowTarget.{ControlFlowTarget}
 use Rattle.control.specs.declared.ControlFlowTarget.the-variants.{If, Switch, Case, Loop}
 use Rattle.control.specs.declared.Entry.{Entry}
 use Rattle.control.specs.declared.Context.{Context}
-use Rattle.control.specs.Abstraction.{targetOf, noEntry, contextOf, resultOf}
+use Rattle.control.specs.Abstraction.{targetOf, noEntry, enteredIn, contextOf, resultOf}
 
 -- the blocks that a target names are among the 1,024
 abbrev pub Named : ControlFlowTarget → Type 0
@@ -48,20 +48,15 @@ blockedIn (target-switch block) scheduled = has scheduled block
 blockedIn (target-case block) scheduled = has scheduled block
 blockedIn (target-loop block continueBlock loopBlock) scheduled = continueScheduled scheduled block continueBlock
 
--- the number of a refusal, 0 where there is none
-abbrev pub refusalIf : (blocked : Bool) → (code : ℕ) → ℕ
-refusalIf true code = code
-refusalIf false code = 0
-
 -- ---- the Contexts that the methods hand back, field by field
 
--- a target under the next id, pending with its blocks
+-- a target under the next id, pending with its blocks; `owns_loop` is told where they go in
 abbrev pub withEntry : ControlFlowTarget → Context → Context
-withEntry target cx = record { emitted = cx .emitted; «catch_handlers» = cx .«catch_handlers»; «scope_fallthroughs» = cx .«scope_fallthroughs»; len = cx .len + 1; scheduled = cx .scheduled; pushed = record { id = cx .«next_schedule_id»; target = target; «owns_loop» = owns (targetOf target) (cx .scheduled) }; pending = 1; refused = refusalIf (isBlocked (targetOf target) (cx .scheduled)) (blockedCode (targetOf target)); «next_schedule_id» = cx .«next_schedule_id» + 1; stack = cx .stack }
+withEntry target cx = record { emitted = cx .emitted; «catch_handlers» = cx .«catch_handlers»; «scope_fallthroughs» = cx .«scope_fallthroughs»; len = cx .len + 1; scheduled = cx .scheduled; pushed = record { id = cx .«next_schedule_id»; target = target; «owns_loop» = false }; pending = 1; «next_schedule_id» = cx .«next_schedule_id» + 1; stack = cx .stack }
 
 -- one entry less, its blocks pending; the array of entries is as it was
 abbrev pub withoutLast : Context → Context
-withoutLast cx = record { emitted = cx .emitted; «catch_handlers» = cx .«catch_handlers»; «scope_fallthroughs» = cx .«scope_fallthroughs»; len = cx .len - 1; scheduled = cx .scheduled; pushed = cx .pushed; pending = 2; refused = cx .refused; «next_schedule_id» = cx .«next_schedule_id»; stack = cx .stack }
+withoutLast cx = record { emitted = cx .emitted; «catch_handlers» = cx .«catch_handlers»; «scope_fallthroughs» = cx .«scope_fallthroughs»; len = cx .len - 1; scheduled = cx .scheduled; pushed = cx .pushed; pending = 2; «next_schedule_id» = cx .«next_schedule_id»; stack = cx .stack }
 
 -- ---- the promises. `context` is the equation with the definition, refusals included; `pops` that of the machine, which asks none; `state` says
 -- every field
@@ -76,11 +71,11 @@ pub record Created (r : Context) : Type 0 where
 
 pub record Scheduled (target : ControlFlowTarget) (self r : Context) : Type 0 where
   pub state : r ≡ withEntry target self
-  pub context : (visits : ℕ) → schedule (targetOf target) (contextOf visits self) ≡ resultOf (blockAsked (targetOf target)) visits r
+  pub context : (visits : ℕ) → schedule (targetOf target) (contextOf visits self) ≡ resultOf visits r
   pub len : r .len ≡ self .len + 1
   pub id : r .«next_schedule_id» ≡ self .«next_schedule_id» + 1
   pub pending : r .pending ≡ 1
-  pub bounded : Bounded (self .stack) (self .len) → Bounded (set (r .stack) (r .len - 1) (r .pushed)) (r .len)
+  pub bounded : Bounded (self .stack) (self .len) → Bounded (set (r .stack) (r .len - 1) (enteredIn (r .scheduled) (r .pushed))) (r .len)
 
 pub record Unscheduled (self r : Context) : Type 0 where
   pub state : r ≡ withoutLast self

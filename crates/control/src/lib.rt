@@ -4,15 +4,15 @@
 // A step never indexes an array of the Context that it is handed: a store into it or a read from it would copy the whole. So a step tells by `pending` what
 // is left to do in the arrays. The stack has `len` entries: those of the array, with `pushed` as the last where it ENTERED. The scheduled set is the array's,
 // with the blocks of `pushed` in it where it ENTERED, and without those of the entry just above the stack where it LEFT. The caller settles that, which
-// changes the form of the Context alone (`settles`, `releases`). For the same reason `schedule` asks a copy of the set, each step writes `len`, and the
-// scalars stand between the arrays. (docs/PERFORMANCE.md has the times.)
+// changes the form of the Context alone (`settles`, `releases`). A target that ENTERED and is blocked in the set is refused (`resultOf`), and such a Context goes
+// no further. For the same reason each step writes `len`, and the scalars stand between the arrays. (docs/PERFORMANCE.md has the times.)
 ghost use mathlib.Core.Path.{_≡_};
 ghost use Prim.Native.Nat.{_+_, _≤_, _<_};
 ghost use mathlib.Core.Bool.{_||_};
 ghost use Rattle.definition.specs.Context.{add, has, targetBlock, isLoop, loopsOf, continuesAt, blockAsked, blockedCode, scheduledBy, owns, breakKind, continueKind, unscheduledBy};
 ghost use Rattle.definition.specs.Tree.{kindNumber};
 ghost use Rattle.control.specs.Abstraction.{targetOf, kindOf, foundBlock, resolutionOf};
-ghost use Rattle.control.specs.Contract.{Named, Room, Last, blockedIn, refusalIf, Created, Scheduled, Unscheduled, breakTo, continueTo};
+ghost use Rattle.control.specs.Contract.{Named, Room, Last, blockedIn, Created, Scheduled, Unscheduled, breakTo, continueTo};
 
 // What an entry of the control stack stands for. A loop's `block` is its fallthrough.
 pub enum ControlFlowTarget {
@@ -72,7 +72,6 @@ pub struct Context {
     pub scheduled: [bool; 1024],
     pub pushed: Entry,
     pub pending: u8,
-    pub refused: u16,
     pub next_schedule_id: u16,
     pub stack: [Entry; 1152],
 }
@@ -140,23 +139,20 @@ impl ControlFlowTarget {
         }
     }
 
-    // What it is refused with, if it is: the Rust's message for a break block that is scheduled (it never occurs), and 15.
-    fn refusal(self, blocked: bool) -> u16
-        ensures { λ r. ⌜ r ≡ refusalIf blocked (blockedCode (targetOf self)) ⌝ }
+    // What it is refused with there: the Rust's message for a break block that is scheduled (it never occurs), and 15.
+    pub fn blocked_code(self) -> u32
+        ensures { λ r. ⌜ r ≡ blockedCode (targetOf self) ⌝ }
     {
-        if blocked {
-            return match self {
-                ControlFlowTarget::If { block: _ } => 90,
-                ControlFlowTarget::Switch { block: _ } => 90,
-                ControlFlowTarget::Case { block: _ } => 90,
-                ControlFlowTarget::Loop {
-                    block: _,
-                    continue_block: _,
-                    loop_block: _,
-                } => 15,
-            };
+        match self {
+            ControlFlowTarget::If { block: _ } => 90,
+            ControlFlowTarget::Switch { block: _ } => 90,
+            ControlFlowTarget::Case { block: _ } => 90,
+            ControlFlowTarget::Loop {
+                block: _,
+                continue_block: _,
+                loop_block: _,
+            } => 15,
         }
-        0
     }
 }
 
@@ -386,27 +382,22 @@ impl Context {
             scheduled: [false; 1024],
             pushed: entry,
             pending: SETTLED,
-            refused: 0,
             next_schedule_id: 0,
             stack: [entry; 1152],
         }
     }
 
-    // The one way to schedule: any target, a loop with its three blocks. The entry is pending, and so are its blocks. `refused` is 15 where a loop's
-    // continue block is scheduled, and such a Context goes no further.
+    // The one way to schedule: any target, a loop with its three blocks. The entry is pending, its blocks, and whether it is refused: `is_blocked` of the set
+    // and the target tells that, and `add_target` whether it owns its loop block.
     pub fn schedule(mut self, target: ControlFlowTarget) -> Context
         requires { ⌜ Named target ⌝ }
         requires { ⌜ Room self ⌝ }
         ensures { λ r. ⌜ Scheduled target self r ⌝ }
     {
-        let mut scheduled = self.scheduled;
-        let blocked = is_blocked(&scheduled, target);
-        let owns_loop = add_target(&mut scheduled, target);
-        self.refused = target.refusal(blocked);
         let entry = Entry {
             id: self.next_schedule_id,
             target: target,
-            owns_loop: owns_loop,
+            owns_loop: false,
         };
         self.pushed = entry;
         self.pending = ENTERED;

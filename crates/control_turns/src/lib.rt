@@ -4,6 +4,7 @@ ghost use Prim.Native.Nat.{_+_, _<_};
 ghost use Rattle.definition.specs.Tree.{flagOf};
 use control::Context;
 use control::ControlFlowTarget;
+use control::Entry;
 use control::SETTLED;
 use control::add_target;
 use control::is_scheduled;
@@ -38,10 +39,15 @@ pub extern "C" fn control_turns_schedule(turns: u16) -> u16
         block = next_block(block);
         cx = cx.schedule(ControlFlowTarget::If { block: block });
         let at = cx.len - 1;
-        let entry = cx.pushed;
+        let pushed = cx.pushed;
+        let target = pushed.target;
+        let owns_loop = add_target(&mut cx.scheduled, target);
+        let entry = Entry {
+            id: pushed.id,
+            target: target,
+            owns_loop: owns_loop,
+        };
         cx.stack[at] = entry;
-        let target = entry.target;
-        add_target(&mut cx.scheduled, target);
         cx.pending = SETTLED;
         seen = count(seen, is_scheduled(&cx.scheduled, &cx.catch_handlers, block));
         cx = cx.unschedule();
@@ -73,10 +79,15 @@ pub extern "C" fn control_turns_schedule_loop(turns: u16) -> u16
         };
         cx = cx.schedule(target);
         let at = cx.len - 1;
-        let entry = cx.pushed;
+        let pushed = cx.pushed;
+        let target = pushed.target;
+        let owns_loop = add_target(&mut cx.scheduled, target);
+        let entry = Entry {
+            id: pushed.id,
+            target: target,
+            owns_loop: owns_loop,
+        };
         cx.stack[at] = entry;
-        let target = entry.target;
-        add_target(&mut cx.scheduled, target);
         cx.pending = SETTLED;
         seen = count(
             seen,

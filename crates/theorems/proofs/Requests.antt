@@ -13,7 +13,7 @@ use Rattle.control.specs.Abstraction.{targetOf, contextOf, resultOf}
 use Rattle.control.specs.Contract.{Scheduled}
 use Rattle.control.specs.declared.Context.{Context}
 use Rattle.control.specs.declared.ControlFlowTarget.{ControlFlowTarget}
-use Rattle.definition.specs.Context.{schedule, blockAsked}
+use Rattle.definition.specs.Context.{schedule}
 use Rattle.definition.specs.Run.{Answers}
 use Rattle.running.specs.Given.{Gives}
 use Rattle.running.specs.Ran.{Outcome}
@@ -42,7 +42,7 @@ use Rattle.runner.proofs.run_tree.Met as run-proved
 -- ---- M-109: one way to schedule. The operation's promise is one equation for every target and Context: the stack and the set handed back, or 15
 
 pub schedule-gives-the-definition : (target : ControlFlowTarget) (self r : Context) → Scheduled target self r → (visits : ℕ)
-    → schedule (targetOf target) (contextOf visits self) ≡ resultOf (blockAsked (targetOf target)) visits r
+    → schedule (targetOf target) (contextOf visits self) ≡ resultOf visits r
 schedule-gives-the-definition target self r promised = promised .context
 
 -- ---- M-110: draw the blocks

@@ -114,9 +114,10 @@ element-copy-out-left c =
 remove-target-requires : tie.Need-remove-target-requires Inv-loop μ-loop
 remove-target-requires c κs =
     let ended : tie.After-unschedule Inv-loop μ-loop = search in
+    let added : tie.After-add-target Inv-loop μ-loop = search in
     let begun : tie.After-schedule Inv-loop μ-loop = search in
     let at-loop : tie.At-loop Inv-loop μ-loop = search in
-    named-left (ended .unschedule .ensures) _ (omega (arith, begun .schedule .ensures .len)) (begun .schedule .ensures .bounded (at-loop .loop .inv .bounded))
+    named-left (ended .unschedule .ensures) _ (omega (arith, begun .schedule .ensures .len)) (rw (added .add-target .ensures .1) (begun .schedule .ensures .bounded (at-loop .loop .inv .bounded)))
 
 add-turn : tie.Need-add-turn Inv-loop μ-loop
 add-turn c =
@@ -158,7 +159,7 @@ loop-again c =
       empty = omega (arith, inv .empty, begun .schedule .ensures .len, ended .unschedule .ensures .len);
       ids = omega (arith, inv .ids, begun .schedule .ensures .id, ended .unschedule .ensures .id);
       size = size-left (ended .unschedule .ensures) _ _ (removed .remove-target .ensures) (size-entered (begun .schedule .ensures) (added .add-target .ensures .0) (inv .size));
-      bounded = ended .unschedule .ensures .bounded (begun .schedule .ensures .bounded (inv .bounded));
+      bounded = ended .unschedule .ensures .bounded (rw (added .add-target .ensures .1) (begun .schedule .ensures .bounded (inv .bounded)));
     }
 
 returns : tie.Need-returns Inv-loop μ-loop
@@ -178,9 +179,9 @@ control-turns-schedule-loop-spec =
     next-block-requires-2
     schedule-requires
     sub-at
+    add-target-requires
     mul-entry
     element-set-from-entry
-    add-target-requires
     is-scheduled-requires
     count-requires
     unschedule-requires

@@ -26,9 +26,9 @@ use Rattle.control.specs.declared.Context.{Context}
 use Rattle.plan.specs.declared.Position.{Position}
 use Rattle.plan.specs.declared.Frame.{Frame}
 use Rattle.build.proofs.DriverLaws.{Walking, turnsLeft, walking-start, frame-read, found-jump, found-below, ready, shallow, visit-below, beyond, frame-block, frame-at, AtTurn}
-use Rattle.build.proofs.DriverLaws.{turn-ends, turn-applicable, turn-slot, turn-blocked, turn-again, turn-lower}
+use Rattle.build.proofs.DriverLaws.{storedBy, stored-kept, stored-not, turn-ends, turn-applicable, turn-shallow, turn-blocked, turn-again, turn-lower}
 use denote.Ref.{now}
-use Rattle.build.proofs.AroundLaws.{Surveying, survey-start, survey-on, survey-done, aim-below}
+use Rattle.build.proofs.AroundLaws.{Surveying, passed-most, survey-start, survey-known, survey-on, survey-done, aim-below}
 use Rattle.build.proofs.CheckedLaws.{checked-table}
 use Rattle.build.proofs.SearchLaws.{Searching, search-start, search-on, search-none, search-found}
 use Rattle.build.proofs.driver.walk.Statement.{statement}
@@ -48,7 +48,7 @@ abbrev μ-loop2 : tie.MeasureT-loop2
 
 abbrev Inv-loop3 : tie.InvT-loop3
 Inv-loop3 rule words tree cx frames p frame jump at loops found target left₀ seen₀ left seen =
-    Surveying (ruleOf rule) words frames (p .depth) (resolvedOf found) left (surveyOf seen)
+    Surveying jump (ruleOf rule) words frames (p .depth) (resolvedOf found) left (surveyOf seen)
 
 abbrev μ-loop3 : tie.MeasureT-loop3
 μ-loop3 rule words tree cx frames p frame jump at loops found target left₀ seen₀ left seen = left
@@ -184,11 +184,64 @@ pass-from-requires c κs = tt
 unseen-requires : tie.Need-unseen-requires Inv-loop2 μ-loop2 Inv-loop3 μ-loop3 Inv-loop μ-loop
 unseen-requires c κs = tt
 
+likely-owner-requires : tie.Need-likely-owner-requires Inv-loop2 μ-loop2 Inv-loop3 μ-loop3 Inv-loop μ-loop
+likely-owner-requires c κs = c .if3 .taken
+
+-- the frame that is looked at first
+module _ (c : tie.After-likely-owner Inv-loop2 μ-loop2 Inv-loop3 μ-loop3 Inv-loop μ-loop) where
+  abbrev counted-at : tie.After-pass-from Inv-loop2 μ-loop2 Inv-loop3 μ-loop3 Inv-loop μ-loop
+  counted-at = search
+
+  abbrev asked-at : tie.After-asks-around Inv-loop2 μ-loop2 Inv-loop3 μ-loop3 Inv-loop μ-loop
+  asked-at = search
+
+  abbrev resolved-by : tie.Joined1 Inv-loop2 μ-loop2 Inv-loop3 μ-loop3 Inv-loop μ-loop
+  resolved-by = search
+
+  owner-in-use : c .likely-owner .result < head resolved-by .loop .p .depth
+  owner-in-use =
+      omega (arith, c .likely-owner .ensures, passed-most (asked-at .asks-around .result) (head resolved-by .loop .p .depth) (counted-at .pass-from .result) (counted-at .pass-from .ensures))
+
+  owner-reads : getD (head resolved-by .loop .frames) (c .likely-owner .result) beyond ≡ getD (head resolved-by .loop .frames) (c .likely-owner .result) noFrame
+  owner-reads =
+      frame-at _ _ (started resolved-by .pre) (checked-table _ (started resolved-by .pre)) _ _ _ _ (head resolved-by .loop .inv .walking) _ owner-in-use
+
+  owner-in-table : getD (head resolved-by .loop .frames) (c .likely-owner .result) noFrame .block < blockCount (now (started resolved-by .args .words))
+  owner-in-table =
+      frame-block _ _ (started resolved-by .pre) (checked-table _ (started resolved-by .pre)) _ _ _ _ (head resolved-by .loop .inv .walking) _ owner-in-use
+
+  owner-few : head resolved-by .loop .p .depth ≤ 128
+  owner-few = shallow _ _ (started resolved-by .pre) (checked-table _ (started resolved-by .pre)) _ _ _ _ (head resolved-by .loop .inv .walking)
+
+mul-owner : tie.Need-mul-owner Inv-loop2 μ-loop2 Inv-loop3 μ-loop3 Inv-loop μ-loop
+mul-owner c = omega (arith, owner-in-use c, owner-few c)
+
+array-copy-out-owner : tie.Need-array-copy-out-owner Inv-loop2 μ-loop2 Inv-loop3 μ-loop3 Inv-loop μ-loop
+array-copy-out-owner c = omega (arith, owner-in-use c, owner-few c)
+
+pass-requires : tie.Need-pass-requires Inv-loop2 μ-loop2 Inv-loop3 μ-loop3 Inv-loop μ-loop
+pass-requires c κs =
+    let owner : tie.After-likely-owner Inv-loop2 μ-loop2 Inv-loop3 μ-loop3 Inv-loop μ-loop = search in
+    let sought : tie.After-target-of Inv-loop2 μ-loop2 Inv-loop3 μ-loop3 Inv-loop μ-loop = search in
+    (started (resolved-by owner) .pre, (rw (owner-reads owner) (owner-in-table owner), sought .target-of .ensures .1))
+
+knows-requires : tie.Need-knows-requires Inv-loop2 μ-loop2 Inv-loop3 μ-loop3 Inv-loop μ-loop
+knows-requires c κs = tt
+
 loop3-holds : tie.Need-loop3-holds Inv-loop2 μ-loop2 Inv-loop3 μ-loop3 Inv-loop μ-loop
 loop3-holds c =
+    let unseen-at : tie.After-unseen Inv-loop2 μ-loop2 Inv-loop3 μ-loop3 Inv-loop μ-loop = search in
     let counted : tie.After-pass-from Inv-loop2 μ-loop2 Inv-loop3 μ-loop3 Inv-loop μ-loop = search in
     let asked : tie.After-asks-around Inv-loop2 μ-loop2 Inv-loop3 μ-loop3 Inv-loop μ-loop = search in
-    survey-start _ _ _ _ _ _ _ _ (asked .asks-around .ensures) (counted .pass-from .ensures) (c .unseen .ensures)
+    let sought : tie.After-target-of Inv-loop2 μ-loop2 Inv-loop3 μ-loop3 Inv-loop μ-loop = search in
+    let begun = survey-start _ _ _ _ _ _ _ _ _ (asked .asks-around .ensures) (counted .pass-from .ensures) (unseen-at .unseen .ensures) in
+    ⊎-elim
+    (λ w.
+    let owner : tie.After-likely-owner Inv-loop2 μ-loop2 Inv-loop3 μ-loop3 Inv-loop μ-loop = record { before = record { before = unseen-at; if3 = w .0 }; likely-owner = w .1 } in
+    rw (w .6, w .7) (survey-known _ _ _ _ _ _ _ _ _ (owner-in-use owner) (unseen-at .unseen .ensures)
+    (rw (sought .target-of .ensures .0, owner-reads owner) at (w .3 .ensures)) (sym (w .4 .ensures) ∙ w .5 .taken)))
+    (λ v. ⊎-elim (λ w. rw (w .6, w .7) begun) (λ w. rw (w .1, w .2) begun) v)
+    (c .if3 .came)
 
 sub-left : tie.Need-sub-left Inv-loop2 μ-loop2 Inv-loop3 μ-loop3 Inv-loop μ-loop
 sub-left c = search needs
@@ -222,13 +275,17 @@ module _ (c : tie.In-loop3 Inv-loop2 μ-loop2 Inv-loop3 μ-loop3 Inv-loop μ-loo
   few = shallow _ _ (entered .pre) (checked-table _ (entered .pre)) _ _ _ _ (top-of .loop .inv .walking)
 
 mul-around : tie.Need-mul-around Inv-loop2 μ-loop2 Inv-loop3 μ-loop3 Inv-loop μ-loop
-mul-around c = omega (arith, in-use c, few c)
+mul-around c =
+    let tested : tie.In-loop3 Inv-loop2 μ-loop2 Inv-loop3 μ-loop3 Inv-loop μ-loop = search in
+    omega (arith, in-use tested, few tested)
 
 array-copy-out-around : tie.Need-array-copy-out-around Inv-loop2 μ-loop2 Inv-loop3 μ-loop3 Inv-loop μ-loop
-array-copy-out-around c = omega (arith, in-use c, few c)
+array-copy-out-around c =
+    let tested : tie.In-loop3 Inv-loop2 μ-loop2 Inv-loop3 μ-loop3 Inv-loop μ-loop = search in
+    omega (arith, in-use tested, few tested)
 
-pass-requires : tie.Need-pass-requires Inv-loop2 μ-loop2 Inv-loop3 μ-loop3 Inv-loop μ-loop
-pass-requires c κs =
+pass-requires-2 : tie.Need-pass-requires-2 Inv-loop2 μ-loop2 Inv-loop3 μ-loop3 Inv-loop μ-loop
+pass-requires-2 c κs =
     let tested : tie.In-loop3 Inv-loop2 μ-loop2 Inv-loop3 μ-loop3 Inv-loop μ-loop = search in
     let sought : tie.After-target-of Inv-loop2 μ-loop2 Inv-loop3 μ-loop3 Inv-loop μ-loop = search in
     (entered tested .pre, (rw (reads tested) (in-table tested), sought .target-of .ensures .1))
@@ -240,7 +297,7 @@ loop3-again : tie.Need-loop3-again Inv-loop2 μ-loop2 Inv-loop3 μ-loop3 Inv-loo
 loop3-again c =
     let tested : tie.In-loop3 Inv-loop2 μ-loop2 Inv-loop3 μ-loop3 Inv-loop μ-loop = search in
     let sought : tie.After-target-of Inv-loop2 μ-loop2 Inv-loop3 μ-loop3 Inv-loop μ-loop = search in
-    survey-on _ _ _ _ _ _ _ _ (passing tested .loop3 .inv) (tested .loop3-test .taken) (rw (sought .target-of .ensures .0, reads tested) at (c .pass .ensures))
+    survey-on _ _ _ _ _ _ _ _ _ (passing tested .loop3 .inv) (tested .loop3-test .taken) (rw (sought .target-of .ensures .0, reads tested) at (c .pass2 .ensures))
 
 aim-at-requires : tie.Need-aim-at-requires Inv-loop2 μ-loop2 Inv-loop3 μ-loop3 Inv-loop μ-loop
 aim-at-requires c κs = tt
@@ -262,7 +319,7 @@ module _ (c : tie.After-aim-at Inv-loop2 μ-loop2 Inv-loop3 μ-loop3 Inv-loop μ
       (aroundOf (ruleOf (started searched .args .rule))
       (tableOf (now (started searched .args .words))) (framesOf (head searched .loop .frames) (head searched .loop .p .depth)))
       (foundBy (asked-jump searched .jump-at .result) (contextOf visits (head searched .loop .cx)))
-  aimed visits = c .aim-at .ensures ∙ survey-done _ _ _ _ _ (asked-jump searched .jump-at .result) _ _ (surveyed .loop3 .inv) (tested .loop3-test .left)
+  aimed visits = c .aim-at .ensures ∙ survey-done (asked-jump searched .jump-at .result) _ _ _ _ _ _ _ (surveyed .loop3 .inv) (tested .loop3-test .left)
       ∙ ap (goalBy (asked-jump searched .jump-at .result) _) (found searched visits)
 
   aims-below : AimBelow (c .aim-at .result)
@@ -325,42 +382,42 @@ same-length c =
 
 returns : tie.Need-returns Inv-loop2 μ-loop2 Inv-loop3 μ-loop3 Inv-loop μ-loop
 returns c =
-    let then3 : tie.Then3 Inv-loop2 μ-loop2 Inv-loop3 μ-loop3 Inv-loop μ-loop = search in
+    let then3 : tie.Then5 Inv-loop2 μ-loop2 Inv-loop3 μ-loop3 Inv-loop μ-loop = search in
     let at-ends : tie.After-ends Inv-loop2 μ-loop2 Inv-loop3 μ-loop3 Inv-loop μ-loop = search in
     let at-plan-turn : tie.After-plan-turn Inv-loop2 μ-loop2 Inv-loop3 μ-loop3 Inv-loop μ-loop = search in
-    rw (c .answer .ensures) (turn-ends (turn (at-plan-turn)) (sym (at-ends .ends .ensures) ∙ then3 .if3 .taken))
+    rw (c .answer .ensures) (turn-ends (turn (at-plan-turn)) (sym (at-ends .ends .ensures) ∙ then3 .if5 .taken))
 
 visited-block-requires : tie.Need-visited-block-requires Inv-loop2 μ-loop2 Inv-loop3 μ-loop3 Inv-loop μ-loop
 visited-block-requires c κs = tt
 
 mark-requires : tie.Need-mark-requires Inv-loop2 μ-loop2 Inv-loop3 μ-loop3 Inv-loop μ-loop
 mark-requires c κs =
-    let else3 : tie.Else3 Inv-loop2 μ-loop2 Inv-loop3 μ-loop3 Inv-loop μ-loop = search in
+    let else3 : tie.Else5 Inv-loop2 μ-loop2 Inv-loop3 μ-loop3 Inv-loop μ-loop = search in
     let at-ends : tie.After-ends Inv-loop2 μ-loop2 Inv-loop3 μ-loop3 Inv-loop μ-loop = search in
     let at-plan-turn : tie.After-plan-turn Inv-loop2 μ-loop2 Inv-loop3 μ-loop3 Inv-loop μ-loop = search in
-    rw (c .visited-block .ensures) (turn-applicable (turn (at-plan-turn)) (sym (at-ends .ends .ensures) ∙ else3 .if3 .left) .block)
+    rw (c .visited-block .ensures) (turn-applicable (turn (at-plan-turn)) (sym (at-ends .ends .ensures) ∙ else3 .if5 .left) .block)
 
 mark-requires-2 : tie.Need-mark-requires-2 Inv-loop2 μ-loop2 Inv-loop3 μ-loop3 Inv-loop μ-loop
 mark-requires-2 c κs =
-    let else3 : tie.Else3 Inv-loop2 μ-loop2 Inv-loop3 μ-loop3 Inv-loop μ-loop = search in
+    let else3 : tie.Else5 Inv-loop2 μ-loop2 Inv-loop3 μ-loop3 Inv-loop μ-loop = search in
     let at-ends : tie.After-ends Inv-loop2 μ-loop2 Inv-loop3 μ-loop3 Inv-loop μ-loop = search in
     let at-plan-turn : tie.After-plan-turn Inv-loop2 μ-loop2 Inv-loop3 μ-loop3 Inv-loop μ-loop = search in
-    turn-applicable (turn (at-plan-turn)) (sym (at-ends .ends .ensures) ∙ else3 .if3 .left) .handler
+    turn-applicable (turn (at-plan-turn)) (sym (at-ends .ends .ensures) ∙ else3 .if5 .left) .handler
 
 mark-requires-3 : tie.Need-mark-requires-3 Inv-loop2 μ-loop2 Inv-loop3 μ-loop3 Inv-loop μ-loop
 mark-requires-3 c κs =
-    let else3 : tie.Else3 Inv-loop2 μ-loop2 Inv-loop3 μ-loop3 Inv-loop μ-loop = search in
+    let else3 : tie.Else5 Inv-loop2 μ-loop2 Inv-loop3 μ-loop3 Inv-loop μ-loop = search in
     let at-ends : tie.After-ends Inv-loop2 μ-loop2 Inv-loop3 μ-loop3 Inv-loop μ-loop = search in
     let at-plan-turn : tie.After-plan-turn Inv-loop2 μ-loop2 Inv-loop3 μ-loop3 Inv-loop μ-loop = search in
-    turn-applicable (turn (at-plan-turn)) (sym (at-ends .ends .ensures) ∙ else3 .if3 .left) .scope
+    turn-applicable (turn (at-plan-turn)) (sym (at-ends .ends .ensures) ∙ else3 .if5 .left) .scope
 
-frame-slot-requires : tie.Need-frame-slot-requires Inv-loop2 μ-loop2 Inv-loop3 μ-loop3 Inv-loop μ-loop
-frame-slot-requires c κs = tt
+innermost-requires-2 : tie.Need-innermost-requires-2 Inv-loop2 μ-loop2 Inv-loop3 μ-loop3 Inv-loop μ-loop
+innermost-requires-2 c κs = tt
 
 -- where the sets are marked: the change of the stack is left
-module _ (c : tie.After-frame-slot Inv-loop2 μ-loop2 Inv-loop3 μ-loop3 Inv-loop μ-loop) where
+module _ (c : tie.After-mark3 Inv-loop2 μ-loop2 Inv-loop3 μ-loop3 Inv-loop μ-loop) where
   abbrev marked3 : tie.After-mark3 Inv-loop2 μ-loop2 Inv-loop3 μ-loop3 Inv-loop μ-loop
-  marked3 = search
+  marked3 = c
 
   abbrev marked2 : tie.After-mark2 Inv-loop2 μ-loop2 Inv-loop3 μ-loop3 Inv-loop μ-loop
   marked2 = search
@@ -375,14 +432,14 @@ module _ (c : tie.After-frame-slot Inv-loop2 μ-loop2 Inv-loop3 μ-loop3 Inv-loo
       let after : tie.After-mark Inv-loop2 μ-loop2 Inv-loop3 μ-loop3 Inv-loop μ-loop = marked in
       search
 
-  abbrev left-at : tie.Else3 Inv-loop2 μ-loop2 Inv-loop3 μ-loop3 Inv-loop μ-loop
+  abbrev left-at : tie.Else5 Inv-loop2 μ-loop2 Inv-loop3 μ-loop3 Inv-loop μ-loop
   left-at =
       let after : tie.After-mark Inv-loop2 μ-loop2 Inv-loop3 μ-loop3 Inv-loop μ-loop = marked in
       search
 
   abbrev ended : tie.After-ends Inv-loop2 μ-loop2 Inv-loop3 μ-loop3 Inv-loop μ-loop
   ended =
-      let after : tie.Else3 Inv-loop2 μ-loop2 Inv-loop3 μ-loop3 Inv-loop μ-loop = left-at in
+      let after : tie.Else5 Inv-loop2 μ-loop2 Inv-loop3 μ-loop3 Inv-loop μ-loop = left-at in
       search
 
   abbrev planned : tie.After-plan-turn Inv-loop2 μ-loop2 Inv-loop3 μ-loop3 Inv-loop μ-loop
@@ -413,16 +470,12 @@ module _ (c : tie.After-frame-slot Inv-loop2 μ-loop2 Inv-loop3 μ-loop3 Inv-loo
         scheduled = cx .scheduled;
         pushed = cx .pushed;
         pending = cx .pending;
-        refused = cx .refused;
         «next_schedule_id» = cx .«next_schedule_id»;
         stack = cx .stack;
       }
 
-  abbrev frames : List Frame
-  frames = set (at-head planned .loop .frames) (c .frame-slot .result) (plan .frame)
-
   goes-on : planEnds plan ≡ false
-  goes-on = sym (ended .ends .ensures) ∙ left-at .if3 .left
+  goes-on = sym (ended .ends .ensures) ∙ left-at .if5 .left
 
   marks-made : with-marks ≡ withMarks visited (plan .handler) (plan .scope) cx
   marks-made =
@@ -451,17 +504,33 @@ module _ (c : tie.After-frame-slot Inv-loop2 μ-loop2 Inv-loop3 μ-loop3 Inv-loo
       changed : Applied visited plan cx r
       changed = plan-applied visited plan cx with-marks r marks-made (subst (λ (z : Change). Changed z with-marks r) (sym e) E)
 
-      next : Inv (ruleOf (begun planned .args .rule)) (now (begun planned .args .words))
-          (now (begun planned .args .tree)) (planned .plan-turn .last .1 .0) r frames (plan .position)
-      next = record { walking = turn-again (turn planned) goes-on changed (c .frame-slot .ensures); long = omega (arith, planned .plan-turn .kept .1 .0, at-head planned .loop .inv .long) }
+-- where the frame is kept, if it is
+module _ (c : tie.Joined6 Inv-loop2 μ-loop2 Inv-loop3 μ-loop3 Inv-loop μ-loop) where
+  abbrev marks-at : tie.After-mark3 Inv-loop2 μ-loop2 Inv-loop3 μ-loop3 Inv-loop μ-loop
+  marks-at = search
 
-      lower : turnsLeft (plan .position) frames r < turnsLeft p (at-head planned .loop .frames) cx
-      lower = turn-lower (turn planned) goes-on changed (c .frame-slot .ensures)
+  stored : c .if6 .frames ≡ storedBy (plan marks-at .keep) (plan marks-at .position .depth) (plan marks-at .frame) (at-head (planned marks-at) .loop .frames)
+  stored =
+      ⊎-elim
+      (λ w. stored-kept (plan marks-at .keep) _ (plan marks-at .position .depth) (plan marks-at .frame) (at-head (planned marks-at) .loop .frames) _ (w .0 .taken) (w .2 .ensures) (w .3))
+      (λ w. stored-not (plan marks-at .keep) (plan marks-at .position .depth) (plan marks-at .frame) (at-head (planned marks-at) .loop .frames) _ (w .0 .left) (w .1))
+      (c .if6 .came)
+
+  module _ (change : Change) (e : plan marks-at .change ≡ change) (r : Context) (E : Changed change (with-marks marks-at) r) where
+    next : Inv (ruleOf (begun (planned marks-at) .args .rule)) (now (begun (planned marks-at) .args .words))
+        (now (begun (planned marks-at) .args .tree)) (planned marks-at .plan-turn .last .1 .0) r (c .if6 .frames) (plan marks-at .position)
+    next = record {
+      walking = turn-again (turn (planned marks-at)) (goes-on marks-at) (changed marks-at change e r E) stored;
+      long = omega (arith, planned marks-at .plan-turn .kept .1 .0, at-head (planned marks-at) .loop .inv .long);
+    }
+
+    lower : turnsLeft (plan marks-at .position) (c .if6 .frames) r < turnsLeft (p marks-at) (at-head (planned marks-at) .loop .frames) (cx marks-at)
+    lower = turn-lower (turn (planned marks-at)) (goes-on marks-at) (changed marks-at change e r E) stored
 
 -- ---- what each change leaves
 
 module _ (c : tie.After-schedule Inv-loop2 μ-loop2 Inv-loop3 μ-loop3 Inv-loop μ-loop) where
-  abbrev slotted : tie.After-frame-slot Inv-loop2 μ-loop2 Inv-loop3 μ-loop3 Inv-loop μ-loop
+  abbrev slotted : tie.After-mark3 Inv-loop2 μ-loop2 Inv-loop3 μ-loop3 Inv-loop μ-loop
   slotted = search
 
   abbrev asked : tie.After-change Inv-loop2 μ-loop2 Inv-loop3 μ-loop3 Inv-loop μ-loop
@@ -474,16 +543,19 @@ module _ (c : tie.After-add-target Inv-loop2 μ-loop2 Inv-loop3 μ-loop3 Inv-loo
   abbrev begun-by : tie.After-schedule Inv-loop2 μ-loop2 Inv-loop3 μ-loop3 Inv-loop μ-loop
   begun-by = search
 
-  abbrev else4 : tie.Else4 Inv-loop2 μ-loop2 Inv-loop3 μ-loop3 Inv-loop μ-loop
+  abbrev else4 : tie.Else7 Inv-loop2 μ-loop2 Inv-loop3 μ-loop3 Inv-loop μ-loop
   else4 = search
 
-  by-schedule : Changed (Schedule (asked begun-by .change .given .0 .0)) (with-marks (slotted begun-by)) (settledBy (c .add-target .last .0) (begun-by .schedule .result))
+  abbrev asked-blocked : tie.After-is-blocked Inv-loop2 μ-loop2 Inv-loop3 μ-loop3 Inv-loop μ-loop
+  asked-blocked = search
+
+  by-schedule : Changed (Schedule (asked begun-by .change .given .0 .0)) (with-marks (slotted begun-by)) (settledBy (c .add-target .last .0) (c .add-target .result) (begun-by .schedule .result))
   by-schedule =
-      schedule-changed _ _ _ _ (begun-by .schedule .ensures) (else4 .if4 .left) (settled-by _ _ (c .add-target .ensures .0)) (schedulable begun-by .1 .len)
-      (whole (slotted begun-by))
+      schedule-changed _ _ _ (begun-by .schedule .ensures) (schedulable begun-by .0) (whole (slotted begun-by)) _ (sym (asked-blocked .is-blocked .ensures) ∙ else4 .if7 .left)
+      (settled-by _ _ _ (c .add-target .ensures .0) (c .add-target .ensures .1)) (schedulable begun-by .1 .len)
 
 module _ (c : tie.After-schedule2 Inv-loop2 μ-loop2 Inv-loop3 μ-loop3 Inv-loop μ-loop) where
-  abbrev slotted2 : tie.After-frame-slot Inv-loop2 μ-loop2 Inv-loop3 μ-loop3 Inv-loop μ-loop
+  abbrev slotted2 : tie.After-mark3 Inv-loop2 μ-loop2 Inv-loop3 μ-loop3 Inv-loop μ-loop
   slotted2 = search
 
   abbrev asked2 : tie.After-change2 Inv-loop2 μ-loop2 Inv-loop3 μ-loop3 Inv-loop μ-loop
@@ -496,13 +568,17 @@ module _ (c : tie.After-add-target2 Inv-loop2 μ-loop2 Inv-loop3 μ-loop3 Inv-lo
   abbrev scheduled2 : tie.After-schedule2 Inv-loop2 μ-loop2 Inv-loop3 μ-loop3 Inv-loop μ-loop
   scheduled2 = search
 
-  abbrev else5 : tie.Else5 Inv-loop2 μ-loop2 Inv-loop3 μ-loop3 Inv-loop μ-loop
+  abbrev else5 : tie.Else8 Inv-loop2 μ-loop2 Inv-loop3 μ-loop3 Inv-loop μ-loop
   else5 = search
 
-  pushed-first : Changed (Schedule (asked2 scheduled2 .change2 .given .0 .0)) (with-marks (slotted2 scheduled2)) (settledBy (c .add-target2 .last .0) (scheduled2 .schedule2 .result))
+  abbrev asked-blocked2 : tie.After-is-blocked2 Inv-loop2 μ-loop2 Inv-loop3 μ-loop3 Inv-loop μ-loop
+  asked-blocked2 = search
+
+  pushed-first : Changed (Schedule (asked2 scheduled2 .change2 .given .0 .0)) (with-marks (slotted2 scheduled2))
+      (settledBy (c .add-target2 .last .0) (c .add-target2 .result) (scheduled2 .schedule2 .result))
   pushed-first =
-      schedule-changed _ _ _ _ (scheduled2 .schedule2 .ensures) (else5 .if5 .left) (settled-by _ _ (c .add-target2 .ensures .0)) (briefly scheduled2 .1 .len)
-      (whole (slotted2 scheduled2))
+      schedule-changed _ _ _ (scheduled2 .schedule2 .ensures) (briefly scheduled2 .0) (whole (slotted2 scheduled2)) _ (sym (asked-blocked2 .is-blocked2 .ensures) ∙ else5 .if8 .left)
+      (settled-by _ _ _ (c .add-target2 .ensures .0) (c .add-target2 .ensures .1)) (briefly scheduled2 .1 .len)
 
 module _ (c : tie.After-remove-target Inv-loop2 μ-loop2 Inv-loop3 μ-loop3 Inv-loop μ-loop) where
   abbrev added2 : tie.After-add-target2 Inv-loop2 μ-loop2 Inv-loop3 μ-loop3 Inv-loop μ-loop
@@ -515,7 +591,7 @@ module _ (c : tie.After-remove-target Inv-loop2 μ-loop2 Inv-loop3 μ-loop3 Inv-
   by-briefly = briefly-changed _ _ _ _ _ (pushed-first added2) (popped-at .unschedule .ensures) (released-by _ _ (c .remove-target .ensures))
 
 module _ (c : tie.After-unschedule2 Inv-loop2 μ-loop2 Inv-loop3 μ-loop3 Inv-loop μ-loop) where
-  abbrev slotted3 : tie.After-frame-slot Inv-loop2 μ-loop2 Inv-loop3 μ-loop3 Inv-loop μ-loop
+  abbrev slotted3 : tie.After-mark3 Inv-loop2 μ-loop2 Inv-loop3 μ-loop3 Inv-loop μ-loop
   slotted3 = search
 
   abbrev told : tie.After-enum-told2 Inv-loop2 μ-loop2 Inv-loop3 μ-loop3 Inv-loop μ-loop
@@ -532,23 +608,27 @@ module _ (c : tie.After-remove-target2 Inv-loop2 μ-loop2 Inv-loop3 μ-loop3 Inv
   by-unschedule = unschedule-changed _ _ _ (popped2 .unschedule2 .ensures) (released-by _ _ (c .remove-target2 .ensures)) (whole (slotted3 popped2))
 
 mul-frames : tie.Need-mul-frames Inv-loop2 μ-loop2 Inv-loop3 μ-loop3 Inv-loop μ-loop
-mul-frames c = omega (arith, c .frame-slot .ensures, turn-slot (turn (planned c)) (goes-on c))
+mul-frames c =
+    let at-marks : tie.After-mark3 Inv-loop2 μ-loop2 Inv-loop3 μ-loop3 Inv-loop μ-loop = search in
+    omega (arith, c .innermost2 .ensures, turn-shallow (turn (planned at-marks)) (goes-on at-marks))
 
 array-set-from-frames : tie.Need-array-set-from-frames Inv-loop2 μ-loop2 Inv-loop3 μ-loop3 Inv-loop μ-loop
-array-set-from-frames c = rw (c .frame-slot .ensures) (turn-slot (turn (planned c)) (goes-on c))
+array-set-from-frames c =
+    let at-marks : tie.After-mark3 Inv-loop2 μ-loop2 Inv-loop3 μ-loop3 Inv-loop μ-loop = search in
+    omega (arith, c .innermost2 .ensures, turn-shallow (turn (planned at-marks)) (goes-on at-marks))
 
 enum-told : tie.Need-enum-told Inv-loop2 μ-loop2 Inv-loop3 μ-loop3 Inv-loop μ-loop
 enum-told c = search needs
 
 loop-less : tie.Need-loop-less Inv-loop2 μ-loop2 Inv-loop3 μ-loop3 Inv-loop μ-loop
 loop-less c =
-    let at-frame-slot : tie.After-frame-slot Inv-loop2 μ-loop2 Inv-loop3 μ-loop3 Inv-loop μ-loop = search in
-    lower (at-frame-slot) _ (c .enum-told .given .1) _ (nothing-changed _ (whole (at-frame-slot)))
+    let at-kept : tie.Joined6 Inv-loop2 μ-loop2 Inv-loop3 μ-loop3 Inv-loop μ-loop = search in
+    lower at-kept _ (c .enum-told .given .1) _ (nothing-changed _ (whole (marks-at at-kept)))
 
 loop-again : tie.Need-loop-again Inv-loop2 μ-loop2 Inv-loop3 μ-loop3 Inv-loop μ-loop
 loop-again c =
-    let at-frame-slot : tie.After-frame-slot Inv-loop2 μ-loop2 Inv-loop3 μ-loop3 Inv-loop μ-loop = search in
-    next (at-frame-slot) _ (c .enum-told .given .1) _ (nothing-changed _ (whole (at-frame-slot)))
+    let at-kept : tie.Joined6 Inv-loop2 μ-loop2 Inv-loop3 μ-loop3 Inv-loop μ-loop = search in
+    next at-kept _ (c .enum-told .given .1) _ (nothing-changed _ (whole (marks-at at-kept)))
 
 enum-known-change : tie.Need-enum-known-change Inv-loop2 μ-loop2 Inv-loop3 μ-loop3 Inv-loop μ-loop
 enum-known-change c = search needs
@@ -556,24 +636,30 @@ enum-known-change c = search needs
 schedule-requires : tie.Need-schedule-requires Inv-loop2 μ-loop2 Inv-loop3 μ-loop3 Inv-loop μ-loop
 schedule-requires c κs =
     let at-change : tie.After-change Inv-loop2 μ-loop2 Inv-loop3 μ-loop3 Inv-loop μ-loop = search in
-    let at-frame-slot : tie.After-frame-slot Inv-loop2 μ-loop2 Inv-loop3 μ-loop3 Inv-loop μ-loop = search in
-    changeable (at-frame-slot) _ (at-change .change .given .1)
+    let at-marks : tie.After-mark3 Inv-loop2 μ-loop2 Inv-loop3 μ-loop3 Inv-loop μ-loop = search in
+    changeable at-marks _ (at-change .change .given .1)
+
+is-blocked-requires : tie.Need-is-blocked-requires Inv-loop2 μ-loop2 Inv-loop3 μ-loop3 Inv-loop μ-loop
+is-blocked-requires c κs =
+    let at-schedule : tie.After-schedule Inv-loop2 μ-loop2 Inv-loop3 μ-loop3 Inv-loop μ-loop = search in
+    named-entered _ _ _ (at-schedule .schedule .ensures) (schedulable at-schedule .0)
 
 blocked-requires : tie.Need-blocked-requires Inv-loop2 μ-loop2 Inv-loop3 μ-loop3 Inv-loop μ-loop
 blocked-requires c κs = tt
 
 same-length-2 : tie.Need-same-length-2 Inv-loop2 μ-loop2 Inv-loop3 μ-loop3 Inv-loop μ-loop
 same-length-2 c =
-    let at-frame-slot : tie.After-frame-slot Inv-loop2 μ-loop2 Inv-loop3 μ-loop3 Inv-loop μ-loop = search in
-    omega (arith, planned at-frame-slot .plan-turn .kept .1 .0, at-head (planned at-frame-slot) .loop .inv .long)
+    let at-marks : tie.After-mark3 Inv-loop2 μ-loop2 Inv-loop3 μ-loop3 Inv-loop μ-loop = search in
+    omega (arith, planned at-marks .plan-turn .kept .1 .0, at-head (planned at-marks) .loop .inv .long)
 
 returns-2 : tie.Need-returns-2 Inv-loop2 μ-loop2 Inv-loop3 μ-loop3 Inv-loop μ-loop
 returns-2 c =
-    let then4 : tie.Then4 Inv-loop2 μ-loop2 Inv-loop3 μ-loop3 Inv-loop μ-loop = search in
+    let then4 : tie.Then7 Inv-loop2 μ-loop2 Inv-loop3 μ-loop3 Inv-loop μ-loop = search in
+    let at-blocked : tie.After-is-blocked Inv-loop2 μ-loop2 Inv-loop3 μ-loop3 Inv-loop μ-loop = search in
     let at-schedule : tie.After-schedule Inv-loop2 μ-loop2 Inv-loop3 μ-loop3 Inv-loop μ-loop = search in
     let at-change : tie.After-change Inv-loop2 μ-loop2 Inv-loop3 μ-loop3 Inv-loop μ-loop = search in
-    let at-frame-slot : tie.After-frame-slot Inv-loop2 μ-loop2 Inv-loop3 μ-loop3 Inv-loop μ-loop = search in
-    rw (c .blocked .ensures) (blocks at-frame-slot _ (at-change .change .given .1) (schedule-blocked _ _ _ (at-schedule .schedule .ensures) (then4 .if4 .taken)))
+    let at-marks : tie.After-mark3 Inv-loop2 μ-loop2 Inv-loop3 μ-loop3 Inv-loop μ-loop = search in
+    rw (c .blocked .ensures) (blocks at-marks _ (at-change .change .given .1) (schedule-blocked _ _ _ (at-schedule .schedule .ensures) (schedulable at-schedule .0) (whole (slotted at-schedule)) (sym (at-blocked .is-blocked .ensures) ∙ then4 .if7 .taken)))
 
 sub-entry : tie.Need-sub-entry Inv-loop2 μ-loop2 Inv-loop3 μ-loop3 Inv-loop μ-loop
 sub-entry c =
@@ -596,10 +682,16 @@ add-target-requires c κs =
     named-entered _ _ _ (at-schedule .schedule .ensures) (schedulable at-schedule .0)
 
 loop-less-2 : tie.Need-loop-less-2 Inv-loop2 μ-loop2 Inv-loop3 μ-loop3 Inv-loop μ-loop
-loop-less-2 c = lower (slotted (begun-by c)) _ (asked (begun-by c) .change .given .1) _ (by-schedule c)
+loop-less-2 c =
+    let at-kept : tie.Joined6 Inv-loop2 μ-loop2 Inv-loop3 μ-loop3 Inv-loop μ-loop = search in
+    let at-added : tie.After-add-target Inv-loop2 μ-loop2 Inv-loop3 μ-loop3 Inv-loop μ-loop = search in
+    lower at-kept _ (asked (begun-by at-added) .change .given .1) _ (by-schedule at-added)
 
 loop-again-2 : tie.Need-loop-again-2 Inv-loop2 μ-loop2 Inv-loop3 μ-loop3 Inv-loop μ-loop
-loop-again-2 c = next (slotted (begun-by c)) _ (asked (begun-by c) .change .given .1) _ (by-schedule c)
+loop-again-2 c =
+    let at-kept : tie.Joined6 Inv-loop2 μ-loop2 Inv-loop3 μ-loop3 Inv-loop μ-loop = search in
+    let at-added : tie.After-add-target Inv-loop2 μ-loop2 Inv-loop3 μ-loop3 Inv-loop μ-loop = search in
+    next at-kept _ (asked (begun-by at-added) .change .given .1) _ (by-schedule at-added)
 
 enum-known-change-2 : tie.Need-enum-known-change-2 Inv-loop2 μ-loop2 Inv-loop3 μ-loop3 Inv-loop μ-loop
 enum-known-change-2 c = search needs
@@ -607,24 +699,30 @@ enum-known-change-2 c = search needs
 schedule-requires-2 : tie.Need-schedule-requires-2 Inv-loop2 μ-loop2 Inv-loop3 μ-loop3 Inv-loop μ-loop
 schedule-requires-2 c κs =
     let at-change2 : tie.After-change2 Inv-loop2 μ-loop2 Inv-loop3 μ-loop3 Inv-loop μ-loop = search in
-    let at-frame-slot : tie.After-frame-slot Inv-loop2 μ-loop2 Inv-loop3 μ-loop3 Inv-loop μ-loop = search in
-    changeable (at-frame-slot) _ (at-change2 .change2 .given .1)
+    let at-marks : tie.After-mark3 Inv-loop2 μ-loop2 Inv-loop3 μ-loop3 Inv-loop μ-loop = search in
+    changeable at-marks _ (at-change2 .change2 .given .1)
+
+is-blocked-requires-2 : tie.Need-is-blocked-requires-2 Inv-loop2 μ-loop2 Inv-loop3 μ-loop3 Inv-loop μ-loop
+is-blocked-requires-2 c κs =
+    let at-schedule2 : tie.After-schedule2 Inv-loop2 μ-loop2 Inv-loop3 μ-loop3 Inv-loop μ-loop = search in
+    named-entered _ _ _ (at-schedule2 .schedule2 .ensures) (briefly at-schedule2 .0)
 
 blocked-requires-2 : tie.Need-blocked-requires-2 Inv-loop2 μ-loop2 Inv-loop3 μ-loop3 Inv-loop μ-loop
 blocked-requires-2 c κs = tt
 
 same-length-3 : tie.Need-same-length-3 Inv-loop2 μ-loop2 Inv-loop3 μ-loop3 Inv-loop μ-loop
 same-length-3 c =
-    let at-frame-slot : tie.After-frame-slot Inv-loop2 μ-loop2 Inv-loop3 μ-loop3 Inv-loop μ-loop = search in
-    omega (arith, planned at-frame-slot .plan-turn .kept .1 .0, at-head (planned at-frame-slot) .loop .inv .long)
+    let at-marks : tie.After-mark3 Inv-loop2 μ-loop2 Inv-loop3 μ-loop3 Inv-loop μ-loop = search in
+    omega (arith, planned at-marks .plan-turn .kept .1 .0, at-head (planned at-marks) .loop .inv .long)
 
 returns-3 : tie.Need-returns-3 Inv-loop2 μ-loop2 Inv-loop3 μ-loop3 Inv-loop μ-loop
 returns-3 c =
-    let then5 : tie.Then5 Inv-loop2 μ-loop2 Inv-loop3 μ-loop3 Inv-loop μ-loop = search in
+    let then5 : tie.Then8 Inv-loop2 μ-loop2 Inv-loop3 μ-loop3 Inv-loop μ-loop = search in
+    let at-blocked : tie.After-is-blocked2 Inv-loop2 μ-loop2 Inv-loop3 μ-loop3 Inv-loop μ-loop = search in
     let at-schedule2 : tie.After-schedule2 Inv-loop2 μ-loop2 Inv-loop3 μ-loop3 Inv-loop μ-loop = search in
     let at-change2 : tie.After-change2 Inv-loop2 μ-loop2 Inv-loop3 μ-loop3 Inv-loop μ-loop = search in
-    let at-frame-slot : tie.After-frame-slot Inv-loop2 μ-loop2 Inv-loop3 μ-loop3 Inv-loop μ-loop = search in
-    rw (c .blocked2 .ensures) (blocks at-frame-slot _ (at-change2 .change2 .given .1) (briefly-blocked _ _ _ (at-schedule2 .schedule2 .ensures) (then5 .if5 .taken)))
+    let at-marks : tie.After-mark3 Inv-loop2 μ-loop2 Inv-loop3 μ-loop3 Inv-loop μ-loop = search in
+    rw (c .blocked2 .ensures) (blocks at-marks _ (at-change2 .change2 .given .1) (briefly-blocked _ _ _ (at-schedule2 .schedule2 .ensures) (briefly at-schedule2 .0) (whole (slotted2 at-schedule2)) (sym (at-blocked .is-blocked2 .ensures) ∙ then5 .if8 .taken)))
 
 sub-entry-2 : tie.Need-sub-entry-2 Inv-loop2 μ-loop2 Inv-loop3 μ-loop3 Inv-loop μ-loop
 sub-entry-2 c =
@@ -671,10 +769,14 @@ remove-target-requires c κs =
     named-left _ _ (at-unschedule .unschedule .ensures) (omega (arith, at-schedule2 .schedule2 .ensures .len)) (pushed-first at-added2 .whole)
 
 loop-less-3 : tie.Need-loop-less-3 Inv-loop2 μ-loop2 Inv-loop3 μ-loop3 Inv-loop μ-loop
-loop-less-3 c = lower (slotted2 (scheduled2 (added2 c))) _ (asked2 (scheduled2 (added2 c)) .change2 .given .1) _ (by-briefly c)
+loop-less-3 c =
+    let at-kept : tie.Joined6 Inv-loop2 μ-loop2 Inv-loop3 μ-loop3 Inv-loop μ-loop = search in
+    lower at-kept _ (asked2 (scheduled2 (added2 c)) .change2 .given .1) _ (by-briefly c)
 
 loop-again-3 : tie.Need-loop-again-3 Inv-loop2 μ-loop2 Inv-loop3 μ-loop3 Inv-loop μ-loop
-loop-again-3 c = next (slotted2 (scheduled2 (added2 c))) _ (asked2 (scheduled2 (added2 c)) .change2 .given .1) _ (by-briefly c)
+loop-again-3 c =
+    let at-kept : tie.Joined6 Inv-loop2 μ-loop2 Inv-loop3 μ-loop3 Inv-loop μ-loop = search in
+    next at-kept _ (asked2 (scheduled2 (added2 c)) .change2 .given .1) _ (by-briefly c)
 
 enum-told-2 : tie.Need-enum-told-2 Inv-loop2 μ-loop2 Inv-loop3 μ-loop3 Inv-loop μ-loop
 enum-told-2 c = search needs
@@ -682,8 +784,8 @@ enum-told-2 c = search needs
 unschedule-requires-2 : tie.Need-unschedule-requires-2 Inv-loop2 μ-loop2 Inv-loop3 μ-loop3 Inv-loop μ-loop
 unschedule-requires-2 c κs =
     let at-enum-told2 : tie.After-enum-told2 Inv-loop2 μ-loop2 Inv-loop3 μ-loop3 Inv-loop μ-loop = search in
-    let at-frame-slot : tie.After-frame-slot Inv-loop2 μ-loop2 Inv-loop3 μ-loop3 Inv-loop μ-loop = search in
-    last-entry _ (changeable (at-frame-slot) _ (at-enum-told2 .enum-told2 .given .1)) (whole (at-frame-slot))
+    let at-marks : tie.After-mark3 Inv-loop2 μ-loop2 Inv-loop3 μ-loop3 Inv-loop μ-loop = search in
+    last-entry _ (changeable at-marks _ (at-enum-told2 .enum-told2 .given .1)) (whole at-marks)
 
 mul-off-2 : tie.Need-mul-off-2 Inv-loop2 μ-loop2 Inv-loop3 μ-loop3 Inv-loop μ-loop
 mul-off-2 c =
@@ -701,10 +803,14 @@ remove-target-requires-2 c κs =
     named-left _ _ (at-unschedule2 .unschedule2 .ensures) (some-entry at-unschedule2) (whole (slotted3 at-unschedule2))
 
 loop-less-4 : tie.Need-loop-less-4 Inv-loop2 μ-loop2 Inv-loop3 μ-loop3 Inv-loop μ-loop
-loop-less-4 c = lower (slotted3 (popped2 c)) _ (told (popped2 c) .enum-told2 .given .1) _ (by-unschedule c)
+loop-less-4 c =
+    let at-kept : tie.Joined6 Inv-loop2 μ-loop2 Inv-loop3 μ-loop3 Inv-loop μ-loop = search in
+    lower at-kept _ (told (popped2 c) .enum-told2 .given .1) _ (by-unschedule c)
 
 loop-again-4 : tie.Need-loop-again-4 Inv-loop2 μ-loop2 Inv-loop3 μ-loop3 Inv-loop μ-loop
-loop-again-4 c = next (slotted3 (popped2 c)) _ (told (popped2 c) .enum-told2 .given .1) _ (by-unschedule c)
+loop-again-4 c =
+    let at-kept : tie.Joined6 Inv-loop2 μ-loop2 Inv-loop3 μ-loop3 Inv-loop μ-loop = search in
+    next at-kept _ (told (popped2 c) .enum-told2 .given .1) _ (by-unschedule c)
 
 pub walk-spec : {M : Type 1} → statement M
 walk-spec =
@@ -738,11 +844,16 @@ walk-spec =
     asks-around-requires
     pass-from-requires
     unseen-requires
+    likely-owner-requires
+    mul-owner
+    array-copy-out-owner
+    pass-requires
+    knows-requires
     loop3-holds
     sub-left
     mul-around
     array-copy-out-around
-    pass-requires
+    pass-requires-2
     loop3-less
     loop3-again
     aim-at-requires
@@ -755,7 +866,7 @@ walk-spec =
     mark-requires
     mark-requires-2
     mark-requires-3
-    frame-slot-requires
+    innermost-requires-2
     mul-frames
     array-set-from-frames
     enum-told
@@ -763,24 +874,26 @@ walk-spec =
     loop-again
     enum-known-change
     schedule-requires
+    is-blocked-requires
     blocked-requires
     same-length-2
     returns-2
+    add-target-requires
     sub-entry
     mul-entry-2
     element-set-from-entry
-    add-target-requires
     loop-less-2
     loop-again-2
     enum-known-change-2
     schedule-requires-2
+    is-blocked-requires-2
     blocked-requires-2
     same-length-3
     returns-3
+    add-target-requires-2
     sub-entry-2
     mul-entry-3
     element-set-from-entry-2
-    add-target-requires-2
     unschedule-requires
     mul-off
     element-copy-out-off

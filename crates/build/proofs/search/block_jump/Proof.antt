@@ -4,8 +4,8 @@ use borrow.Author.Needs.{needs}
 use Rattle.build.proofs.search.block_jump.Statement.{statement}
 use Rattle.build.proofs.search.block_jump.Tie as tie
 
-block-word-requires : tie.Need-block-word-requires
-block-word-requires c κs = search needs
+code-at-requires : tie.Need-code-at-requires
+code-at-requires c κs = search needs
 
 goto-jump-requires : tie.Need-goto-jump-requires
 goto-jump-requires c κs = search needs
@@ -21,16 +21,16 @@ returns-2 c = search needs
 
 returns-3 : tie.Need-returns-3
 returns-3 c =
-    let at-block-word : tie.After-block-word = search in
+    let at-code-at : tie.After-code-at = search in
     let start : tie.Start = search in
     let pre = start .pre in
-    no-jump _ _ _ _ (pre .0) (pre .1) (λ e. c .match .rest .0 .1 (at-block-word .block-word .ensures ∙ e)) (λ e. c .match .rest .1 (at-block-word .block-word .ensures ∙ e))
+    no-jump _ _ _ _ (pre .0) (pre .1) (λ e. c .match .rest .0 .1 (at-code-at .code-at .ensures ∙ e)) (λ e. c .match .rest .1 (at-code-at .code-at .ensures ∙ e))
 
 pub block-jump-spec : {M : Type 1} → statement M
 block-jump-spec =
     tie.close
     (tie.spec
-    block-word-requires
+    code-at-requires
     goto-jump-requires
     branch-jump-requires
     returns
