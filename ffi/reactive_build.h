@@ -13,6 +13,11 @@ extern "C" {
  * jump leaves before its target, at most 128. */
 #define REACTIVE_BUILD_ROW_WORDS 6
 
+/* A line of the index has three words: label, first row of the statement, closing row. No two lines of one tree have the same label, and
+ * there are at most REACTIVE_BUILD_MOST_LINES. */
+#define REACTIVE_BUILD_LINE_WORDS 3
+#define REACTIVE_BUILD_MOST_LINES 1023
+
 /* Rows of a table: first, count, code, a, b, c, d, e, id, from, to of a block; id, lvalue, code, p, q, from, to of an instruction. */
 #define REACTIVE_BUILD_BLOCK_WORDS 11
 #define REACTIVE_BUILD_INSTRUCTION_WORDS 7
@@ -38,24 +43,26 @@ static inline reactive_span reactive_row_span(const uint32_t *row) {
     return span;
 }
 
-/* Builds the tree of a table of blocks.
+/* Builds the tree of a table of blocks, and the index of its labels: a line for each statement that has one, in the order of closing rows.
  *
- * words, word_count    the table, of any content and length
- * tree, tree_length    a buffer of any length, in words
+ * words, word_count      the table, of any content and length
+ * tree, tree_length      a buffer of any length, in words
+ * index, index_length    another, for the lines; tree_lookup.h reads them
  *
- * Returns the code: 0, and the buffer holds *rows rows and then zeros; or a refusal (docs/FORMAT.md), and the buffer holds zeros. *at is
- * the refusal's place, *visits the number of visits. *rows is 0 if refused, but for code 40: then it is the number of rows to lend.
+ * Returns the code: 0, and the buffers hold *rows rows and *lines lines, and then zeros; or a refusal (docs/FORMAT.md), and both hold
+ * zeros. *at is the refusal's place, *visits the number of visits. If refused *lines is 0, and *rows but for code 40: then it is the number
+ * of rows to lend. Code 41 says that the rows would have fitted and the lines did not. reactive_preview.h gives both numbers beforehand.
  *
- * No pointer is null, also where the length is 0. words and tree are valid for their lengths and aligned; tree and the three results
- * overlap nothing else that is passed, and no other thread uses them during the call. The call takes no memory but the stack, keeps
- * nothing, and may be made from any number of threads. */
-uint32_t reactive_build(const uint32_t *words, size_t word_count, uint32_t *tree, size_t tree_length, uint32_t *at, uint32_t *rows,
-                        uint32_t *visits);
+ * No pointer is null, also where the length is 0. words, tree and index are valid for their lengths and aligned; tree, index and the four
+ * results overlap nothing else that is passed, and no other thread uses them during the call. The call takes no memory but the stack,
+ * keeps nothing, and may be made from any number of threads. */
+uint32_t reactive_build(const uint32_t *words, size_t word_count, uint32_t *tree, size_t tree_length, uint32_t *index, size_t index_length,
+                        uint32_t *at, uint32_t *rows, uint32_t *visits, uint32_t *lines);
 
 /* The same by the language's rule (docs/FORMAT.md): a break to a loop is Labeled also where a switch is being built in between, and the label
  * that a Labeled jump names is there; else the refusal is 29, which reactive_build never gives. */
-uint32_t reactive_build_language(const uint32_t *words, size_t word_count, uint32_t *tree, size_t tree_length, uint32_t *at, uint32_t *rows,
-                                 uint32_t *visits);
+uint32_t reactive_build_language(const uint32_t *words, size_t word_count, uint32_t *tree, size_t tree_length, uint32_t *index,
+                                 size_t index_length, uint32_t *at, uint32_t *rows, uint32_t *visits, uint32_t *lines);
 
 #ifdef __cplusplus
 }

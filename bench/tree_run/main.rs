@@ -1,7 +1,6 @@
 // Time of the proved runner against a plain Rust runner that reads the rows into a tree with boxes and vectors and runs it by recursion, on runs of a
 // million performed rows and more; and whether 512 KB of stack are enough for the deepest tree. Build and run: bench/tree_run/run (see there).
 use std::hint::black_box;
-use std::time::Instant;
 
 unsafe extern "C" {
     // A slice is passed as its pointer and its length.
@@ -16,6 +15,15 @@ unsafe extern "C" {
         number: *mut usize,
         reason: *mut u32,
     ) -> u32;
+    fn clock_gettime(clock: i32, time: *mut [i64; 2]) -> i32;
+}
+
+// What this thread has computed for, in seconds: a run takes milliseconds, and on a busy machine others take turns with it.
+fn now() -> f64 {
+    const CLOCK_THREAD_CPUTIME_ID: i32 = 3;
+    let mut time = [0; 2];
+    assert_eq!(unsafe { clock_gettime(CLOCK_THREAD_CPUTIME_ID, &mut time) }, 0);
+    time[0] as f64 + time[1] as f64 / 1e9
 }
 
 fn proved(tree: &[u32], answers: &[u32], performed: &mut [u32]) -> (u32, u32, usize, u32) {
@@ -316,9 +324,9 @@ fn deep(labels: u32) -> Vec<u32> {
 fn least(times: usize, mut run: impl FnMut()) -> f64 {
     (0..times)
         .map(|_| {
-            let start = Instant::now();
+            let start = now();
             run();
-            start.elapsed().as_secs_f64()
+            now() - start
         })
         .fold(f64::MAX, f64::min)
 }
@@ -331,10 +339,10 @@ fn measure() {
         let b = plain(&tree, &answers, &mut other);
         assert_eq!((a, &buffer), (b, &other), "{name}");
         let lent = a.2;
-        let ours = least(7, || {
+        let ours = least(40, || {
             black_box(proved(black_box(&tree), black_box(&answers), &mut buffer[..lent]));
         });
-        let theirs = least(7, || {
+        let theirs = least(40, || {
             black_box(plain(black_box(&tree), black_box(&answers), &mut other[..lent]));
         });
         let each = |time: f64| time * 1e9 / lent as f64;

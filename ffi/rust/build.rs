@@ -24,6 +24,9 @@ fn main() {
     if env::var_os("CARGO_FEATURE_ORDER").is_some() {
         link(&folder, "order");
     }
+    if env::var_os("CARGO_FEATURE_PREVIEW").is_some() {
+        link(&folder, "preview");
+    }
     if env::var_os("CARGO_FEATURE_TREE_CHECK").is_some() {
         link(&folder, "treerows");
     }

@@ -5,6 +5,6 @@ fn main() {
     if std::env::var_os("CARGO_FEATURE_CANDIDATE_CHECK").is_some() {
         let folder = std::env::var("CANDIDATE_DIR").expect("CANDIDATE_DIR: the archive's folder");
         println!("cargo::rustc-link-search=native={folder}");
-        println!("cargo::rerun-if-changed={folder}/libtable.a");
+        println!("cargo::rerun-if-changed={folder}/libtable_check.a");
     }
 }

@@ -1,6 +1,6 @@
 //! Time of the proved build against (a) an ordinary Rust program with vectors and recursion over the
 //! same words and rows, and (b) the Rust that it was translated from; of the language entry (M-102)
-//! against the first; and the stack that it takes.
+//! against the first; of the preview (M-106) against the build; and the stack that it takes. Every build has its index lent (M-101).
 //!
 //! (a) is `plain`: its own check, and the walk of the model of paper 01 (reference/comparison/src/model). (b) runs on its own graph, made
 //! before the clock starts, and its tree is not made into rows; it is watched by the observer that
@@ -15,9 +15,11 @@ use std::time::{Duration, Instant};
 
 use comparison::model::check::check;
 use comparison::reference;
+use reactive_build::preview::preview;
 use tables::Case;
 
 const ROUNDS: usize = 15;
+const INDEX_WORDS: usize = reactive_build::MOST_LINES * reactive_build::LINE_WORDS;
 
 fn main() {
     let arguments: Vec<String> = std::env::args().collect();
@@ -35,8 +37,8 @@ fn main() {
         return once(entry, case.parse().expect("the case's number"));
     }
     reference::install_panic_hook();
-    println!("| table | rows | proved, µs | (a) Rust with vectors, µs | ratio | (b) the Rust, µs | ratio | language entry, µs | to the first |");
-    println!("|---|---|---|---|---|---|---|---|---|");
+    println!("| table | rows | lines | proved, µs | (a) Rust with vectors, µs | ratio | (b) the Rust, µs | ratio | language entry, µs | to the first | preview, µs | to the build |");
+    println!("|---|---|---|---|---|---|---|---|---|---|---|---|");
     for case in &cases() {
         measure(case);
     }
@@ -58,43 +60,50 @@ fn cases() -> Vec<Case> {
 }
 
 /// One call, for a count of its instructions: `valgrind --tool=callgrind --toggle-collect=reactive_build`
-/// (or `reactive_build_language`).
+/// (or `reactive_build_language`, `reactive_preview`).
 fn once(entry: &str, number: usize) {
     let case = &cases()[number];
-    let mut lent = vec![7; 60_000];
+    let told = preview(&case.words);
+    let (mut lent, mut index) = (vec![7; 6 * told.rows as usize], vec![7; 3 * told.lines as usize]);
     let built = match entry {
-        "first" => reactive_build::build(&case.words, &mut lent),
-        "language" => reactive_build::build_language(&case.words, &mut lent),
-        _ => panic!("first or language"),
+        "first" => reactive_build::build(&case.words, &mut lent, &mut index),
+        "language" => reactive_build::build_language(&case.words, &mut lent, &mut index),
+        "preview" => told,
+        _ => panic!("first, language or preview"),
     };
     println!("{}: code {}, {} rows", case.name, built.code, built.rows);
 }
 
 fn measure(case: &Case) {
     let words = &case.words;
-    let mut lent = vec![7; 60_000];
-    let ours = reactive_build::build(words, &mut lent);
+    let (mut lent, mut index) = (vec![7; 60_000], vec![7; INDEX_WORDS]);
+    let ours = reactive_build::build(words, &mut lent, &mut index);
     assert!(plain::checked_by_rows(words).is_some(), "{}: (a) takes its slow check", case.name);
-    let mut theirs_lent = vec![7; 60_000];
-    let theirs = plain::build(words, &mut theirs_lent);
-    assert_eq!((ours.code, ours.rows, ours.visits), (0, theirs.rows, theirs.visits), "{}", case.name);
-    assert!(lent == theirs_lent, "{}", case.name);
-    // A buffer of just the rows, so that the zeros after them cost nothing.
+    let (mut theirs_lent, mut theirs_index) = (vec![7; 60_000], vec![7; INDEX_WORDS]);
+    let theirs = plain::build(words, &mut theirs_lent, &mut theirs_index);
+    assert_eq!((ours.code, ours.rows, ours.visits, ours.lines), (0, theirs.rows, theirs.visits, theirs.lines), "{}", case.name);
+    assert!(lent == theirs_lent && index == theirs_index && ours == preview(words), "{}", case.name);
+    // Buffers of just the rows and the lines, so that the zeros after them cost nothing.
     lent.truncate(6 * ours.rows as usize);
+    index.truncate(3 * ours.lines as usize);
     let calls = (200_000 / words.len()).clamp(20, 2_000) as u32;
-    let mut least = [Duration::MAX; 4];
+    let mut least = [Duration::MAX; 5];
     for _ in 0..ROUNDS {
         let times = [
-            time(calls, || black_box(reactive_build::build(black_box(words), &mut lent)).code),
-            time(calls, || black_box(plain::build(black_box(words), &mut lent)).code),
+            time(calls, || black_box(reactive_build::build(black_box(words), &mut lent, &mut index)).code),
+            time(calls, || black_box(plain::build(black_box(words), &mut lent, &mut index)).code),
             of_reference(words, calls),
-            time(calls, || black_box(reactive_build::build_language(black_box(words), &mut lent)).code),
+            time(calls, || black_box(reactive_build::build_language(black_box(words), &mut lent, &mut index)).code),
+            time(calls, || black_box(preview(black_box(words))).code),
         ];
         least = std::array::from_fn(|which| least[which].min(times[which]));
     }
-    let [proved, vectors, original, language] = least.map(|time| time.as_secs_f64() * 1e6);
-    let (to_a, to_b, to_first) = (proved / vectors, proved / original, language / proved);
-    println!("| {} | {} | {proved:.1} | {vectors:.1} | {to_a:.2} | {original:.1} | {to_b:.2} | {language:.1} | {to_first:.2} |", case.name, ours.rows);
+    let [proved, vectors, original, language, preview] = least.map(|time| time.as_secs_f64() * 1e6);
+    let (to_a, to_b, to_first, to_build) = (proved / vectors, proved / original, language / proved, preview / proved);
+    println!(
+        "| {} | {} | {} | {proved:.1} | {vectors:.1} | {to_a:.2} | {original:.1} | {to_b:.2} | {language:.1} | {to_first:.2} | {preview:.1} | {to_build:.2} |",
+        case.name, ours.rows, ours.lines
+    );
 }
 
 fn time(calls: u32, mut call: impl FnMut() -> u32) -> Duration {

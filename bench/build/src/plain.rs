@@ -2,36 +2,48 @@
 //! time, and looks for the first bad word only where a row is bad; then it walks as the model of paper 01 does.
 
 use comparison::model::check::check;
+use comparison::model::index::{LINE_WORDS, lines};
 use comparison::model::table::{BlockRow, HEAD_WORDS, InstructionRow, LIMITS, Table};
 use comparison::model::{self, Outcome, Refusal};
 
 const LARGEST: u32 = 65_535;
 const NONE: u32 = 65_535;
 
-pub fn build(words: &[u32], buffer: &mut [u32]) -> Outcome {
+pub fn build(words: &[u32], buffer: &mut [u32], index: &mut [u32]) -> Outcome {
     match checked(words) {
-        Ok(table) => place(model::walk(&table), buffer),
-        Err(Refusal { code, at }) => {
-            buffer.fill(0);
-            Outcome { code, at, rows: 0, visits: 0 }
-        }
+        Ok(table) => place(model::walk(&table), buffer, index),
+        Err(refusal) => refuse(refusal, 0, buffer, index),
     }
 }
 
-fn place(walked: model::Walked, buffer: &mut [u32]) -> Outcome {
+fn place(walked: model::Walked, buffer: &mut [u32], index: &mut [u32]) -> Outcome {
     let visits = walked.visits;
-    let (code, at, rows) = match &walked.result {
-        Err(refusal) => (refusal.code, refusal.at, 0),
-        Ok(rows) if rows.len() > buffer.len() / model::ROW_WORDS => (40, 0, rows.len()),
-        Ok(rows) => {
-            let (held, rest) = buffer.split_at_mut(rows.len() * model::ROW_WORDS);
-            held.copy_from_slice(rows.as_flattened());
-            rest.fill(0);
-            return Outcome { code: 0, at: 0, rows: rows.len() as u32, visits };
-        }
+    let rows = match &walked.result {
+        Err(refusal) => return refuse(*refusal, visits, buffer, index),
+        Ok(rows) => rows,
     };
+    if rows.len() > buffer.len() / model::ROW_WORDS {
+        return Outcome { rows: rows.len() as u32, ..refuse(Refusal { code: 40, at: 0 }, visits, buffer, index) };
+    }
+    let lines = lines(rows);
+    if lines.len() > index.len() / LINE_WORDS {
+        return refuse(Refusal { code: 41, at: 0 }, visits, buffer, index);
+    }
+    hold(rows.as_flattened(), buffer);
+    hold(lines.as_flattened(), index);
+    Outcome { code: 0, at: 0, rows: rows.len() as u32, visits, lines: lines.len() as u32 }
+}
+
+fn hold(words: &[u32], buffer: &mut [u32]) {
+    let (held, rest) = buffer.split_at_mut(words.len());
+    held.copy_from_slice(words);
+    rest.fill(0);
+}
+
+fn refuse(refusal: Refusal, visits: u32, buffer: &mut [u32], index: &mut [u32]) -> Outcome {
     buffer.fill(0);
-    Outcome { code, at, rows: rows as u32, visits }
+    index.fill(0);
+    Outcome::refused(refusal, visits)
 }
 
 fn checked(words: &[u32]) -> Result<Table<'_>, Refusal> {

@@ -105,8 +105,8 @@ impl Shape {
 /// Builds the table on a thread with this stack.
 pub fn probe(shape: &str, bytes: usize) {
     let (words, expected) = if shape == "statements" { (tables::deep_statements().words, 0) } else { (Shape::of(shape).words(), 30) };
-    let mut lent = vec![7; 6_000];
-    let build = move || reactive_build::build(&words, &mut lent).code;
+    let (mut lent, mut index) = (vec![7; 6_000], vec![7; 3_069]);
+    let build = move || reactive_build::build(&words, &mut lent, &mut index).code;
     let code = thread::Builder::new().stack_size(bytes).spawn(build).expect("a thread").join();
     assert_eq!(code.expect("it ends"), expected, "{shape}");
 }

@@ -19,12 +19,11 @@ use Rattle.definition.proofs.Steps.{true-false}
 use Rattle.definition.specs.Build.{Report, accepted, rejected, report}
 use Rattle.definition.specs.Context.{emit, withVisits}
 use Rattle.definition.specs.Context as definition
-use Rattle.definition.specs.Machine.{enclosings, aroundOf, State, visiting, ended, choosing, popping, going, halt, step}
+use Rattle.definition.specs.Machine.{Output, noOutput, _⊕_, enclosings, aroundOf, State, visiting, ended, choosing, popping, going, halt, step}
 use Rattle.definition.specs.Around.{Rule, Around}
 use Rattle.definition.specs.Goal.{Goal}
 use Rattle.definition.specs.Machine as machine
 use Rattle.definition.specs.Result.{ok, refused}
-use Rattle.definition.specs.Tree.{Row}
 use Rattle.definition.specs.Framed.{Below, Framed}
 use Rattle.definition.proofs.Invariant.{Checked, Sound, Going, going-start, going-step, going-lower, going-halt, entriesOf, marks-below, potential}
 use Rattle.definition.proofs.Invariant as invariant
@@ -51,9 +50,11 @@ use Rattle.plan.specs.declared.Change.the-variants.{Nothing, Schedule, Schedule
 use Rattle.plan.specs.declared.Plan.{Plan}
 use Rattle.build.specs.declared.search.Jump.{Jump}
 use Rattle.build.specs.declared.search.Jump.the-variants as search
-use Rattle.plan.specs.Plans.{frameOf, noFrame, framesOf, stateAt, changed, handled, scoped, within, kept, contextAfter, onward, applied}
+use Rattle.plan.specs.Plans.{frameOf, noFrame, framesOf, stateAt, changed, handled, scoped, within, kept, contextAfter, onward, lined, applied}
 use Rattle.plan.specs.Planned.{NamedChange, entriesOnTop, deepest, Nested, Fitting}
 use Rattle.plan.specs.Turn.{Resolves, Shown, inHand, FrameFits, StageFits, Ready, emitting, PlannedTurn}
+use Rattle.build.specs.Lined.{HoldsLines, LinePut}
+use Rattle.build.proofs.LinedLaws.{lined-rows, lined-lines, no-lines}
 use Rattle.build.specs.Driver.{foundBy, goalBy, Searches, visitedBlock, isHalt, planEnds, startingAt, walkedBy, blockedBy, Reported}
 use Rattle.build.proofs.ApplyLaws.{emitted, withMarks, Whole, Changeable, Blocked, Applicable, Applied, marks}
 use Rattle.build.proofs.CheckedLaws.{checked-table}
@@ -175,37 +176,38 @@ Live Choose depth = 1 ≤ depth
 Live Pop depth = 1 ≤ depth
 Live Halt depth = ⊥
 
-abbrev pub stateOf : Position → List Frame → List Row → Context → State
+abbrev pub stateOf : Position → List Frame → Output → Context → State
 stateOf p A R cx = stateAt (p .stage) (p .block) (framesOf A (p .depth)) R (p .count) (contextOf (p .visits) cx)
 
 -- the numbers in a state
-record Numbers (F : List machine.Frame) (R : List Row) (C : definition.Context) : Type 0 where
+record Numbers (F : List machine.Frame) (R : Output) (C : definition.Context) : Type 0 where
   visits : C .visits ≤ 8192
   frames : length F ≤ 128
   stack : length (C .stack) ≤ 1024
   ids : C .nextId ≤ 16384
-  rows : length R ≤ 67239936
+  rows : length (R .rows) ≤ 67239936
+  lines : length (R .lines) ≤ 1024
   entries : length (C .stack) ≡ entriesOf F
 
-numbers : (t : Table) (s : Stage) (b : ℕ) (F : List machine.Frame) (R : List Row) (m : ℕ) (C : definition.Context) → Live s (length F) → Sound t (stateAt s b F R m C) → Numbers F R C
+numbers : (t : Table) (s : Stage) (b : ℕ) (F : List machine.Frame) (R : Output) (m : ℕ) (C : definition.Context) → Live s (length F) → Sound t (stateAt s b F R m C) → Numbers F R C
 numbers t Visit b F R m C l h =
     let z : invariant.Small (visiting b F R m C) = invariant.sound-small t (visiting b F R m C) h in record
-    { visits = z .visits; frames = z .frames; stack = z .stack; ids = z .ids; rows = z .rows; entries = h .2 .stack }
+    { visits = z .visits; frames = z .frames; stack = z .stack; ids = z .ids; rows = z .rows; lines = z .lines; entries = h .2 .stack }
 numbers t Ended b F R m C l h =
     let z : invariant.Small (ended F R m C) = invariant.sound-small t (ended F R m C) h in record
-    { visits = z .visits; frames = z .frames; stack = z .stack; ids = z .ids; rows = z .rows; entries = h .1 .stack }
+    { visits = z .visits; frames = z .frames; stack = z .stack; ids = z .ids; rows = z .rows; lines = z .lines; entries = h .1 .stack }
 numbers t Choose b [] R m C l h = absurd (omega arith)
 numbers t Choose b (f ∷ F) R m C l h =
     let z : invariant.Small (choosing f F R C) = invariant.sound-small t (choosing f F R C) h in record
-    { visits = z .visits; frames = z .frames; stack = z .stack; ids = z .ids; rows = z .rows; entries = h .3 .stack }
+    { visits = z .visits; frames = z .frames; stack = z .stack; ids = z .ids; rows = z .rows; lines = z .lines; entries = h .3 .stack }
 numbers t Pop b [] R m C l h = absurd (omega arith)
 numbers t Pop b (f ∷ F) R m C l h =
     let z : invariant.Small (popping f F R C) = invariant.sound-small t (popping f F R C) h in record
-    { visits = z .visits; frames = z .frames; stack = z .stack; ids = z .ids; rows = z .rows; entries = h .2 .stack }
+    { visits = z .visits; frames = z .frames; stack = z .stack; ids = z .ids; rows = z .rows; lines = z .lines; entries = h .2 .stack }
 numbers t Halt b F R m C l h = absurd l
 
 -- the potential does not look at the rows
-no-rows : (s : Stage) (b : ℕ) (F : List machine.Frame) (R : List Row) (m : ℕ) (C : definition.Context) → potential (stateAt s b F R m C) ≡ potential (stateAt s b F [] m C)
+no-rows : (s : Stage) (b : ℕ) (F : List machine.Frame) (R : Output) (m : ℕ) (C : definition.Context) → potential (stateAt s b F R m C) ≡ potential (stateAt s b F noOutput m C)
 no-rows Visit b F R m C = refl
 no-rows Ended b F R m C = refl
 no-rows Choose b [] R m C = refl
@@ -216,16 +218,23 @@ no-rows Halt b F R m C = refl
 
 -- ---- what holds at each turn of the loop
 
-pub record Walking (rule : Rule) (w : List ℕ) (buffer : List ℕ) (cx : Context) (A : List Frame) (p : Position) : Type 0 where
-  pub rows : List Row
-  pub going : Going rule (tableOf w) (stateOf p A rows cx)
-  pub held : Holds buffer (p .rows) (pushed rows [])
+-- both lent buffers, and the number of lines that are out
+pub record Lent : Type 0 where
+  pub tree : List ℕ
+  pub index : List ℕ
+  pub lines : ℕ
+
+pub record Walking (rule : Rule) (w : List ℕ) (buffer : Lent) (cx : Context) (A : List Frame) (p : Position) : Type 0 where
+  pub out : Output
+  pub going : Going rule (tableOf w) (stateOf p A out cx)
+  pub held : Holds (buffer .tree) (p .rows) (pushed (out .rows) [])
+  pub indexed : HoldsLines (buffer .index) (buffer .lines) (out .lines)
   pub live : Live (p .stage) (p .depth)
   pub whole : Whole cx
   pub frames : length A ≡ 129
 
 abbrev pub turnsLeft : Position → List Frame → Context → ℕ
-turnsLeft p A cx = potential (stateOf p A [] cx)
+turnsLeft p A cx = potential (stateOf p A noOutput cx)
 
 getD-any : {A : Type 0} (xs : List A) (i : ℕ) (d e : A) → i < length xs → getD xs i d ≡ getD xs i e
 getD-any [] i d e h = absurd (omega arith)
@@ -247,7 +256,7 @@ scheduled-start cx s e = sym (ap length (as-stored 0 cx s)) ∙ ap (λ (C : defi
 
 -- what a read past the array's end would give
 abbrev pub beyond : Frame
-beyond = record { block = 0; label = 0; entries = 0; left = 0; built = 0; count = 0; second = false }
+beyond = record { block = 0; label = 0; entries = 0; left = 0; built = 0; first = 0; count = 0; second = false }
 
 -- where the jump goes
 pub found-jump : (rule : Rule) (w : List ℕ) (cx : Context) (A : List Frame) (p : Position) (jump : Jump) (aim : Aim)
@@ -316,14 +325,15 @@ found-below cx (search.Continue b) (resolved.Found r) h e = continue-below (cx .
 
 module _ (rule : Rule) (w : List ℕ) (pr : Promise w) (ck : Checked (tableOf w)) where
   -- where the loop begins
-  pub walking-start : (buffer : List ℕ) (cx : Context) (A : List Frame) (p : Position) → Created cx → length A ≡ 129 → p ≡ startingAt (entryWord w) → Walking rule w buffer cx A p
+  pub walking-start : (buffer : Lent) → buffer .lines ≡ 0 → (cx : Context) (A : List Frame) (p : Position) → Created cx → length A ≡ 129 → p ≡ startingAt (entryWord w) → Walking rule w buffer cx A p
   unfolding framesOf pushed
-  walking-start buffer cx A p new l q = rw q (record {
-    rows = [];
+  walking-start buffer none-out cx A p new l q = rw q (record {
+    out = noOutput;
     going =
-        subst (λ (C : definition.Context). Going rule (tableOf w) (visiting (entryWord w) [] [] 0 C)) (sym (new .context))
-        (subst (λ (b : ℕ). Going rule (tableOf w) (visiting b [] [] 0 definition.start)) entry-word (going-start rule (tableOf w) ck));
+        subst (λ (C : definition.Context). Going rule (tableOf w) (visiting (entryWord w) [] noOutput 0 C)) (sym (new .context))
+        (subst (λ (b : ℕ). Going rule (tableOf w) (visiting b [] noOutput 0 definition.start)) entry-word (going-start rule (tableOf w) ck));
     held = record { count = refl; rows = tt };
+    indexed = rw none-out (no-lines (buffer .index));
     live = tt;
     whole = record { settled = new .settled; bounded = new .bounded; wide = flags; tall = ap length (new .stack) ∙ length-replicate 1152 noEntry };
     frames = l;
@@ -335,15 +345,15 @@ module _ (rule : Rule) (w : List ℕ) (pr : Promise w) (ck : Checked (tableOf w)
       flags : length (cx .scheduled) ≡ 1024
       flags = scheduled-start cx (new .settled) (new .context)
 
-  frame-fits : (chosen over n rows : ℕ) (A : List Frame) (F : List machine.Frame) (R : List Row) (m : ℕ) (C : definition.Context) (f : Frame) → f ≡ getD A (suc n - 1) noFrame → length R ≡ rows
+  frame-fits : (chosen over n rows : ℕ) (A : List Frame) (F : List machine.Frame) (R : Output) (m : ℕ) (C : definition.Context) (f : Frame) → f ≡ getD A (suc n - 1) noFrame → length (R .rows) ≡ rows
       → Framed (tableOf w) chosen (frameOf (getD A n noFrame)) → invariant.Holds over (frameOf (getD A n noFrame) ∷ F) R m C → FrameFits w chosen rows f
   frame-fits chosen over n rows A F R m C f e l o h =
       let q : suc n - 1 ≡ n = omega arith in
       let z : f ≡ getD A n noFrame = rw q at e in
       rw z (record { framed = o; built = omega (arith, h .marked, marks-below (C .emitted), h .flags); count = omega (arith, h .tallied, l) })
 
-  fits-at : (A : List Frame) (R : List Row) (C : definition.Context) (f : Frame) (s : Stage) (b n m rows visits : ℕ) → f ≡ getD A (n - 1) noFrame
-      → length R ≡ rows → Live s n → Sound (tableOf w) (stateAt s b (framesOf A n) R m C)
+  fits-at : (A : List Frame) (R : Output) (C : definition.Context) (f : Frame) (s : Stage) (b n m rows visits : ℕ) → f ≡ getD A (n - 1) noFrame
+      → length (R .rows) ≡ rows → Live s n → Sound (tableOf w) (stateAt s b (framesOf A n) R m C)
       → StageFits w s (record { block = b; depth = n; count = m; rows = rows; visits = visits; stage = s }) f
   unfolding framesOf
   fits-at A R C f Visit b n m rows u e l v h = (rw (← (length-blocks w)) (h .0), omega (arith, h .2 .tallied, l))
@@ -360,15 +370,18 @@ module _ (rule : Rule) (w : List ℕ) (pr : Promise w) (ck : Checked (tableOf w)
 
   -- ---- a turn
 
-  module _ (buffer : List ℕ) (cx : Context) (A : List Frame) (p : Position) (I : Walking rule w buffer cx A p) where
+  module _ (buffer : Lent) (cx : Context) (A : List Frame) (p : Position) (I : Walking rule w buffer cx A p) where
     abbrev C : definition.Context
     C = contextOf (p .visits) cx
 
-    numbered : Numbers (framesOf A (p .depth)) (I .rows) C
-    numbered = numbers (tableOf w) (p .stage) (p .block) (framesOf A (p .depth)) (I .rows) (p .count) C (rw (frames-length A (p .depth)) (I .live)) (I .going .sound)
+    numbered : Numbers (framesOf A (p .depth)) (I .out) C
+    numbered = numbers (tableOf w) (p .stage) (p .block) (framesOf A (p .depth)) (I .out) (p .count) C (rw (frames-length A (p .depth)) (I .live)) (I .going .sound)
 
-    row-count : length (I .rows) ≡ p .rows
-    row-count = omega (arith, length-pushed (I .rows) [], I .held .count)
+    row-count : length (I .out .rows) ≡ p .rows
+    row-count = omega (arith, length-pushed (I .out .rows) [], I .held .count)
+
+    pub few-lines : buffer .lines ≤ 1024
+    few-lines = omega (arith, numbered .lines, I .indexed .count)
 
     pub shallow : p .depth ≤ 128
     shallow = omega (arith, numbered .frames, frames-length A (p .depth))
@@ -384,18 +397,18 @@ module _ (rule : Rule) (w : List ℕ) (pr : Promise w) (ck : Checked (tableOf w)
       depth = shallow;
       visits = numbered .visits;
       rows = omega (arith, numbered .rows, row-count);
-      stage = fits-at A (I .rows) C f (p .stage) (p .block) (p .depth) (p .count) (p .rows) (p .visits) e row-count (I .live) (I .going .sound);
+      stage = fits-at A (I .out) C f (p .stage) (p .block) (p .depth) (p .count) (p .rows) (p .visits) e row-count (I .live) (I .going .sound);
     }
 
     pub visit-below : p .stage ≡ Visit → p .block < blockCount w
-    visit-below e = rw (← (length-blocks w)) (subst (λ (s : Stage). Sound (tableOf w) (stateAt s (p .block) (framesOf A (p .depth)) (I .rows) (p .count) C)) e (I .going .sound) .0)
+    visit-below e = rw (← (length-blocks w)) (subst (λ (s : Stage). Sound (tableOf w) (stateAt s (p .block) (framesOf A (p .depth)) (I .out) (p .count) C)) e (I .going .sound) .0)
 
     -- the frames' blocks, which a jump asks what they are
     pub frame-block : (k : ℕ) → k < p .depth → getD A k noFrame .block < blockCount w
     unfolding framesOf
     frame-block k h = rw (← (length-blocks w)) (at (p .stage) (p .depth) (I .going .sound) (I .live) h)
       where
-        at : (s : Stage) (n : ℕ) → Sound (tableOf w) (stateAt s (p .block) (framesOf A n) (I .rows) (p .count) C) → Live s n → k < n → getD A k noFrame .block < length (tableOf w .blocks)
+        at : (s : Stage) (n : ℕ) → Sound (tableOf w) (stateAt s (p .block) (framesOf A n) (I .out) (p .count) C) → Live s n → k < n → getD A k noFrame .block < length (tableOf w .blocks)
         at Visit n h v l = frames-each (tableOf w) A k n (h .1) l
         at Ended n h v l = frames-each (tableOf w) A k n (h .0) l
         at Choose zero h v l = absurd (omega arith)
@@ -411,8 +424,9 @@ module _ (rule : Rule) (w : List ℕ) (pr : Promise w) (ck : Checked (tableOf w)
     abbrev pub inside : Around
     inside = aroundOf rule (tableOf w) (framesOf A (p .depth))
 
-    module _ (f : Frame) (read : f ≡ getD A (p .depth - 1) noFrame) (aim : Aim) (buffer′ : List ℕ) (plan : Plan)
-        (T : PlannedTurn w inside (Shown w (cx .emitted) (cx .scheduled) (cx .«catch_handlers») (cx .«scope_fallthroughs») p aim inside) p f buffer plan buffer′)
+    module _ (f : Frame) (read : f ≡ getD A (p .depth - 1) noFrame) (aim : Aim) (buffer′ : Lent) (plan : Plan)
+        (T : PlannedTurn w inside (Shown w (cx .emitted) (cx .scheduled) (cx .«catch_handlers») (cx .«scope_fallthroughs») p aim inside) p f (buffer .tree) plan (buffer′ .tree))
+        (put : LinePut (buffer .index) (buffer .lines) (plan .line) (plan .position .rows) (buffer′ .index) (buffer′ .lines))
         (J : p .stage ≡ Visit → Resolves (terminalAt (tableOf w) (p .block)) inside C (aimOf aim)) where
       shown : Shown w (cx .emitted) (cx .scheduled) (cx .«catch_handlers») (cx .«scope_fallthroughs») p aim inside C
       unfolding contextOf
@@ -421,52 +435,60 @@ module _ (rule : Rule) (w : List ℕ) (pr : Promise w) (ck : Checked (tableOf w)
       together : inHand (p .stage) (p .depth) f ++ restOf A (p .stage) (p .depth) ≡ framesOf A (p .depth)
       together = in-hand A (p .stage) (p .depth) f read
 
-      after : List Row
-      after = I .rows ++ T .out
+      -- what the plan's rows and its line leave
+      between : Output
+      between = I .out ⊕ T .out
+
+      after : Output
+      after = lined (plan .line) (plan .position .rows) between
 
       entering : definition.Context
       entering = emitting (p .stage) (p .block) C
 
-      stepped : step rule (tableOf w) (stateOf p A (I .rows) cx) ≡ applied plan (framesOf A (p .depth)) after entering
-      unfolding after entering
+      stepped : step rule (tableOf w) (stateOf p A (I .out) cx) ≡ applied plan (framesOf A (p .depth)) between entering
+      unfolding between entering
       stepped =
-          subst (λ (F : List machine.Frame). step rule (tableOf w) (stateAt (p .stage) (p .block) F (I .rows) (p .count) C) ≡ applied plan F (I .rows ++ T .out)
+          subst (λ (F : List machine.Frame). step rule (tableOf w) (stateAt (p .stage) (p .block) F (I .out) (p .count) C) ≡ applied plan F (I .out ⊕ T .out)
           (emitting (p .stage) (p .block) C)) together
-          (T .same (restOf A (p .stage) (p .depth)) (I .rows) C (ap length together ∙ frames-length A (p .depth)) (ap (enclosings (tableOf w)) together) shown)
+          (T .same (restOf A (p .stage) (p .depth)) (I .out) C (record { deep = ap length together ∙ frames-length A (p .depth); many = row-count }) (ap (enclosings (tableOf w)) together) shown)
 
       -- a refusal
       refused-report : (plan .code ≡ 0 → ⊥) → report rule (tableOf w) ≡ rejected (plan .code) (plan .at) (plan .position .visits)
       unfolding applied
-      refused-report z = going-halt rule (tableOf w) (stateOf p A (I .rows) cx) _ (I .going) (stepped ∙ rw (ne-eqb (plan .code) 0 z, applied))
+      refused-report z = going-halt rule (tableOf w) (stateOf p A (I .out) cx) _ (I .going) (stepped ∙ rw (ne-eqb (plan .code) 0 z, applied))
 
-      refused-reported : (plan .code ≡ 0 → ⊥) → Reported (report rule (tableOf w)) (walkedBy plan) buffer′
-      refused-reported z = subst (λ (a : Report). Reported a (walkedBy plan) buffer′) (sym (refused-report z)) (refl, z, refl, refl)
+      refused-reported : (plan .code ≡ 0 → ⊥) → Reported (report rule (tableOf w)) (walkedBy plan (buffer′ .lines)) (buffer′ .tree) (buffer′ .index)
+      refused-reported z = subst (λ (a : Report). Reported a (walkedBy plan (buffer′ .lines)) (buffer′ .tree) (buffer′ .index)) (sym (refused-report z)) (refl, z, refl, refl)
 
       module _ (fine : plan .code ≡ 0) where
-        ahead : applied plan (framesOf A (p .depth)) after entering ≡ onward (plan .position .stage) plan (framesOf A (p .depth)) after (contextAfter plan entering)
-        unfolding applied
+        ahead : applied plan (framesOf A (p .depth)) between entering ≡ onward (plan .position .stage) plan (framesOf A (p .depth)) after (contextAfter plan entering)
+        unfolding applied after
         ahead = rw (eq-eqb (plan .code) 0 fine, applied)
 
         fit : Fitting (inHand (p .stage) (p .depth) f) (p .depth) plan
         fit = T .fitting fine
 
-        rows-held : Holds buffer′ (plan .position .rows) (pushed after [])
-        unfolding after
-        rows-held = T .held fine (I .rows) (I .held)
+        rows-held : Holds (buffer′ .tree) (plan .position .rows) (pushed (after .rows) [])
+        unfolding after between
+        rows-held = rw (lined-rows (plan .line) (plan .position .rows) between) (T .held fine (I .out .rows) (I .held))
+
+        lines-held : HoldsLines (buffer′ .index) (buffer′ .lines) (after .lines)
+        unfolding after between
+        lines-held = rw (lined-lines (plan .line) (plan .position .rows) between) (put .held (I .out .lines) (I .indexed))
 
         -- the end
-        accepted-report : isHalt (plan .position .stage) ≡ true → report rule (tableOf w) ≡ accepted after (plan .position .visits)
-        accepted-report z = going-halt rule (tableOf w) (stateOf p A (I .rows) cx) _ (I .going) (stepped ∙ ahead ∙ at (plan .position .stage) z)
+        accepted-report : isHalt (plan .position .stage) ≡ true → report rule (tableOf w) ≡ accepted (after .rows) (after .lines) (plan .position .visits)
+        accepted-report z = going-halt rule (tableOf w) (stateOf p A (I .out) cx) _ (I .going) (stepped ∙ ahead ∙ at (plan .position .stage) z)
           where
-            at : (s : Stage) → isHalt s ≡ true → onward s plan (framesOf A (p .depth)) after (contextAfter plan entering) ≡ halt (accepted after (plan .position .visits))
+            at : (s : Stage) → isHalt s ≡ true → onward s plan (framesOf A (p .depth)) after (contextAfter plan entering) ≡ halt (accepted (after .rows) (after .lines) (plan .position .visits))
             at Visit e = absurd (true-false (sym e))
             at Ended e = absurd (true-false (sym e))
             at Choose e = absurd (true-false (sym e))
             at Pop e = absurd (true-false (sym e))
             at Halt e = refl
 
-        accepted-reported : isHalt (plan .position .stage) ≡ true → Reported (report rule (tableOf w)) (walkedBy plan) buffer′
-        accepted-reported z = subst (λ (a : Report). Reported a (walkedBy plan) buffer′) (sym (accepted-report z)) (fine, refl, rows-held)
+        accepted-reported : isHalt (plan .position .stage) ≡ true → Reported (report rule (tableOf w)) (walkedBy plan (buffer′ .lines)) (buffer′ .tree) (buffer′ .index)
+        accepted-reported z = subst (λ (a : Report). Reported a (walkedBy plan (buffer′ .lines)) (buffer′ .tree) (buffer′ .index)) (sym (accepted-report z)) (fine, refl, rows-held, lines-held)
 
         -- the turn leads on
         module _ (on : isHalt (plan .position .stage) ≡ false) where
@@ -567,7 +589,7 @@ module _ (rule : Rule) (w : List ℕ) (pr : Promise w) (ck : Checked (tableOf w)
 
           module _ (code at : ℕ) (E : Blocked (plan .change) (withMarks visited (plan .handler) (plan .scope) cx) code at) where
             blocked-report : report rule (tableOf w) ≡ rejected code at (plan .position .visits)
-            blocked-report = going-halt rule (tableOf w) (stateOf p A (I .rows) cx) _ (I .going)
+            blocked-report = going-halt rule (tableOf w) (stateOf p A (I .out) cx) _ (I .going)
                 (stepped ∙ ahead ∙ ap (onward (plan .position .stage) plan (framesOf A (p .depth)) after) (marked-context ∙ E .context (plan .position .visits)) ∙ ends (plan .position .stage) on)
               where
                 ends : (s : Stage) → isHalt s ≡ false → onward s plan (framesOf A (p .depth)) after (refused code at (plan .position .visits)) ≡ halt (rejected code at (plan .position .visits))
@@ -577,8 +599,8 @@ module _ (rule : Rule) (w : List ℕ) (pr : Promise w) (ck : Checked (tableOf w)
                 ends Pop e = refl
                 ends Halt e = absurd (true-false e)
 
-            pub blocked-reported : Reported (report rule (tableOf w)) (blockedBy code at (plan .position)) buffer′
-            blocked-reported = subst (λ (a : Report). Reported a (blockedBy code at (plan .position)) buffer′) (sym blocked-report) (refl, E .refuses, refl, refl)
+            pub blocked-reported : Reported (report rule (tableOf w)) (blockedBy code at (plan .position)) (buffer′ .tree) (buffer′ .index)
+            blocked-reported = subst (λ (a : Report). Reported a (blockedBy code at (plan .position)) (buffer′ .tree) (buffer′ .index)) (sym blocked-report) (refl, E .refuses, refl, refl)
 
           -- ---- and the next turn
 
@@ -589,7 +611,7 @@ module _ (rule : Rule) (w : List ℕ) (pr : Promise w) (ck : Checked (tableOf w)
             next : State
             next = stateAt (plan .position .stage) (plan .position .block) K after (plan .position .count) (contextOf (plan .position .visits) r)
 
-            leads : step rule (tableOf w) (stateOf p A (I .rows) cx) ≡ going next
+            leads : step rule (tableOf w) (stateOf p A (I .out) cx) ≡ going next
             unfolding next K
             leads =
                 stepped ∙ ahead ∙ ap (onward (plan .position .stage) plan (framesOf A (p .depth)) after) (marked-context ∙ E .context (plan .position .visits))
@@ -615,7 +637,7 @@ module _ (rule : Rule) (w : List ℕ) (pr : Promise w) (ck : Checked (tableOf w)
                 at Halt e l = absurd (true-false e)
 
             next-going : Going rule (tableOf w) next
-            next-going = going-step rule (tableOf w) ck (stateOf p A (I .rows) cx) next (I .going) leads
+            next-going = going-step rule (tableOf w) ck (stateOf p A (I .out) cx) next (I .going) leads
 
             arrived : next ≡ stateOf (plan .position) A′ after r
             unfolding next K
@@ -624,9 +646,10 @@ module _ (rule : Rule) (w : List ℕ) (pr : Promise w) (ck : Checked (tableOf w)
 
             pub walking-again : Walking rule w buffer′ r A′ (plan .position)
             walking-again = record {
-              rows = after;
+              out = after;
               going = subst (λ (z : State). Going rule (tableOf w) z) arrived next-going;
               held = rows-held;
+              indexed = lines-held;
               live = next-live;
               whole = E .whole;
               frames = stored-length (plan .keep) (plan .position .depth) (plan .frame) A ∙ I .frames;
@@ -634,37 +657,38 @@ module _ (rule : Rule) (w : List ℕ) (pr : Promise w) (ck : Checked (tableOf w)
 
             pub turns-lower : turnsLeft (plan .position) A′ r < turnsLeft p A cx
             turns-lower =
-                let lower : potential (stateOf (plan .position) A′ after r) < potential (stateOf p A (I .rows) cx) = going-lower rule (tableOf w) ck
-                (stateOf p A (I .rows) cx) _ (I .going) (leads ∙ ap going arrived) in
+                let lower : potential (stateOf (plan .position) A′ after r) < potential (stateOf p A (I .out) cx) = going-lower rule (tableOf w) ck
+                (stateOf p A (I .out) cx) _ (I .going) (leads ∙ ap going arrived) in
                 omega (
                   arith,
                   lower,
                   no-rows (plan .position .stage) (plan .position .block) (framesOf A′ (plan .position .depth)) after (plan .position .count) (contextOf (plan .position .visits) r),
-                  no-rows (p .stage) (p .block) (framesOf A (p .depth)) (I .rows) (p .count) C,
+                  no-rows (p .stage) (p .block) (framesOf A (p .depth)) (I .out) (p .count) C,
                 )
 
 -- ---- a turn that is planned, in one piece
 
-pub record AtTurn (rule : Rule) (w buffer : List ℕ) (cx : Context) (A : List Frame) (p : Position) (buffer′ : List ℕ) (plan : Plan) : Type 0 where
+pub record AtTurn (rule : Rule) (w : List ℕ) (buffer : Lent) (cx : Context) (A : List Frame) (p : Position) (buffer′ : Lent) (plan : Plan) : Type 0 where
   pub promise : Promise w
   pub walking : Walking rule w buffer cx A p
   pub frame : Frame
   pub read : frame ≡ getD A (p .depth - 1) noFrame
   pub aim : Aim
-  pub planned : (around : Around) → PlannedTurn w around (Shown w (cx .emitted) (cx .scheduled) (cx .«catch_handlers») (cx .«scope_fallthroughs») p aim around) p frame buffer plan buffer′
+  pub planned : (around : Around) → PlannedTurn w around (Shown w (cx .emitted) (cx .scheduled) (cx .«catch_handlers») (cx .«scope_fallthroughs») p aim around) p frame (buffer .tree) plan (buffer′ .tree)
+  pub put : LinePut (buffer .index) (buffer .lines) (plan .line) (plan .position .rows) (buffer′ .index) (buffer′ .lines)
   pub jump : p .stage ≡ Visit → Resolves (terminalAt (tableOf w) (p .block)) (aroundOf rule (tableOf w) (framesOf A (p .depth))) (contextOf (p .visits) cx) (aimOf aim)
 
-module _ {rule : Rule} {w buffer : List ℕ} {cx : Context} {A : List Frame} {p : Position} {buffer′ : List ℕ} {plan : Plan} (t : AtTurn rule w buffer cx A p buffer′ plan) where
+module _ {rule : Rule} {w : List ℕ} {buffer : Lent} {cx : Context} {A : List Frame} {p : Position} {buffer′ : Lent} {plan : Plan} (t : AtTurn rule w buffer cx A p buffer′ plan) where
   ck : Checked (tableOf w)
   ck = checked-table w (t .promise)
 
   -- refused, or accepted
-  pub turn-ends : planEnds plan ≡ true → Reported (report rule (tableOf w)) (walkedBy plan) buffer′
+  pub turn-ends : planEnds plan ≡ true → Reported (report rule (tableOf w)) (walkedBy plan (buffer′ .lines)) (buffer′ .tree) (buffer′ .index)
   turn-ends e = at (eqb (plan .code) 0) refl e
     where
-      at : (y : Bool) → eqb (plan .code) 0 ≡ y → elim y [ true ↦ isHalt (plan .position .stage) | false ↦ true ] ≡ true → Reported (report rule (tableOf w)) (walkedBy plan) buffer′
-      at true q h = accepted-reported rule w (t .promise) ck buffer cx A p (t .walking) (t .frame) (t .read) (t .aim) buffer′ plan (t .planned _) (t .jump) (eqb-true _ _ q) h
-      at false q h = refused-reported rule w (t .promise) ck buffer cx A p (t .walking) (t .frame) (t .read) (t .aim) buffer′ plan (t .planned _) (t .jump) (eqb-false _ _ q)
+      at : (y : Bool) → eqb (plan .code) 0 ≡ y → elim y [ true ↦ isHalt (plan .position .stage) | false ↦ true ] ≡ true → Reported (report rule (tableOf w)) (walkedBy plan (buffer′ .lines)) (buffer′ .tree) (buffer′ .index)
+      at true q h = accepted-reported rule w (t .promise) ck buffer cx A p (t .walking) (t .frame) (t .read) (t .aim) buffer′ plan (t .planned _) (t .put) (t .jump) (eqb-true _ _ q) h
+      at false q h = refused-reported rule w (t .promise) ck buffer cx A p (t .walking) (t .frame) (t .read) (t .aim) buffer′ plan (t .planned _) (t .put) (t .jump) (eqb-false _ _ q)
 
   -- or the walk goes on
   module _ (on : planEnds plan ≡ false) where
@@ -676,18 +700,18 @@ module _ {rule : Rule} {w buffer : List ℕ} {cx : Context} {A : List Frame} {p 
         at false q h = absurd (true-false h)
 
     pub turn-applicable : Applicable (visitedBlock (p .stage) (p .block)) plan cx
-    turn-applicable = applicable rule w (t .promise) ck buffer cx A p (t .walking) (t .frame) (t .read) (t .aim) buffer′ plan (t .planned _) (t .jump) (fine-on .0) (fine-on .1)
+    turn-applicable = applicable rule w (t .promise) ck buffer cx A p (t .walking) (t .frame) (t .read) (t .aim) buffer′ plan (t .planned _) (t .put) (t .jump) (fine-on .0) (fine-on .1)
 
     pub turn-shallow : plan .position .depth ≤ 129
-    turn-shallow = depth-below rule w (t .promise) ck buffer cx A p (t .walking) (t .frame) (t .read) (t .aim) buffer′ plan (t .planned _) (t .jump) (fine-on .0) (fine-on .1)
+    turn-shallow = depth-below rule w (t .promise) ck buffer cx A p (t .walking) (t .frame) (t .read) (t .aim) buffer′ plan (t .planned _) (t .put) (t .jump) (fine-on .0) (fine-on .1)
 
     pub turn-blocked : {code at : ℕ} → Blocked (plan .change) (withMarks (visitedBlock (p .stage) (p .block)) (plan .handler) (plan .scope) cx) code at
-        → Reported (report rule (tableOf w)) (blockedBy code at (plan .position)) buffer′
-    turn-blocked {code} {at} E = blocked-reported rule w (t .promise) ck buffer cx A p (t .walking) (t .frame) (t .read) (t .aim) buffer′ plan (t .planned _) (t .jump) (fine-on .0) (fine-on .1) code at E
+        → Reported (report rule (tableOf w)) (blockedBy code at (plan .position)) (buffer′ .tree) (buffer′ .index)
+    turn-blocked {code} {at} E = blocked-reported rule w (t .promise) ck buffer cx A p (t .walking) (t .frame) (t .read) (t .aim) buffer′ plan (t .planned _) (t .put) (t .jump) (fine-on .0) (fine-on .1) code at E
 
     module _ {r : Context} (E : Applied (visitedBlock (p .stage) (p .block)) plan cx r) {frames : List Frame} (stored : frames ≡ storedBy (plan .keep) (plan .position .depth) (plan .frame) A) where
       pub turn-again : Walking rule w buffer′ r frames (plan .position)
-      turn-again = rw stored (walking-again rule w (t .promise) ck buffer cx A p (t .walking) (t .frame) (t .read) (t .aim) buffer′ plan (t .planned _) (t .jump) (fine-on .0) (fine-on .1) r E)
+      turn-again = rw stored (walking-again rule w (t .promise) ck buffer cx A p (t .walking) (t .frame) (t .read) (t .aim) buffer′ plan (t .planned _) (t .put) (t .jump) (fine-on .0) (fine-on .1) r E)
 
       pub turn-lower : turnsLeft (plan .position) frames r < turnsLeft p A cx
-      turn-lower = rw stored (turns-lower rule w (t .promise) ck buffer cx A p (t .walking) (t .frame) (t .read) (t .aim) buffer′ plan (t .planned _) (t .jump) (fine-on .0) (fine-on .1) r E)
+      turn-lower = rw stored (turns-lower rule w (t .promise) ck buffer cx A p (t .walking) (t .frame) (t .read) (t .aim) buffer′ plan (t .planned _) (t .put) (t .jump) (fine-on .0) (fine-on .1) r E)

@@ -1,3 +1,4 @@
+pub mod LinedLaws
 pub mod SearchLaws
 pub mod ApplyLaws
 pub mod CheckedLaws

@@ -18,6 +18,7 @@ use Rattle.control.specs.declared.Context.{Context}
 use Rattle.control.specs.Contract.{breakTo, continueTo}
 use Rattle.rows.specs.Rows.{Holds}
 use Rattle.rows.specs.Stack.{pushed}
+use Rattle.build.specs.Lined.{HoldsLines}
 use Rattle.plan.specs.Turn.{Resolves}
 use Rattle.plan.specs.declared.Stage.{Stage}
 use Rattle.plan.specs.declared.Stage.the-variants.{Visit, Ended, Choose, Pop, Halt}
@@ -121,14 +122,14 @@ planEnds plan = elim (eqb (plan .code) 0) [ true ↦ isHalt (plan .position .sta
 abbrev pub startingAt : (entry : ℕ) → Position
 startingAt entry = record { block = entry; depth = 0; count = 0; rows = 0; visits = 0; stage = Visit }
 
-abbrev pub walkedBy : Plan → Walked
-walkedBy plan = record { code = plan .code; at = plan .at; rows = plan .position .rows; visits = plan .position .visits }
+abbrev pub walkedBy : Plan → (lines : ℕ) → Walked
+walkedBy plan lines = record { code = plan .code; at = plan .at; rows = plan .position .rows; visits = plan .position .visits; lines = lines }
 
 -- what `schedule` itself refuses
 abbrev pub blockedBy : (code at : ℕ) → Position → Walked
-blockedBy code at p = record { code = code; at = at; rows = p .rows; visits = p .visits }
+blockedBy code at p = record { code = code; at = at; rows = p .rows; visits = p .visits; lines = 0 }
 
--- its answer is the table's report, and an accepted table's rows are held
-abbrev pub Reported : Report → Walked → (buffer : List ℕ) → Type 0
-Reported (accepted rows visits) r buffer = (r .code ≡ 0) × (r .visits ≡ visits) × Holds buffer (r .rows) (pushed rows [])
-Reported (rejected code at visits) r buffer = (r .code ≡ code) × (code ≡ 0 → ⊥) × (r .at ≡ at) × (r .visits ≡ visits)
+-- its answer is the table's report, and an accepted table's rows and lines are held
+abbrev pub Reported : Report → Walked → (buffer index : List ℕ) → Type 0
+Reported (accepted rows lines visits) r buffer index = (r .code ≡ 0) × (r .visits ≡ visits) × Holds buffer (r .rows) (pushed rows []) × HoldsLines index (r .lines) lines
+Reported (rejected code at visits) r buffer index = (r .code ≡ code) × (code ≡ 0 → ⊥) × (r .at ≡ at) × (r .visits ≡ visits)

@@ -4,5 +4,5 @@ use mathlib.Core.List.{List}
 use Rattle.definition.specs.Build as definition
 use Rattle.build.specs.declared.Outcome.{Outcome}
 
-abbrev pub outcome : Outcome → (buffer : List ℕ) → definition.Outcome
-outcome r buffer = record { code = r .code; at = r .at; rows = r .rows; visits = r .visits; buffer = buffer }
+abbrev pub outcome : Outcome → (buffer index : List ℕ) → definition.Outcome
+outcome r buffer index = record { code = r .code; at = r .at; rows = r .rows; visits = r .visits; lines = r .lines; buffer = buffer; index = index }

@@ -1,4 +1,5 @@
 // The loop over the Context by value and the frames: each turn is planned, and its plan applied.
+use crate::index::put_line;
 use crate::search::aim_at;
 use crate::search::asks_around;
 use crate::search::jump_at;
@@ -43,12 +44,13 @@ ghost use Rattle.control.specs.Abstraction.{targetOf};
 ghost use Rattle.survey.specs.Abstraction.{ruleOf};
 ghost use Rattle.build.specs.Driver.{visitedBlock, marked, startingAt, planEnds, isHalt, walkedBy, blockedBy, Reported};
 
-// Where the walk ended: a refusal, or the rows that are out.
+// Where the walk ended: a refusal, or the rows and the lines that are out.
 pub struct Walked {
     pub code: u32,
     pub at: u32,
     pub rows: u32,
     pub visits: u32,
+    pub lines: u32,
 }
 
 fn start(words: &[u32]) -> Position
@@ -112,8 +114,8 @@ fn ends(plan: Plan) -> bool
     halted(stage)
 }
 
-fn answer(plan: Plan) -> Walked
-    ensures { λ r. ⌜ r ≡ walkedBy plan ⌝ }
+fn answer(plan: Plan, lines: u32) -> Walked
+    ensures { λ r. ⌜ r ≡ walkedBy plan lines ⌝ }
 {
     let position = plan.position;
     Walked {
@@ -121,6 +123,7 @@ fn answer(plan: Plan) -> Walked
         at: plan.at,
         rows: position.rows,
         visits: position.visits,
+        lines: lines,
     }
 }
 
@@ -135,6 +138,7 @@ fn blocked(target: ControlFlowTarget, p: Position) -> Walked
         at: at,
         rows: p.rows,
         visits: p.visits,
+        lines: 0,
     }
 }
 
@@ -162,14 +166,15 @@ fn likely_owner(at: usize, depth: usize) -> usize
 // The one function over 40 lines: a function that is handed the Context by value and indexes its entries copies it, 18 KB a turn (docs/PERFORMANCE.md).
 // So the search of the stack (the Rust's `get_break_target` and `get_continue_target`), the pass over the frames (M-102, in the language entry alone) and the
 // plan's change stand in the loop, each method called once.
-pub fn walk(rule: Rule, words: &[u32], tree: &mut [u32]) -> Walked
+pub fn walk(rule: Rule, words: &[u32], tree: &mut [u32], index: &mut [u32]) -> Walked
     requires { ⌜ Promise (now words) ⌝ }
-    ensures { λ r. ⌜ Reported (report (ruleOf rule) (tableOf (now (words .entry)))) r (now (tree .exit)) ⌝ }
+    ensures { λ r. ⌜ Reported (report (ruleOf rule) (tableOf (now (words .entry)))) r (now (tree .exit)) (now (index .exit)) ⌝ }
 {
     let mut cx = Context::new();
     let none = no_frame();
     let mut frames = [none; 129];
     let mut p = start(words);
+    let mut lines: u32 = 0;
     loop {
         let frame = frames[innermost(p.depth)];
         let jump = jump_at(words, &cx.scheduled, &cx.catch_handlers, p);
@@ -216,13 +221,15 @@ pub fn walk(rule: Rule, words: &[u32], tree: &mut [u32]) -> Walked
             frame,
             aim,
         );
+        let next = plan.position;
+        let line = plan.line;
+        lines = put_line(index, lines, line, next.rows);
         if ends(plan) {
-            return answer(plan);
+            return answer(plan, lines);
         }
         mark(&mut cx.emitted, visited_block(p));
         mark(&mut cx.catch_handlers, plan.handler);
         mark(&mut cx.scope_fallthroughs, plan.scope);
-        let next = plan.position;
         let stage = next.stage;
         p = Position {
             block: next.block,
@@ -240,6 +247,7 @@ pub fn walk(rule: Rule, words: &[u32], tree: &mut [u32]) -> Walked
                 entries: kept.entries,
                 left: kept.left,
                 built: kept.built,
+                first: kept.first,
                 count: kept.count,
                 second: kept.second,
             };

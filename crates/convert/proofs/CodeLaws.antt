@@ -7,25 +7,31 @@ use mathlib.Core.List.{List, [], _∷_}
 use native.Mathlib.Omega.{arith}
 use lib.Dec.{leb, ltb, eqb}
 use lib.ListN.{length}
+use borrow.Author.Tests.{leb-true}
 use Rattle.table.specs.Words.{word, entryWord, blockCount, wordsNeeded}
 use Rattle.table.specs.Check.{Verdict, accepted, refused, Rule, fits, andThen, rowVerdict, rowsVerdict, wordsVerdict, limits, countsVerdict, checked}
 use Rattle.text.specs.Layout.{Layout, layout}
+use Rattle.text.specs.Lent.{padded}
+use Rattle.text.specs.Answer.{Refusal}
+use Rattle.text.specs.Reading.{Reading, reads, refuses, reading}
 use Rattle.text.specs.Placed.{Placing, refusal, placed, Holding}
 use Rattle.text.specs.declared.version.Version.the-variants.{Old, New}
+use Rattle.text.proofs.ReadingLaws.{Says, reading-says}
 use Rattle.text.proofs.PlacedLaws.{placed-fits, holding-refusal, holding-placed}
+use Rattle.writer.specs.Cut.{Shaped}
 use Rattle.writer.specs.Write.{tableText, unlessRefused}
 use Rattle.writer.proofs.GoodLaws.{good-shaped, good-is-text}
 use Rattle.convert.specs.OldCheck.{oldChecked}
 use Rattle.convert.specs.Widen.{widened}
-use Rattle.convert.specs.Convert.{endsAgree, spansVerdict, newOfOld, oldText, oldOfNew, OfWords, OfRefusal, Converted, OldToNew, NewToOld}
+use Rattle.convert.specs.Convert.{endsAgree, spansVerdict, newOfOld, oldText, oldOfNew, ofReading, oldToNew, newToOld}
 use Rattle.convert.specs.Parts.{moved}
 use Rattle.convert.proofs.LengthLaws.{old-shorter, new-most}
 use Rattle.convert.proofs.OldCheckLaws.{checked-moved}
 
--- a refusal's code is not 53
+-- a refusal's code is neither 0 nor 53
 abbrev Other : Verdict → Type 0
 Other accepted = Unit {0}
-Other (refused code at) = code < 53
+Other (refused code at) = (0 < code) × (code < 53)
 
 then-other : (first next : Verdict) → Other first → Other next → Other (andThen first next)
 unfolding andThen
@@ -39,7 +45,7 @@ row-other ws at (rule ∷ rules) = by (fits rule (word ws at)) (row-other ws (su
   where
     by : (b : Bool) → Other (rowVerdict ws (suc at) rules) → Other (elim b [ true ↦ rowVerdict ws (suc at) rules | false ↦ refused 4 at ])
     by true h = h
-    by false h = omega arith
+    by false h = (omega arith, omega arith)
 
 rows-other : (ws : List ℕ) (rules : ℕ → List Rule) (at first count : ℕ) → Other (rowsVerdict ws rules at first count)
 unfolding rowsVerdict
@@ -58,7 +64,7 @@ counts-other ws at (limit ∷ limits) = by (leb (word ws at) limit) (counts-othe
   where
     by : (b : Bool) → Other (countsVerdict ws (suc at) limits) → Other (elim b [ true ↦ countsVerdict ws (suc at) limits | false ↦ refused 2 at ])
     by true h = h
-    by false h = omega arith
+    by false h = (omega arith, omega arith)
 
 checked-other : (ws : List ℕ) → Other (checked ws)
 unfolding checked
@@ -69,10 +75,10 @@ checked-other ws = by (ltb (length ws) 6) (countsVerdict ws 1 limits) (eqb (leng
           | true ↦ refused 1 0
           | false ↦ elim v [ refused code at ↦ refused code at | accepted ↦ elim exact [ false ↦ refused 1 0 | true ↦ elim enters [ false ↦ refused 3 0 | true ↦ wordsVerdict ws ] ] ]
         ])
-    by true v exact enters h = omega arith
+    by true v exact enters h = (omega arith, omega arith)
     by false (refused code at) exact enters h = h
-    by false accepted false enters h = omega arith
-    by false accepted true false h = omega arith
+    by false accepted false enters h = (omega arith, omega arith)
+    by false accepted true false h = (omega arith, omega arith)
     by false accepted true true h = words-other ws
 
 ends-other : (ws : List ℕ) (width at count : ℕ) → Other (endsAgree ws width at count)
@@ -82,7 +88,7 @@ ends-other ws width at (suc count) = by (eqb (word ws (at + (width - 2))) (word 
   where
     by : (b : Bool) → Other (endsAgree ws width (at + width) count) → Other (elim b [ true ↦ endsAgree ws width (at + width) count | false ↦ refused 52 (at + (width - 1)) ])
     by true h = h
-    by false h = omega arith
+    by false h = (omega arith, omega arith)
 
 moved-other : (back : ℕ → ℕ) (v : Verdict) → Other v → Other (moved back v)
 unfolding moved
@@ -94,44 +100,72 @@ moved-other back (refused code at) h = h
 placed-other : (v : Verdict) (lent : ℕ) (text : List ℕ) → Other v → length text ≤ lent → unlessRefused v lent text .code < 53
 unfolding unlessRefused refusal
 placed-other accepted lent text h p = rw (placed-fits 53 lent text p) (omega arith)
-placed-other (refused code at) lent text h p = h
+placed-other (refused code at) lent text h p = h .1
 
 -- 50 and 51
 refusal-other : (code at lent : ℕ) → code < 53 → refusal code at lent .code < 53
 unfolding refusal
 refusal-other code at lent p = p
 
+code-other : {f : Layout} {file : List ℕ} {code at : ℕ} → Refusal f file code at → code < 53
+code-other r = ⊎-elim (λ u. omega (arith, u .0)) (λ u. omega (arith, u .0)) r
+
+old-other : (words : List ℕ) → Shaped (layout Old) words → Other (oldChecked words)
+old-other words shaped = rw (checked-moved words shaped) (moved-other _ (checked (widened words)) (checked-other (widened words)))
+
+new-other : (words : List ℕ) → Other (andThen (checked words) (spansVerdict words))
+unfolding spansVerdict
+new-other words = then-other _ _ (checked-other words) (then-other _ _ (ends-other words 11 _ _) (ends-other words 7 _ _))
+
 new-by : (words : List ℕ) (lent : ℕ) → Other (oldChecked words) → length (tableText (widened words)) ≤ lent → newOfOld words lent .code < 53
 unfolding newOfOld
 new-by words lent o p = placed-other (oldChecked words) lent (tableText (widened words)) o p
 
 old-by : (words : List ℕ) (lent : ℕ) → length (oldText words) ≤ lent → oldOfNew words lent .code < 53
-unfolding oldOfNew spansVerdict
-old-by words lent p =
-    placed-other (andThen (checked words) (spansVerdict words)) lent (oldText words)
-    (then-other _ _ (checked-other words) (then-other _ _ (ends-other words 11 _ _) (ends-other words 7 _ _))) p
+unfolding oldOfNew
+old-by words lent p = placed-other (andThen (checked words) (spansVerdict words)) lent (oldText words) (new-other words) p
 
 -- 65,542 bytes are enough for the new text of any old file
-pub new-fits : (file : List ℕ) (lent : ℕ) (answer : Placing) → 65542 ≤ lent → OldToNew file lent answer → answer .code < 53
-new-fits file lent answer p h =
-    ⊎-elim
-    (λ (w : OfWords (layout Old) newOfOld file lent answer).
-    (let shaped = good-shaped Old file (w .words) (w .accepted .good) in
-    let other : Other (oldChecked (w .words)) = rw (checked-moved (w .words) shaped) (moved-other _ (checked (widened (w .words))) (checked-other (widened (w .words)))) in
-    let text = good-is-text Old file (w .words) (w .accepted .good) in
-    rw (w .is) (new-by (w .words) lent other (omega (arith, p, new-most (w .words) shaped, ap (λ (l : List ℕ). length l) text, w .accepted .short)))))
-    (λ (r : OfRefusal (layout Old) file lent answer). rw (r .is) (refusal-other (r .code) (r .at) lent (⊎-elim (λ u. omega (arith, u .0)) (λ u. omega (arith, u .0)) (r .refused))))
-    h
+pub new-fits : (file : List ℕ) (lent : ℕ) → 65542 ≤ lent → oldToNew file lent .code < 53
+unfolding oldToNew ofReading
+new-fits file lent p = by (reading (layout Old) file) (reading-says (layout Old) file)
+  where
+    by : (r : Reading) → Says (layout Old) file r → ofReading newOfOld lent r .code < 53
+    by (reads words) a =
+        let shaped = good-shaped Old file words (a .good) in
+        new-by words lent (old-other words shaped) (omega (arith, p, new-most words shaped, ap (λ (l : List ℕ). length l) (good-is-text Old file words (a .good)), a .short))
+    by (refuses code at) r = refusal-other code at lent (code-other r)
 
 -- and 32,768 for the old text of any new one
-pub old-fits : (file : List ℕ) (lent : ℕ) (answer : Placing) → 32768 ≤ lent → NewToOld file lent answer → answer .code < 53
-old-fits file lent answer p h =
-    ⊎-elim
-    (λ (w : OfWords (layout New) oldOfNew file lent answer).
-    (let text = good-is-text New file (w .words) (w .accepted .good) in
-    rw (w .is) (old-by (w .words) lent (omega (arith, p, old-shorter (w .words), ap (λ (l : List ℕ). length l) text, w .accepted .short)))))
-    (λ (r : OfRefusal (layout New) file lent answer). rw (r .is) (refusal-other (r .code) (r .at) lent (⊎-elim (λ u. omega (arith, u .0)) (λ u. omega (arith, u .0)) (r .refused))))
-    h
+pub old-fits : (file : List ℕ) (lent : ℕ) → 32768 ≤ lent → newToOld file lent .code < 53
+unfolding newToOld ofReading
+old-fits file lent p = by (reading (layout New) file) (reading-says (layout New) file)
+  where
+    by : (r : Reading) → Says (layout New) file r → ofReading oldOfNew lent r .code < 53
+    by (reads words) a = old-by words lent (omega (arith, p, old-shorter words, ap (λ (l : List ℕ). length l) (good-is-text New file words (a .good)), a .short))
+    by (refuses code at) r = refusal-other code at lent (code-other r)
+
+-- ---- code 0: the words are not refused, and their text fits
+
+abbrev placedBy : (lent : ℕ) → (text : List ℕ) → Bool → Placing
+placedBy lent text fits = elim fits [ true ↦ record { code = 0; at = 0; length = length text; buffer = padded lent text } | false ↦ refusal 53 0 lent ]
+
+refused-some : (v : Verdict) (lent : ℕ) (text : List ℕ) → Other v → unlessRefused v lent text .code ≡ 0 → (v ≡ accepted) × (length text ≤ lent)
+unfolding unlessRefused placed refusal
+refused-some (refused code at) lent text o e = absurd (omega (arith, o, e))
+refused-some accepted lent text o e = (refl, by (leb (length text) lent) refl e)
+  where
+    by : (fits : Bool) → leb (length text) lent ≡ fits → placedBy lent text fits .code ≡ 0 → length text ≤ lent
+    by true e z = leb-true (length text) lent e
+    by false e z = absurd (omega (arith, z))
+
+pub new-zero : (words : List ℕ) (lent : ℕ) → Shaped (layout Old) words → newOfOld words lent .code ≡ 0 → (oldChecked words ≡ accepted) × (length (tableText (widened words)) ≤ lent)
+unfolding newOfOld
+new-zero words lent shaped e = refused-some (oldChecked words) lent (tableText (widened words)) (old-other words shaped) e
+
+pub old-zero : (words : List ℕ) (lent : ℕ) → oldOfNew words lent .code ≡ 0 → (andThen (checked words) (spansVerdict words) ≡ accepted) × (length (oldText words) ≤ lent)
+unfolding oldOfNew
+old-zero words lent e = refused-some (andThen (checked words) (spansVerdict words)) lent (oldText words) (new-other words) e
 
 -- ---- what the buffer holds
 
@@ -140,15 +174,16 @@ unfolding unlessRefused
 unless-holding accepted lent text = holding-placed 53 lent text
 unless-holding (refused code at) lent text = holding-refusal code at lent
 
-converted-holding : (f : Layout) (of : List ℕ → ℕ → Placing) (file : List ℕ) (lent : ℕ) (answer : Placing) → ((words : List ℕ) → Holding lent (of words lent))
-    → Converted f of file lent answer → Holding lent answer
-converted-holding f of file lent answer holds h =
-    ⊎-elim (λ (w : OfWords f of file lent answer). rw (w .is) (holds (w .words))) (λ (r : OfRefusal f file lent answer). rw (r .is) (holding-refusal (r .code) (r .at) lent)) h
+reading-holding : (of : List ℕ → ℕ → Placing) (lent : ℕ) → ((words : List ℕ) → Holding lent (of words lent)) → (r : Reading) → Holding lent (ofReading of lent r)
+unfolding ofReading
+reading-holding of lent holds (reads words) = holds words
+reading-holding of lent holds (refuses code at) = holding-refusal code at lent
 
-pub new-holding : {file : List ℕ} {lent : ℕ} {answer : Placing} → OldToNew file lent answer → Holding lent answer
-unfolding newOfOld
-new-holding {file} {lent} {answer} h = converted-holding (layout Old) newOfOld file lent answer (λ words. unless-holding (oldChecked words) lent (tableText (widened words))) h
+pub new-holding : (file : List ℕ) {lent : ℕ} {answer : Placing} → answer ≡ oldToNew file lent → Holding lent answer
+unfolding oldToNew newOfOld
+new-holding file {lent} {answer} e = rw e (reading-holding newOfOld lent (λ words. unless-holding (oldChecked words) lent (tableText (widened words))) (reading (layout Old) file))
 
-pub old-holding : {file : List ℕ} {lent : ℕ} {answer : Placing} → NewToOld file lent answer → Holding lent answer
-unfolding oldOfNew
-old-holding {file} {lent} {answer} h = converted-holding (layout New) oldOfNew file lent answer (λ words. unless-holding (andThen (checked words) (spansVerdict words)) lent (oldText words)) h
+pub old-holding : (file : List ℕ) {lent : ℕ} {answer : Placing} → answer ≡ newToOld file lent → Holding lent answer
+unfolding newToOld oldOfNew
+old-holding file {lent} {answer} e =
+    rw e (reading-holding oldOfNew lent (λ words. unless-holding (andThen (checked words) (spansVerdict words)) lent (oldText words)) (reading (layout New) file))

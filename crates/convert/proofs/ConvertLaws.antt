@@ -2,7 +2,6 @@
 use Prim.Native.Nat.{ℕ, zero, suc, _+_, _*_, _≤_}
 use mathlib.Core.Path.{_≡_, refl, sym, ap, _∙_}
 use mathlib.Core.Bool.{Bool, true, false, not}
-use mathlib.Core.Logic.{inl, inr}
 use mathlib.Core.List.{List}
 use native.Mathlib.Omega.{arith}
 use lib.ListN.{length, getD, take}
@@ -13,16 +12,18 @@ use Rattle.table.specs.Answer.{codeOf, placeOf, isAccepted}
 use Rattle.table.specs.Promise.{Sized}
 use Rattle.text.specs.Layout.{Layout, layout}
 use Rattle.text.specs.Answer.{Accepted, Refusal, Answered}
+use Rattle.text.specs.Reading.{reading}
 use Rattle.text.specs.Placed.{Placing, refusal, placed}
 use Rattle.text.specs.declared.read.Answer.the-variants.{Words}
 use Rattle.text.specs.declared.read.Answer.the-variants as read
 use Rattle.text.specs.declared.version.Version.the-variants.{Old, New}
 use Rattle.text.proofs.AnswerLaws.{room-enough, good-room}
+use Rattle.text.proofs.ReadingLaws.{accepted-reads, refusal-refuses}
 use Rattle.text.proofs.PrintsLaws.{words-read}
 use Rattle.writer.specs.Cut.{textIn, instructionsAt, casesAt, placesAt, identifiersAt, endAt, Shaped}
 use Rattle.writer.specs.Write.{tableText, unlessRefused}
 use Rattle.writer.proofs.TextLaws.{accepted-placed, refused-placed}
-use Rattle.convert.specs.Convert.{spansVerdict, oldText, oldOfNew, Converted}
+use Rattle.convert.specs.Convert.{spansVerdict, oldText, oldOfNew, ofReading}
 use Rattle.convert.specs.Parts.{oldPlace, moved, ofWide, apartAt}
 
 -- ---- bounds
@@ -100,11 +101,14 @@ module _ (f : Layout) (file lent : List ℕ) (room count : ℕ) (h : Answered f 
   pub words-few : length (h .0) ≤ 16384
   words-few = omega (arith, good-room f file (h .0) (h .1 .good), h .1 .short)
 
-  pub of-words : (of : List ℕ → ℕ → Placing) (space : ℕ) (d : Placing) → d ≡ of (take count lent) space → Converted f of file space d
-  of-words of space d e = inl (record { words = h .0; accepted = h .1; is = e ∙ ap (λ (words : List ℕ). of words space) (words-read f file lent room count h) })
+  pub of-words : (of : List ℕ → ℕ → Placing) (space : ℕ) (d : Placing) → d ≡ of (take count lent) space → d ≡ ofReading of space (reading f file)
+  unfolding ofReading
+  of-words of space d e = rw (accepted-reads f file (h .0) (h .1)) (e ∙ ap (λ (words : List ℕ). of words space) (words-read f file lent room count h))
 
-pub of-refusal : (f : Layout) (of : List ℕ → ℕ → Placing) (file : List ℕ) (space code at : ℕ) (d : Placing) → Refusal f file code at → d ≡ refusal code at space → Converted f of file space d
-of-refusal f of file space code at d r e = inr (record { code = code; at = at; refused = r; is = e })
+pub of-refusal : (f : Layout) (of : List ℕ → ℕ → Placing) (file : List ℕ) (space code at : ℕ) (d : Placing) → Refusal f file code at → d ≡ refusal code at space → d ≡ ofReading of space (reading f file)
+unfolding ofReading
+of-refusal f of file space code at d r e = rw (refusal-refuses f file code at r) e
 
-pub never-short : (f : Layout) (of : List ℕ → ℕ → Placing) (file lent : List ℕ) (room space : ℕ) (d : Placing) → 16384 ≤ room → Answered f file room lent read.NoRoom → Converted f of file space d
+pub never-short : (f : Layout) (of : List ℕ → ℕ → Placing) (file lent : List ℕ) (room space : ℕ) (d : Placing) → 16384 ≤ room → Answered f file room lent read.NoRoom
+    → d ≡ ofReading of space (reading f file)
 never-short f of file lent room space d p h = absurd (room-enough f file lent room p h)

@@ -6,3 +6,4 @@ pub mod LengthLaws
 pub mod RoundTrip
 pub mod CodeLaws
 pub mod OneAnswer
+pub mod Trips

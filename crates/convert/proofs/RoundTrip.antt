@@ -3,7 +3,6 @@
 use Prim.Native.Nat.{ℕ, zero, suc, _+_, _-_, _*_, _^_, _≤_, _<_}
 use mathlib.Core.Path.{_≡_, refl, sym, ap, _∙_}
 use mathlib.Core.Bool.{Bool, true, false}
-use mathlib.Core.Logic.{⊎-elim}
 use mathlib.Core.List.{List, [], _∷_, _++_, map, append-assoc, append-nil}
 use native.Mathlib.Omega.{arith}
 use lib.Dec.{eqb}
@@ -21,9 +20,8 @@ use Rattle.text.specs.Lent.{padded}
 use Rattle.text.specs.File.{Tables, Good, wordsOf, textOf}
 use Rattle.text.specs.Answer.{Accepted}
 use Rattle.text.specs.Placed.{Placing, placed}
-use Rattle.text.specs.declared.version.Version.{Version}
 use Rattle.text.specs.declared.version.Version.the-variants.{Old, New}
-use Rattle.text.proofs.AnswerLaws.{good-one, refusal-accepted}
+use Rattle.text.proofs.ReadingLaws.{accepted-reads}
 use Rattle.text.proofs.PlacedLaws.{placed-fits}
 use Rattle.text.proofs.WriteLaws.{Narrow, narrow-take, narrow-drop}
 use Rattle.writer.specs.Cut.{cut, instructionsAt, casesAt, placesAt, identifiersAt, endAt, Shaped, tablesIn, textIn}
@@ -32,7 +30,7 @@ use Rattle.writer.proofs.TextLaws.{sized-shaped}
 use Rattle.writer.proofs.GoodLaws.{old-narrower, tables-formed, text-good, tables-cut, tables-shaped, words-cut, good-shaped, good-is-text, good-narrow, narrow-append, from-cases}
 use Rattle.convert.specs.OldCheck.{oldChecked}
 use Rattle.convert.specs.Widen.{doubled, doubledRows, widened}
-use Rattle.convert.specs.Convert.{endsAgree, spansVerdict, newOfOld, oldText, oldOfNew, Converted, OldToNew, NewToOld}
+use Rattle.convert.specs.Convert.{endsAgree, spansVerdict, newOfOld, oldText, oldOfNew, ofReading, oldToNew, newToOld}
 use Rattle.convert.specs.Parts.{oldPlace, moved}
 use Rattle.convert.proofs.SpanLaws.{ends-more}
 use Rattle.convert.proofs.LengthLaws.{old-shorter}
@@ -257,13 +255,21 @@ unfolding oldOfNew unlessRefused andThen
 old-given words lent e f p = rw (e, f) (placed-fits 53 lent (oldText words) p)
 
 -- an accepted file's answer is that of its words
-pub answer-of : {file words : List ℕ} {lent : ℕ} {answer : Placing} (version : Version) (of : List ℕ → ℕ → Placing) → Accepted (layout version) file words
-    → Converted (layout version) of file lent answer → answer ≡ of words lent
-answer-of {file} {words} {lent} version of a c =
-    ⊎-elim
-    (λ w. w .is ∙ ap (λ (ws : List ℕ). of ws lent) (good-one (layout version) file (w .words) words (w .accepted .good) (a .good)))
-    (λ r. absurd (refusal-accepted (layout version) file words (r .code) (r .at) (r .refused) a))
-    c
+new-of : (file words : List ℕ) (lent : ℕ) → Accepted (layout Old) file words → oldToNew file lent ≡ newOfOld words lent
+unfolding oldToNew ofReading
+new-of file words lent a = rw (accepted-reads (layout Old) file words a, ofReading)
+
+old-of : (file words : List ℕ) (lent : ℕ) → Accepted (layout New) file words → newToOld file lent ≡ oldOfNew words lent
+unfolding newToOld ofReading
+old-of file words lent a = rw (accepted-reads (layout New) file words a, ofReading)
+
+pub new-wholly : (file words : List ℕ) (lent : ℕ) → Accepted (layout Old) file words → oldChecked words ≡ accepted → length (tableText (widened words)) ≤ lent
+    → oldToNew file lent ≡ wholly lent (tableText (widened words))
+new-wholly file words lent a e room = new-of file words lent a ∙ new-given words lent e room
+
+pub old-wholly : (file words : List ℕ) (lent : ℕ) → Accepted (layout New) file words → checked words ≡ accepted → spansVerdict words ≡ accepted → length (oldText words) ≤ lent
+    → newToOld file lent ≡ wholly lent (oldText words)
+old-wholly file words lent a e f room = old-of file words lent a ∙ old-given words lent e f room
 
 -- the words of an old file, widened: not refused, and their old text is the file
 module _ (file words : List ℕ) (a : Accepted (layout Old) file words) where
@@ -280,16 +286,16 @@ module _ (file words : List ℕ) (a : Accepted (layout Old) file words) where
   wide-file = wide-text words old-shaped ∙ sym (good-is-text Old file words (a .good))
 
   -- old to new to old: `lent` is enough for the new text, `lent′` for the old one
-  pub old-new-old : (lent lent′ : ℕ) (answer answer′ : Placing) → oldChecked words ≡ accepted → length (tableText (widened words)) ≤ 32768
-      → length (tableText (widened words)) ≤ lent → length file ≤ lent′ → OldToNew file lent answer → NewToOld (textOfAnswer answer) lent′ answer′
-      → (answer ≡ wholly lent (tableText (widened words))) × (answer′ ≡ wholly lent′ file)
-  old-new-old lent lent′ answer answer′ e short room room′ there back =
-      let first : answer ≡ wholly lent (tableText (widened words)) = answer-of Old newOfOld a there ∙ new-given words lent e room in
-      let text : textOfAnswer answer ≡ tableText (widened words) = rw first (wholly-text lent (tableText (widened words))) in
-      let back′ : NewToOld (tableText (widened words)) lent′ answer′ = rw text at back in
+  pub old-new-old : (lent lent′ : ℕ) → oldChecked words ≡ accepted → length (tableText (widened words)) ≤ 32768
+      → length (tableText (widened words)) ≤ lent → length file ≤ lent′
+      → (oldToNew file lent ≡ wholly lent (tableText (widened words))) × (newToOld (textOfAnswer (oldToNew file lent)) lent′ ≡ wholly lent′ file)
+  old-new-old lent lent′ e short room room′ =
+      let first : oldToNew file lent ≡ wholly lent (tableText (widened words)) = new-wholly file words lent a e room in
+      let text : textOfAnswer (oldToNew file lent) ≡ tableText (widened words) = rw first (wholly-text lent (tableText (widened words))) in
       let good : Accepted (layout New) (tableText (widened words)) (widened words) = record { short = short; good = wide-good } in
       let fits : length (oldText (widened words)) ≤ lent′ = rw wide-file room′ in
-      (first, answer-of New oldOfNew good back′ ∙ old-given (widened words) lent′ (wide-accepted e) (wide-agrees words old-shaped) fits ∙ ap (wholly lent′) wide-file)
+      let back = old-wholly (tableText (widened words)) (widened words) lent′ good (wide-accepted e) (wide-agrees words old-shaped) fits in
+      (first, rw text (back ∙ ap (wholly lent′) wide-file))
 
 -- the words of a new file whose ends agree, narrowed: not refused, and their new text is the file
 module _ (file words : List ℕ) (a : Accepted (layout New) file words) (e : checked words ≡ accepted) (f : spansVerdict words ≡ accepted) where
@@ -314,13 +320,13 @@ module _ (file words : List ℕ) (a : Accepted (layout New) file words) (e : che
   new-file = rw wide-is (sym (good-is-text New file words (a .good)))
 
   -- new to old to new: `lent` is enough for the old text, `lent′` for the new one
-  pub new-old-new : (lent lent′ : ℕ) (answer answer′ : Placing) → length (oldText words) ≤ lent → length file ≤ lent′ → NewToOld file lent answer → OldToNew (textOfAnswer answer) lent′ answer′
-      → (answer ≡ wholly lent (oldText words)) × (answer′ ≡ wholly lent′ file)
-  new-old-new lent lent′ answer answer′ room room′ there back =
-      let first : answer ≡ wholly lent (oldText words) = answer-of New oldOfNew a there ∙ old-given words lent e f room in
-      let text : textOfAnswer answer ≡ oldText words = rw first (wholly-text lent (oldText words)) in
-      let back′ : OldToNew (oldText words) lent′ answer′ = rw text at back in
+  pub new-old-new : (lent lent′ : ℕ) → length (oldText words) ≤ lent → length file ≤ lent′
+      → (newToOld file lent ≡ wholly lent (oldText words)) × (oldToNew (textOfAnswer (newToOld file lent)) lent′ ≡ wholly lent′ file)
+  new-old-new lent lent′ room room′ =
+      let first : newToOld file lent ≡ wholly lent (oldText words) = old-wholly file words lent a e f room in
+      let text : textOfAnswer (newToOld file lent) ≡ oldText words = rw first (wholly-text lent (oldText words)) in
       let short : length (oldText words) ≤ 32768 = omega (arith, old-shorter words, ap (λ (l : List ℕ). length l) (good-is-text New file words (a .good)), a .short) in
       let good : Accepted (layout Old) (oldText words) old-words = record { short = short; good = narrowed-good words fitting bits f } in
       let fits : length (tableText (widened old-words)) ≤ lent′ = rw new-file room′ in
-      (first, answer-of Old newOfOld good back′ ∙ new-given old-words lent′ narrowed-accepted fits ∙ ap (wholly lent′) new-file)
+      let back = new-wholly (oldText words) old-words lent′ good narrowed-accepted fits in
+      (first, rw text (back ∙ ap (wholly lent′) new-file))

@@ -1,4 +1,4 @@
--- M-112: a converter for each way between the old and the new texts. `proofs/OneAnswer` shows that a file and a room have one answer.
+-- M-112: a converter for each way between the old and the new texts. `proofs/OneAnswer` shows that what they give is the one answer that `Converted` allows.
 use Prim.Native.Nat.{ℕ, zero, suc, _+_, _-_}
 use mathlib.Core.Path.{_≡_}
 use mathlib.Core.Logic.{_⊎_}
@@ -9,6 +9,7 @@ use Rattle.table.specs.Words.{word, blockCount, instructionCount, blocksBegin, 
 use Rattle.table.specs.Check.{Verdict, accepted, refused, andThen, checked}
 use Rattle.text.specs.Layout.{Layout, layout}
 use Rattle.text.specs.Answer.{Accepted, Refusal}
+use Rattle.text.specs.Reading.{Reading, reads, refuses, reading}
 use Rattle.text.specs.Placed.{Placing, refusal}
 use Rattle.text.specs.declared.version.Version.the-variants.{Old, New}
 use Rattle.writer.specs.Cut.{textIn}
@@ -38,6 +39,19 @@ unfoldable pub oldOfNew : (words : List ℕ) → (lent : ℕ) → Placing
 oldOfNew words lent = unlessRefused (andThen (checked words) (spansVerdict words)) lent (oldText words)
 
 -- "50 and 51 as in paper 01, then" what the words give
+unfoldable pub ofReading : (of : List ℕ → ℕ → Placing) → (lent : ℕ) → Reading → Placing
+ofReading of lent (reads words) = of words lent
+ofReading of lent (refuses code at) = refusal code at lent
+
+-- the converters: what any file gives with so many bytes lent
+unfoldable pub oldToNew : (file : List ℕ) → (lent : ℕ) → Placing
+oldToNew file lent = ofReading newOfOld lent (reading (layout Old) file)
+
+unfoldable pub newToOld : (file : List ℕ) → (lent : ℕ) → Placing
+newToOld file lent = ofReading oldOfNew lent (reading (layout New) file)
+
+-- ---- the same with no reader in it: the file is good and has these words, or it is refused
+
 pub record OfWords (f : Layout) (of : List ℕ → ℕ → Placing) (file : List ℕ) (lent : ℕ) (answer : Placing) : Type 0 where
   pub words : List ℕ
   pub accepted : Accepted f file words
@@ -51,9 +65,3 @@ pub record OfRefusal (f : Layout) (file : List ℕ) (lent : ℕ) (answer : Placi
 
 abbrev pub Converted : (f : Layout) → (of : List ℕ → ℕ → Placing) → (file : List ℕ) → (lent : ℕ) → (answer : Placing) → Type 0
 Converted f of file lent answer = OfWords f of file lent answer ⊎ OfRefusal f file lent answer
-
-abbrev pub OldToNew : (file : List ℕ) → (lent : ℕ) → (answer : Placing) → Type 0
-OldToNew file lent answer = Converted (layout Old) newOfOld file lent answer
-
-abbrev pub NewToOld : (file : List ℕ) → (lent : ℕ) → (answer : Placing) → Type 0
-NewToOld file lent answer = Converted (layout New) oldOfNew file lent answer

@@ -5,7 +5,7 @@ mod widen;
 use crate::spans::first_apart;
 use crate::spans::old_place;
 use crate::widen::widen;
-use table::check;
+use table_check::check;
 use text::placed::Placed;
 use text::placed::finish;
 use text::placed::refuse;
@@ -20,7 +20,7 @@ ghost use Rattle.text.specs.Layout.{layout};
 ghost use Rattle.text.specs.Placed.{placing};
 ghost use Rattle.text.specs.declared.version.Version.the-variants.{Old, New};
 ghost use Rattle.writer.specs.Cut.{Shaped};
-ghost use Rattle.convert.specs.Convert.{newOfOld, oldOfNew, OldToNew, NewToOld};
+ghost use Rattle.convert.specs.Convert.{newOfOld, oldOfNew, oldToNew, newToOld};
 ghost use Rattle.convert.specs.Parts.{ofWide};
 
 fn lent_words() -> [u32; 16384]
@@ -79,7 +79,7 @@ fn convert_new(words: &[u32], text: &mut [u8]) -> Placed
 
 // Converts any file of the old form into a lent buffer of any length.
 pub fn old_to_new(file: &[u8], text: &mut [u8]) -> Placed
-    ensures { λ r. ⌜ OldToNew (now (file .entry)) (length (now (text .entry))) (placing r (now (text .exit))) ⌝ }
+    ensures { λ r. ⌜ placing r (now (text .exit)) ≡ oldToNew (now (file .entry)) (length (now (text .entry))) ⌝ }
 {
     let mut words = lent_words();
     let answer = read_as(file, Version::Old, &mut words);
@@ -92,7 +92,7 @@ pub fn old_to_new(file: &[u8], text: &mut [u8]) -> Placed
 
 // Converts any file of the new form into a lent buffer of any length.
 pub fn new_to_old(file: &[u8], text: &mut [u8]) -> Placed
-    ensures { λ r. ⌜ NewToOld (now (file .entry)) (length (now (text .entry))) (placing r (now (text .exit))) ⌝ }
+    ensures { λ r. ⌜ placing r (now (text .exit)) ≡ newToOld (now (file .entry)) (length (now (text .entry))) ⌝ }
 {
     let mut words = lent_words();
     let answer = read_as(file, Version::New, &mut words);
@@ -111,7 +111,7 @@ pub extern "C" fn table_old_to_new(
     at: &mut u32,
     length: &mut usize,
 ) -> u32
-    ensures { λ r. ⌜ OldToNew (now (file .entry)) (lib.ListN.length (now (text .entry))) (record { code = r; at = now (at .exit); length = now (length .exit); buffer = now (text .exit) }) ⌝ }
+    ensures { λ r. ⌜ record { code = r; at = now (at .exit); length = now (length .exit); buffer = now (text .exit) } ≡ oldToNew (now (file .entry)) (lib.ListN.length (now (text .entry))) ⌝ }
 {
     let converted = old_to_new(file, text);
     *at = converted.at;
@@ -126,7 +126,7 @@ pub extern "C" fn table_new_to_old(
     at: &mut u32,
     length: &mut usize,
 ) -> u32
-    ensures { λ r. ⌜ NewToOld (now (file .entry)) (lib.ListN.length (now (text .entry))) (record { code = r; at = now (at .exit); length = now (length .exit); buffer = now (text .exit) }) ⌝ }
+    ensures { λ r. ⌜ record { code = r; at = now (at .exit); length = now (length .exit); buffer = now (text .exit) } ≡ newToOld (now (file .entry)) (lib.ListN.length (now (text .entry))) ⌝ }
 {
     let converted = new_to_old(file, text);
     *at = converted.at;

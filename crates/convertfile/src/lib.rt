@@ -2,7 +2,7 @@
 ghost use lib.ListN.{length};
 ghost use Rattle.text.specs.Placed.{printedPlacing, Holding};
 ghost use Rattle.text.specs.Prints.{WrittenText};
-ghost use Rattle.convert.specs.Convert.{OldToNew, NewToOld};
+ghost use Rattle.convert.specs.Convert.{oldToNew, newToOld};
 ghost use Rattle.convertfile.specs.Prints.{AnswerPrinted};
 use convert::new_to_old;
 use convert::old_to_new;
@@ -23,7 +23,7 @@ fn print(out: &mut [u8], code: u32, at: u32, length: usize) -> Written
 
 // An old file in the new form, or why it is refused. 65,542 bytes are enough.
 pub fn print_new(file: &[u8], out: &mut [u8]) -> Written
-    ensures { λ r. ⌜ AnswerPrinted OldToNew 65542 (now (file .entry)) (length (now (out .entry))) r (now (out .exit)) ⌝ }
+    ensures { λ r. ⌜ AnswerPrinted oldToNew 65542 (now (file .entry)) (length (now (out .entry))) r (now (out .exit)) ⌝ }
 {
     let answer = old_to_new(file, out);
     print(out, answer.code, answer.at, answer.length)
@@ -31,7 +31,7 @@ pub fn print_new(file: &[u8], out: &mut [u8]) -> Written
 
 // A new file in the old form, or why it is refused. 32,768 bytes are enough.
 pub fn print_old(file: &[u8], out: &mut [u8]) -> Written
-    ensures { λ r. ⌜ AnswerPrinted NewToOld 32768 (now (file .entry)) (length (now (out .entry))) r (now (out .exit)) ⌝ }
+    ensures { λ r. ⌜ AnswerPrinted newToOld 32768 (now (file .entry)) (length (now (out .entry))) r (now (out .exit)) ⌝ }
 {
     let answer = new_to_old(file, out);
     print(out, answer.code, answer.at, answer.length)

@@ -71,7 +71,7 @@ module _ (ws : List ℕ) (p : Promise ws) where
 pub ranged : (ws : List ℕ) → checked ws ≡ accepted → Ranged (tableOf ws)
 ranged ws h = promise-ranged ws (promised ws h)
 
--- ---- a refusal of the check has a code that is not 0
+-- ---- a refusal of the check has a code from 1 to 4
 
 -- "1 under six words" to "4 first bad word"
 abbrev pub ofCheck : ℕ → Bool

@@ -19,7 +19,9 @@ use Rattle.definition.specs.Framed.{Below, isSwitch, Framed}
 use Rattle.definition.specs.Context.{getBreakTarget, getContinueTarget, Resolution, Flags, has, add, ControlFlowTarget, target-if, target-switch}
 use Rattle.definition.specs.Context.{target-case, target-loop, blockedCode, blockAsked, Entry, Context, start, isScheduled, emit, withVisits}
 use Rattle.definition.specs.Context.{scheduleCatchHandler, markScopeFallthrough, pushed, schedule, target-loop, popped}
-use Rattle.definition.specs.Machine.{Frame, aroundOf, State, visiting, ended, choosing, popping, Turn, going, halt, turn, leave, blockRow, valueOut, updateOut}
+use Rattle.definition.specs.Index.{Line}
+use Rattle.definition.specs.Machine.{Frame, enclosingBy, enclosingLabel, aroundOf, Output, _⊕_, lineOut, closed, complete, State, visiting, ended}
+use Rattle.definition.specs.Machine.{choosing, popping, Turn, going, halt, turn, leave, blockRow, valueOut, updateOut}
 use Rattle.definition.specs.Machine.{statementOut, jumpOut, added, instructionsOut, closingRow, scheduledIf, scheduledSwitch, unscheduledTop, unscheduled}
 use Rattle.definition.specs.Machine.{unscheduledIf, opens, frameOf, secondPart, withLeft, caseBuilt, into, intoLoop, closeBy, close, caseAt}
 use Rattle.definition.specs.Machine.{numberOfCases, chooseCase, switchColumns, resumeAt, resume, branchTurn, valueTurn, terminalTurn, depthLeft}
@@ -99,10 +101,10 @@ marks (false ∷ s) = marks s
 
 -- so many turns are left at most
 abbrev pub potential : State → ℕ
-potential (visiting block frames rows count cx) = 2053 * (8192 - cx .visits) + turnsOfAll frames
-potential (ended frames rows count cx) = suc (2053 * (8192 - cx .visits) + turnsOfAll frames)
-potential (choosing frame frames rows cx) = 2053 * (8192 - cx .visits) + (2 + (2 * frame .left + frame .entries) + turnsOfAll frames)
-potential (popping frame frames rows cx) = 2053 * (8192 - cx .visits) + (2 + frame .entries + turnsOfAll frames)
+potential (visiting block frames out count cx) = 2053 * (8192 - cx .visits) + turnsOfAll frames
+potential (ended frames out count cx) = suc (2053 * (8192 - cx .visits) + turnsOfAll frames)
+potential (choosing frame frames out cx) = 2053 * (8192 - cx .visits) + (2 + (2 * frame .left + frame .entries) + turnsOfAll frames)
+potential (popping frame frames out cx) = 2053 * (8192 - cx .visits) + (2 + frame .entries + turnsOfAll frames)
 
 -- ---- the invariant
 
@@ -110,23 +112,23 @@ abbrev pub Frames : Table → List Frame → Type 0
 Frames t [] = Unit {0}
 Frames t (frame ∷ frames) = Framed t 0 frame × Frames t frames
 
--- the numbers. A list that has ended (`over` 1) has one id, one emitted block and two rows to spare. Each frame and each case built has a block of its
--- own that is emitted; a frame has three rows at most still to put out, but for its values and for cases that are still to come
-pub record Holds (over : ℕ) (frames : List Frame) (rows : List Row) (count : ℕ) (cx : Context) : Type 0 where
+-- the numbers. A list that has ended (`over` 1) has one id, one emitted block and two rows to spare. Each frame, each case built and each line has a
+-- block of its own that is emitted, a line that of the frame it comes from; a frame has three rows at most still to put out, but for its values and for cases that are still to come
+pub record Holds (over : ℕ) (frames : List Frame) (out : Output) (count : ℕ) (cx : Context) : Type 0 where
   pub visits : cx .visits ≤ 8192
   pub ids : cx .nextId + (over + (2 * (8192 - cx .visits) + length frames)) ≤ 16384
   pub stack : length (cx .stack) ≡ entriesOf frames
-  pub marked : over + (builtOf frames + length frames) ≤ marks (cx .emitted)
+  pub marked : over + (length (out .lines) + (builtOf frames + length frames)) ≤ marks (cx .emitted)
   pub depth : length frames ≤ 128
   pub flags : length (cx .emitted) ≡ 1024
-  pub tallied : count + countOf frames ≤ length rows
-  pub paid : 2 * over + (length rows + 3 * length frames) ≤ 8208 * cx .visits
+  pub tallied : count + countOf frames ≤ length (out .rows)
+  pub paid : 2 * over + (length (out .rows) + 3 * length frames) ≤ 8208 * cx .visits
 
 abbrev pub Sound : Table → State → Type 0
-Sound t (visiting block frames rows count cx) = (block < length (t .blocks)) × Frames t frames × Holds 0 frames rows count cx
-Sound t (ended frames rows count cx) = Frames t frames × Holds 1 frames rows count cx
-Sound t (choosing frame frames rows cx) = (isSwitch (terminalAt t (frame .block)) ≡ true) × Framed t 1 frame × Frames t frames × Holds 0 (frame ∷ frames) rows 0 cx
-Sound t (popping frame frames rows cx) = Framed t 1 frame × Frames t frames × Holds 0 (frame ∷ frames) rows 0 cx
+Sound t (visiting block frames out count cx) = (block < length (t .blocks)) × Frames t frames × Holds 0 frames out count cx
+Sound t (ended frames out count cx) = Frames t frames × Holds 1 frames out count cx
+Sound t (choosing frame frames out cx) = (isSwitch (terminalAt t (frame .block)) ≡ true) × Framed t 1 frame × Frames t frames × Holds 0 (frame ∷ frames) out 0 cx
+Sound t (popping frame frames out cx) = Framed t 1 frame × Frames t frames × Holds 0 (frame ∷ frames) out 0 cx
 
 -- ---- the stack
 
@@ -140,7 +142,7 @@ entries-low t [] h = omega arith
 entries-low t (f ∷ F) (h, k) = omega (arith, h .entries, entries-low t F k)
 
 -- the stack, and where one entry more may be pushed
-stack-most : (t : Table) (k : ℕ) (F : List Frame) (R : List Row) (m : ℕ) (c : Context) → Frames t F → Holds k F R m c → k + length (c .stack) ≤ 1024
+stack-most : (t : Table) (k : ℕ) (F : List Frame) (R : Output) (m : ℕ) (c : Context) → Frames t F → Holds k F R m c → k + length (c .stack) ≤ 1024
 stack-most t k F R m c f h = omega (arith, entries-low t F f, marks-below (c .emitted), h .stack, h .marked, h .flags)
 
 -- ---- the context's steps
@@ -217,6 +219,36 @@ enter-sound t b c few size =
     (λ w q. good-unless (Entered c) _ 11 b w _ (λ h. record
     { ids = refl; fewer = q .0; seen = q .1; marked = marks-set (c .emitted) b (omega arith) h; flags = length-set (c .emitted) b true ∙ size; stack = refl }))
 
+-- ---- lines
+
+own-few : (g : Option ℕ) (a b : ℕ) → length (lineOut g a b) ≤ opens g
+own-few none a b = le-refl 0
+own-few (some f) a b = le-refl 1
+
+-- a statement that took no fallthrough has no line
+line-few : (e : Terminal) (g : Option ℕ) (a b : ℕ) → length (lineOut (enclosingLabel (enclosingBy e g)) a b) ≤ opens g
+line-few absent g a b = own-few g a b
+line-few unreachable g a b = own-few g a b
+line-few (throw v) g a b = own-few g a b
+line-few (return v) g a b = own-few g a b
+line-few (goto x v) g a b = own-few g a b
+line-few (if x y z f) g a b = own-few g a b
+line-few (branch x y z) g a b = own-few g a b
+line-few (switch x i m f) g a b = own-few g a b
+line-few (do-while l x f) g a b = own-few g a b
+line-few (while x l f) g a b = own-few g a b
+line-few (for i x u l f) g a b = own-few g a b
+line-few (for-of i x l f) g a b = own-few g a b
+line-few (for-in i l f) g a b = own-few g a b
+line-few (logical o x f) g a b = own-few g a b
+line-few (ternary x f) g a b = own-few g a b
+line-few (optional o x f) g a b = own-few g a b
+line-few (label x f) g a b = own-few g a b
+line-few (sequence x f) g a b = own-few g a b
+line-few (maybe-throw x) g a b = own-few g a b
+line-few (try x y f n) g a b = own-few g a b
+line-few (scope p x f n) g a b = omega arith
+
 -- ---- inside a turn
 
 -- after a turn from a state of potential p
@@ -226,19 +258,19 @@ record Fit (t : Table) (p : ℕ) (s : State) : Type 0 where
 
 -- what is known inside a turn from a state of potential p: of the statement in hand so many turns may still be begun, ids given out and rows put
 -- out; `entries` of the stack are its own, and so many cases of it are built
-record Inside (p turnsLeft idsLeft entries casesBuilt rowsLeft : ℕ) (frames : List Frame) (rows : List Row) (count : ℕ) (cx : Context) : Type 0 where
+record Inside (p turnsLeft idsLeft entries casesBuilt rowsLeft : ℕ) (frames : List Frame) (out : Output) (count : ℕ) (cx : Context) : Type 0 where
   visits : cx .visits ≤ 8192
   ids : cx .nextId + (idsLeft + (2 * (8192 - cx .visits) + length frames)) ≤ 16384
   lower : 2053 * (8192 - cx .visits) + (turnsLeft + turnsOfAll frames) < p
   stack : length (cx .stack) ≡ entries + entriesOf frames
-  marked : suc (casesBuilt + (builtOf frames + length frames)) ≤ marks (cx .emitted)
+  marked : suc (casesBuilt + (length (out .lines) + (builtOf frames + length frames))) ≤ marks (cx .emitted)
   depth : length frames < 128
   flags : length (cx .emitted) ≡ 1024
-  tallied : count + countOf frames ≤ length rows
-  paid : rowsLeft + (length rows + 3 * length frames) ≤ 8208 * cx .visits
+  tallied : count + countOf frames ≤ length (out .rows)
+  paid : rowsLeft + (length (out .rows) + 3 * length frames) ≤ 8208 * cx .visits
 
 module _ (t : Table) where
-  leave-fit : {p s i u r : ℕ} (g : Option ℕ) {F : List Frame} {R : List Row} {m : ℕ} {c : Context} → Inside p s i 0 u r F R m c → 1 ≤ s → 1 ≤ i → 2 ≤ r
+  leave-fit : {p s i u r : ℕ} (g : Option ℕ) {F : List Frame} {R : Output} {m : ℕ} {c : Context} → Inside p s i 0 u r F R m c → 1 ≤ s → 1 ≤ i → 2 ≤ r
       → Frames t F → Below (length (t .blocks)) g → Fit t p (leave g F R m c)
   leave-fit none h a b d f q =
       record {
@@ -276,7 +308,7 @@ module _ (t : Table) where
         );
       }
 
-  push-fit : {p s i e u r : ℕ} (fr : Frame) (b : ℕ) {F : List Frame} {R : List Row} {c : Context} → Inside p s i e u r F R (fr .count) c → turnsOf fr ≤ s
+  push-fit : {p s i e u r : ℕ} (fr : Frame) (b : ℕ) {F : List Frame} {R : Output} {c : Context} → Inside p s i e u r F R (fr .count) c → turnsOf fr ≤ s
       → 1 ≤ i → fr .entries ≡ e → fr .built ≤ u → 3 ≤ r
       → Framed t 0 fr → Frames t F → b < length (t .blocks) → Fit t p (visiting b (fr ∷ F) R 0 c)
   push-fit fr b h a k e u r o f q = record {
@@ -284,7 +316,7 @@ module _ (t : Table) where
     sound = (q, (o, f), record { visits = h .visits; ids = omega arith; stack = omega arith; marked = omega arith; depth = omega arith; flags = h .flags; tallied = omega arith; paid = omega arith });
   }
 
-  choose-fit : {p s i e u r : ℕ} (fr : Frame) {F : List Frame} {R : List Row} {c : Context} → Inside p s i e u r F R (fr .count) c → turnsOf fr ≤ suc s → 1 ≤ i
+  choose-fit : {p s i e u r : ℕ} (fr : Frame) {F : List Frame} {R : Output} {c : Context} → Inside p s i e u r F R (fr .count) c → turnsOf fr ≤ suc s → 1 ≤ i
       → fr .entries ≡ e → fr .built ≤ u → 3 ≤ r
       → isSwitch (terminalAt t (fr .block)) ≡ true → Framed t 1 fr → Frames t F → Fit t p (choosing fr F R c)
   choose-fit fr h a k e u r w o f = record {
@@ -293,7 +325,7 @@ module _ (t : Table) where
   }
 
   -- the same after a step of the context, after values, and with rows put out
-  inside-held : {p s i e u r : ℕ} {F : List Frame} {R : List Row} {m : ℕ} (c : Context) {up n e₁ : ℕ} {d : Context} (i₁ : ℕ) → Inside p s i e u r F R m c
+  inside-held : {p s i e u r : ℕ} {F : List Frame} {R : Output} {m : ℕ} (c : Context) {up n e₁ : ℕ} {d : Context} (i₁ : ℕ) → Inside p s i e u r F R m c
       → Held c up n d → up + i₁ ≤ i → n ≡ e₁ + entriesOf F
       → Inside p s i₁ e₁ u r F R m d
   inside-held c i₁ h k a b =
@@ -309,9 +341,9 @@ module _ (t : Table) where
         paid = omega arith;
       }
 
-  inside-out : {p s i e u r : ℕ} {F : List Frame} {R : List Row} {m : ℕ} {c : Context} (S : List Row) (m₁ r₁ : ℕ) → Inside p s i e u r F R m c
-      → length S + r₁ ≤ r → m₁ + countOf F ≤ length S + length R
-      → Inside p s i e u r₁ F (R ++ S) m₁ c
+  inside-out : {p s i e u r : ℕ} {F : List Frame} {R : Output} {m : ℕ} {c : Context} (S : List Row) (m₁ r₁ : ℕ) → Inside p s i e u r F R m c
+      → length S + r₁ ≤ r → m₁ + countOf F ≤ length S + length (R .rows)
+      → Inside p s i e u r₁ F (R ⊕ S) m₁ c
   inside-out {R = R} S m₁ r₁ h a b =
       record {
         visits = h .visits;
@@ -321,12 +353,12 @@ module _ (t : Table) where
         marked = h .marked;
         depth = h .depth;
         flags = h .flags;
-        tallied = omega (arith, length-append R S);
-        paid = omega (arith, length-append R S);
+        tallied = omega (arith, length-append (R .rows) S);
+        paid = omega (arith, length-append (R .rows) S);
       }
 
-  inside-visited : {p s i e u r : ℕ} {F : List Frame} {R : List Row} {m : ℕ} {c : Context} (S : List Row) (v r₁ : ℕ) → Inside p s i e u r F R m c → c .visits ≤ v → v ≤ 8192
-      → length S + (r₁ + 8208 * c .visits) ≤ r + 8208 * v → Inside p s i e u r₁ F (R ++ S) m (withVisits v c)
+  inside-visited : {p s i e u r : ℕ} {F : List Frame} {R : Output} {m : ℕ} {c : Context} (S : List Row) (v r₁ : ℕ) → Inside p s i e u r F R m c → c .visits ≤ v → v ≤ 8192
+      → length S + (r₁ + 8208 * c .visits) ≤ r + 8208 * v → Inside p s i e u r₁ F (R ⊕ S) m (withVisits v c)
   unfolding withVisits
   inside-visited {R = R} S v r₁ h a b k =
       record {
@@ -337,25 +369,64 @@ module _ (t : Table) where
         marked = h .marked;
         depth = h .depth;
         flags = h .flags;
-        tallied = omega (arith, length-append R S, h .tallied);
-        paid = omega (arith, length-append R S, h .paid);
+        tallied = omega (arith, length-append (R .rows) S, h .tallied);
+        paid = omega (arith, length-append (R .rows) S, h .paid);
       }
 
-  close-fit : {p s i u r : ℕ} (fr : Frame) {F : List Frame} (R : List Row) (c : Context) → Inside p s i (fr .entries) u r F R (fr .count) c → suc (fr .entries) ≤ s → 1 ≤ i → fr .built ≤ u → 3 ≤ r
+  -- the statement's closing row and its line: the line is given only where a block is visited next, and has the block of the frame
+  complete-fit : {p s i u r : ℕ} (fr : Frame) {F : List Frame} (R : Output) (c : Context) → Inside p s i 0 u r F R (fr .count) c → 1 ≤ s → 3 ≤ r
+      → Frames t F → Below (length (t .blocks)) (fr .label) → 1 ≤ i → Fit t p (complete t fr F R c)
+  complete-fit {p} fr {F} R c h a d f q b = at (fr .label) q (line-few (terminalAt t (fr .block)) (fr .label) (fr .first) (length (R .rows)))
+    where
+      line : List Line
+      line = lineOut (enclosingLabel (enclosingBy (terminalAt t (fr .block)) (fr .label))) (fr .first) (length (R .rows))
+
+      closing : Row
+      closing = closingRow t (fr .block) (fr .second) (fr .label) (fr .built)
+
+      at : (g : Option ℕ) → Below (length (t .blocks)) g → length line ≤ opens g → Fit t p (leave g F (closed t fr R) (suc (fr .count)) c)
+      at none q k = record {
+        lower = omega arith;
+        sound = (
+          f,
+          record {
+            visits = h .visits;
+            ids = omega arith;
+            stack = omega arith;
+            marked = omega (arith, h .marked, k, length-append (R .lines) line);
+            depth = omega arith;
+            flags = h .flags;
+            tallied = omega (arith, h .tallied, length-append (R .rows) (closing ∷ []));
+            paid = omega (arith, h .paid, length-append (R .rows) (closing ∷ []));
+          },
+        );
+      }
+      at (some n) q k = record {
+        lower = omega arith;
+        sound = (
+          q,
+          f,
+          record {
+            visits = h .visits;
+            ids = omega arith;
+            stack = omega arith;
+            marked = omega (arith, h .marked, k, length-append (R .lines) line);
+            depth = omega arith;
+            flags = h .flags;
+            tallied = omega (arith, h .tallied, length-append (R .rows) (closing ∷ []));
+            paid = omega (arith, h .paid, length-append (R .rows) (closing ∷ []));
+          },
+        );
+      }
+
+  close-fit : {p s i u r : ℕ} (fr : Frame) {F : List Frame} (R : Output) (c : Context) → Inside p s i (fr .entries) u r F R (fr .count) c → suc (fr .entries) ≤ s → 1 ≤ i → fr .built ≤ u → 3 ≤ r
       → Framed t 1 fr → Frames t F → Fit t p (close t fr F R c)
   unfolding close
   close-fit {p} {s} {i} {u} {r} fr {F} R c h a b k q o f = at (fr .entries) refl
     where
-      row-out : List Row
-      row-out = closingRow t (fr .block) (fr .second) (fr .label) (fr .built) ∷ []
-
       at : (n : ℕ) → fr .entries ≡ n → Fit t p (closeBy n t fr F R c)
-      at zero e =
-          leave-fit (fr .label) (inside-out row-out (suc (fr .count)) 2 (inside-held c 1 h (held c) b (omega arith)) (omega arith) (omega arith)) (omega arith)
-          (omega arith) (omega arith) f (o .label)
-      at (suc zero) e =
-          leave-fit (fr .label) (inside-out row-out (suc (fr .count)) 2 (inside-held c 1 h (unscheduled-held c (entriesOf F) (omega arith)) b (omega arith))
-          (omega arith) (omega arith)) (omega arith) (omega arith) (omega arith) f (o .label)
+      at zero e = complete-fit fr R c (inside-held c 1 h (held c) b (omega arith)) (omega arith) (omega arith) f (o .label) (omega arith)
+      at (suc zero) e = complete-fit fr R (unscheduled c) (inside-held c 1 h (unscheduled-held c (entriesOf F) (omega arith)) b (omega arith)) (omega arith) (omega arith) f (o .label) (omega arith)
       at (suc (suc n)) e =
           let x : Inside p s 1 (suc n) u r F R (fr .count) (unscheduled c) = inside-held c 1 h (unscheduled-held c (suc n + entriesOf F) (omega arith)) b refl in
           record {
@@ -465,14 +536,15 @@ module _ (t : Table) (ck : Checked t) (d : ℕ) where
   updates u span v h =
       fine-good (λ r. Took t 0 (length (updateOut (r .value))) v (r .visits)) (UpdateTaken v) (visitUpdate visit u span v) (λ _ took. taken h took) (update-took t visit (value-took t d) u span v)
 
-  into-fit : {p s i e u r : ℕ} (fr : Frame) (b code at : ℕ) {F : List Frame} {R : List Row} {c : Context} → Inside p s i e u r F R (fr .count) c
+  into-fit : {p s i e u r : ℕ} (fr : Frame) (b code at : ℕ) {F : List Frame} {R : Output} {c : Context} → Inside p s i e u r F R (fr .count) c
       → turnsOf fr ≤ s → 1 ≤ i → fr .entries ≡ e → fr .built ≤ u → 3 ≤ r
       → Framed t 0 fr → Frames t F → b < length (t .blocks) → Good (Fit t p) (into b code at fr F R c)
   unfolding into
   into-fit {p} fr b code at {c = c} h a k e u r o f q = good-bind Any (Fit t p) _ _ (good-any (refuseIf (isScheduled c b) code at (c .visits))) (λ _ _. push-fit t fr b h a k e u r o f q)
 
-  framed : (b : ℕ) (g : Option ℕ) (entries count : ℕ) → b < length (t .blocks) → Below (length (t .blocks)) g → entries ≤ 1 → isSwitch (terminalAt t b) ≡ false → Framed t 0 (frameOf b g entries count)
-  framed b g entries count h k l q = record { block = h; label = k; entries = omega arith; case = λ e. absurd (true-false (sym e ∙ q)) }
+  framed : (b : ℕ) (g : Option ℕ) (entries : ℕ) (R : Output) (count : ℕ) → b < length (t .blocks) → Below (length (t .blocks)) g → entries ≤ 1
+      → isSwitch (terminalAt t b) ≡ false → Framed t 0 (frameOf b g entries R count)
+  framed b g entries R count h k l q = record { block = h; label = k; entries = omega arith; case = λ e. absurd (true-false (sym e ∙ q)) }
 
   later : {fr : Frame} → Framed t 0 fr → Framed t 0 (secondPart fr)
   later o = record { block = o .block; label = o .label; entries = o .entries; case = o .case }
@@ -482,12 +554,12 @@ module _ (t : Table) (ck : Checked t) (d : ℕ) where
 
   -- ---- a nested list has ended
 
-  resume-fit : {p : ℕ} (e : Terminal) (fr : Frame) (F : List Frame) (R : List Row) (c : Context) → terminalAt t (fr .block) ≡ e → NamesBelow (length (t .blocks)) e
+  resume-fit : {p : ℕ} (e : Terminal) (fr : Frame) (F : List Frame) (R : Output) (c : Context) → terminalAt t (fr .block) ≡ e → NamesBelow (length (t .blocks)) e
       → Inside p (turnsOf fr) 2 (fr .entries) (suc (fr .built)) 4 F R (fr .count) c → Framed t 0 fr → Frames t F → Good (Fit t p) (resumeAt t visit e (blockAt t (fr .block)) fr F R c)
   unfolding resumeAt
   resume-fit {p} e fr F R c q names h o f = at e q names
     where
-      closed : (R₁ : List Row) (c₁ : Context) → Inside p (turnsOf fr) 2 (fr .entries) (suc (fr .built)) 4 F R₁ (fr .count) c₁ → Fit t p (close t fr F R₁ c₁)
+      closed : (R₁ : Output) (c₁ : Context) → Inside p (turnsOf fr) 2 (fr .entries) (suc (fr .built)) 4 F R₁ (fr .count) c₁ → Fit t p (close t fr F R₁ c₁)
       closed R₁ c₁ h₁ = close-fit t fr R₁ c₁ h₁ (omega arith) (omega arith) (omega arith) (omega arith) (any-case o) f
 
       again : (b : ℕ) → b < length (t .blocks) → Fit t p (visiting b (secondPart fr ∷ F) R 0 c)
@@ -527,7 +599,7 @@ module _ (t : Table) (ck : Checked t) (d : ℕ) where
 
   -- ---- a Switch takes its next case
 
-  case-fit : {p : ℕ} (j : ℕ) (fr : Frame) (F : List Frame) (R : List Row) (c : Context) → fr .left ≡ j → isSwitch (terminalAt t (fr .block)) ≡ true
+  case-fit : {p : ℕ} (j : ℕ) (fr : Frame) (F : List Frame) (R : Output) (c : Context) → fr .left ≡ j → isSwitch (terminalAt t (fr .block)) ≡ true
       → Inside p (suc (2 * fr .left + fr .entries)) 1 (fr .entries) (fr .built) 3 F R (fr .count) c → Framed t 1 fr → Frames t F
       → Good (Fit t p) (chooseCase t (switchColumns (terminalAt t (fr .block)) .first) (switchColumns (terminalAt t (fr .block)) .fallthrough) j fr F R c)
   unfolding chooseCase
@@ -561,8 +633,8 @@ module _ (t : Table) (ck : Checked t) (d : ℕ) where
       at true = tt
       at false = h
 
-  module _ {p : ℕ} (b : ℕ) (F : List Frame) (R : List Row) (m : ℕ) (c : Context) (below : b < length (t .blocks)) (f : Frames t F) (h : Inside p 2052 2 0 0 16 F R m c) where
-    leaves : (g : Option ℕ) (S : List Row) (n : ℕ) → Below (length (t .blocks)) g → length S ≤ 1 → n + countOf F ≤ length S + length R → Fit t p (leave g F (R ++ S) n c)
+  module _ {p : ℕ} (b : ℕ) (F : List Frame) (R : Output) (m : ℕ) (c : Context) (below : b < length (t .blocks)) (f : Frames t F) (h : Inside p 2052 2 0 0 16 F R m c) where
+    leaves : (g : Option ℕ) (S : List Row) (n : ℕ) → Below (length (t .blocks)) g → length S ≤ 1 → n + countOf F ≤ length S + length (R .rows) → Fit t p (leave g F (R ⊕ S) n c)
     leaves g S n k l q = leave-fit t g (inside-out t S n 2 h (omega arith) q) (omega arith) (omega arith) (omega arith) f k
 
     -- a statement's first list, its context entered
@@ -575,20 +647,20 @@ module _ (t : Table) (ck : Checked t) (d : ℕ) where
         counted e = subst (λ (z : ℕ). Inside p 2052 2 0 0 16 F R z c) (sym e) h
 
     enclosed-fit : (g : Option ℕ) (x code at : ℕ) (c₁ : Context) → Held c 1 (opens g + length (c .stack)) c₁ → Below (length (t .blocks)) g → isSwitch (terminalAt t b) ≡ false → x < length (t .blocks)
-        → Good (Fit t p) (into x code at (frameOf b g (opens g) m) F R c₁)
+        → Good (Fit t p) (into x code at (frameOf b g (opens g) R m) F R c₁)
     enclosed-fit g x code at c₁ k q z y =
-        let o : Framed t 0 (frameOf b g (opens g) m) = framed b g (opens g) m below q (opens-one g) z in
-        into-fit (frameOf b g (opens g) m) x code at (nested (frameOf b g (opens g) m) x c₁ k refl refl refl (opens-one g) o y) (omega (arith, opens-one g))
+        let o : Framed t 0 (frameOf b g (opens g) R m) = framed b g (opens g) R m below q (opens-one g) z in
+        into-fit (frameOf b g (opens g) R m) x code at (nested (frameOf b g (opens g) R m) x c₁ k refl refl refl (opens-one g) o y) (omega (arith, opens-one g))
         (omega arith) refl (omega arith) (omega arith) o f y
 
     loop-fit : (g : Option ℕ) (l : ℕ) (bad : Bool) (v : ℕ) (S : List Row) (c₁ : Context) → Held c 1 (suc (length (c .stack))) c₁ → Below (length (t .blocks)) g
         → isSwitch (terminalAt t b) ≡ false → l < length (t .blocks)
-        → c₁ .visits ≤ v → v ≤ 8192 → length S + 8208 * c₁ .visits ≤ 13 + 8208 * v → Good (Fit t p) (intoLoop b l bad v (frameOf b g 1 m) F (R ++ S) c₁)
+        → c₁ .visits ≤ v → v ≤ 8192 → length S + 8208 * c₁ .visits ≤ 13 + 8208 * v → Good (Fit t p) (intoLoop b l bad v (frameOf b g 1 R m) F (R ⊕ S) c₁)
     unfolding intoLoop
     loop-fit g l bad v S c₁ k q z y a w u =
-        let o : Framed t 0 (frameOf b g 1 m) = framed b g 1 m below q (omega arith) z in
+        let o : Framed t 0 (frameOf b g 1 R m) = framed b g 1 R m below q (omega arith) z in
         good-bind Any (Fit t p) _ _ (good-any (refuseIf bad 16 b v)) (λ _ _.
-        push-fit t (frameOf b g 1 m) l (inside-visited t S v 3 (inside-held t c {e₁ = 1} 1 h k (omega arith) (omega (arith, h .stack))) a w (omega arith))
+        push-fit t (frameOf b g 1 R m) l (inside-visited t S v 3 (inside-held t c {e₁ = 1} 1 h k (omega arith) (omega (arith, h .stack))) a w (omega arith))
         (omega arith) (omega arith) refl (omega arith) (omega arith) o f y)
 
     value-fit : (e : Terminal) (g : ℕ) → T (not (isMaybeThrow e)) → g < length (t .blocks) → Good (Fit t p) (valueTurn t visit e b (blockAt t b) g F R m c)
@@ -596,21 +668,21 @@ module _ (t : Table) (ck : Checked t) (d : ℕ) where
     value-fit e g z k = good-bind (TerminalTaken (c .visits)) (Fit t p) _ _ (terminals e (blockAt t b .id) (blockAt t b .span) (c .visits) b z (h .visits)) (λ w q.
         at (unlessScheduled c g) (taken-below c g k) w q)
       where
-        leaving : (g : Option ℕ) (w : ValueTerminalResult) (c₁ : Context) → TerminalTaken (c .visits) w → Below (length (t .blocks)) g → Inside p 2052 1 0 0 5 F (R ++ valueOut (w .value)) m c₁
-            → Fit t p (leave g F ((R ++ valueOut (w .value)) ++ (instrRow (w .id) (w .place) (blockAt t b .span) ∷ [])) (suc m) c₁)
+        leaving : (g : Option ℕ) (w : ValueTerminalResult) (c₁ : Context) → TerminalTaken (c .visits) w → Below (length (t .blocks)) g → Inside p 2052 1 0 0 5 F (R ⊕ valueOut (w .value)) m c₁
+            → Fit t p (leave g F ((R ⊕ valueOut (w .value)) ⊕ (instrRow (w .id) (w .place) (blockAt t b .span) ∷ [])) (suc m) c₁)
         leaving g w c₁ q k x =
             leave-fit t g (inside-out t (instrRow (w .id) (w .place) (blockAt t b .span) ∷ []) (suc m) 2 x (omega arith) (omega (arith, x .tallied)))
             (omega arith) (omega arith) (omega arith) f k
 
         at : (g : Option ℕ) → Below (length (t .blocks)) g → (w : ValueTerminalResult) → TerminalTaken (c .visits) w
-            → Fit t p (leave g F ((R ++ valueOut (w .value)) ++ (instrRow (w .id) (w .place) (blockAt t b .span) ∷ [])) (suc m) (unscheduledIf g (withVisits (w .visits) (scheduledIf g c))))
+            → Fit t p (leave g F ((R ⊕ valueOut (w .value)) ⊕ (instrRow (w .id) (w .place) (blockAt t b .span) ∷ [])) (suc m) (unscheduledIf g (withVisits (w .visits) (scheduledIf g c))))
         at none k w q =
             leaving none w (withVisits (w .visits) c) q k
             (inside-visited t (valueOut (w .value)) (w .visits) 5 (inside-held t c 1 h (held c) (omega arith) (omega (arith, h .stack))) (q .0) (q .1)
             (omega (arith, value-out-size (w .value), q .0, q .2)))
         at (some x) k w q =
             let s : Held c 1 (suc (length (c .stack))) (pushed (target-if x) c) = scheduled-held (target-if x) c in
-            let y : Inside p 2052 1 1 0 5 F (R ++ valueOut (w .value)) m (withVisits (w .visits) (pushed (target-if x) c)) =
+            let y : Inside p 2052 1 1 0 5 F (R ⊕ valueOut (w .value)) m (withVisits (w .visits) (pushed (target-if x) c)) =
             inside-visited t (valueOut (w .value)) (w .visits) 5 (inside-held t c {e₁ = 1} 1 h s (omega arith) (omega (arith, h .stack)))
             (omega (arith, q .0, s .seen)) (q .1) (omega (arith, value-out-size (w .value), q .0, q .2, s .seen)) in
             leaving (some x) w (unscheduled (withVisits (w .visits) (pushed (target-if x) c))) q k
@@ -621,9 +693,10 @@ module _ (t : Table) (ck : Checked t) (d : ℕ) where
     unfolding branchTurn
     branch-fit o x y a z k l = good-pick (Fit t p) (isScheduled c y) _ _
         (good-bind Jump (Fit t p) _ _ (visitBreak-jump o b y (blockAt t b .id) c) (λ s q.
-        into-fit (secondPart (frameOf b none 0 m)) a 19 b (inside-out t (blockRow (added s 0) ∷ []) m 3 (inside-out t (jumpOut s) m 4 h (omega (arith, q .0)) (omega (arith, h .tallied))) (omega arith)
-        (omega (arith, length-append R (jumpOut s), h .tallied))) (omega arith) (omega arith) refl (omega arith) (omega arith) (later (framed b none 0 m below tt (omega arith) z)) f l))
-        (push-fit t (frameOf b none 0 m) y h (omega arith) (omega arith) refl (omega arith) (omega arith) (framed b none 0 m below tt (omega arith) z) f k)
+        into-fit (secondPart (frameOf b none 0 R m)) a 19 b
+        (inside-out t (blockRow (added s 0) ∷ []) m 3 (inside-out t (jumpOut s) m 4 h (omega (arith, q .0)) (omega (arith, h .tallied))) (omega arith)
+        (omega (arith, length-append (R .rows) (jumpOut s), h .tallied))) (omega arith) (omega arith) refl (omega arith) (omega arith) (later (framed b none 0 R m below tt (omega arith) z)) f l))
+        (push-fit t (frameOf b none 0 R m) y h (omega arith) (omega arith) refl (omega arith) (omega arith) (framed b none 0 R m below tt (omega arith) z) f k)
 
     terminal-fit : (around : Around) (e : Terminal) → terminalAt t b ≡ e → NamesBelow (length (t .blocks)) e → Good (Fit t p) (terminalTurn around t visit e b (blockAt t b) F R m c)
     unfolding terminalTurn
@@ -633,14 +706,14 @@ module _ (t : Table) (ck : Checked t) (d : ℕ) where
     terminal-fit around (return x) q n = leaves none _ _ tt (omega arith) (omega (arith, h .tallied))
     terminal-fit around (goto g v) q n = good-bind (Jumped c) (Fit t p) _ _ (goto-jump around v b g (blockAt t b .id) c) (λ s k. at s k)
       where
-        at : (s : TerminalResult) → Jumped c s → Fit t p (leave (s .next) F (R ++ jumpOut (s .statement)) (added (s .statement) m) (s .context))
+        at : (s : TerminalResult) → Jumped c s → Fit t p (leave (s .next) F (R ⊕ jumpOut (s .statement)) (added (s .statement) m) (s .context))
         at s (k, e₁, e₂) = rw (e₁, e₂) (leaves none (jumpOut (s .statement)) (added (s .statement) m) tt (k .0) (omega (arith, k .1 m, h .tallied)))
     terminal-fit around (if x y a g) q n =
         good-bind (Below (length (t .blocks))) (Fit t p) _ _ (reach-below c g (n .2))
         (λ l k. enclosed-fit l y 12 y (scheduledIf l c) (if-held l c) k (ap isSwitch q) (n .0))
     terminal-fit around (branch x y a) q n = branch-fit around x y a (ap isSwitch q) (n .0) (n .1)
     terminal-fit around (switch x i k g) q n = good-bind (Below (length (t .blocks))) (Fit t p) _ _ (reach-below c g n) (λ l w.
-        choose-fit t (withLeft (numberOfCases t i k) (frameOf b l (opens l) m)) (inside-held t c 1 h (switch-held l c) (omega arith) (omega (arith, h .stack)))
+        choose-fit t (withLeft (numberOfCases t i k) (frameOf b l (opens l) R m)) (inside-held t c 1 h (switch-held l c) (omega arith) (omega (arith, h .stack)))
         (omega (arith, number-below t i k, ck .cases, opens-one l)) (omega arith) refl (omega arith) (omega arith)
         (ap isSwitch q) (record { block = below; label = w; entries = omega (arith, opens-one l); case = λ z. fits (number-below t i k) }) f)
       where
@@ -648,11 +721,13 @@ module _ (t : Table) (ck : Checked t) (d : ℕ) where
         fits u = rw q (omega (arith, u))
     terminal-fit around (do-while l x g) q n = good-bind (Held c 1 (suc (length (c .stack)))) (Fit t p) _ _ (schedule-held (target-loop g x l) c) (λ c₁ k. at c₁ k)
       where
-        none-out : (c₁ : Context) → Good (Fit t p) (intoLoop b l (loopIsTaken c l g) (c₁ .visits) (frameOf b (unlessScheduled c g) 1 m) F (R ++ []) c₁)
-            → Good (Fit t p) (intoLoop b l (loopIsTaken c l g) (c₁ .visits) (frameOf b (unlessScheduled c g) 1 m) F R c₁)
-        none-out c₁ w = subst (λ (z : List Row). Good (Fit t p) (intoLoop b l (loopIsTaken c l g) (c₁ .visits) (frameOf b (unlessScheduled c g) 1 m) F z c₁)) (append-nil R) w
+        none-out : (c₁ : Context) → Good (Fit t p) (intoLoop b l (loopIsTaken c l g) (c₁ .visits) (frameOf b (unlessScheduled c g) 1 R m) F (R ⊕ []) c₁)
+            → Good (Fit t p) (intoLoop b l (loopIsTaken c l g) (c₁ .visits) (frameOf b (unlessScheduled c g) 1 R m) F R c₁)
+        none-out c₁ w =
+            subst (λ (z : List Row). Good (Fit t p) (intoLoop b l (loopIsTaken c l g) (c₁ .visits) (frameOf b (unlessScheduled c g) 1 R m) F
+            (record { rows = z; lines = R .lines }) c₁)) (append-nil (R .rows)) w
 
-        at : (c₁ : Context) → Held c 1 (suc (length (c .stack))) c₁ → Good (Fit t p) (intoLoop b l (loopIsTaken c l g) (c₁ .visits) (frameOf b (unlessScheduled c g) 1 m) F R c₁)
+        at : (c₁ : Context) → Held c 1 (suc (length (c .stack))) c₁ → Good (Fit t p) (intoLoop b l (loopIsTaken c l g) (c₁ .visits) (frameOf b (unlessScheduled c g) 1 R m) F R c₁)
         at c₁ k =
             none-out c₁ (loop-fit (unlessScheduled c g) l (loopIsTaken c l g) (c₁ .visits) [] c₁ k (taken-below c g (n .2)) (ap isSwitch q) (n .0) (le-refl _)
             (omega (arith, k .seen, h .visits)) (omega arith))
@@ -683,11 +758,11 @@ module _ (t : Table) (ck : Checked t) (d : ℕ) where
         long : (A B C : List Row) → length (A ++ (B ++ C)) ≡ length A + (length B + length C)
         long A B C = omega (arith, length-append A (B ++ C), length-append B C)
 
-        together : (A B C : List Row) (c₁ : Context) (v : ℕ) → Good (Fit t p) (intoLoop b l (loopIsTaken c l g) v (frameOf b (unlessScheduled c g) 1 m) F (R ++ (A ++ (B ++ C))) c₁)
-            → Good (Fit t p) (intoLoop b l (loopIsTaken c l g) v (frameOf b (unlessScheduled c g) 1 m) F (((R ++ A) ++ B) ++ C) c₁)
+        together : (A B C : List Row) (c₁ : Context) (v : ℕ) → Good (Fit t p) (intoLoop b l (loopIsTaken c l g) v (frameOf b (unlessScheduled c g) 1 R m) F (R ⊕ (A ++ (B ++ C))) c₁)
+            → Good (Fit t p) (intoLoop b l (loopIsTaken c l g) v (frameOf b (unlessScheduled c g) 1 R m) F (((R ⊕ A) ⊕ B) ⊕ C) c₁)
         together A B C c₁ v w =
-            subst (λ (z : List Row). Good (Fit t p) (intoLoop b l (loopIsTaken c l g) v (frameOf b (unlessScheduled c g) 1 m) F z c₁))
-            (sym (append-assoc (R ++ A) B C ∙ append-assoc R A (B ++ C))) w
+            subst (λ (z : List Row). Good (Fit t p) (intoLoop b l (loopIsTaken c l g) v (frameOf b (unlessScheduled c g) 1 R m) F (record { rows = z; lines = R .lines }) c₁))
+            (sym (append-assoc (R .rows ++ A) B C ∙ append-assoc (R .rows) A (B ++ C))) w
     terminal-fit around (for-of i x l g) q n = good-bind (Held c 1 (suc (length (c .stack)))) (Fit t p) _ _ (schedule-held (target-loop g i l) c) (λ c₁ k₁.
         good-bind (BlockTaken (c₁ .visits)) (Fit t p) _ _ (values i none (blockAt t b .span) (c₁ .visits) (omega (arith, k₁ .seen, h .visits))) (λ w u.
         good-bind (BlockTaken (w .visits)) (Fit t p) _ _ (values x none (blockAt t b .span) (w .visits) (u .1)) (λ y u₁.
@@ -708,9 +783,11 @@ module _ (t : Table) (ck : Checked t) (d : ℕ) where
           u₁ .2,
         ))))))
       where
-        together : (A B : List Row) (c₁ : Context) (v : ℕ) → Good (Fit t p) (intoLoop b l (loopIsTaken c l g) v (frameOf b (unlessScheduled c g) 1 m) F (R ++ (A ++ B)) c₁)
-            → Good (Fit t p) (intoLoop b l (loopIsTaken c l g) v (frameOf b (unlessScheduled c g) 1 m) F ((R ++ A) ++ B) c₁)
-        together A B c₁ v w = subst (λ (z : List Row). Good (Fit t p) (intoLoop b l (loopIsTaken c l g) v (frameOf b (unlessScheduled c g) 1 m) F z c₁)) (sym (append-assoc R A B)) w
+        together : (A B : List Row) (c₁ : Context) (v : ℕ) → Good (Fit t p) (intoLoop b l (loopIsTaken c l g) v (frameOf b (unlessScheduled c g) 1 R m) F (R ⊕ (A ++ B)) c₁)
+            → Good (Fit t p) (intoLoop b l (loopIsTaken c l g) v (frameOf b (unlessScheduled c g) 1 R m) F ((R ⊕ A) ⊕ B) c₁)
+        together A B c₁ v w =
+            subst (λ (z : List Row). Good (Fit t p) (intoLoop b l (loopIsTaken c l g) v (frameOf b (unlessScheduled c g) 1 R m) F
+            (record { rows = z; lines = R .lines }) c₁)) (sym (append-assoc (R .rows) A B)) w
     terminal-fit around (for-in i l g) q n = good-bind (Held c 1 (suc (length (c .stack)))) (Fit t p) _ _ (schedule-held (target-loop g i l) c) (λ c₁ k₁.
         good-bind (BlockTaken (c₁ .visits)) (Fit t p) _ _ (values i none (blockAt t b .span) (c₁ .visits) (omega (arith, k₁ .seen, h .visits))) (λ w u.
         loop-fit (unlessScheduled c g) l (loopIsTaken c l g) (w .visits) (valueOut (valueBlockResultToSequence t w (blockAt t b .span))) c₁ k₁
@@ -725,8 +802,8 @@ module _ (t : Table) (ck : Checked t) (d : ℕ) where
     terminal-fit around (sequence x g) q n = value-fit (sequence x g) g tt (n .1)
     terminal-fit around (maybe-throw x) q n = leave-fit t (unlessScheduled c x) h (omega arith) (omega arith) (omega arith) f (taken-below c x n)
     terminal-fit around (try x y g k) q n = good-bind (Below (length (t .blocks))) (Fit t p) _ _ (reach-below c g (n .2)) (λ l w.
-        let o : Framed t 0 (frameOf b l (opens l) m) = framed b l (opens l) m below w (opens-one l) (ap isSwitch q) in
-        push-fit t (frameOf b l (opens l) m) x (nested (frameOf b l (opens l) m) x (scheduleCatchHandler y (scheduledIf l c)) (caught-held y (if-held l c)) refl
+        let o : Framed t 0 (frameOf b l (opens l) R m) = framed b l (opens l) R m below w (opens-one l) (ap isSwitch q) in
+        push-fit t (frameOf b l (opens l) R m) x (nested (frameOf b l (opens l) R m) x (scheduleCatchHandler y (scheduledIf l c)) (caught-held y (if-held l c)) refl
         refl refl (opens-one l) o (n .0)) (omega (arith, opens-one l)) (omega arith) refl (omega arith) (omega arith) o f (n .0))
     terminal-fit around (scope k x g z) q n =
         let l : Option ℕ = unlessScheduled c g in
@@ -747,20 +824,20 @@ instr-two t [] = omega arith
 instr-two t (r ∷ rs) = omega (arith, instr-two t rs)
 
 module _ (t : Table) (ck : Checked t) where
-  visit-fit : (rule : Rule) (b : ℕ) (F : List Frame) (R : List Row) (m : ℕ) (c : Context) → b < length (t .blocks) → Frames t F → Holds 0 F R m c
+  visit-fit : (rule : Rule) (b : ℕ) (F : List Frame) (R : Output) (m : ℕ) (c : Context) → b < length (t .blocks) → Frames t F → Holds 0 F R m c
       → Good (Fit t (2053 * (8192 - c .visits) + turnsOfAll F)) (visitTurn rule t b F R m c)
   unfolding visitTurn
   visit-fit rule b F R m c below f h =
       good-unless (Fit t p) _ 30 b (c .visits) _ (λ q.
       let deep : length F < 128 = leb-false 128 (length F) q in
       good-bind (Entered c) (Fit t p) _ _ (enter-sound t b c (ck .blocks) (h .flags)) (λ c₁ e.
-      terminal-fit t ck (depthLeft F) b F (R ++ instructionsOut t (instructionRowsAt t b)) (m + length (instructionRowsAt t b)) c₁ below f (inside c₁ deep e)
+      terminal-fit t ck (depthLeft F) b F (R ⊕ instructionsOut t (instructionRowsAt t b)) (m + length (instructionRowsAt t b)) c₁ below f (inside c₁ deep e)
       (aroundOf rule t F) (terminalAt t b) refl (ck .names b)))
     where
       p : ℕ
       p = 2053 * (8192 - c .visits) + turnsOfAll F
 
-      inside : (c₁ : Context) → length F < 128 → Entered c c₁ → Inside p 2052 2 0 0 16 F (R ++ instructionsOut t (instructionRowsAt t b)) (m + length (instructionRowsAt t b)) c₁
+      inside : (c₁ : Context) → length F < 128 → Entered c c₁ → Inside p 2052 2 0 0 16 F (R ⊕ instructionsOut t (instructionRowsAt t b)) (m + length (instructionRowsAt t b)) c₁
       inside c₁ deep e = record {
         visits = omega (arith, e .fewer, e .seen);
         ids = omega (arith, e .ids, e .seen, e .fewer, h .ids);
@@ -769,8 +846,8 @@ module _ (t : Table) (ck : Checked t) where
         marked = omega (arith, e .marked, h .marked);
         depth = deep;
         flags = e .flags;
-        tallied = omega (arith, length-append R (instructionsOut t (instructionRowsAt t b)), instr-two t (instructionRowsAt t b), h .tallied);
-        paid = omega (arith, length-append R (instructionsOut t (instructionRowsAt t b)), instr-two t (instructionRowsAt t b), ck .counts b, e .seen, h .paid);
+        tallied = omega (arith, length-append (R .rows) (instructionsOut t (instructionRowsAt t b)), instr-two t (instructionRowsAt t b), h .tallied);
+        paid = omega (arith, length-append (R .rows) (instructionsOut t (instructionRowsAt t b)), instr-two t (instructionRowsAt t b), ck .counts b, e .seen, h .paid);
       }
 
   abbrev Next : ℕ → Turn → Type 0
@@ -783,8 +860,8 @@ module _ (t : Table) (ck : Checked t) where
   next-of p (refused e q v) h = tt
 
   -- at the end of a list, its BLOCK row out
-  ended-inside : (fr : Frame) (F : List Frame) (R : List Row) (m : ℕ) (c : Context) → Holds 1 (fr ∷ F) R m c
-      → Inside (suc (2053 * (8192 - c .visits) + (turnsOf fr + turnsOfAll F))) (turnsOf fr) 2 (fr .entries) (suc (fr .built)) 4 F (R ++ (blockRow m ∷ [])) (fr .count) c
+  ended-inside : (fr : Frame) (F : List Frame) (R : Output) (m : ℕ) (c : Context) → Holds 1 (fr ∷ F) R m c
+      → Inside (suc (2053 * (8192 - c .visits) + (turnsOf fr + turnsOfAll F))) (turnsOf fr) 2 (fr .entries) (suc (fr .built)) 4 F (R ⊕ (blockRow m ∷ [])) (fr .count) c
   ended-inside fr F R m c h = record {
     visits = h .visits;
     ids = omega (arith, h .ids);
@@ -793,12 +870,12 @@ module _ (t : Table) (ck : Checked t) where
     marked = omega (arith, h .marked);
     depth = h .depth;
     flags = h .flags;
-    tallied = omega (arith, length-append R (blockRow m ∷ []), h .tallied);
-    paid = omega (arith, length-append R (blockRow m ∷ []), h .paid);
+    tallied = omega (arith, length-append (R .rows) (blockRow m ∷ []), h .tallied);
+    paid = omega (arith, length-append (R .rows) (blockRow m ∷ []), h .paid);
   }
 
   -- where a Switch takes its next case, or a statement's entries are taken off
-  holds-inside : {p : ℕ} (s : ℕ) (fr : Frame) (F : List Frame) (R : List Row) (c : Context) → Holds 0 (fr ∷ F) R 0 c → 2053 * (8192 - c .visits) + (s + turnsOfAll F) < p
+  holds-inside : {p : ℕ} (s : ℕ) (fr : Frame) (F : List Frame) (R : Output) (c : Context) → Holds 0 (fr ∷ F) R 0 c → 2053 * (8192 - c .visits) + (s + turnsOfAll F) < p
       → Inside p s 1 (fr .entries) (fr .built) 3 F R (fr .count) c
   holds-inside s fr F R c h k = record {
     visits = h .visits;
@@ -817,8 +894,8 @@ module _ (t : Table) (ck : Checked t) where
   step-next rule (visiting b F R m c) (k, f, h) = next-of _ (visitTurn rule t b F R m c) (visit-fit rule b F R m c k f h)
   step-next rule (ended [] R m c) h = tt
   step-next rule (ended (fr ∷ F) R m c) ((o, f), h) =
-      next-of _ (resume t (visitValueBlock t (depthLeft F)) fr F (R ++ (blockRow m ∷ [])) c)
-      (resume-fit t ck (depthLeft F) (terminalAt t (fr .block)) fr F (R ++ (blockRow m ∷ [])) c refl (ck .names (fr .block)) (ended-inside fr F R m c h) o f)
+      next-of _ (resume t (visitValueBlock t (depthLeft F)) fr F (R ⊕ (blockRow m ∷ [])) c)
+      (resume-fit t ck (depthLeft F) (terminalAt t (fr .block)) fr F (R ⊕ (blockRow m ∷ [])) c refl (ck .names (fr .block)) (ended-inside fr F R m c h) o f)
   step-next rule (choosing fr F R c) (q, o, f, h) =
       next-of _ (chooseCase t (switchColumns (terminalAt t (fr .block)) .first) (switchColumns (terminalAt t (fr .block)) .fallthrough) (fr .left) fr F R c)
       (case-fit t ck 0 (fr .left) fr F R c refl q (holds-inside (suc (2 * fr .left + fr .entries)) fr F R c h (omega arith)) o f)
@@ -873,31 +950,31 @@ reached-going rule t ck s at-begin = going-start rule t ck
 reached-going rule t ck s (by-turn {state} h e) = going-step rule t ck state s (reached-going rule t ck state h) e
 
 abbrev pub contextOf : State → Context
-contextOf (visiting block frames rows count cx) = cx
-contextOf (ended frames rows count cx) = cx
-contextOf (choosing frame frames rows cx) = cx
-contextOf (popping frame frames rows cx) = cx
+contextOf (visiting block frames out count cx) = cx
+contextOf (ended frames out count cx) = cx
+contextOf (choosing frame frames out cx) = cx
+contextOf (popping frame frames out cx) = cx
 
 abbrev pub framesOf : State → List Frame
-framesOf (visiting block frames rows count cx) = frames
-framesOf (ended frames rows count cx) = frames
-framesOf (choosing frame frames rows cx) = frame ∷ frames
-framesOf (popping frame frames rows cx) = frame ∷ frames
+framesOf (visiting block frames out count cx) = frames
+framesOf (ended frames out count cx) = frames
+framesOf (choosing frame frames out cx) = frame ∷ frames
+framesOf (popping frame frames out cx) = frame ∷ frames
 
-abbrev pub rowsOf : State → List Row
-rowsOf (visiting block frames rows count cx) = rows
-rowsOf (ended frames rows count cx) = rows
-rowsOf (choosing frame frames rows cx) = rows
-rowsOf (popping frame frames rows cx) = rows
+abbrev pub outputOf : State → Output
+outputOf (visiting block frames out count cx) = out
+outputOf (ended frames out count cx) = out
+outputOf (choosing frame frames out cx) = out
+outputOf (popping frame frames out cx) = out
 
 abbrev pub counted : State → ℕ
-counted (visiting block frames rows count cx) = count
-counted (ended frames rows count cx) = count
-counted (choosing frame frames rows cx) = 0
-counted (popping frame frames rows cx) = 0
+counted (visiting block frames out count cx) = count
+counted (ended frames out count cx) = count
+counted (choosing frame frames out cx) = 0
+counted (popping frame frames out cx) = 0
 
 -- a frame that takes cases or is closed is as light as one that awaits a list
-light : (t : Table) (k : ℕ) (fr : Frame) (F : List Frame) (R : List Row) (m : ℕ) (c : Context) → Framed t 1 fr → Frames t F → Holds k (fr ∷ F) R m c → k + length (c .stack) ≤ 1024
+light : (t : Table) (k : ℕ) (fr : Frame) (F : List Frame) (R : Output) (m : ℕ) (c : Context) → Framed t 1 fr → Frames t F → Holds k (fr ∷ F) R m c → k + length (c .stack) ≤ 1024
 light t k fr F R m c o f h = omega (arith, entries-low t F f, o .entries, marks-below (c .emitted), h .stack, h .marked, h .flags)
 
 pub record Small (state : State) : Type 0 where
@@ -905,30 +982,63 @@ pub record Small (state : State) : Type 0 where
   pub frames : length (framesOf state) ≤ 128
   pub stack : length (contextOf state .stack) ≤ 1024
   pub ids : contextOf state .nextId ≤ 16384
-  pub rows : length (rowsOf state) ≤ 67239936
-  pub count : counted state + countOf (framesOf state) ≤ length (rowsOf state)
+  pub rows : length (outputOf state .rows) ≤ 67239936
+  pub lines : length (outputOf state .lines) ≤ 1024
+  pub count : counted state + countOf (framesOf state) ≤ length (outputOf state .rows)
 
 pub sound-small : (t : Table) (s : State) → Sound t s → Small s
 sound-small t (visiting b F R m c) (k, f, h) =
-    record { visits = h .visits; frames = h .depth; stack = omega (arith, stack-most t 0 F R m c f h); ids = omega (arith, h .ids); rows = omega (arith, h .paid, h .visits); count = h .tallied }
+    record {
+      visits = h .visits;
+      frames = h .depth;
+      stack = omega (arith, stack-most t 0 F R m c f h);
+      ids = omega (arith, h .ids);
+      rows = omega (arith, h .paid, h .visits);
+      lines = omega (arith, h .marked, marks-below (c .emitted), h .flags);
+      count = h .tallied;
+    }
 sound-small t (ended F R m c) (f, h) =
-    record { visits = h .visits; frames = h .depth; stack = omega (arith, stack-most t 1 F R m c f h); ids = omega (arith, h .ids); rows = omega (arith, h .paid, h .visits); count = h .tallied }
+    record {
+      visits = h .visits;
+      frames = h .depth;
+      stack = omega (arith, stack-most t 1 F R m c f h);
+      ids = omega (arith, h .ids);
+      rows = omega (arith, h .paid, h .visits);
+      lines = omega (arith, h .marked, marks-below (c .emitted), h .flags);
+      count = h .tallied;
+    }
 sound-small t (choosing fr F R c) (q, o, f, h) =
-    record { visits = h .visits; frames = h .depth; stack = omega (arith, light t 0 fr F R 0 c o f h); ids = omega (arith, h .ids); rows = omega (arith, h .paid, h .visits); count = h .tallied }
+    record {
+      visits = h .visits;
+      frames = h .depth;
+      stack = omega (arith, light t 0 fr F R 0 c o f h);
+      ids = omega (arith, h .ids);
+      rows = omega (arith, h .paid, h .visits);
+      lines = omega (arith, h .marked, marks-below (c .emitted), h .flags);
+      count = h .tallied;
+    }
 sound-small t (popping fr F R c) (o, f, h) =
-    record { visits = h .visits; frames = h .depth; stack = omega (arith, light t 0 fr F R 0 c o f h); ids = omega (arith, h .ids); rows = omega (arith, h .paid, h .visits); count = h .tallied }
+    record {
+      visits = h .visits;
+      frames = h .depth;
+      stack = omega (arith, light t 0 fr F R 0 c o f h);
+      ids = omega (arith, h .ids);
+      rows = omega (arith, h .paid, h .visits);
+      lines = omega (arith, h .marked, marks-below (c .emitted), h .flags);
+      count = h .tallied;
+    }
 
 -- "The stack holds at most 1,152 entries": in every state that is reached. (1,024 is what it comes to.)
 pub stack-bound : (rule : Rule) (t : Table) → Checked t → (s : State) → Reached rule t s → length (contextOf s .stack) ≤ 1152
 stack-bound rule t ck s h = let m : Small s = sound-small t s (reached-going rule t ck s h .sound) in omega (arith, m .stack)
 
 -- and inside a turn: in a block that has just been entered, or where a list has ended, one entry more fits
-pub entered-room : (t : Table) → Checked t → (b : ℕ) (F : List Frame) (R : List Row) (m : ℕ) (c d : Context) → Frames t F → Holds 0 F R m c → enterBlock t b c ≡ ok d → length (d .stack) < 1152
+pub entered-room : (t : Table) → Checked t → (b : ℕ) (F : List Frame) (R : Output) (m : ℕ) (c d : Context) → Frames t F → Holds 0 F R m c → enterBlock t b c ≡ ok d → length (d .stack) < 1152
 entered-room t ck b F R m c d f h e =
     let q : Entered c d = subst (λ (z : Result Context). Good (Entered c) z) e (enter-sound t b c (ck .blocks) (h .flags)) in
     omega (arith, entries-low t F f, marks-below (d .emitted), q .stack, q .marked, q .flags, h .stack, h .marked)
 
-pub ended-room : (t : Table) (F : List Frame) (R : List Row) (m : ℕ) (c : Context) → Frames t F → Holds 1 F R m c → length (c .stack) < 1152
+pub ended-room : (t : Table) (F : List Frame) (R : Output) (m : ℕ) (c : Context) → Frames t F → Holds 1 F R m c → length (c .stack) < 1152
 ended-room t F R m c f h = omega (arith, stack-most t 1 F R m c f h)
 
 -- ---- so many turns suffice

@@ -70,5 +70,5 @@ pub rows-within : (root : Statements) → WellFormed root → JumpsWithin (rows 
 rows-within root w = block-within root [] w tt
 
 -- the rows that the build makes
-pub built-within : (rule : Rule) (words : List ℕ) (lent : ℕ) → (accepts : built rule words lent .code ≡ 0) → JumpsWithin (rows (one-tree rule words lent accepts .tree))
-built-within rule words lent accepts = rows-within _ (one-tree rule words lent accepts .held .well-formed)
+pub built-within : (rule : Rule) (words : List ℕ) (lent lentIndex : ℕ) → (accepts : built rule words lent lentIndex .code ≡ 0) → JumpsWithin (rows (one-tree rule words lent lentIndex accepts .tree))
+built-within rule words lent lentIndex accepts = rows-within _ (one-tree rule words lent lentIndex accepts .held .well-formed)

@@ -6,6 +6,7 @@ pub mod RustCodes
 pub mod Visits
 pub mod Enough
 pub mod Rows
+pub mod Lines
 pub mod Simulation
 pub mod Invariant
 pub mod Ranged
@@ -16,10 +17,16 @@ pub mod Readings
 pub mod Crossed
 pub mod Formed
 pub mod Labels
+pub mod Emitted
+pub mod Sits
+pub mod Rises
+pub mod Preview
 pub mod Surveys
 pub mod Goals
 pub mod Parting
+pub mod PartingRows
 pub mod PlainEnough
+pub mod Runnable
 pub mod Loops
 pub mod Semantics
 pub mod Resolve

@@ -9,12 +9,12 @@ use lib.ListN.{getD}
 use lib.Dec.{eqb}
 use borrow.Author.Tests.{eqb-true, eq-eqb, ne-eqb}
 use Rattle.table.specs.Table.{Table, Block, noBlock, Terminal, absent, unreachable, throw, return, goto, if, branch, switch, do-while, while, for, for-of}
-use Rattle.table.specs.Table.{for-in, logical, ternary, optional, label, sequence, maybe-throw, try, scope, Break, Continue, Try, codeOf, terminalAt}
+use Rattle.table.specs.Table.{for-in, logical, ternary, optional, label, sequence, maybe-throw, try, scope, Variant, Break, Continue, Try, codeOf, terminalAt}
 use Rattle.table.specs.Table.{instructionRowsAt}
 use Rattle.definition.specs.Completion.{contains}
-use Rattle.definition.specs.Plain.{Plain, plainCodes, isBranch, fallthroughOf, otherNames, endsInStore, NotBranch, All}
+use Rattle.definition.specs.Plain.{Width, paper-01, with-switch, Plain, plainCodes, caseBlocksOf, different, IsCase, isBranch, fallthroughOf, otherNames, endsInStore, NotBranch, All}
 use Rattle.definition.specs.Value.{isFallthrough}
-use Rattle.definition.proofs.Steps.{true-false}
+use Rattle.definition.proofs.Steps.{true-false, none-some, some-eq}
 
 -- ---- the test
 
@@ -77,6 +77,39 @@ notOfLoop f (a-branch p c a) = true
 notOfLoop f a-goto-try = true
 notOfLoop f another = true
 
+-- the block that a Goto names
+abbrev pub gotoBlock : Terminal → Option ℕ
+gotoBlock absent = none
+gotoBlock unreachable = none
+gotoBlock (throw v) = none
+gotoBlock (return v) = none
+gotoBlock (goto g v) = some g
+gotoBlock (if x y z f) = none
+gotoBlock (branch x y z) = none
+gotoBlock (switch x i n f) = none
+gotoBlock (do-while l x f) = none
+gotoBlock (while x l f) = none
+gotoBlock (for i x u l f) = none
+gotoBlock (for-of i x l f) = none
+gotoBlock (for-in i l f) = none
+gotoBlock (logical o x f) = none
+gotoBlock (ternary x f) = none
+gotoBlock (optional o x f) = none
+gotoBlock (label x f) = none
+gotoBlock (sequence x f) = none
+gotoBlock (maybe-throw n) = none
+gotoBlock (try x k f n) = none
+gotoBlock (scope p x f n) = none
+
+-- of each of some numbers
+abbrev pub allOf : List ℕ → (ℕ → Bool) → Bool
+allOf [] test = true
+allOf (n ∷ ns) test = test n && allOf ns test
+
+-- a terminal whose fallthrough, loop block and test, or Goto's block a case block is not
+abbrev pub notNamed : ℕ → Terminal → Bool
+notNamed k m = not (isFallthrough (fallthroughOf m) k) && (notOfLoop k (shapeOf m) && not (isFallthrough (gotoBlock m) k))
+
 module _ (t : Table) where
   abbrev pub noBranches : List ℕ → Bool
   noBranches [] = true
@@ -94,11 +127,16 @@ module _ (t : Table) where
   fallthroughTest b none = true
   fallthroughTest b (some f) = everyOf (t .blocks) (λ c m. eqb b c || not (isFallthrough (fallthroughOf m) f)) && everyOf (t .blocks) (λ w m. notOfLoop f (shapeOf m))
 
-  abbrev pub blockTest : ℕ → Terminal → Bool
-  blockTest b m = contains plainCodes (codeOf m) && (noBranches (otherNames m) && (shapeTest b (shapeOf m) && fallthroughTest b (fallthroughOf m)))
+  -- a Switch's case blocks differ, and nothing else names them
+  abbrev pub casesTest : List ℕ → Bool
+  casesTest ks = different ks && allOf ks (λ k. everyOf (t .blocks) (λ w m. notNamed k m))
 
-  abbrev pub isPlain : Bool
-  isPlain = not (isBranch (terminalAt t (t .entry))) && everyOf (t .blocks) (λ b m. blockTest b m)
+  abbrev pub blockTest : Width → ℕ → Terminal → Bool
+  blockTest width b m =
+      contains (plainCodes width) (codeOf m) && (noBranches (otherNames m) && (shapeTest b (shapeOf m) && (fallthroughTest b (fallthroughOf m) && casesTest (caseBlocksOf t m))))
+
+  abbrev pub isPlain : Width → Bool
+  isPlain width = not (isBranch (terminalAt t (t .entry))) && everyOf (t .blocks) (λ b m. blockTest width b m)
 
 -- ---- Booleans
 
@@ -159,6 +197,17 @@ some-of : (bs : List Block) (p : ℕ → Terminal → Bool) → ((c : ℕ) → p
 some-of [] p q c h = absurd (true-false (sym h ∙ q c))
 some-of (k ∷ ks) p q zero h = or-left (p 0 (k .terminal)) (someOf ks (λ n. p (suc n))) h
 some-of (k ∷ ks) p q (suc c) h = or-right (p 0 (k .terminal)) (someOf ks (λ n. p (suc n))) (some-of ks (λ n. p (suc n)) (λ n. q (suc n)) c h)
+
+all-at : (ns : List ℕ) (p : ℕ → Bool) (k : ℕ) → allOf ns p ≡ true → contains ns k ≡ true → p k ≡ true
+all-at [] p k h q = absurd (true-false (sym q))
+all-at (n ∷ ns) p k h q =
+    by-cases (eqb n k) (λ e. subst (λ (z : ℕ). p z ≡ true) (eqb-true n k e) (and-left (p n) (allOf ns p) h))
+    (λ e. all-at ns p k (and-right (p n) (allOf ns p) h) (or-else (eqb n k) (contains ns k) q e))
+
+all-of : (ns : List ℕ) (p : ℕ → Bool) → ((k : ℕ) → contains ns k ≡ true → p k ≡ true) → allOf ns p ≡ true
+all-of [] p h = refl
+all-of (n ∷ ns) p h =
+    and-both (p n) (allOf ns p) (h n (or-left (eqb n n) (contains ns n) (eq-eqb n n refl))) (all-of ns p (λ k q. h k (or-right (eqb n k) (contains ns k) q)))
 
 -- ---- the shapes
 
@@ -258,6 +307,29 @@ fallthrough-is f (some g) h = ap some (eqb-true g f h)
 is-fallthrough : (f : ℕ) (o : Option ℕ) → o ≡ some f → isFallthrough o f ≡ true
 is-fallthrough f o e = ap (λ (z : Option ℕ). isFallthrough z f) e ∙ eq-eqb f f refl
 
+goto-of : (k : ℕ) (m : Terminal) → gotoBlock m ≡ some k → (v : Variant) × (m ≡ goto k v)
+goto-of b absent e = absurd (none-some e)
+goto-of b unreachable e = absurd (none-some e)
+goto-of b (throw v) e = absurd (none-some e)
+goto-of b (return v) e = absurd (none-some e)
+goto-of b (goto g v) e = (v, ap (λ (z : ℕ). goto z v) (some-eq e))
+goto-of b (if x y z f) e = absurd (none-some e)
+goto-of b (branch x y z) e = absurd (none-some e)
+goto-of b (switch x i n f) e = absurd (none-some e)
+goto-of b (do-while l x f) e = absurd (none-some e)
+goto-of b (while x l f) e = absurd (none-some e)
+goto-of b (for i x u l f) e = absurd (none-some e)
+goto-of b (for-of i x l f) e = absurd (none-some e)
+goto-of b (for-in i l f) e = absurd (none-some e)
+goto-of b (logical o x f) e = absurd (none-some e)
+goto-of b (ternary x f) e = absurd (none-some e)
+goto-of b (optional o x f) e = absurd (none-some e)
+goto-of b (label x f) e = absurd (none-some e)
+goto-of b (sequence x f) e = absurd (none-some e)
+goto-of b (maybe-throw n) e = absurd (none-some e)
+goto-of b (try x k f n) e = absurd (none-some e)
+goto-of b (scope p x f n) e = absurd (none-some e)
+
 module _ (t : Table) where
   branches-none : (ns : List ℕ) → noBranches t ns ≡ true → All (NotBranch t) ns
   branches-none [] h = tt
@@ -272,30 +344,40 @@ module _ (t : Table) where
 
   -- ---- what passes the test is plain
 
-  record Passed (b : ℕ) (m : Terminal) : Type 0 where
-    code : contains plainCodes (codeOf m) ≡ true
+  record Passed (width : Width) (b : ℕ) (m : Terminal) : Type 0 where
+    code : contains (plainCodes width) (codeOf m) ≡ true
     names : noBranches t (otherNames m) ≡ true
     shape : shapeTest t b (shapeOf m) ≡ true
     fallthrough : fallthroughTest t b (fallthroughOf m) ≡ true
+    cases : casesTest t (caseBlocksOf t m) ≡ true
 
-  passed-of : (b : ℕ) (m : Terminal) → blockTest t b m ≡ true → Passed b m
-  passed-of b m h =
-      let a : Bool = contains plainCodes (codeOf m) in
+  passed-of : (width : Width) (b : ℕ) (m : Terminal) → blockTest t width b m ≡ true → Passed width b m
+  passed-of width b m h =
+      let a : Bool = contains (plainCodes width) (codeOf m) in
       let n : Bool = noBranches t (otherNames m) in
       let s : Bool = shapeTest t b (shapeOf m) in
       let f : Bool = fallthroughTest t b (fallthroughOf m) in
+      let c : Bool = casesTest t (caseBlocksOf t m) in
+      let h₁ : n && (s && (f && c)) ≡ true = and-right a (n && (s && (f && c))) h in
+      let h₂ : s && (f && c) ≡ true = and-right n (s && (f && c)) h₁ in
+      let h₃ : f && c ≡ true = and-right s (f && c) h₂ in
       record {
-        code = and-left a (n && (s && f)) h;
-        names = and-left n (s && f) (and-right a (n && (s && f)) h);
-        shape = and-left s f (and-right n (s && f) (and-right a (n && (s && f)) h));
-        fallthrough = and-right s f (and-right n (s && f) (and-right a (n && (s && f)) h));
+        code = and-left a (n && (s && (f && c))) h;
+        names = and-left n (s && (f && c)) h₁;
+        shape = and-left s (f && c) h₂;
+        fallthrough = and-left f c h₃;
+        cases = and-right f c h₃;
       }
 
-  module _ (h : isPlain t ≡ true) where
-    passed : (b : ℕ) → Passed b (terminalAt t b)
+  absent-passes : (width : Width) (b : ℕ) → blockTest t width b absent ≡ true
+  absent-passes paper-01 b = refl
+  absent-passes with-switch b = refl
+
+  module _ (width : Width) (h : isPlain t width ≡ true) where
+    passed : (b : ℕ) → Passed width b (terminalAt t b)
     passed b =
-        passed-of b (terminalAt t b)
-        (every-at (t .blocks) (λ c m. blockTest t c m) (λ c. refl) (and-right (not (isBranch (terminalAt t (t .entry)))) (everyOf (t .blocks) (λ c m. blockTest t c m)) h) b)
+        passed-of width b (terminalAt t b)
+        (every-at (t .blocks) (λ c m. blockTest t width c m) (absent-passes width) (and-right (not (isBranch (terminalAt t (t .entry)))) (everyOf (t .blocks) (λ c m. blockTest t width c m)) h) b)
 
     shape-at : (b : ℕ) (m : Terminal) → terminalAt t b ≡ m → shapeTest t b (shapeOf m) ≡ true
     shape-at b m e = subst (λ (z : Terminal). shapeTest t b (shapeOf z) ≡ true) e (passed b .shape)
@@ -344,12 +426,40 @@ module _ (t : Table) where
         let (p′, q′) = tests b′ x l′ f′ e′ in
         one-fallthrough b b′ f (ap fallthroughOf e) (ap fallthroughOf e′ ∙ ap some (sym (same-alternate p l f p′ l′ f′ (sym q ∙ q′))))
 
-    pub is-plain : Plain t
+    -- nothing names a case block but its Switch
+    named-at : (k : ℕ) → IsCase t k → (w : ℕ) → notNamed k (terminalAt t w) ≡ true
+    named-at k c w =
+        every-at (t .blocks) (λ w m. notNamed k m) (λ n. refl)
+        (all-at (caseBlocksOf t (terminalAt t (c .of))) (λ k. everyOf (t .blocks) (λ w m. notNamed k m)) k
+        (and-right (different (caseBlocksOf t (terminalAt t (c .of))))
+        (allOf (caseBlocksOf t (terminalAt t (c .of))) (λ k. everyOf (t .blocks) (λ w m. notNamed k m))) (passed (c .of) .cases)) (c .among)) w
+
+    case-of-loop : (k : ℕ) → IsCase t k → (w x l f : ℕ) → terminalAt t w ≡ while x l f → not (eqb k l) && not (eqb k x) ≡ true
+    case-of-loop k c w x l f e =
+        subst (λ (m : Terminal). notOfLoop k (shapeOf m) ≡ true) e
+        (and-left (notOfLoop k (shapeOf (terminalAt t w))) (not (isFallthrough (gotoBlock (terminalAt t w)) k))
+        (and-right (not (isFallthrough (fallthroughOf (terminalAt t w)) k)) (notOfLoop k (shapeOf (terminalAt t w)) && not (isFallthrough (gotoBlock (terminalAt t w)) k)) (named-at k c w)))
+
+    not-itself : (k : ℕ) → not (eqb k k) ≡ true → ⊥
+    not-itself k q = true-false (sym (eq-eqb k k refl) ∙ not-is (eqb k k) q)
+
+    case-goto : (b k : ℕ) (v : Variant) → terminalAt t b ≡ goto k v → IsCase t k → ⊥
+    case-goto b k v e c =
+        not-itself k (subst (λ (m : Terminal). not (isFallthrough (gotoBlock m) k) ≡ true) e
+        (and-right (notOfLoop k (shapeOf (terminalAt t b))) (not (isFallthrough (gotoBlock (terminalAt t b)) k))
+        (and-right (not (isFallthrough (fallthroughOf (terminalAt t b)) k)) (notOfLoop k (shapeOf (terminalAt t b)) && not (isFallthrough (gotoBlock (terminalAt t b)) k)) (named-at k c b))))
+
+    case-fallthrough : (b k : ℕ) → fallthroughOf (terminalAt t b) ≡ some k → IsCase t k → ⊥
+    case-fallthrough b k e c =
+        not-itself k (subst (λ (o : Option ℕ). not (isFallthrough o k) ≡ true) e
+        (and-left (not (isFallthrough (fallthroughOf (terminalAt t b)) k)) (notOfLoop k (shapeOf (terminalAt t b)) && not (isFallthrough (gotoBlock (terminalAt t b)) k)) (named-at k c b)))
+
+    pub is-plain : Plain width t
     is-plain = record {
       ends = λ b. passed b .code;
       no-goto-try = λ b g e. true-false (sym (shape-at b (goto g Try) e));
       tests = tests;
-      entry = not-is (isBranch (terminalAt t (t .entry))) (and-left (not (isBranch (terminalAt t (t .entry)))) (everyOf (t .blocks) (λ c m. blockTest t c m)) h);
+      entry = not-is (isBranch (terminalAt t (t .entry))) (and-left (not (isBranch (terminalAt t (t .entry)))) (everyOf (t .blocks) (λ c m. blockTest t width c m)) h);
       branches = branches;
       one-while = one-while;
       names = λ b. branches-none (otherNames (terminalAt t b)) (passed b .names);
@@ -357,11 +467,16 @@ module _ (t : Table) where
       one-fallthrough = one-fallthrough;
       no-loop = λ b f w x l g e e′ q. true-false (sym (eq-eqb f l q) ∙ not-is (eqb f l) (and-left (not (eqb f l)) (not (eqb f x)) (no-loop-at b f w x l g e e′)));
       no-test = λ b f w x l g e e′ q. true-false (sym (eq-eqb f x q) ∙ not-is (eqb f x) (and-right (not (eqb f l)) (not (eqb f x)) (no-loop-at b f w x l g e e′)));
+      cases-differ = λ b. and-left (different (caseBlocksOf t (terminalAt t b))) (allOf (caseBlocksOf t (terminalAt t b)) (λ k. everyOf (t .blocks) (λ w m. notNamed k m))) (passed b .cases);
+      case-fallthrough = case-fallthrough;
+      case-loop = λ w x k f e c. not-itself k (and-left (not (eqb k k)) (not (eqb k x)) (case-of-loop k c w x k f e));
+      case-test = λ w k l f e c. not-itself k (and-right (not (eqb k l)) (not (eqb k k)) (case-of-loop k c w k l f e));
+      case-goto = case-goto;
     }
 
   -- ---- what is plain passes the test
 
-  module _ (pl : Plain t) where
+  module _ (width : Width) (pl : Plain width t) where
     shape-passes : (b : ℕ) (m : Terminal) → terminalAt t b ≡ m → shapeTest t b (shapeOf m) ≡ true
     shape-passes b absent e = refl
     shape-passes b unreachable e = refl
@@ -405,18 +520,36 @@ module _ (t : Table) where
             (λ h. or-left (eqb b c) (not (isFallthrough (fallthroughOf (terminalAt t c)) f)) (eq-eqb b c (pl .one-fallthrough b c f e (fallthrough-is f (fallthroughOf (terminalAt t c)) h))))
             (λ h. or-right (eqb b c) (not (isFallthrough (fallthroughOf (terminalAt t c)) f)) (is-not (isFallthrough (fallthroughOf (terminalAt t c)) f) h))
 
-    block-passes : (b : ℕ) → blockTest t b (terminalAt t b) ≡ true
+    named-passes : (k : ℕ) → IsCase t k → (w : ℕ) → notNamed k (terminalAt t w) ≡ true
+    named-passes k c w =
+        let m : Terminal = terminalAt t w in
+        and-both (not (isFallthrough (fallthroughOf m) k)) (notOfLoop k (shapeOf m) && not (isFallthrough (gotoBlock m) k))
+        (is-not (isFallthrough (fallthroughOf m) k) (by-cases (isFallthrough (fallthroughOf m) k) (λ h. absurd (pl .case-fallthrough w k (fallthrough-is k (fallthroughOf m) h) c)) (λ h. h)))
+        (and-both (notOfLoop k (shapeOf m)) (not (isFallthrough (gotoBlock m) k))
+        (not-of-loop k m (λ x l f q e. pl .case-loop w x l f q (subst (λ (z : ℕ). IsCase t z) e c)) (λ x l f q e. pl .case-test w x l f q (subst (λ (z : ℕ). IsCase t z) e c)))
+        (is-not (isFallthrough (gotoBlock m) k) (by-cases (isFallthrough (gotoBlock m) k)
+        (λ h. let (v, q) = goto-of k m (fallthrough-is k (gotoBlock m) h) in absurd (pl .case-goto w k v q c)) (λ h. h))))
+
+    cases-pass : (b : ℕ) → casesTest t (caseBlocksOf t (terminalAt t b)) ≡ true
+    cases-pass b =
+        and-both (different (caseBlocksOf t (terminalAt t b))) (allOf (caseBlocksOf t (terminalAt t b)) (λ k. everyOf (t .blocks) (λ w m. notNamed k m))) (pl .cases-differ b)
+        (all-of (caseBlocksOf t (terminalAt t b)) (λ k. everyOf (t .blocks) (λ w m. notNamed k m))
+        (λ k q. every-of (t .blocks) (λ w m. notNamed k m) (λ w. named-passes k (record { of = b; among = q }) w)))
+
+    block-passes : (b : ℕ) → blockTest t width b (terminalAt t b) ≡ true
     block-passes b =
         let m : Terminal = terminalAt t b in
-        and-both (contains plainCodes (codeOf m)) (noBranches t (otherNames m) && (shapeTest t b (shapeOf m) && fallthroughTest t b (fallthroughOf m))) (pl .ends b)
-        (and-both (noBranches t (otherNames m)) (shapeTest t b (shapeOf m) && fallthroughTest t b (fallthroughOf m)) (none-branches (otherNames m) (pl .names b))
-        (and-both (shapeTest t b (shapeOf m)) (fallthroughTest t b (fallthroughOf m)) (shape-passes b m refl) (fallthrough-passes b (fallthroughOf m) refl)))
+        let f : Bool = fallthroughTest t b (fallthroughOf m) in
+        let c : Bool = casesTest t (caseBlocksOf t m) in
+        and-both (contains (plainCodes width) (codeOf m)) (noBranches t (otherNames m) && (shapeTest t b (shapeOf m) && (f && c))) (pl .ends b)
+        (and-both (noBranches t (otherNames m)) (shapeTest t b (shapeOf m) && (f && c)) (none-branches (otherNames m) (pl .names b))
+        (and-both (shapeTest t b (shapeOf m)) (f && c) (shape-passes b m refl) (and-both f c (fallthrough-passes b (fallthroughOf m) refl) (cases-pass b))))
 
-    pub plain-is : isPlain t ≡ true
+    pub plain-is : isPlain t width ≡ true
     plain-is =
-        and-both (not (isBranch (terminalAt t (t .entry)))) (everyOf (t .blocks) (λ b m. blockTest t b m)) (is-not (isBranch (terminalAt t (t .entry))) (pl .entry))
-        (every-of (t .blocks) (λ b m. blockTest t b m) block-passes)
+        and-both (not (isBranch (terminalAt t (t .entry)))) (everyOf (t .blocks) (λ b m. blockTest t width b m)) (is-not (isBranch (terminalAt t (t .entry))) (pl .entry))
+        (every-of (t .blocks) (λ b m. blockTest t width b m) block-passes)
 
 -- the test holds exactly of the plain tables
-pub plain-test : (t : Table) → (isPlain t ≡ true) ↔ Plain t
-plain-test t = (λ h. is-plain t h, λ pl. plain-is t pl)
+pub plain-test : (width : Width) (t : Table) → (isPlain t width ≡ true) ↔ Plain width t
+plain-test width t = (λ h. is-plain t width h, λ pl. plain-is t width pl)

@@ -3,18 +3,19 @@ use mathlib.Core.Path.{_≡_, refl, sym, ap, _∙_, subst}
 use Prim.Native.Nat.{ℕ, zero, suc, _+_, _<_}
 use native.Mathlib.Omega.{arith}
 use mathlib.Core.List.{List, [], _∷_}
-use mathlib.Core.Option.{Option, some}
+use mathlib.Core.Option.{Option, none, some}
 use mathlib.Core.Bool.{Bool, true, false, not, cond}
 use lib.Dec.{eqb, T}
 use borrow.Author.Tests.{eqb-true, eqb-false}
-use Rattle.table.specs.Table.{Table, while, terminalAt}
-use Rattle.definition.specs.Context.{Flags, has, target-if, target-loop, Entry, targetBlock, isLoop, loopsOf, continuesAt, breakKind, breakTargetFrom}
-use Rattle.definition.specs.Context.{Resolution, continueKind, continueTargetFrom}
-use Rattle.definition.specs.Plain.{fallthroughOf}
-use Rattle.definition.specs.Completion.{break, continue}
+use Rattle.table.specs.Table.{Table, Terminal, switch, while, codeOf, terminalAt}
+use Rattle.definition.specs.Context.{Flags, has, target-if, target-switch, target-case, target-loop, Entry, targetBlock, isLoop, loopsOf, continuesAt}
+use Rattle.definition.specs.Context.{breakKind, breakTargetFrom, Resolution, continueKind, continueTargetFrom}
+use Rattle.definition.specs.Plain.{Width, paper-01, plainCodes, IsCase, fallthroughOf}
+use Rattle.definition.specs.Around.{Enclosing, a-loop, a-switch, another, switchInside}
+use Rattle.definition.specs.Completion.{contains, break, continue}
 use Rattle.definition.specs.TreeRun.{jumpCompletion}
 use Rattle.definition.specs.Tree.{Kind, implicit, labeled, unlabeled, kindNumber}
-use Rattle.definition.proofs.Semantics.{Frame, in-label, in-scope, in-loop, exit, breakOut, breakAt, continueOut, continueAt, target}
+use Rattle.definition.proofs.Semantics.{Frame, in-label, in-scope, in-loop, in-switch, in-case, exit, breakOut, breakAt, continueOut, continueAt, target}
 use Rattle.definition.proofs.PlainEnough.{PlainEnough}
 use Rattle.definition.proofs.Steps.{true-false, none-some, some-eq}
 
@@ -27,6 +28,49 @@ module _ (t : Table) where
         → Framed scopes (in-scope f ∷ F) (record { id = i; target = target-if f; ownsLoop = false } ∷ S)
     loop-framed : {F : List Frame} {S : List Entry} (i f x w l : ℕ) (ll : ℕ) (o : Bool) → terminalAt t w ≡ while x l f → Framed scopes F S
         → Framed scopes (in-loop f x ∷ F) (record { id = i; target = target-loop f x ll; ownsLoop = o } ∷ S)
+    switch-framed : {F : List Frame} {S : List Entry} (i f w x k n : ℕ) → terminalAt t w ≡ switch x k n f → Framed scopes F S
+        → Framed scopes (in-switch f ∷ F) (record { id = i; target = target-switch f; ownsLoop = false } ∷ S)
+    case-framed : {F : List Frame} {S : List Entry} (i k : ℕ) → IsCase t k → Framed scopes F S → Framed scopes (in-case k ∷ F) (record { id = i; target = target-case k; ownsLoop = false } ∷ S)
+
+  -- ---- no switch stands between here and the nearest loop
+
+  abbrev pub Clear : List Frame → Type 0
+  Clear [] = Unit {0}
+  Clear (in-label f ∷ F) = Clear F
+  Clear (in-scope f ∷ F) = Clear F
+  Clear (in-loop f x ∷ F) = Unit {0}
+  Clear (in-switch f ∷ F) = ⊥
+  Clear (in-case k ∷ F) = Clear F
+
+  -- the frames of what is being built around: all fallthroughs are taken, and while an earlier case is built, its switch is around
+  pub data Fits : List Frame → List Enclosing → Type 0 where
+    fits-none : Fits [] []
+    fits-label : {F : List Frame} {A : List Enclosing} (f : ℕ) → Fits F A → Fits (in-label f ∷ F) (another (some f) ∷ A)
+    fits-scope : {F : List Frame} {A : List Enclosing} (f : ℕ) → Fits F A → Fits (in-scope f ∷ F) (another none ∷ A)
+    fits-loop : {F : List Frame} {A : List Enclosing} (f x : ℕ) → Fits F A → Fits (in-loop f x ∷ F) (a-loop (some f) ∷ A)
+    fits-switch : {F : List Frame} {A : List Enclosing} (f : ℕ) → Fits F A → Fits (in-switch f ∷ F) (a-switch (some f) ∷ A)
+    fits-case : {F : List Frame} {A : List Enclosing} (k : ℕ) → Fits F A → Fits (in-case k ∷ F) A
+
+  pub clear-around : {F : List Frame} {A : List Enclosing} → Fits F A → switchInside A ≡ false → Clear F
+  unfolding switchInside
+  clear-around fits-none h = tt
+  clear-around (fits-label f p) h = clear-around p h
+  clear-around (fits-scope f p) h = clear-around p h
+  clear-around (fits-loop f x p) h = tt
+  clear-around (fits-switch f p) h = true-false h
+  clear-around (fits-case k p) h = clear-around p h
+
+  -- a table as paper 01 has it has no switch, and so no frame of one
+  no-switch : (w x k n f : ℕ) → PlainEnough paper-01 t → terminalAt t w ≡ switch x k n f → ⊥
+  no-switch w x k n f pl e = true-false (sym (pl .ends w) ∙ ap (λ (m : Terminal). contains (plainCodes paper-01) (codeOf m)) e)
+
+  pub clear-paper : {scopes : Flags} {F : List Frame} {S : List Entry} → Framed scopes F S → PlainEnough paper-01 t → Clear F
+  clear-paper no-frame pl = tt
+  clear-paper (label-framed i f p) pl = clear-paper p pl
+  clear-paper (scope-framed i f s p) pl = clear-paper p pl
+  clear-paper (loop-framed i f x w l ll o s p) pl = tt
+  clear-paper (switch-framed i f w x k n s p) pl = no-switch w x k n f pl s
+  clear-paper (case-framed i k s p) pl = clear-paper p pl
 
   -- ---- a step of the search: the entry is the one found, or the search goes on below
 
@@ -54,19 +98,25 @@ module _ (t : Table) where
   -- ---- break
 
   -- a break to a block that is no scope's fallthrough finds the label
-  break-at : {scopes : Flags} {F : List Frame} {S : List Entry} → Framed scopes F S → (g : ℕ) (top : Bool) (above : ℕ) (c : Resolution) → has scopes g ≡ false
+  break-at : {scopes : Flags} {F : List Frame} {S : List Entry} → Framed scopes F S → (g : ℕ) (top : Bool) (above : ℕ) (c : Resolution) → (IsCase t g → ⊥) → has scopes g ≡ false
       → breakTargetFrom S g top above ≡ some c → breakAt F g ≡ some g
   unfolding breakTargetFrom
-  break-at no-frame g top above c n e = absurd (none-some e)
-  break-at {scopes} (label-framed {F} {S} i f p) g top above c n e =
+  break-at no-frame g top above c nc n e = absurd (none-some e)
+  break-at {scopes} (label-framed {F} {S} i f p) g top above c nc n e =
       found f g (eqb f g) (record { target = g; kind = breakKind false top above; loops = above }) c (breakTargetFrom S g false (0 + above)) (breakAt F g) refl
-      e (λ h. break-at p g false (0 + above) c n h)
-  break-at {scopes} (scope-framed {F} {S} i f s p) g top above c n e =
+      e (λ h. break-at p g false (0 + above) c nc n h)
+  break-at {scopes} (scope-framed {F} {S} i f s p) g top above c nc n e =
       passed f g (eqb f g) (record { target = g; kind = breakKind false top above; loops = above }) c (breakTargetFrom S g false (0 + above)) (breakAt F g) refl e
-      (λ h. true-false (sym s ∙ ap (has scopes) h ∙ n)) (λ h. break-at p g false (0 + above) c n h)
-  break-at {scopes} (loop-framed {F} {S} i f x w l ll o s p) g top above c n e =
+      (λ h. true-false (sym s ∙ ap (has scopes) h ∙ n)) (λ h. break-at p g false (0 + above) c nc n h)
+  break-at {scopes} (loop-framed {F} {S} i f x w l ll o s p) g top above c nc n e =
       found f g (eqb f g) (record { target = g; kind = breakKind true top above; loops = above }) c (breakTargetFrom S g false (1 + above)) (breakAt F g) refl e
-      (λ h. break-at p g false (1 + above) c n h)
+      (λ h. break-at p g false (1 + above) c nc n h)
+  break-at {scopes} (switch-framed {F} {S} i f w x k m s p) g top above c nc n e =
+      found f g (eqb f g) (record { target = g; kind = breakKind false top above; loops = above }) c (breakTargetFrom S g false (0 + above)) (breakAt F g) refl
+      e (λ h. break-at p g false (0 + above) c nc n h)
+  break-at {scopes} (case-framed {F} {S} i k s p) g top above c nc n e =
+      passed k g (eqb k g) (record { target = g; kind = breakKind false top above; loops = above }) c (breakTargetFrom S g false (0 + above)) (breakAt F g) refl e
+      (λ h. nc (subst (λ (z : ℕ). IsCase t z) h s)) (λ h. break-at p g false (0 + above) c nc n h)
 
   apart : (k k′ : Kind) → T (not (eqb (kindNumber k) (kindNumber k′))) → k ≡ k′ → ⊥
   apart implicit k′ h e = subst (λ (z : Kind). T (not (eqb 0 (kindNumber z)))) (sym e) h
@@ -111,17 +161,21 @@ module _ (t : Table) where
       (λ h. kind-below (isLoop (x .target)) above (kind-of h ∙ k)) (λ h. below-never S g (loopsOf (x .target) + above) c h k)
 
   break-out : {scopes : Flags} {F : List Frame} {S : List Entry} → Framed scopes F S → (g : ℕ) (top : Bool) (c : Resolution) → breakTargetFrom S g top 0 ≡ some c
-      → c .kind ≡ unlabeled → breakOut F ≡ some g
+      → c .kind ≡ unlabeled → Clear F → breakOut F ≡ some g
   unfolding breakTargetFrom
-  break-out no-frame g top c e k = absurd (none-some e)
-  break-out (label-framed {F} {S} i f p) g top c e k =
+  break-out no-frame g top c e k z = absurd (none-some e)
+  break-out (label-framed {F} {S} i f p) g top c e k z =
       either (eqb f g) (record { target = g; kind = breakKind false top 0; loops = 0 }) c (breakTargetFrom S g false 0) (breakOut F ≡ some g) e
-      (λ h. absurd (kind-other top 0 (kind-of h ∙ k))) (λ h. break-out p g false c h k)
-  break-out (scope-framed {F} {S} i f s p) g top c e k =
+      (λ h. absurd (kind-other top 0 (kind-of h ∙ k))) (λ h. break-out p g false c h k z)
+  break-out (scope-framed {F} {S} i f s p) g top c e k z =
       either (eqb f g) (record { target = g; kind = breakKind false top 0; loops = 0 }) c (breakTargetFrom S g false 0) (breakOut F ≡ some g) e
-      (λ h. absurd (kind-other top 0 (kind-of h ∙ k))) (λ h. break-out p g false c h k)
-  break-out (loop-framed {F} {S} i f x w l ll o s p) g top c e k =
+      (λ h. absurd (kind-other top 0 (kind-of h ∙ k))) (λ h. break-out p g false c h k z)
+  break-out (loop-framed {F} {S} i f x w l ll o s p) g top c e k z =
       take f g (eqb f g) (record { target = g; kind = breakKind true top 0; loops = 0 }) c (breakTargetFrom S g false 1) refl e (λ h. above-never S g false 1 c (omega arith) h k)
+  break-out (switch-framed {F} {S} i f w x k₁ m s p) g top c e k z = absurd z
+  break-out (case-framed {F} {S} i k₁ s p) g top c e k z =
+      either (eqb k₁ g) (record { target = g; kind = breakKind false top 0; loops = 0 }) c (breakTargetFrom S g false 0) (breakOut F ≡ some g) e
+      (λ h. absurd (kind-other top 0 (kind-of h ∙ k))) (λ h. break-out p g false c h k z)
 
   pub break-exit : {scopes : Flags} {F : List Frame} {S : List Entry} → Framed scopes F S → (g : ℕ) (top : Bool) (above : ℕ) (c : Resolution) → breakTargetFrom S g top above ≡ some c
       → c .kind ≡ implicit → exit F ≡ some g
@@ -134,6 +188,10 @@ module _ (t : Table) where
   break-exit (loop-framed {F} {S} i f x w l ll o s p) g top above c e k =
       either (eqb f g) (record { target = g; kind = breakKind true top above; loops = above }) c (breakTargetFrom S g false (1 + above)) (some x ≡ some g) e
       (λ h. absurd (kind-loop top above (kind-of h ∙ k))) (λ h. absurd (below-never S g (1 + above) c h k))
+  break-exit (switch-framed {F} {S} i f w x k₁ m s p) g top above c e k =
+      take f g (eqb f g) (record { target = g; kind = breakKind false top above; loops = above }) c (breakTargetFrom S g false (0 + above)) refl e (λ h. below-never S g (0 + above) c h k)
+  break-exit (case-framed {F} {S} i k₁ s p) g top above c e k =
+      take k₁ g (eqb k₁ g) (record { target = g; kind = breakKind false top above; loops = above }) c (breakTargetFrom S g false (0 + above)) refl e (λ h. below-never S g (0 + above) c h k)
 
   -- a break resolves to the block it names
   pub break-names : (S : List Entry) (g : ℕ) (top : Bool) (above : ℕ) (c : Resolution) → breakTargetFrom S g top above ≡ some c → c .target ≡ g
@@ -146,17 +204,17 @@ module _ (t : Table) where
 
   -- a Labeled break goes to its block, whatever the stack made of its kind
   pub break-label : {scopes : Flags} {F : List Frame} {S : List Entry} → Framed scopes F S → (g : ℕ) (c : Resolution) → breakTargetFrom S g true 0 ≡ some c
-      → has scopes g ≡ false → (i : ℕ) → target F (jumpCompletion labeled g i break) ≡ some g
+      → (IsCase t g → ⊥) → has scopes g ≡ false → (i : ℕ) → target F (jumpCompletion labeled g i break) ≡ some g
   unfolding jumpCompletion
-  break-label p g c e n i = break-at p g true 0 c n e
+  break-label p g c e nc n i = break-at p g true 0 c nc n e
 
   -- the break's row goes to its block
   pub break-target : {scopes : Flags} {F : List Frame} {S : List Entry} → Framed scopes F S → (g : ℕ) (c : Resolution) → breakTargetFrom S g true 0 ≡ some c
-      → has scopes g ≡ false → (k : Kind) → c .kind ≡ k → (i : ℕ) → target F (jumpCompletion k g i break) ≡ some g
+      → (IsCase t g → ⊥) → has scopes g ≡ false → (k : Kind) → c .kind ≡ k → (k ≡ unlabeled → Clear F) → (i : ℕ) → target F (jumpCompletion k g i break) ≡ some g
   unfolding jumpCompletion
-  break-target p g c e n implicit k i = break-exit p g true 0 c e k
-  break-target p g c e n labeled k i = break-label p g c e n i
-  break-target p g c e n unlabeled k i = break-out p g true c e k
+  break-target p g c e nc n implicit k z i = break-exit p g true 0 c e k
+  break-target p g c e nc n labeled k z i = break-label p g c e nc n i
+  break-target p g c e nc n unlabeled k z i = break-out p g true c e k (z refl)
 
   -- ---- continue
 
@@ -192,6 +250,8 @@ module _ (t : Table) where
   continue-out no-frame g top c e k = absurd (none-some e)
   continue-out (label-framed {F} {S} i f p) g top c e k = continue-out p g false c e k
   continue-out (scope-framed {F} {S} i f s p) g top c e k = continue-out p g false c e k
+  continue-out (switch-framed {F} {S} i f w x k₁ m s p) g top c e k = continue-out p g false c e k
+  continue-out (case-framed {F} {S} i k₁ s p) g top c e k = continue-out p g false c e k
   continue-out (loop-framed {F} {S} i f x w l ll o s p) g top c e k =
       take x g (eqb x g) (record { target = f; kind = continueKind top 0; loops = 0 }) c (continueTargetFrom S g false 1) refl e
       (λ h. apart labeled unlabeled tt (sym (continue-above-never S g false 1 c (omega arith) h) ∙ k))
@@ -202,6 +262,8 @@ module _ (t : Table) where
   continue-exit no-frame g top above c e k = absurd (none-some e)
   continue-exit (label-framed {F} {S} i f p) g top above c e k = absurd (continue-below-never S g (0 + above) c e k)
   continue-exit (scope-framed {F} {S} i f s p) g top above c e k = absurd (continue-below-never S g (0 + above) c e k)
+  continue-exit (switch-framed {F} {S} i f w x k₁ m s p) g top above c e k = absurd (continue-below-never S g (0 + above) c e k)
+  continue-exit (case-framed {F} {S} i k₁ s p) g top above c e k = absurd (continue-below-never S g (0 + above) c e k)
   continue-exit (loop-framed {F} {S} i f x w l ll o s p) g top above c e k =
       take x g (eqb x g) (record { target = f; kind = continueKind top above; loops = above }) c (continueTargetFrom S g false (1 + above)) refl e
       (λ h. continue-below-never S g (1 + above) c h k)
@@ -222,6 +284,8 @@ module _ (t : Table) where
   continue-of no-frame g top above c e = absurd (none-some e)
   continue-of (label-framed {F} {S} i f p) g top above c e = continue-of p g false (0 + above) c e
   continue-of (scope-framed {F} {S} i f s p) g top above c e = continue-of p g false (0 + above) c e
+  continue-of (switch-framed {F} {S} i f w x k₁ m s p) g top above c e = continue-of p g false (0 + above) c e
+  continue-of (case-framed {F} {S} i k₁ s p) g top above c e = continue-of p g false (0 + above) c e
   continue-of (loop-framed {F} {S} i f x w l ll o s p) g top above c e =
       found-of x g f w l (continueKind top above) above (eqb x g) c (continueTargetFrom S g false (1 + above)) refl s e (λ h. continue-of p g false (1 + above) c h)
 
@@ -231,7 +295,7 @@ module _ (t : Table) where
   while-ft : (w x l f : ℕ) → terminalAt t w ≡ while x l f → fallthroughOf (terminalAt t w) ≡ some f
   while-ft w x l f e = ap fallthroughOf e
 
-  module _ (pl : PlainEnough t) where
+  module _ {width : Width} (pl : PlainEnough width t) where
     -- two Whiles with one fallthrough have one test
     same-test : (w x l f w′ x′ l′ : ℕ) → terminalAt t w ≡ while x l f → terminalAt t w′ ≡ while x′ l′ f → x ≡ x′
     same-test w x l f w′ x′ l′ e e′ =
@@ -248,6 +312,8 @@ module _ (t : Table) where
     continue-at no-frame g top above c e n = absurd (none-some e)
     continue-at (label-framed {F} {S} i f p) g top above c e n = continue-at p g false (0 + above) c e n
     continue-at (scope-framed {F} {S} i f s p) g top above c e n = continue-at p g false (0 + above) c e n
+    continue-at (switch-framed {F} {S} i f w x k₁ m s p) g top above c e n = continue-at p g false (0 + above) c e n
+    continue-at (case-framed {F} {S} i k₁ s p) g top above c e n = continue-at p g false (0 + above) c e n
     continue-at (loop-framed {F} {S} i f x w l ll o s p) g top above c e n =
         at-loop x g f (c .target) w l (eqb f (c .target)) (continueAt F (c .target)) refl s n
         (λ z. either (eqb x g) (record { target = f; kind = continueKind top above; loops = above }) c (continueTargetFrom S g false (1 + above)) (continueAt F (c .target) ≡ some g) e

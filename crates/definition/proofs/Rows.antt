@@ -37,7 +37,7 @@ mutual
   instructions-append (instruction i p s v r) k l =
       ap (λ (z : List Row). valueRows v (instrRow i p s ∷ z)) (instructions-append r k l) ∙ value-append v (instrRow i p s ∷ instructionsRows r k) l
 
-update-append : (v : Option Value) (k l : List Row) → updateRows v (k ++ l) ≡ updateRows v k ++ l
+pub update-append : (v : Option Value) (k l : List Row) → updateRows v (k ++ l) ≡ updateRows v k ++ l
 update-append none k l = refl
 update-append (some v) k l = value-append v k l
 
@@ -82,7 +82,7 @@ mutual
   block-append (s ▸ r) k l =
       ap (statementRows s) (statements-append r (row 9 (suc (countStatements r)) 0 0 0 0 ∷ k) l) ∙ statement-append s (statementsRows r (row 9 (suc (countStatements r)) 0 0 0 0 ∷ k)) l
 
-  cases-append : (s : Cases) (k l : List Row) → casesRows s (k ++ l) ≡ casesRows s k ++ l
+  pub cases-append : (s : Cases) (k l : List Row) → casesRows s (k ++ l) ≡ casesRows s k ++ l
   cases-append no-cases k l = refl
   cases-append (CASE x b r) k l = ap (λ (z : List Row). blockRows b (row 11 x 0 0 0 0 ∷ z)) (cases-append r k l) ∙ block-append b (row 11 x 0 0 0 0 ∷ casesRows r k) l
 
@@ -116,7 +116,10 @@ unfolding statementsOut
 block-rows done k = refl
 block-rows (s ▸ rest) k = statements-append (s ▸ rest) [] (blockRow (suc (countStatements rest)) ∷ k)
 
-block-out : (R : List Row) (s : Statements) (k : List Row) → blockOut R s ++ k ≡ R ++ blockRows s k
+pub block-split : (b : Statements) (k : List Row) → blockRows b k ≡ blockRows b [] ++ k
+block-split b k = block-rows b k ∙ sym (append-assoc (statementsOut b) (blockRow (countStatements b) ∷ []) k) ∙ ap (λ (z : List Row). z ++ k) (sym (block-rows b []))
+
+pub block-out : (R : List Row) (s : Statements) (k : List Row) → blockOut R s ++ k ≡ R ++ blockRows s k
 block-out R s k = simp append-assoc (ap (λ (z : List Row). R ++ z) (sym (block-rows s k)))
 
 -- ---- what the machine has put out when it closes a statement

@@ -22,6 +22,8 @@ use Rattle.definition.specs.Statement.{traverseAlternate, traverseConseq
 use Rattle.definition.specs.Statement.{traverseCases, unscheduleAll, visitValueStatement, visitTerminal, instructionStatements, thenNext, visitBlock}
 use Rattle.definition.specs.Statement.{traverseBlock, buildTree}
 use Rattle.definition.specs.Around.{Rule, rust, language, switchInside, kindBy, breakKindIn, isLabel, namesStatement, namesLoop, unnamed, breakUnnamed, continueUnnamed}
+use Rattle.definition.specs.Index.{inList, lines, lineWords}
+use Rattle.definition.specs.Preview.{Preview, previewOf, previewAfter, previewed}
 use Rattle.definition.specs.Build.{Outcome, reported, report, refusal, wordsOf, placed, outcomeOf, afterCheck, built}
 
 -- ---- the words of a table
@@ -127,37 +129,59 @@ CONTINUE target id kind loops = 25 ∷ target ∷ id ∷ kind ∷ loops ∷ 0 �
 pub record Sample : Type 0 where
   pub words : List ℕ
   pub lent : ℕ
+  pub lentIndex : ℕ
   pub outcome : Outcome
 
--- accepted: the buffer holds the rows, then zeros
-abbrev accepts : (words : List ℕ) → (lent rows visits : ℕ) → (rowWords : List ℕ) → Sample
-accepts words lent rows visits rowWords =
-    record { words = words; lent = lent; outcome = record { code = 0; at = 0; rows = rows; visits = visits; buffer = rowWords ++ replicate (lent - rows * 6) 0 } }
+-- accepted: the buffers hold the rows and the lines, then zeros
+abbrev accepts : (words : List ℕ) → (lent lentIndex rows visits lines : ℕ) → (rowWords lineWords : List ℕ) → Sample
+accepts words lent lentIndex rows visits lines rowWords lineWords = record {
+  words = words;
+  lent = lent;
+  lentIndex = lentIndex;
+  outcome = record {
+    code = 0;
+    at = 0;
+    rows = rows;
+    visits = visits;
+    lines = lines;
+    buffer = rowWords ++ replicate (lent - rows * 6) 0;
+    index = lineWords ++ replicate (lentIndex - lines * 3) 0;
+  };
+}
 
 -- refused: all zeros
-abbrev refuses : (words : List ℕ) → (lent code at rows visits : ℕ) → Sample
-refuses words lent code at rows visits =
-    record { words = words; lent = lent; outcome = record { code = code; at = at; rows = rows; visits = visits; buffer = replicate lent 0 } }
+abbrev refuses : (words : List ℕ) → (lent lentIndex code at rows visits : ℕ) → Sample
+refuses words lent lentIndex code at rows visits = record {
+  words = words;
+  lent = lent;
+  lentIndex = lentIndex;
+  outcome = record { code = code; at = at; rows = rows; visits = visits; lines = 0; buffer = replicate lent 0; index = replicate lentIndex 0 };
+}
 
--- accepts: table, words lent, rows, visits. refuses: table, words lent, code, at, rows, visits. The first is what treebuild prints: "It lends 2,048 rows"
+-- label, first row, closing row
+abbrev line : (label first closing : ℕ) → List ℕ
+line label first closing = label ∷ first ∷ closing ∷ []
+
+-- accepts: table, words lent for the tree and the index, rows, visits, lines. refuses: table, words lent, code, at, rows, visits. The first is what
+-- treebuild prints: "It lends 2,048 rows", and 2,048 lines
 abbrev pub samples : List Sample
 samples =
-    accepts file 12288 2 1 (RETURN 0 7 ++ BLOCK 1)
-    ∷ accepts file 12 2 1 (RETURN 0 7 ++ BLOCK 1)
-    ∷ refuses file 11 40 0 2 1
-    ∷ accepts W 36 6 4 (LOAD 0 ++ CONTINUE 3 3 0 0 ++ BLOCK 1 ++ WHILE 1 3 ++ RETURN 0 4 ++ BLOCK 2)
-    ∷ accepts W-break 45 6 4 (LOAD 0 ++ BREAK 3 3 2 0 ++ BLOCK 1 ++ WHILE 1 3 ++ RETURN 0 4 ++ BLOCK 2)
-    ∷ refuses W-own-test 36 15 1 0 1
-    ∷ refuses W-endless-test 36 30 1 0 128
-    ∷ accepts scoped 27 4 3 (BLOCK 0 ++ SCOPE 5 ++ RETURN 0 4 ++ BLOCK 2)
-    ∷ refuses same-ways 24 11 1 0 3
-    ∷ accepts (spanned 0 5 3 9) 24 4 1 (PLAIN 0 ++ INSTR 5 0 3 9 ++ RETURN 0 7 ++ BLOCK 2)
-    ∷ refuses (spanned 5 4 3 9) 24 4 16 0 0
-    ∷ refuses (spanned 0 5 2 1) 24 4 23 0 0
+    accepts file 12288 6144 2 1 0 (RETURN 0 7 ++ BLOCK 1) []
+    ∷ accepts file 12 0 2 1 0 (RETURN 0 7 ++ BLOCK 1) []
+    ∷ refuses file 11 0 40 0 2 1
+    ∷ accepts W 36 3 6 4 1 (LOAD 0 ++ CONTINUE 3 3 0 0 ++ BLOCK 1 ++ WHILE 1 3 ++ RETURN 0 4 ++ BLOCK 2) (line 3 0 3)
+    ∷ accepts W-break 45 8 6 4 1 (LOAD 0 ++ BREAK 3 3 2 0 ++ BLOCK 1 ++ WHILE 1 3 ++ RETURN 0 4 ++ BLOCK 2) (line 3 0 3)
+    ∷ refuses W-own-test 36 3 15 1 0 1
+    ∷ refuses W-endless-test 36 3 30 1 0 128
+    ∷ accepts scoped 27 2 4 3 0 (BLOCK 0 ++ SCOPE 5 ++ RETURN 0 4 ++ BLOCK 2) []
+    ∷ refuses same-ways 24 6 11 1 0 3
+    ∷ accepts (spanned 0 5 3 9) 24 0 4 1 0 (PLAIN 0 ++ INSTR 5 0 3 9 ++ RETURN 0 7 ++ BLOCK 2) []
+    ∷ refuses (spanned 5 4 3 9) 24 0 4 16 0 0
+    ∷ refuses (spanned 0 5 2 1) 24 0 4 23 0 0
     ∷ []
 
 abbrev pub builtFor : Rule → Sample → Outcome
-builtFor rule sample = built rule (sample .words) (sample .lent)
+builtFor rule sample = built rule (sample .words) (sample .lent) (sample .lentIndex)
 
 -- by either entry
 pub the-samples : (rule : Rule) → map (builtFor rule) samples ≡ map (λ sample. sample .outcome) samples
@@ -172,11 +196,11 @@ unfolding word entryWord blockCount instructionCount caseCount placeCount identi
     markScopeFallthroughIf switchInside kindBy breakKindIn isLabel namesStatement namesLoop unnamed breakUnnamed continueUnnamed breakToScope breakResolved
     visitBreak continueResolved visitContinue visitGoto traverseUnscheduled traverseAlternate
     traverseConsequent traverseEnclosed loopIsTaken traverseLoop visitUpdate casesLastFirst traverseCases unscheduleAll visitValueStatement visitTerminal
-    instructionStatements thenNext visitBlock traverseBlock buildTree reported report refusal wordsOf placed outcomeOf afterCheck built
+    instructionStatements thenNext visitBlock traverseBlock buildTree inList lines lineWords reported report refusal wordsOf placed outcomeOf afterCheck built
 the-samples rust = refl
 the-samples language = refl
 
-pub file-sample : built rust file 12288 ≡ accepts file 12288 2 1 (RETURN 0 7 ++ BLOCK 1) .outcome
+pub file-sample : built rust file 12288 6144 ≡ accepts file 12288 6144 2 1 0 (RETURN 0 7 ++ BLOCK 1) [] .outcome
 file-sample = let same = the-samples rust in cc
 
 -- ---- M-102: where the entries part
@@ -219,9 +243,11 @@ LABEL id label = 18 ∷ id ∷ label ∷ 0 ∷ 0 ∷ 0 ∷ []
 -- the kinds of the jump are 2 (Unlabeled) in the entry that equals the Rust, and 1 (Labeled) in the language entry
 abbrev parting : (kind : ℕ) → List Sample
 parting kind =
-    accepts (out-of-switch 5) 60 10 6 (LOAD 0 ++ BREAK 3 5 kind 0 ++ BLOCK 1 ++ CASE 0 ++ SWITCH 0 1 3 5 ++ CONTINUE 3 6 0 0 ++ BLOCK 2 ++ WHILE 1 3 ++ RETURN 0 4 ++ BLOCK 2)
-    ∷ accepts (out-of-switch 1) 54 9 5 (LOAD 0 ++ BREAK 3 5 kind 0 ++ BLOCK 1 ++ CASE 0 ++ SWITCH 0 1 3 65535 ++ BLOCK 1 ++ WHILE 1 3 ++ RETURN 0 4 ++ BLOCK 2)
-    ∷ accepts label-of-another 66 11 6 (LOAD 0 ++ BREAK 3 5 kind 0 ++ BLOCK 1 ++ CASE 0 ++ SWITCH 0 1 3 65535 ++ BLOCK 1 ++ WHILE 6 65535 ++ BLOCK 1 ++ LABEL 1 3 ++ RETURN 0 4 ++ BLOCK 2)
+    accepts (out-of-switch 5) 60 6 10 6 2 (LOAD 0 ++ BREAK 3 5 kind 0 ++ BLOCK 1 ++ CASE 0 ++ SWITCH 0 1 3 5 ++ CONTINUE 3 6 0 0 ++ BLOCK 2 ++ WHILE 1 3 ++
+    RETURN 0 4 ++ BLOCK 2) (line 5 1 4 ++ line 3 0 7)
+    ∷ accepts (out-of-switch 1) 54 3 9 5 1 (LOAD 0 ++ BREAK 3 5 kind 0 ++ BLOCK 1 ++ CASE 0 ++ SWITCH 0 1 3 65535 ++ BLOCK 1 ++ WHILE 1 3 ++ RETURN 0 4 ++ BLOCK 2) (line 3 0 6)
+    ∷ accepts label-of-another 66 3 11 6 1 (LOAD 0 ++ BREAK 3 5 kind 0 ++ BLOCK 1 ++ CASE 0 ++ SWITCH 0 1 3 65535 ++ BLOCK 1 ++ WHILE 6 65535 ++ BLOCK 1 ++
+    LABEL 1 3 ++ RETURN 0 4 ++ BLOCK 2) (line 3 0 8)
     ∷ []
 
 pub the-parting : (map (builtFor rust) (parting 2) ≡ map (λ sample. sample .outcome) (parting 2)) × (map (builtFor language) (parting 1) ≡ map (λ sample. sample .outcome) (parting 1))
@@ -236,11 +262,11 @@ unfolding word entryWord blockCount instructionCount caseCount placeCount identi
     markScopeFallthroughIf switchInside kindBy breakKindIn isLabel namesStatement namesLoop unnamed breakUnnamed continueUnnamed breakToScope breakResolved
     visitBreak continueResolved visitContinue visitGoto traverseUnscheduled traverseAlternate
     traverseConsequent traverseEnclosed loopIsTaken traverseLoop visitUpdate casesLastFirst traverseCases unscheduleAll visitValueStatement visitTerminal
-    instructionStatements thenNext visitBlock traverseBlock buildTree reported report refusal wordsOf placed outcomeOf afterCheck built
+    instructionStatements thenNext visitBlock traverseBlock buildTree inList lines lineWords reported report refusal wordsOf placed outcomeOf afterCheck built
 the-parting = (refl, refl)
 
 -- "a continue the label of the very loop it resolved to"
-pub the-refusal : (built rust unlabelled-loop 6 .code ≡ 40) × (builtFor language (refuses unlabelled-loop 6 29 6 0 6) ≡ refuses unlabelled-loop 6 29 6 0 6 .outcome)
+pub the-refusal : (built rust unlabelled-loop 6 0 .code ≡ 40) × (builtFor language (refuses unlabelled-loop 6 0 29 6 0 6) ≡ refuses unlabelled-loop 6 0 29 6 0 6 .outcome)
 unfolding word entryWord blockCount instructionCount caseCount placeCount identifierCount blocksBegin instructionsBegin casesBegin placesBegin identifiersBegin
     wordsNeeded blockWord instructionWord caseWord placeWord identifierWord unlessNone variantOf terminalOf blockOf operationOf instructionOf caseOf tabulate
     tableOf fits block block-or-none place place-or-none terminalRules blockRules operandRules instructionRules caseRules placeRules identifierRules andThen
@@ -252,5 +278,70 @@ unfolding word entryWord blockCount instructionCount caseCount placeCount identi
     markScopeFallthroughIf switchInside kindBy breakKindIn isLabel namesStatement namesLoop unnamed breakUnnamed continueUnnamed breakToScope breakResolved
     visitBreak continueResolved visitContinue visitGoto traverseUnscheduled traverseAlternate
     traverseConsequent traverseEnclosed loopIsTaken traverseLoop visitUpdate casesLastFirst traverseCases unscheduleAll visitValueStatement visitTerminal
-    instructionStatements thenNext visitBlock traverseBlock buildTree reported report refusal wordsOf placed outcomeOf afterCheck built
+    instructionStatements thenNext visitBlock traverseBlock buildTree inList lines lineWords reported report refusal wordsOf placed outcomeOf afterCheck built
 the-refusal = (refl, refl)
+
+-- ---- M-101: the index
+
+abbrev IF : (test present id label : ℕ) → List ℕ
+IF test present id label = 10 ∷ test ∷ present ∷ id ∷ label ∷ 0 ∷ []
+
+-- W with one instruction, of id 9, in block 0
+abbrev W-instruction : List ℕ
+W-instruction =
+    0 ∷ 4 ∷ 1 ∷ 0 ∷ 1 ∷ 1 ∷ (0 ∷ 1 ∷ While 1 2 3 ++ 1 ∷ 0 ∷ 0 ∷ []) ++ empty (Branch 0 2 3) 2 ++ empty (Goto 1 Continue) 3 ++ empty (Return 0) 4
+    ++ 9 ∷ 0 ∷ 0 ∷ 0 ∷ 0 ∷ 0 ∷ 0 ∷ 0 ∷ 1 ∷ []
+
+-- an If inside of a Label, both at row 0
+abbrev nested : List ℕ
+nested = table 5 (empty (Label 1 2) 1 ++ empty (If 0 3 4 4) 2 ++ empty (Return 0) 3 ++ empty (Goto 4 Break) 4 ++ empty (Goto 2 Break) 5)
+
+abbrev no-parts : List ℕ
+no-parts = table 2 (empty (Switch 0 0 0 1) 1 ++ empty (Return 0) 2)
+
+-- M-101: a statement's own rows begin after the INSTRs of its block; the inner of two before the outer; a statement with no part; 41 after 40
+abbrev pub indexed : List Sample
+indexed =
+    accepts W-instruction 48 6 8 4 1 (PLAIN 0 ++ INSTR 9 0 0 0 ++ LOAD 0 ++ CONTINUE 3 3 0 0 ++ BLOCK 1 ++ WHILE 1 3 ++ RETURN 0 4 ++ BLOCK 3) (line 3 2 5)
+    ∷ refuses W-instruction 48 2 41 0 0 4
+    ∷ refuses W-instruction 47 2 40 0 8 4
+    ∷ accepts nested 48 6 8 5 2 (BREAK 4 4 0 0 ++ BLOCK 1 ++ IF 0 0 2 4 ++ BREAK 2 5 0 0 ++ BLOCK 2 ++ LABEL 1 2 ++ RETURN 0 3 ++ BLOCK 2) (line 4 0 2 ++ line 2 0 5)
+    ∷ accepts no-parts 18 3 3 2 1 (SWITCH 0 0 1 1 ++ RETURN 0 2 ++ BLOCK 2) (line 1 0 0)
+    ∷ []
+
+pub the-indexed : (rule : Rule) → map (builtFor rule) indexed ≡ map (λ sample. sample .outcome) indexed
+unfolding word entryWord blockCount instructionCount caseCount placeCount identifierCount blocksBegin instructionsBegin casesBegin placesBegin identifiersBegin
+    wordsNeeded blockWord instructionWord caseWord placeWord identifierWord unlessNone variantOf terminalOf blockOf operationOf instructionOf caseOf tabulate
+    tableOf fits block block-or-none place place-or-none terminalRules blockRules operandRules instructionRules caseRules placeRules identifierRules andThen
+    rowVerdict rowsVerdict wordsVerdict countsVerdict checked _>>=_ refuseIf noFlags has add remove start isScheduled emit withVisits markScopeFallthrough
+    scheduleCatchHandler pushed schedule unscheduledBy popped unscheduleTop unschedule breakKind breakTargetFrom getBreakTarget continueKind continueTargetFrom
+    getContinueTarget beginVisit instructionsOf wrapWithSequence finalValue finalPlace storedToNamed allButLast last extractValueBlockResult extractOrRefuse
+    testBlockEnded visitTestBlock visitValueBlockTerminal thenFallthrough branchValue isEmptyGoto maybeThrowValue visitValueBlockAt visitValueBlock appended
+    sameIdentifier unlessSame valueBlockResultToSequence enterBlock unlessScheduled unlessUnreachable scheduleIf scheduleSwitch unscheduleIf
+    markScopeFallthroughIf switchInside kindBy breakKindIn isLabel namesStatement namesLoop unnamed breakUnnamed continueUnnamed breakToScope breakResolved
+    visitBreak continueResolved visitContinue visitGoto traverseUnscheduled traverseAlternate
+    traverseConsequent traverseEnclosed loopIsTaken traverseLoop visitUpdate casesLastFirst traverseCases unscheduleAll visitValueStatement visitTerminal
+    instructionStatements thenNext visitBlock traverseBlock buildTree inList lines lineWords reported report refusal wordsOf placed outcomeOf afterCheck built
+the-indexed rust = refl
+the-indexed language = refl
+
+-- ---- M-106: code, at, rows, visits, lines
+
+abbrev numbers : (code at rows visits lines : ℕ) → Preview
+numbers code at rows visits lines = record { code = code; at = at; rows = rows; visits = visits; lines = lines }
+
+pub the-previews : (rule : Rule) → map (previewed rule) (W ∷ W-own-test ∷ nested ∷ [] ∷ []) ≡ numbers 0 0 6 4 1 ∷ numbers 15 1 0 1 0 ∷ numbers 0 0 8 5 2 ∷ numbers 1 0 0 0 0 ∷ []
+unfolding word entryWord blockCount instructionCount caseCount placeCount identifierCount blocksBegin instructionsBegin casesBegin placesBegin identifiersBegin
+    wordsNeeded blockWord instructionWord caseWord placeWord identifierWord unlessNone variantOf terminalOf blockOf operationOf instructionOf caseOf tabulate
+    tableOf fits block block-or-none place place-or-none terminalRules blockRules operandRules instructionRules caseRules placeRules identifierRules andThen
+    rowVerdict rowsVerdict wordsVerdict countsVerdict checked _>>=_ refuseIf noFlags has add remove start isScheduled emit withVisits markScopeFallthrough
+    scheduleCatchHandler pushed schedule unscheduledBy popped unscheduleTop unschedule breakKind breakTargetFrom getBreakTarget continueKind continueTargetFrom
+    getContinueTarget beginVisit instructionsOf wrapWithSequence finalValue finalPlace storedToNamed allButLast last extractValueBlockResult extractOrRefuse
+    testBlockEnded visitTestBlock visitValueBlockTerminal thenFallthrough branchValue isEmptyGoto maybeThrowValue visitValueBlockAt visitValueBlock appended
+    sameIdentifier unlessSame valueBlockResultToSequence enterBlock unlessScheduled unlessUnreachable scheduleIf scheduleSwitch unscheduleIf
+    markScopeFallthroughIf switchInside kindBy breakKindIn isLabel namesStatement namesLoop unnamed breakUnnamed continueUnnamed breakToScope breakResolved
+    visitBreak continueResolved visitContinue visitGoto traverseUnscheduled traverseAlternate
+    traverseConsequent traverseEnclosed loopIsTaken traverseLoop visitUpdate casesLastFirst traverseCases unscheduleAll visitValueStatement visitTerminal
+    instructionStatements thenNext visitBlock traverseBlock buildTree inList lines lineWords reported report refusal wordsOf placed outcomeOf afterCheck built previewOf previewAfter previewed
+the-previews rust = refl
+the-previews language = refl

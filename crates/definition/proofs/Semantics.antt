@@ -2,18 +2,21 @@
 use mathlib.Core.Path.{_≡_, refl, sym, ap, _∙_, subst}
 use Prim.Native.Nat.{ℕ, zero, suc, _≤_}
 use native.Mathlib.Nat.{le-refl, le-trans, le-of-suc-le-suc, not-suc-le-zero, le-step}
-use mathlib.Core.List.{List, [], _∷_, _++_, append-assoc, append-nil}
+use mathlib.Core.Logic.{_⊎_, inl, inr}
+use mathlib.Core.List.{List, [], _∷_, _++_, append-assoc, append-nil, reverseAux, reverse-reverse}
 use mathlib.Core.Option.{Option, none, some}
 use mathlib.Core.Bool.{Bool, true, false, _||_, cond}
-use lib.ListN.{length}
+use lib.ListN.{length, take, drop}
 use lib.Dec.{eqb}
-use Rattle.table.specs.Table.{Table, Terminal, throw, return, goto, if, branch, while, label, scope, Variant, blockAt, terminalAt, instructionRowsAt}
-use Rattle.definition.specs.Tree.{Value, IF, WHILE, LABEL, SCOPE, RETURN, THROW, Statements, done, _▸_}
-use Rattle.definition.specs.Statement.{instructionStatements}
-use Rattle.definition.specs.Run.{Answers, Reason, returned, threw, no-answer-left, isGood, Run, stopped}
-use Rattle.definition.specs.BlockRun.{Move, go, halt, byAnswer, move, performing, blockRun}
+use Rattle.table.specs.Table.{Table, Case, Terminal, throw, return, goto, if, branch, switch, while, label, scope, Variant, blockAt, terminalAt, instructionRowsAt}
+use Rattle.definition.specs.Tree.{Value, IF, SWITCH, WHILE, LABEL, SCOPE, RETURN, THROW, Statements, done, _▸_, Cases, no-cases, CASE}
+use Rattle.definition.specs.Statement.{casesLastFirst, instructionStatements}
+use Rattle.definition.specs.Run.{Answers, Reason, returned, threw, no-answer-left, no-such-case, isGood, Run, stopped}
+use Rattle.definition.specs.BlockRun.{Move, go, halt, byAnswer, caseList, atPlace, byPlace, move, performing, blockRun}
 use Rattle.definition.specs.Completion.{Completion, normal, break, continue, stop, loopContinues, breakable, labelled}
-use Rattle.definition.specs.TreeRun.{Completed, completed, completing, prefix, thenOn, then, choose, performs, afterBody, whileRounds, whileLoop, loop, runStatements}
+use Rattle.definition.specs.TreeRun.{Completed, completed, completing, prefix, thenOn, then, choose, performs, afterBody, whileRounds, whileLoop, loop}
+use Rattle.definition.specs.TreeRun.{switchEnds, entryAt, choosePlace, runStatements, entriesFrom}
+use Rattle.definition.proofs.Runnable.{Straight, Runnable, RunnableCases}
 use Rattle.definition.proofs.Steps.{none-some, some-eq}
 
 -- ---- where a completion leads: the statements around, from the innermost
@@ -22,36 +25,49 @@ pub data Frame : Type 0 where
   in-label : (ft : ℕ) → Frame
   in-scope : (ft : ℕ) → Frame
   in-loop : (ft test : ℕ) → Frame
+  in-switch : (ft : ℕ) → Frame
+  -- an earlier case of a switch is built, and a normal completion leads on to the block of this one
+  in-case : (next : ℕ) → Frame
 
 abbrev pub exit : List Frame → Option ℕ
 exit [] = none
 exit (in-label l ∷ F) = some l
 exit (in-scope l ∷ F) = some l
 exit (in-loop l k ∷ F) = some k
+exit (in-switch l ∷ F) = some l
+exit (in-case k ∷ F) = some k
 
 abbrev pub breakOut : List Frame → Option ℕ
 breakOut [] = none
 breakOut (in-label l ∷ F) = breakOut F
 breakOut (in-scope l ∷ F) = breakOut F
 breakOut (in-loop l k ∷ F) = some l
+breakOut (in-switch l ∷ F) = some l
+breakOut (in-case k ∷ F) = breakOut F
 
 abbrev pub continueOut : List Frame → Option ℕ
 continueOut [] = none
 continueOut (in-label l ∷ F) = continueOut F
 continueOut (in-scope l ∷ F) = continueOut F
 continueOut (in-loop l k ∷ F) = some k
+continueOut (in-switch l ∷ F) = continueOut F
+continueOut (in-case k ∷ F) = continueOut F
 
 abbrev pub breakAt : List Frame → ℕ → Option ℕ
 breakAt [] t = none
 breakAt (in-label l ∷ F) t = cond (eqb l t) (some l) (breakAt F t)
 breakAt (in-scope l ∷ F) t = breakAt F t
 breakAt (in-loop l k ∷ F) t = cond (eqb l t) (some l) (breakAt F t)
+breakAt (in-switch l ∷ F) t = cond (eqb l t) (some l) (breakAt F t)
+breakAt (in-case k ∷ F) t = breakAt F t
 
 abbrev pub continueAt : List Frame → ℕ → Option ℕ
 continueAt [] t = none
 continueAt (in-label l ∷ F) t = continueAt F t
 continueAt (in-scope l ∷ F) t = continueAt F t
 continueAt (in-loop l k ∷ F) t = cond (eqb l t) (some k) (continueAt F t)
+continueAt (in-switch l ∷ F) t = continueAt F t
+continueAt (in-case k ∷ F) t = continueAt F t
 
 abbrev pub target : List Frame → Completion → Option ℕ
 target F normal = exit F
@@ -65,16 +81,21 @@ target F (stop r) = none
 
 module _ (t : Table) where
   abbrev pub moveAt : ℕ → Answers → Move
-  moveAt b answers = move (terminalAt t b) (blockAt t b .id) answers
+  moveAt b answers = move t (terminalAt t b) (blockAt t b .id) answers
 
   -- a block whose terminal is known
-  move-of : (b : ℕ) (m : Terminal) (answers : Answers) (x : Move) → terminalAt t b ≡ m → move m (blockAt t b .id) answers ≡ x → moveAt b answers ≡ x
-  move-of b m answers x e h = ap (λ (z : Terminal). move z (blockAt t b .id) answers) e ∙ h
+  move-of : (b : ℕ) (m : Terminal) (answers : Answers) (x : Move) → terminalAt t b ≡ m → move t m (blockAt t b .id) answers ≡ x → moveAt b answers ≡ x
+  move-of b m answers x e h = ap (λ (z : Terminal). move t z (blockAt t b .id) answers) e ∙ h
 
   pub record Stops (b : ℕ) (answers : Answers) (rows : List ℕ) (left : Answers) (r : Reason) : Type 0 where
     pub steps : ℕ
     pub runs : blockRun t steps b answers ≡ stopped rows left r
-    pub good : isGood r ≡ true
+
+  -- the block run comes to an answer that is the place of no case: such a list is not spoken of
+  pub record Beyond (b : ℕ) (answers : Answers) : Type 0 where
+    pub rows : List ℕ
+    pub left : Answers
+    pub comes : Stops b answers rows left no-such-case
 
   pub record Onward (b : ℕ) (answers : Answers) (rows : List ℕ) (b′ : ℕ) (left : Answers) : Type 0 where
     pub fewer : length left ≤ length answers
@@ -85,24 +106,24 @@ module _ (t : Table) where
   LeadsOn F b answers rows normal left = (b′ : ℕ) × (exit F ≡ some b′) × Onward b answers rows b′ left
   LeadsOn F b answers rows (break x j) left = (b′ : ℕ) × (target F (break x j) ≡ some b′) × Onward b answers rows b′ left
   LeadsOn F b answers rows (continue x j) left = (b′ : ℕ) × (target F (continue x j) ≡ some b′) × Onward b answers rows b′ left
-  LeadsOn F b answers rows (stop r) left = Stops b answers rows left r
+  LeadsOn F b answers rows (stop r) left = (isGood r ≡ true) × Stops b answers rows left r
 
   abbrev pub Leads : List Frame → ℕ → Answers → Completed → Type 0
-  Leads F b answers o = LeadsOn F b answers (o .rows) (o .completion) (o .left)
+  Leads F b answers o = Beyond b answers ⊎ LeadsOn F b answers (o .rows) (o .completion) (o .left)
 
   -- the same of a statement whose normal completion leads to the block f
   abbrev pub EndsOn : List Frame → ℕ → ℕ → Answers → List ℕ → Completion → Answers → Type 0
   EndsOn F f b answers rows normal left = Onward b answers rows f left
   EndsOn F f b answers rows (break x j) left = LeadsOn F b answers rows (break x j) left
   EndsOn F f b answers rows (continue x j) left = LeadsOn F b answers rows (continue x j) left
-  EndsOn F f b answers rows (stop r) left = Stops b answers rows left r
+  EndsOn F f b answers rows (stop r) left = (isGood r ≡ true) × Stops b answers rows left r
 
   abbrev pub Ends : List Frame → ℕ → ℕ → Answers → Completed → Type 0
-  Ends F f b answers o = EndsOn F f b answers (o .rows) (o .completion) (o .left)
+  Ends F f b answers o = Beyond b answers ⊎ EndsOn F f b answers (o .rows) (o .completion) (o .left)
 
   -- the same of a loop's rounds: the loop and its label take their breaks
   abbrev pub LoopEnds : List Frame → ℕ → ℕ → Answers → Completed → Type 0
-  LoopEnds F f b answers o = EndsOn F f b answers (o .rows) (labelled (some f) (breakable (o .completion))) (o .left)
+  LoopEnds F f b answers o = Beyond b answers ⊎ EndsOn F f b answers (o .rows) (labelled (some f) (breakable (o .completion))) (o .left)
 
   -- and of one round of the loop with the fallthrough f and the test x: whether the loop continues
   abbrev pub RoundOn : List Frame → ℕ → ℕ → ℕ → Answers → List ℕ → Completion → Bool → Answers → Type 0
@@ -131,12 +152,14 @@ module _ (t : Table) where
     and-on = λ rows left r s. record {
       steps = suc (s .steps);
       runs = run-go (s .steps) b answers b′ answers′ e ∙ performing-stopped (instructionRowsAt t b) rows left r (blockRun t (s .steps) b′ answers′) (s .runs);
-      good = s .good;
     };
   }
 
-  pub stops-halt : (b : ℕ) (answers : Answers) (r : Reason) → moveAt b answers ≡ halt r → isGood r ≡ true → Stops b answers (instructionRowsAt t b ++ []) answers r
-  stops-halt b answers r e g = record { steps = 1; runs = run-halt b answers r e; good = g }
+  pub stops-halt : (b : ℕ) (answers : Answers) (r : Reason) → moveAt b answers ≡ halt r → Stops b answers (instructionRowsAt t b ++ []) answers r
+  stops-halt b answers r e = record { steps = 1; runs = run-halt b answers r e }
+
+  beyond-after : {b : ℕ} {answers : Answers} {rows : List ℕ} {b₁ : ℕ} {a₁ : Answers} → Onward b answers rows b₁ a₁ → Beyond b₁ a₁ → Beyond b answers
+  beyond-after {rows = rows} p q = record { rows = rows ++ q .rows; left = q .left; comes = p .and-on (q .rows) (q .left) no-such-case (q .comes) }
 
   onward-onward : {b : ℕ} {answers : Answers} {rows : List ℕ} {b₁ : ℕ} {a₁ : Answers} {rows₁ : List ℕ} {b₂ : ℕ} {a₂ : Answers}
       → Onward b answers rows b₁ a₁ → Onward b₁ a₁ rows₁ b₂ a₂ → Onward b answers (rows ++ rows₁) b₂ a₂
@@ -150,25 +173,33 @@ module _ (t : Table) where
   leads-after F rows₁ normal left p (b′, h, q) = (b′, h, onward-onward p q)
   leads-after F rows₁ (break x j) left p (b′, h, q) = (b′, h, onward-onward p q)
   leads-after F rows₁ (continue x j) left p (b′, h, q) = (b′, h, onward-onward p q)
-  leads-after F rows₁ (stop r) left p q = p .and-on rows₁ left r q
+  leads-after F rows₁ (stop r) left p (g, q) = (g, p .and-on rows₁ left r q)
 
   ends-after : {b : ℕ} {answers : Answers} {rows : List ℕ} {b₁ : ℕ} {a₁ : Answers} (F : List Frame) (f : ℕ) (rows₁ : List ℕ) (e : Completion) (left : Answers)
       → Onward b answers rows b₁ a₁ → EndsOn F f b₁ a₁ rows₁ e left → EndsOn F f b answers (rows ++ rows₁) e left
   ends-after F f rows₁ normal left p q = onward-onward p q
   ends-after F f rows₁ (break x j) left p (b′, h, q) = (b′, h, onward-onward p q)
   ends-after F f rows₁ (continue x j) left p (b′, h, q) = (b′, h, onward-onward p q)
-  ends-after F f rows₁ (stop r) left p q = p .and-on rows₁ left r q
+  ends-after F f rows₁ (stop r) left p (g, q) = (g, p .and-on rows₁ left r q)
 
   -- the same over a whole part
   pub leads-prefix : {b : ℕ} {answers : Answers} {rows : List ℕ} {b₁ : ℕ} {a₁ : Answers} (F : List Frame) (o : Completed)
       → Onward b answers rows b₁ a₁ → Leads F b₁ a₁ o → Leads F b answers (prefix rows o)
   unfolding prefix completed
-  leads-prefix F o p q = leads-after F (o .rows) (o .completion) (o .left) p q
+  leads-prefix F o p (inl q) = inl (beyond-after p q)
+  leads-prefix F o p (inr q) = inr (leads-after F (o .rows) (o .completion) (o .left) p q)
+
+  ends-prefix : {b : ℕ} {answers : Answers} {rows : List ℕ} {b₁ : ℕ} {a₁ : Answers} (F : List Frame) (f : ℕ) (o : Completed)
+      → Onward b answers rows b₁ a₁ → Ends F f b₁ a₁ o → Ends F f b answers (prefix rows o)
+  unfolding prefix completed
+  ends-prefix F f o p (inl q) = inl (beyond-after p q)
+  ends-prefix F f o p (inr q) = inr (ends-after F f (o .rows) (o .completion) (o .left) p q)
 
   loop-prefix : {b : ℕ} {answers : Answers} {rows : List ℕ} {b₁ : ℕ} {a₁ : Answers} (F : List Frame) (f : ℕ) (o : Completed)
       → Onward b answers rows b₁ a₁ → LoopEnds F f b₁ a₁ o → LoopEnds F f b answers (prefix rows o)
   unfolding prefix completed
-  loop-prefix F f o p q = ends-after F f (o .rows) (labelled (some f) (breakable (o .completion))) (o .left) p q
+  loop-prefix F f o p (inl q) = inl (beyond-after p q)
+  loop-prefix F f o p (inr q) = inr (ends-after F f (o .rows) (labelled (some f) (breakable (o .completion))) (o .left) p q)
 
   pub onward-here : (b : ℕ) (answers : Answers) → Onward b answers [] b answers
   onward-here b answers = record { fewer = le-refl (length answers); and-on = λ rows left r s. s }
@@ -179,14 +210,15 @@ module _ (t : Table) where
       → EndsOn F f b answers rows e left → ((a : Answers) → Leads F f a (k a)) → Leads F b answers (thenOn e (completed rows e left) k)
   unfolding thenOn completed
   then-on F f b answers rows normal left k p q = leads-prefix F (k left) p (q left)
-  then-on F f b answers rows (break x j) left k p q = p
-  then-on F f b answers rows (continue x j) left k p q = p
-  then-on F f b answers rows (stop r) left k p q = p
+  then-on F f b answers rows (break x j) left k p q = inr p
+  then-on F f b answers rows (continue x j) left k p q = inr p
+  then-on F f b answers rows (stop r) left k p q = inr p
 
   pub leads-then : (F : List Frame) (f b : ℕ) (answers : Answers) (o : Completed) (k : Answers → Completed)
       → Ends F f b answers o → ((a : Answers) → Leads F f a (k a)) → Leads F b answers (then o k)
   unfolding then completed
-  leads-then F f b answers o k p q = then-on F f b answers (o .rows) (o .completion) (o .left) k p q
+  leads-then F f b answers o k (inl p) q = inl p
+  leads-then F f b answers o k (inr p) q = then-on F f b answers (o .rows) (o .completion) (o .left) k p q
 
   -- ---- the statements around: what is taken there, and what is handed on
 
@@ -212,7 +244,8 @@ module _ (t : Table) where
 
   pub ends-label : (F : List Frame) (f b : ℕ) (answers : Answers) (o : Completed) → Leads (in-label f ∷ F) b answers o → Ends F f b answers (completing (labelled (some f)) o)
   unfolding completing completed
-  ends-label F f b answers o p = label-on F f b answers (o .rows) (o .completion) (o .left) p
+  ends-label F f b answers o (inl p) = inl p
+  ends-label F f b answers o (inr p) = inr (label-on F f b answers (o .rows) (o .completion) (o .left) p)
 
   -- a scope
   scope-on : (F : List Frame) (f b : ℕ) (answers : Answers) (rows : List ℕ) (e : Completion) (left : Answers)
@@ -225,7 +258,8 @@ module _ (t : Table) where
   scope-on F f b answers rows (stop r) left p = p
 
   pub ends-scope : (F : List Frame) (f b : ℕ) (answers : Answers) (o : Completed) → Leads (in-scope f ∷ F) b answers o → Ends F f b answers o
-  ends-scope F f b answers o p = scope-on F f b answers (o .rows) (o .completion) (o .left) p
+  ends-scope F f b answers o (inl p) = inl p
+  ends-scope F f b answers o (inr p) = inr (scope-on F f b answers (o .rows) (o .completion) (o .left) p)
 
   -- a round of a loop
   loop-continue : (F : List Frame) (f x b : ℕ) (answers : Answers) (rows : List ℕ) (z j : ℕ) (left : Answers) (y : Bool) (b′ : ℕ)
@@ -250,12 +284,13 @@ module _ (t : Table) where
       → LoopEnds F f b answers (elim m [ true ↦ prefix rows (k left) | false ↦ completed rows e left ])
   unfolding completed
   after-round F f x b answers rows true e left k p q = loop-prefix F f (k left) p (q left (p .fewer))
-  after-round F f x b answers rows false e left k p q = p
+  after-round F f x b answers rows false e left k p q = inr p
 
   ends-round : (F : List Frame) (f x b : ℕ) (answers : Answers) (o : Completed) (k : Answers → Completed)
       → Leads (in-loop f x ∷ F) b answers o → ((a : Answers) → length a ≤ length answers → LoopEnds F f x a (k a)) → LoopEnds F f b answers (afterBody (f ∷ []) o k)
   unfolding afterBody completed
-  ends-round F f x b answers o k p q =
+  ends-round F f x b answers o k (inl p) q = inl p
+  ends-round F f x b answers o k (inr p) q =
       after-round F f x b answers (o .rows) (loopContinues (o .completion) (f ∷ [])) (o .completion) (o .left) k (loop-on F f x b answers (o .rows) (o .completion) (o .left) p) q
 
   -- the rounds, from the test x, whose ways are the loop block l and the fallthrough f
@@ -264,10 +299,10 @@ module _ (t : Table) where
       → (n : ℕ) (a : Answers) → length a ≤ n → LoopEnds F f x a (whileRounds (f ∷ []) (instructionRowsAt t x) body n a)
   unfolding whileRounds choose prefix completed move byAnswer labelled breakable
   ends-rounds F c f x l body e ih zero [] h =
-      rw append-nil at (stops-halt x [] no-answer-left (move-of x (branch c l f) [] (halt no-answer-left) e refl) refl)
+      inr (refl, rw append-nil at (stops-halt x [] no-answer-left (move-of x (branch c l f) [] (halt no-answer-left) e refl)))
   ends-rounds F c f x l body e ih zero (y ∷ a) h = absurd (not-suc-le-zero h)
   ends-rounds F c f x l body e ih (suc n) [] h =
-      stops-halt x [] no-answer-left (move-of x (branch c l f) [] (halt no-answer-left) e refl) refl
+      inr (refl, stops-halt x [] no-answer-left (move-of x (branch c l f) [] (halt no-answer-left) e refl))
   ends-rounds F c f x l body e ih (suc n) (suc m ∷ a) h =
       loop-prefix F f (afterBody (f ∷ []) (body a) (λ a′. whileRounds (f ∷ []) (instructionRowsAt t x) body n a′))
       (onward-go x (suc m ∷ a) l a (move-of x (branch c l f) (suc m ∷ a) (go l a) e refl) (le-step (le-refl (length a))))
@@ -276,7 +311,7 @@ module _ (t : Table) where
   ends-rounds F c f x l body e ih (suc n) (zero ∷ a) h =
       loop-prefix F f (completed [] normal a)
       (onward-go x (zero ∷ a) f a (move-of x (branch c l f) (zero ∷ a) (go f a) e refl) (le-step (le-refl (length a))))
-      (onward-here f a)
+      (inr (onward-here f a))
 
   ends-loop : (F : List Frame) (f x : ℕ) (a : Answers) (o : Completed) → LoopEnds F f x a o → Ends F f x a (loop (some f) o)
   unfolding loop completing completed
@@ -285,34 +320,48 @@ module _ (t : Table) where
   -- ---- what the build makes of a plain table
 
   -- `Built F b s`: the statements s stand for the blocks from b on, inside the statements F
-  pub data Built : List Frame → ℕ → Statements → Type 0 where
-    built-return : {F : List Frame} {b : ℕ} (v : ℕ) → terminalAt t b ≡ return v → Built F b (instructionStatements t (instructionRowsAt t b) (RETURN v (blockAt t b .id) ▸ done))
-    built-throw : {F : List Frame} {b : ℕ} (v : ℕ) → terminalAt t b ≡ throw v → Built F b (instructionStatements t (instructionRowsAt t b) (THROW v (blockAt t b .id) ▸ done))
-    -- the jump's rows, if any, complete as `e`, which leads to the Goto's block
-    built-jump : {F : List Frame} {b : ℕ} (g : ℕ) (v : Variant) (e : Completion) (s : Statements) → terminalAt t b ≡ goto g v → target F e ≡ some g
-        → ((answers : Answers) → runStatements s answers ≡ completed [] e answers) → Built F b (instructionStatements t (instructionRowsAt t b) s)
-    built-if : {F : List Frame} {b : ℕ} (x c a f i : ℕ) {s₁ s₂ r : Statements} → terminalAt t b ≡ if x c a f
-        → Built (in-label f ∷ F) c s₁ → Built (in-label f ∷ F) a s₂ → Built F f r
-        → Built F b (instructionStatements t (instructionRowsAt t b) (IF x i (some f) s₁ true s₂ ▸ r))
-    built-if-only : {F : List Frame} {b : ℕ} (x c f i : ℕ) {s₁ r : Statements} → terminalAt t b ≡ if x c f f
-        → Built (in-label f ∷ F) c s₁ → Built F f r
-        → Built F b (instructionStatements t (instructionRowsAt t b) (IF x i (some f) s₁ false done ▸ r))
-    built-label : {F : List Frame} {b : ℕ} (c f i : ℕ) {s r : Statements} → terminalAt t b ≡ label c f
-        → Built (in-label f ∷ F) c s → Built F f r → Built F b (instructionStatements t (instructionRowsAt t b) (LABEL i (some f) s ▸ r))
-    built-scope : {F : List Frame} {b : ℕ} (p : Bool) (c f n : ℕ) {s r : Statements} → terminalAt t b ≡ scope p c f n
-        → Built (in-scope f ∷ F) c s → Built F f r → Built F b (instructionStatements t (instructionRowsAt t b) (SCOPE p n s ▸ r))
-    built-while : {F : List Frame} {b : ℕ} (x l f y i : ℕ) (v : Value) {s r : Statements} → terminalAt t b ≡ while x l f → terminalAt t x ≡ branch y l f
-        → performs v ≡ instructionRowsAt t x → Built (in-loop f x ∷ F) l s → Built F f r
-        → Built F b (instructionStatements t (instructionRowsAt t b) (WHILE i (some f) v s ▸ r))
+  mutual
+    pub data Built : List Frame → ℕ → Statements → Type 0 where
+      built-return : {F : List Frame} {b : ℕ} {s₀ : Statements} (v : ℕ) → terminalAt t b ≡ return v
+          → s₀ ≡ instructionStatements t (instructionRowsAt t b) (RETURN v (blockAt t b .id) ▸ done) → Built F b s₀
+      built-throw : {F : List Frame} {b : ℕ} {s₀ : Statements} (v : ℕ) → terminalAt t b ≡ throw v
+          → s₀ ≡ instructionStatements t (instructionRowsAt t b) (THROW v (blockAt t b .id) ▸ done) → Built F b s₀
+      -- the jump's rows, if any, complete as `e`, which leads to the Goto's block
+      built-jump : {F : List Frame} {b : ℕ} {s₀ : Statements} (g : ℕ) (v : Variant) (e : Completion) (s : Statements) → terminalAt t b ≡ goto g v → target F e ≡ some g
+          → ((answers : Answers) → runStatements s answers ≡ completed [] e answers) → Runnable s → s₀ ≡ instructionStatements t (instructionRowsAt t b) s → Built F b s₀
+      built-if : {F : List Frame} {b : ℕ} {s₀ : Statements} (x c a f i : ℕ) {s₁ s₂ r : Statements} → terminalAt t b ≡ if x c a f
+          → Built (in-label f ∷ F) c s₁ → Built (in-label f ∷ F) a s₂ → Built F f r
+          → s₀ ≡ instructionStatements t (instructionRowsAt t b) (IF x i (some f) s₁ true s₂ ▸ r) → Built F b s₀
+      built-if-only : {F : List Frame} {b : ℕ} {s₀ : Statements} (x c f i : ℕ) {s₁ r : Statements} → terminalAt t b ≡ if x c f f
+          → Built (in-label f ∷ F) c s₁ → Built F f r
+          → s₀ ≡ instructionStatements t (instructionRowsAt t b) (IF x i (some f) s₁ false done ▸ r) → Built F b s₀
+      built-label : {F : List Frame} {b : ℕ} {s₀ : Statements} (c f i : ℕ) {s r : Statements} → terminalAt t b ≡ label c f
+          → Built (in-label f ∷ F) c s → Built F f r → s₀ ≡ instructionStatements t (instructionRowsAt t b) (LABEL i (some f) s ▸ r) → Built F b s₀
+      built-scope : {F : List Frame} {b : ℕ} {s₀ : Statements} (p : Bool) (c f n : ℕ) {s r : Statements} → terminalAt t b ≡ scope p c f n
+          → Built (in-scope f ∷ F) c s → Built F f r → s₀ ≡ instructionStatements t (instructionRowsAt t b) (SCOPE p n s ▸ r) → Built F b s₀
+      built-while : {F : List Frame} {b : ℕ} {s₀ : Statements} (x l f y i : ℕ) (v : Value) {s r : Statements} → terminalAt t b ≡ while x l f → terminalAt t x ≡ branch y l f
+          → performs v ≡ instructionRowsAt t x → Straight v → Built (in-loop f x ∷ F) l s → Built F f r
+          → s₀ ≡ instructionStatements t (instructionRowsAt t b) (WHILE i (some f) v s ▸ r) → Built F b s₀
+      built-switch : {F : List Frame} {b : ℕ} {s₀ : Statements} (x i n f d : ℕ) {cs : Cases} {r : Statements} → terminalAt t b ≡ switch x i n f
+          → BuiltCases (in-switch f ∷ F) (casesLastFirst t i n) cs → Built F f r
+          → s₀ ≡ instructionStatements t (instructionRowsAt t b) (SWITCH x d (some f) cs ▸ r) → Built F b s₀
+
+    -- the cases of a switch, the last first: each is built above the blocks of the later ones
+    pub data BuiltCases : List Frame → List Case → Cases → Type 0 where
+      built-none : {G : List Frame} → BuiltCases G [] no-cases
+      built-case : {G : List Frame} (k : Case) (x : ℕ) {ks : List Case} {s : Statements} {cs : Cases} → Built G (k .block) s → BuiltCases (in-case (k .block) ∷ G) ks cs
+          → BuiltCases G (k ∷ ks) (CASE x s cs)
 
   run-instructions : (rs : List ℕ) (k : Statements) (answers : Answers) → runStatements (instructionStatements t rs k) answers ≡ prefix rs (runStatements k answers)
   unfolding instructionStatements runStatements prefix completed then thenOn
   run-instructions [] k answers = refl
   run-instructions (r ∷ rs) k answers = ap (λ (o : Completed). prefix (r ∷ []) o) (run-instructions rs k answers)
 
-  leads-instructions : (F : List Frame) (b : ℕ) (k : Statements) (answers : Answers) → Leads F b answers (prefix (instructionRowsAt t b) (runStatements k answers))
-      → Leads F b answers (runStatements (instructionStatements t (instructionRowsAt t b) k) answers)
-  leads-instructions F b k answers p = subst (λ (o : Completed). Leads F b answers o) (sym (run-instructions (instructionRowsAt t b) k answers)) p
+  leads-instructions : (F : List Frame) (b : ℕ) (k : Statements) (answers : Answers) (s₀ : Statements) → s₀ ≡ instructionStatements t (instructionRowsAt t b) k
+      → Leads F b answers (prefix (instructionRowsAt t b) (runStatements k answers)) → Leads F b answers (runStatements s₀ answers)
+  leads-instructions F b k answers s₀ q p =
+      subst (λ (z : Statements). Leads F b answers (runStatements z answers)) (sym q)
+      (subst (λ (o : Completed). Leads F b answers o) (sym (run-instructions (instructionRowsAt t b) k answers)) p)
 
   jump-on : (F : List Frame) (b g : ℕ) (answers : Answers) (rows : List ℕ) (e : Completion) (left : Answers) → target F e ≡ some g → Onward b answers rows g left
       → LeadsOn F b answers rows e left
@@ -329,7 +378,12 @@ module _ (t : Table) where
   wants : (F : List Frame) (b f : ℕ) (l : Option ℕ) (k : Answers → Completed) → moveAt b [] ≡ halt no-answer-left
       → Leads F b [] (prefix (instructionRowsAt t b) (then (completing (labelled l) (completed [] (stop no-answer-left) [])) k))
   unfolding prefix completed then thenOn completing labelled
-  wants F b f l k e = stops-halt b [] no-answer-left e refl
+  wants F b f l k e = inr (refl, stops-halt b [] no-answer-left e)
+
+  wants-place : (F : List Frame) (b f : ℕ) (k : Answers → Completed) → moveAt b [] ≡ halt no-answer-left
+      → Leads F b [] (prefix (instructionRowsAt t b) (then (switchEnds (some f) (completed [] (stop no-answer-left) [])) k))
+  unfolding prefix completed then thenOn switchEnds completing labelled breakable
+  wants-place F b f k e = inr (refl, stops-halt b [] no-answer-left e)
 
   -- an If whose answer no runs `ifNo`, from the block a
   if-leads : (F : List Frame) (b x c a f : ℕ) (s₁ : Statements) (ifNo : Answers → Completed) (r : Statements) → terminalAt t b ≡ if x c a f
@@ -350,54 +404,180 @@ module _ (t : Table) where
   return-leads : (F : List Frame) (b v i : ℕ) (answers : Answers) → moveAt b answers ≡ halt (returned v i)
       → Leads F b answers (prefix (instructionRowsAt t b) (runStatements (RETURN v i ▸ done) answers))
   unfolding prefix completed then thenOn runStatements
-  return-leads F b v i answers e = stops-halt b answers (returned v i) e refl
+  return-leads F b v i answers e = inr (refl, stops-halt b answers (returned v i) e)
 
   throw-leads : (F : List Frame) (b v i : ℕ) (answers : Answers) → moveAt b answers ≡ halt (threw v i)
       → Leads F b answers (prefix (instructionRowsAt t b) (runStatements (THROW v i ▸ done) answers))
   unfolding prefix completed then thenOn runStatements
-  throw-leads F b v i answers e = stops-halt b answers (threw v i) e refl
+  throw-leads F b v i answers e = inr (refl, stops-halt b answers (threw v i) e)
 
   jump-out : (F : List Frame) (g : ℕ) (answers : Answers) (e : Completion) → target F e ≡ some g → Leads F g answers (completed [] e answers)
   unfolding completed
-  jump-out F g answers e h = jump-on F g g answers [] e answers h (onward-here g answers)
+  jump-out F g answers e h = inr (jump-on F g g answers [] e answers h (onward-here g answers))
 
   ends-nothing : (F : List Frame) (f : ℕ) (answers : Answers) → Ends F f f answers (completing (labelled (some f)) (completed [] normal answers))
   unfolding completed completing labelled
-  ends-nothing F f answers = onward-here f answers
+  ends-nothing F f answers = inr (onward-here f answers)
+
+  -- ---- switches
+
+  -- G stands above the switch with the fallthrough f within F, and has the cases that were built before on top; a normal completion leads to m
+  data Over (f : ℕ) (F : List Frame) : List Frame → ℕ → Type 0 where
+    last-case : Over f F (in-switch f ∷ F) f
+    earlier-case : {G : List Frame} {m : ℕ} (k : ℕ) → Over f F G m → Over f F (in-case k ∷ G) k
+
+  over-on : {f : ℕ} {F G : List Frame} {m : ℕ} → Over f F G m → (b : ℕ) (answers : Answers) (rows : List ℕ) (e : Completion) (left : Answers)
+      → LeadsOn G b answers rows e left → EndsOn (in-switch f ∷ F) m b answers rows e left
+  over-on {f} last-case b answers rows normal left (b′, h, p) = at f b′ h p
+  over-on last-case b answers rows (break x j) left p = p
+  over-on last-case b answers rows (continue x j) left p = p
+  over-on last-case b answers rows (stop r) left p = p
+  over-on (earlier-case k o) b answers rows normal left (b′, h, p) = at k b′ h p
+  over-on (earlier-case k o) b answers rows (break none j) left p = over-on o b answers rows (break none j) left p
+  over-on (earlier-case k o) b answers rows (break (some x) j) left p = over-on o b answers rows (break (some x) j) left p
+  over-on (earlier-case k o) b answers rows (continue none j) left p = over-on o b answers rows (continue none j) left p
+  over-on (earlier-case k o) b answers rows (continue (some x) j) left p = over-on o b answers rows (continue (some x) j) left p
+  over-on (earlier-case k o) b answers rows (stop r) left p = p
+
+  ends-over : {f : ℕ} {F G : List Frame} {m : ℕ} → Over f F G m → (b : ℕ) (answers : Answers) (o : Completed) → Leads G b answers o → Ends (in-switch f ∷ F) m b answers o
+  ends-over v b answers o (inl p) = inl p
+  ends-over v b answers o (inr p) = inr (over-on v b answers (o .rows) (o .completion) (o .left) p)
+
+  -- a part whose normal completion leads to m, and what is entered at m
+  ends-then-on : (H : List Frame) (f m b : ℕ) (answers : Answers) (rows : List ℕ) (e : Completion) (left : Answers) (k : Answers → Completed)
+      → EndsOn H m b answers rows e left → ((a : Answers) → Ends H f m a (k a)) → Ends H f b answers (thenOn e (completed rows e left) k)
+  unfolding thenOn completed
+  ends-then-on H f m b answers rows normal left k p q = ends-prefix H f (k left) p (q left)
+  ends-then-on H f m b answers rows (break x j) left k p q = inr p
+  ends-then-on H f m b answers rows (continue x j) left k p q = inr p
+  ends-then-on H f m b answers rows (stop r) left k p q = inr p
+
+  ends-then : (H : List Frame) (f m b : ℕ) (answers : Answers) (o : Completed) (k : Answers → Completed)
+      → Ends H m b answers o → ((a : Answers) → Ends H f m a (k a)) → Ends H f b answers (then o k)
+  unfolding then completed
+  ends-then H f m b answers o k (inl p) q = inl p
+  ends-then H f m b answers o k (inr p) q = ends-then-on H f m b answers (o .rows) (o .completion) (o .left) k p q
+
+  -- each entry, from its case's block, completes as the switch's frame says
+  data EntriesOk (H : List Frame) (f : ℕ) : List Case → List (Answers → Completed) → Type 0 where
+    no-entries : EntriesOk H f [] []
+    an-entry : {k : Case} {e : Answers → Completed} {ks : List Case} {es : List (Answers → Completed)} → ((a : Answers) → Ends H f (k .block) a (e a)) → EntriesOk H f ks es
+        → EntriesOk H f (k ∷ ks) (e ∷ es)
+
+  switch-on : (F : List Frame) (f b : ℕ) (answers : Answers) (rows : List ℕ) (e : Completion) (left : Answers)
+      → EndsOn (in-switch f ∷ F) f b answers rows e left → EndsOn F f b answers rows (labelled (some f) (breakable e)) left
+  unfolding labelled breakable
+  switch-on F f b answers rows normal left p = p
+  switch-on F f b answers rows (break none j) left (b′, h, p) = at f b′ h p
+  switch-on F f b answers rows (break (some x) j) left (b′, h, p) = label-break F f b answers rows x j left (eqb f x) b′ h p
+  switch-on F f b answers rows (continue none j) left p = p
+  switch-on F f b answers rows (continue (some x) j) left p = p
+  switch-on F f b answers rows (stop r) left p = p
+
+  ends-switch : (F : List Frame) (f b : ℕ) (answers : Answers) (o : Completed) → Ends (in-switch f ∷ F) f b answers o → Ends F f b answers (switchEnds (some f) o)
+  unfolding switchEnds completing completed
+  ends-switch F f b answers o (inl p) = inl p
+  ends-switch F f b answers o (inr p) = inr (switch-on F f b answers (o .rows) (o .completion) (o .left) p)
+
+  place-leads : (F : List Frame) (f b k₀ : ℕ) {ks : List Case} {es : List (Answers → Completed)} (next : Answers → Completed) → EntriesOk (in-switch f ∷ F) f ks es → (k : ℕ) (a : Answers)
+      → moveAt b (k₀ ∷ a) ≡ atPlace ks k a → ((y : Answers) → Leads F f y (next y))
+      → Leads F b (k₀ ∷ a) (prefix (instructionRowsAt t b) (then (switchEnds (some f) (entryAt es k a)) next))
+  unfolding atPlace entryAt
+  place-leads F f b k₀ next no-entries k a e q = inl (record { rows = instructionRowsAt t b ++ []; left = k₀ ∷ a; comes = stops-halt b (k₀ ∷ a) no-such-case e })
+  place-leads F f b k₀ next (an-entry {k} {e = en} p ps) zero a e q =
+      leads-part F b (k .block) f (k₀ ∷ a) a (switchEnds (some f) (en a)) next e (le-step (le-refl (length a))) (ends-switch F f (k .block) a (en a) (p a)) q
+  place-leads F f b k₀ next (an-entry p ps) (suc k) a e q = place-leads F f b k₀ next ps k a e q
+
+  switch-leads : (F : List Frame) (b x i n f : ℕ) (es : List (Answers → Completed)) (next : Answers → Completed) → terminalAt t b ≡ switch x i n f
+      → EntriesOk (in-switch f ∷ F) f (caseList t i n) es → ((y : Answers) → Leads F f y (next y)) → (answers : Answers)
+      → Leads F b answers (prefix (instructionRowsAt t b) (then (switchEnds (some f) (choosePlace es answers)) next))
+  unfolding choosePlace move byPlace
+  switch-leads F b x i n f es next e p q [] = wants-place F b f next (move-of b (switch x i n f) [] (halt no-answer-left) e refl)
+  switch-leads F b x i n f es next e p q (k ∷ a) = place-leads F f b k next p k a (move-of b (switch x i n f) (k ∷ a) (atPlace (caseList t i n) k a) e refl) q
+
+  in-order : (i n : ℕ) → reverseAux (casesLastFirst t i n) [] ≡ caseList t i n
+  unfolding casesLastFirst caseList
+  in-order i n = reverse-reverse (take n (drop i (t .cases)))
 
   -- ---- the law, for what is built
 
-  pub runs : {F : List Frame} {b : ℕ} {s : Statements} → Built F b s → (answers : Answers) → Leads F b answers (runStatements s answers)
-  unfolding runStatements move whileLoop
-  runs {F} {b} (built-return v e) answers =
-      leads-instructions F b (RETURN v (blockAt t b .id) ▸ done) answers
-      (return-leads F b v (blockAt t b .id) answers (move-of b (return v) answers (halt (returned v (blockAt t b .id))) e refl))
-  runs {F} {b} (built-throw v e) answers =
-      leads-instructions F b (THROW v (blockAt t b .id) ▸ done) answers
-      (throw-leads F b v (blockAt t b .id) answers (move-of b (throw v) answers (halt (threw v (blockAt t b .id))) e refl))
-  runs {F} {b} (built-jump g v e s h k q) answers =
-      leads-instructions F b s answers (subst (λ (o : Completed). Leads F b answers (prefix (instructionRowsAt t b) o)) (sym (q answers))
-      (leads-prefix F (completed [] e answers) (onward-go b answers g answers (move-of b (goto g v) answers (go g answers) h refl) (le-refl (length answers))) (jump-out F g answers e k)))
-  runs {F} {b} (built-if x c a f i {s₁} {s₂} {r} e h₁ h₂ h₃) answers =
-      leads-instructions F b (IF x i (some f) s₁ true s₂ ▸ r) answers
-      (if-leads F b x c a f s₁ (λ y. runStatements s₂ y) r e (λ y. runs h₁ y) (λ y. ends-label F f a y (runStatements s₂ y) (runs h₂ y)) (λ y. runs h₃ y) answers)
-  runs {F} {b} (built-if-only x c f i {s₁} {r} e h₁ h₃) answers =
-      leads-instructions F b (IF x i (some f) s₁ false done ▸ r) answers
-      (if-leads F b x c f f s₁ (λ y. completed [] normal y) r e (λ y. runs h₁ y) (λ y. ends-nothing F f y) (λ y. runs h₃ y) answers)
-  runs {F} {b} (built-label c f i {s} {r} e h₁ h₃) answers =
-      leads-instructions F b (LABEL i (some f) s ▸ r) answers
-      (leads-part F b c f answers answers (completing (labelled (some f)) (runStatements s answers)) (λ a′. runStatements r a′)
-      (move-of b (label c f) answers (go c answers) e refl) (le-refl (length answers))
-      (ends-label F f c answers (runStatements s answers) (runs h₁ answers)) (λ y. runs h₃ y))
-  runs {F} {b} (built-scope p c f n {s} {r} e h₁ h₃) answers =
-      leads-instructions F b (SCOPE p n s ▸ r) answers
-      (leads-part F b c f answers answers (runStatements s answers) (λ a′. runStatements r a′) (move-of b (scope p c f n) answers (go c answers) e refl) (le-refl (length answers))
-      (ends-scope F f c answers (runStatements s answers) (runs h₁ answers)) (λ y. runs h₃ y))
-  runs {F} {b} (built-while x l f y i v {s} {r} e e₁ q h₁ h₃) answers =
-      leads-instructions F b (WHILE i (some f) v s ▸ r) answers
-      (leads-part F b x f answers answers (loop (some f) (whileLoop (f ∷ []) (performs v) (λ a′. runStatements s a′) answers)) (λ a′. runStatements r a′)
-      (move-of b (while x l f) answers (go x answers) e refl) (le-refl (length answers))
-      (ends-loop F f x answers (whileLoop (f ∷ []) (performs v) (λ a′. runStatements s a′) answers)
-      (subst (λ (w : List ℕ). LoopEnds F f x answers (whileLoop (f ∷ []) w (λ a′. runStatements s a′) answers)) (sym q)
-      (ends-rounds F y f x l (λ a′. runStatements s a′) e₁ (λ a′. runs h₁ a′) (length answers) answers (le-refl (length answers)))))
-      (λ y′. runs h₃ y′))
+  mutual
+    unfolding runStatements move whileLoop completed
+
+    pub runs : {F : List Frame} {b : ℕ} {s : Statements} → Built F b s → (answers : Answers) → Leads F b answers (runStatements s answers)
+    runs {F} {b} (built-return {s₀} v e q₀) answers =
+        leads-instructions F b (RETURN v (blockAt t b .id) ▸ done) answers s₀ q₀
+        (return-leads F b v (blockAt t b .id) answers (move-of b (return v) answers (halt (returned v (blockAt t b .id))) e refl))
+    runs {F} {b} (built-throw {s₀} v e q₀) answers =
+        leads-instructions F b (THROW v (blockAt t b .id) ▸ done) answers s₀ q₀
+        (throw-leads F b v (blockAt t b .id) answers (move-of b (throw v) answers (halt (threw v (blockAt t b .id))) e refl))
+    runs {F} {b} (built-jump {s₀} g v e s h k q w q₀) answers =
+        leads-instructions F b s answers s₀ q₀ (subst (λ (o : Completed). Leads F b answers (prefix (instructionRowsAt t b) o)) (sym (q answers))
+        (leads-prefix F (completed [] e answers) (onward-go b answers g answers (move-of b (goto g v) answers (go g answers) h refl) (le-refl (length answers))) (jump-out F g answers e k)))
+    runs {F} {b} (built-if {s₀} x c a f i {s₁} {s₂} {r} e h₁ h₂ h₃ q₀) answers =
+        leads-instructions F b (IF x i (some f) s₁ true s₂ ▸ r) answers s₀ q₀
+        (if-leads F b x c a f s₁ (λ y. runStatements s₂ y) r e (λ y. runs h₁ y) (λ y. ends-label F f a y (runStatements s₂ y) (runs h₂ y)) (λ y. runs h₃ y) answers)
+    runs {F} {b} (built-if-only {s₀} x c f i {s₁} {r} e h₁ h₃ q₀) answers =
+        leads-instructions F b (IF x i (some f) s₁ false done ▸ r) answers s₀ q₀
+        (if-leads F b x c f f s₁ (λ y. completed [] normal y) r e (λ y. runs h₁ y) (λ y. ends-nothing F f y) (λ y. runs h₃ y) answers)
+    runs {F} {b} (built-label {s₀} c f i {s} {r} e h₁ h₃ q₀) answers =
+        leads-instructions F b (LABEL i (some f) s ▸ r) answers s₀ q₀
+        (leads-part F b c f answers answers (completing (labelled (some f)) (runStatements s answers)) (λ a′. runStatements r a′)
+        (move-of b (label c f) answers (go c answers) e refl) (le-refl (length answers))
+        (ends-label F f c answers (runStatements s answers) (runs h₁ answers)) (λ y. runs h₃ y))
+    runs {F} {b} (built-scope {s₀} p c f n {s} {r} e h₁ h₃ q₀) answers =
+        leads-instructions F b (SCOPE p n s ▸ r) answers s₀ q₀
+        (leads-part F b c f answers answers (runStatements s answers) (λ a′. runStatements r a′) (move-of b (scope p c f n) answers (go c answers) e refl) (le-refl (length answers))
+        (ends-scope F f c answers (runStatements s answers) (runs h₁ answers)) (λ y. runs h₃ y))
+    runs {F} {b} (built-while {s₀} x l f y i v {s} {r} e e₁ q w h₁ h₃ q₀) answers =
+        leads-instructions F b (WHILE i (some f) v s ▸ r) answers s₀ q₀
+        (leads-part F b x f answers answers (loop (some f) (whileLoop (f ∷ []) (performs v) (λ a′. runStatements s a′) answers)) (λ a′. runStatements r a′)
+        (move-of b (while x l f) answers (go x answers) e refl) (le-refl (length answers))
+        (ends-loop F f x answers (whileLoop (f ∷ []) (performs v) (λ a′. runStatements s a′) answers)
+        (subst (λ (z : List ℕ). LoopEnds F f x answers (whileLoop (f ∷ []) z (λ a′. runStatements s a′) answers)) (sym q)
+        (ends-rounds F y f x l (λ a′. runStatements s a′) e₁ (λ a′. runs h₁ a′) (length answers) answers (le-refl (length answers)))))
+        (λ y′. runs h₃ y′))
+    runs {F} {b} (built-switch {s₀} x i n f d {cs} {r} e h₁ h₃ q₀) answers =
+        leads-instructions F b (SWITCH x d (some f) cs ▸ r) answers s₀ q₀
+        (switch-leads F b x i n f (entriesFrom cs (λ a′. completed [] normal a′) []) (λ a′. runStatements r a′) e
+        (subst (λ (z : List Case). EntriesOk (in-switch f ∷ F) f z (entriesFrom cs (λ a′. completed [] normal a′) [])) (in-order i n)
+        (runs-cases h₁ f F f last-case (λ a′. completed [] normal a′) (λ a′. inr (onward-here f a′)) [] [] no-entries))
+        (λ y. runs h₃ y) answers)
+
+    -- the cases from the last on: what comes after them is entered at m
+    runs-cases : {G : List Frame} {ks : List Case} {cs : Cases} → BuiltCases G ks cs → (f : ℕ) (F : List Frame) (m : ℕ) → Over f F G m → (after : Answers → Completed)
+        → ((a : Answers) → Ends (in-switch f ∷ F) f m a (after a)) → (laterKs : List Case) (later : List (Answers → Completed)) → EntriesOk (in-switch f ∷ F) f laterKs later
+        → EntriesOk (in-switch f ∷ F) f (reverseAux ks laterKs) (entriesFrom cs after later)
+    runs-cases built-none f F m v after h laterKs later p = p
+    runs-cases (built-case k x {ks} {s} {cs} p₁ p₂) f F m v after h laterKs later p =
+        runs-cases p₂ f F (k .block) (earlier-case (k .block) v) (λ a′. then (runStatements s a′) after)
+        (λ a. ends-then (in-switch f ∷ F) f m (k .block) a (runStatements s a) after (ends-over v (k .block) a (runStatements s a) (runs p₁ a)) h)
+        (k ∷ laterKs) ((λ a′. then (runStatements s a′) after) ∷ later)
+        (an-entry (λ a. ends-then (in-switch f ∷ F) f m (k .block) a (runStatements s a) after (ends-over v (k .block) a (runStatements s a) (runs p₁ a)) h) p)
+
+  -- ---- what is built is run: no statement and no value is refused 64
+
+  instructions-runnable : (rs : List ℕ) (k : Statements) → Runnable k → Runnable (instructionStatements t rs k)
+  unfolding instructionStatements
+  instructions-runnable [] k h = h
+  instructions-runnable (r ∷ rs) k h = (tt, instructions-runnable rs k h)
+
+  from-block : (b : ℕ) (s₀ k : Statements) → s₀ ≡ instructionStatements t (instructionRowsAt t b) k → Runnable k → Runnable s₀
+  from-block b s₀ k q h = subst (λ (z : Statements). Runnable z) (sym q) (instructions-runnable (instructionRowsAt t b) k h)
+
+  mutual
+    pub runnable : {F : List Frame} {b : ℕ} {s : Statements} → Built F b s → Runnable s
+    runnable {F} {b} (built-return {s₀} v e q₀) = from-block b s₀ (RETURN v (blockAt t b .id) ▸ done) q₀ (tt, tt)
+    runnable {F} {b} (built-throw {s₀} v e q₀) = from-block b s₀ (THROW v (blockAt t b .id) ▸ done) q₀ (tt, tt)
+    runnable {F} {b} (built-jump {s₀} g v e s h k q w q₀) = from-block b s₀ s q₀ w
+    runnable {F} {b} (built-if {s₀} x c a f i {s₁} {s₂} {r} e h₁ h₂ h₃ q₀) =
+        from-block b s₀ (IF x i (some f) s₁ true s₂ ▸ r) q₀ ((runnable h₁, runnable h₂), runnable h₃)
+    runnable {F} {b} (built-if-only {s₀} x c f i {s₁} {r} e h₁ h₃ q₀) = from-block b s₀ (IF x i (some f) s₁ false done ▸ r) q₀ ((runnable h₁, tt), runnable h₃)
+    runnable {F} {b} (built-label {s₀} c f i {s} {r} e h₁ h₃ q₀) = from-block b s₀ (LABEL i (some f) s ▸ r) q₀ (runnable h₁, runnable h₃)
+    runnable {F} {b} (built-scope {s₀} p c f n {s} {r} e h₁ h₃ q₀) = from-block b s₀ (SCOPE p n s ▸ r) q₀ (runnable h₁, runnable h₃)
+    runnable {F} {b} (built-while {s₀} x l f y i v {s} {r} e e₁ q w h₁ h₃ q₀) = from-block b s₀ (WHILE i (some f) v s ▸ r) q₀ ((w, runnable h₁), runnable h₃)
+    runnable {F} {b} (built-switch {s₀} x i n f d {cs} {r} e h₁ h₃ q₀) = from-block b s₀ (SWITCH x d (some f) cs ▸ r) q₀ (runnable-cases h₁, runnable h₃)
+
+    runnable-cases : {G : List Frame} {ks : List Case} {cs : Cases} → BuiltCases G ks cs → RunnableCases cs
+    runnable-cases built-none = tt
+    runnable-cases (built-case k x p₁ p₂) = (runnable p₁, runnable-cases p₂)

@@ -18,24 +18,28 @@ use Rattle.definition.specs.Build.{accepted, Report, rejected, reported,
 use Rattle.definition.specs.Context.{has, ControlFlowTarget, target-case, target-loop, isBlocked, blockedCode, blockAsked, Entry, Context, start}
 use Rattle.definition.specs.Context.{isScheduled, emit, withVisits, scheduleCatchHandler, markScopeFallthrough, pushed, schedule, unscheduledBy, popped}
 use Rattle.definition.specs.Context.{unscheduleTop, unschedule}
-use Rattle.definition.specs.Machine.{Frame, enclosingBy, aroundOf, State, visiting, ended, choosing, going, halt, turn, leave, blockRow, valueOut, updateOut, statementOut}
-use Rattle.definition.specs.Machine.{jumpOut, added, instructionsOut, closingRowOf, closingRow, scheduledIf, scheduledSwitch, unscheduledTop, unscheduled}
+use Rattle.definition.specs.Index.{labelOf, lines}
+use Rattle.definition.specs.Machine.{Frame, enclosingBy, enclosingLabel, aroundOf, Output, noOutput, _⊕_, lineOut, closed, State, visiting, ended, choosing}
+use Rattle.definition.specs.Machine.{going, halt, turn, leave, blockRow, valueOut, updateOut}
+use Rattle.definition.specs.Machine.{jumpOut, added, instructionsOut, closingRowOf, scheduledIf, scheduledSwitch, unscheduledTop, unscheduled}
 use Rattle.definition.specs.Machine.{unscheduledIf, opens, frameOf, secondPart, withEntries, into, intoLoop, complete, closeBy, close, noCase, caseAt}
 use Rattle.definition.specs.Machine.{numberOfCases, chooseCase, switchColumns, resumeAt, resume, branchTurn, valueTurn, terminalTurn, depthLeft}
 use Rattle.definition.specs.Machine.{visitTurn, step, begin, Gives, halts, goes}
 use Rattle.definition.specs.Around.{Rule, Enclosing, a-switch, another, Around, outermost, within}
 use Rattle.definition.specs.Result.{refused, Result, ok, _>>=_, refuseIf}
-use Rattle.definition.specs.Statement.{visitBreak, visitContinue, OptionalValue, visitUpdate, continueBlockOf, TerminalResult, BlockResult, TraverseBlock, TraverseInside}
+use Rattle.definition.specs.Statement.{visitBreak, OptionalValue, visitUpdate, continueBlockOf, TerminalResult, BlockResult, TraverseBlock, TraverseInside}
 use Rattle.definition.specs.Statement.{enterBlock, unlessScheduled, unlessUnreachable, scheduleIf, unscheduleIf, markScopeFallthroughIf}
 use Rattle.definition.specs.Statement.{traverseUnscheduled, AlternateResult, traverseAlternate, visitGoto, traverseEnclosed, loopIsTaken, traverseLoop}
 use Rattle.definition.specs.Statement.{CasesResult, traverseCases, unscheduleAll, scheduleSwitch, scheduleIds, casesLastFirst, traverseConsequent}
 use Rattle.definition.specs.Statement.{visitValueStatement, visitTerminal, instructionStatements, followedBy, thenNext, visitBlock, traverseBlock}
 use Rattle.definition.specs.Statement.{buildTree}
-use Rattle.definition.specs.Tree.{Statement, Statements, done, Cases, no-cases, CASE, Row, row, orNone, countStatements, countCases, IF, INSTR, SWITCH, rows, updatePresent, instrRow}
+use Rattle.definition.specs.Tree.{Statement, Statements, done, Cases, no-cases, CASE, Row, row, orNone, countStatements, countCases, IF, INSTR, SWITCH, FOR, rows, updatePresent, instrRow}
 use Rattle.definition.specs.Value.{visitValueBlock, beginVisit, ValueTerminalResult, VisitValueBlock, visitValueBlockTerminal, valueBlockResultToSequence}
-use Rattle.definition.proofs.Rows.{statementsOut, casesOut, blockOut, block-rows, rows-if, rows-else, rows-do-while, rows-while, rows-for, rows-for-of}
-use Rattle.definition.proofs.Rows.{rows-for-in, rows-label, rows-try, rows-scope, rows-value, rows-single, rows-case, rows-switch, rows-chain}
-use Rattle.definition.proofs.Rows.{count-chain}
+use Rattle.definition.proofs.Rows.{statementsOut, block-rows, count-chain}
+use Rattle.definition.proofs.Lines.{linesIn, listPut, blockPut, casesPut, statementPut, stepPut, output-eq, Unlined, UnlinedStep, break-unlined}
+use Rattle.definition.proofs.Lines.{continue-unlined, unlined-step, instr-put, throw-put, return-put, Parts, close-put, parts-if, parts-else, parts-do-while}
+use Rattle.definition.proofs.Lines.{parts-while, parts-for, parts-for-of, parts-for-in, parts-label, parts-try, parts-scope, parts-switch, case-put}
+use Rattle.definition.proofs.Lines.{no-case-put, single-put, chain-put, no-list-put}
 use Rattle.definition.proofs.Steps.{true-false, Any, Good, good-bind, good-unless, good-any, Fine, fine-good}
 use Rattle.definition.proofs.ValueWalk.{BlockTook, TerminalTook, VisitTook, isMaybeThrow, terminal-took, value-took, begin-visit-took}
 use Rattle.definition.proofs.Never.{After, WalkFine, walk-fine, Free, untaken-free, reached-fine, schedule-free, or-false, false-of}
@@ -56,25 +60,25 @@ bind-assoc (ok a) f g = refl
 bind-assoc (refused c p v) f g = refl
 
 -- the rest of a turn, x, beside the same of the definition, y: the statement's rows are put out and its fallthrough is taken next
-abbrev Beside : Rule → Table → (v : ℕ) → List Frame → List Row → ℕ → Result State → Result TerminalResult → Type 0
-Beside rule t v F R m x (ok s) = (v ≤ s .context .visits) × ((a : Report) → Gives rule t (leave (s .next) F (R ++ jumpOut (s .statement)) (added (s .statement) m) (s .context)) a → Under rule t x a)
+abbrev Beside : Rule → Table → (v : ℕ) → List Frame → Output → ℕ → Result State → Result TerminalResult → Type 0
+Beside rule t v F R m x (ok s) = (v ≤ s .context .visits) × ((a : Report) → Gives rule t (leave (s .next) F (stepPut R (s .statement)) (added (s .statement) m) (s .context)) a → Under rule t x a)
 Beside rule t v F R m x (refused c q w) = Under rule t x (rejected c q w)
 
 -- the same as a record, so that its arguments are found
-record Sim (rule : Rule) (t : Table) (v : ℕ) (F : List Frame) (R : List Row) (n : ℕ) (x : Result State) (y : Result TerminalResult) : Type 0 where
+record Sim (rule : Rule) (t : Table) (v : ℕ) (F : List Frame) (R : Output) (n : ℕ) (x : Result State) (y : Result TerminalResult) : Type 0 where
   raw : Beside rule t v F R n x y
 
 -- a list of statements is walked from the state s
-abbrev Along : Rule → Table → State → ℕ → List Frame → List Row → ℕ → Result BlockResult → Type 0
+abbrev Along : Rule → Table → State → ℕ → List Frame → Output → ℕ → Result BlockResult → Type 0
 Along rule t s v F R m (ok r) =
-    (v < r .context .visits) × ((a : Report) → Gives rule t (ended F (R ++ statementsOut (r .statements)) (m + countStatements (r .statements)) (r .context)) a
+    (v < r .context .visits) × ((a : Report) → Gives rule t (ended F (listPut R (r .statements)) (m + countStatements (r .statements)) (r .context)) a
     → Gives rule t s a)
 Along rule t s v F R m (refused c q w) = Gives rule t s (rejected c q w)
 
 unfoldable pub Walks : Rule → Table → ℕ → TraverseInside → Type 0
-Walks rule t d inner = (b : ℕ) (F : List Frame) (R : List Row) (m : ℕ) (c : Context) → length F + d ≡ 128 → Along rule t (visiting b F R m c) (c .visits) F R m (inner (aroundOf rule t F) b c)
+Walks rule t d inner = (b : ℕ) (F : List Frame) (R : Output) (m : ℕ) (c : Context) → length F + d ≡ 128 → Along rule t (visiting b F R m c) (c .visits) F R m (inner (aroundOf rule t F) b c)
 
-module _ {rule : Rule} {t : Table} {v : ℕ} {F : List Frame} {R : List Row} {n : ℕ} where
+module _ {rule : Rule} {t : Table} {v : ℕ} {F : List Frame} {R : Output} {n : ℕ} where
   sim-bind : {A : Type 0} (P : A → Type 0) (m : Result A) (f : A → Result State) (g : A → Result TerminalResult)
       → Good P m → ((a : A) → P a → Sim rule t v F R n (f a) (g a)) → Sim rule t v F R n (m >>= f) (m >>= g)
   unfolding _>>=_
@@ -107,9 +111,9 @@ module _ {rule : Rule} {t : Table} {v : ℕ} {F : List Frame} {R : List Row} {n 
   sim-map (refused e q w) f g h = h
 
   -- a statement is complete
-  sim-leave : {R₁ : List Row} {g : Option ℕ} (s : Statement) {c : Context} → R₁ ≡ R ++ statementOut s → v ≤ c .visits
+  sim-leave : {R₁ : Output} {g : Option ℕ} (s : Statement) {c : Context} → R₁ ≡ statementPut R s → v ≤ c .visits
       → Sim rule t v F R n (ok (leave g F R₁ (suc n) c)) (ok (record { statement = some s; next = g; context = c }))
-  sim-leave {R₁} {g} s {c} e h = record { raw = (h, λ a q. subst (λ (z : List Row). Gives rule t (leave g F z (suc n) c) a) (sym e) q) }
+  sim-leave {R₁} {g} s {c} e h = record { raw = (h, λ a q. subst (λ (z : Output). Gives rule t (leave g F z (suc n) c) a) (sym e) q) }
 
   -- one turn more
   sim-turn : (s : State) (x : Result State) (y : Result TerminalResult) → step rule t s ≡ turn x → Sim rule t v F R n x y → Sim rule t v F R n (ok s) y
@@ -233,28 +237,33 @@ onto-scheduled g c = good-bind Any (Onto c) _ _ (good-any (refuseIf (isBlocked g
 
 -- ---- closing a statement
 
-closes : (rule : Rule) (t : Table) (n : ℕ) (fr : Frame) (F : List Frame) (R : List Row) (c : Context) (a : Report)
+closes : (rule : Rule) (t : Table) (n : ℕ) (fr : Frame) (F : List Frame) (R : Output) (c : Context) (a : Report)
     → Gives rule t (complete t fr F R (popAll n c)) a → Gives rule t (closeBy n t fr F R c) a
 unfolding step close
 closes rule t zero fr F R c a h = h
 closes rule t (suc zero) fr F R c a h = h
 closes rule t (suc (suc n)) fr F R c a h = goes refl (closes rule t (suc n) (withEntries (suc n) fr) F R (unscheduled c) a h)
 
-sim-close : {rule : Rule} {t : Table} {v : ℕ} {F : List Frame} {R : List Row} (fr : Frame) (ids : List ℕ) (e : Terminal) (R₁ : List Row) (m : Result Context) (s : Statement) (c : Context)
+sim-close : {rule : Rule} {t : Table} {v : ℕ} {F : List Frame} {R : Output} (fr : Frame) (ids : List ℕ) (e : Terminal) (R₁ : Output) (m : Result Context) (s : Statement) (c : Context)
     → terminalAt t (fr .block) ≡ e → m ≡ unscheduleAll ids c → fr .entries ≡ length ids → Tops ids (c .stack)
-    → R₁ ++ (closingRowOf e (blockAt t (fr .block)) (fr .second) (fr .label) (fr .built) ∷ []) ≡ R ++ statementOut s → v ≤ c .visits
+    → Parts R s (closingRowOf e (blockAt t (fr .block)) (fr .second) (fr .label) (fr .built)) R₁ → fr .first ≡ length (R .rows) → enclosingLabel (enclosingBy e (fr .label)) ≡ labelOf s → v ≤ c .visits
     → Sim rule t v F R (fr .count) (ok (close t fr F R₁ c)) (m >>= λ c1. ok (record { statement = some s; next = fr .label; context = c1 }))
 unfolding close
-sim-close {rule} {t} {v} {F} {R} fr ids e R₁ m s c q o k u r h =
+sim-close {rule} {t} {v} {F} {R} fr ids e R₁ m s c q o k u r first label-is h =
     sim-by (λ c1. ok (record { statement = some s; next = fr .label; context = c1 })) (o ∙ pop-all ids c u)
     (record { raw = (rw (popAll-kept (length ids) c) h, λ a g. closing (fr .entries) k a g) })
   where
-    row-is : R₁ ++ (closingRow t (fr .block) (fr .second) (fr .label) (fr .built) ∷ []) ≡ R ++ statementOut s
-    row-is = ap (λ (z : Terminal). R₁ ++ (closingRowOf z (blockAt t (fr .block)) (fr .second) (fr .label) (fr .built) ∷ [])) q ∙ r
+    closed-is : closed t fr R₁ ≡ statementPut R s
+    closed-is =
+        ap (λ (z : Terminal). record {
+          rows = R₁ .rows ++ (closingRowOf z (blockAt t (fr .block)) (fr .second) (fr .label) (fr .built) ∷ []);
+          lines = R₁ .lines ++ lineOut (enclosingLabel (enclosingBy z (fr .label))) (fr .first) (length (R₁ .rows));
+        }) q
+        ∙ close-put R R₁ s (closingRowOf e (blockAt t (fr .block)) (fr .second) (fr .label) (fr .built)) (enclosingLabel (enclosingBy e (fr .label))) (fr .first) r first label-is
 
-    closing : (z : ℕ) → z ≡ length ids → (a : Report) → Gives rule t (leave (fr .label) F (R ++ statementOut s) (suc (fr .count)) (popAll (length ids) c)) a → Gives rule t (closeBy z t fr F R₁ c) a
+    closing : (z : ℕ) → z ≡ length ids → (a : Report) → Gives rule t (leave (fr .label) F (statementPut R s) (suc (fr .count)) (popAll (length ids) c)) a → Gives rule t (closeBy z t fr F R₁ c) a
     closing z k a g = closes rule t z fr F R₁ c a
-        (subst₂ (λ (y : List Row) (i : ℕ). Gives rule t (leave (fr .label) F y (suc (fr .count)) (popAll i c)) a) (sym row-is) (sym k) g)
+        (subst₂ (λ (y : Output) (i : ℕ). Gives rule t (leave (fr .label) F y (suc (fr .count)) (popAll i c)) a) (sym closed-is) (sym k) g)
 
 -- what a nested walk leaves of the state
 abbrev Past : Context → Context → Type 0
@@ -304,19 +313,19 @@ module _ (rule : Rule) (t : Table) (d : ℕ) (inner : TraverseInside) (ws : Walk
   inside enclosing F = inner (within enclosing (aroundOf rule t F))
 
   -- a nested list ended, the machine resumes its frame
-  resumes : (fr : Frame) (F : List Frame) (R : List Row) (n : ℕ) (c : Context) (a : Report) → length F + suc d ≡ 128
-      → Under rule t (resume t visit fr F (R ++ (blockRow n ∷ [])) c) a → Gives rule t (ended (fr ∷ F) R (0 + n) c) a
+  resumes : (fr : Frame) (F : List Frame) (R : Output) (n : ℕ) (c : Context) (a : Report) → length F + suc d ≡ 128
+      → Under rule t (resume t visit fr F (R ⊕ (blockRow n ∷ [])) c) a → Gives rule t (ended (fr ∷ F) R (0 + n) c) a
   unfolding step
   resumes fr F R n c a size h =
       let e : depthLeft F ≡ d = omega arith in
-      gives-turn rule t (ended (fr ∷ F) R (0 + n) c) (resume t visit fr F (R ++ (blockRow n ∷ [])) c) a
-      (ap (λ (z : ℕ). turn (resume t (visitValueBlock t z) fr F (R ++ (blockRow (0 + n) ∷ [])) c)) e
-      ∙ ap (λ (z : ℕ). turn (resume t visit fr F (R ++ (blockRow z ∷ [])) c)) (zero-add n)) h
+      gives-turn rule t (ended (fr ∷ F) R (0 + n) c) (resume t visit fr F (R ⊕ (blockRow n ∷ [])) c) a
+      (ap (λ (z : ℕ). turn (resume t (visitValueBlock t z) fr F (R ⊕ (blockRow (0 + n) ∷ [])) c)) e
+      ∙ ap (λ (z : ℕ). turn (resume t visit fr F (R ⊕ (blockRow z ∷ [])) c)) (zero-add n)) h
 
   -- the frame awaits a list of a statement with the terminal e: open, visit inside, close
-  sim-inner : {v : ℕ} {F : List Frame} {R : List Row} {n : ℕ} (fr : Frame) (e : Terminal) (b : ℕ) (R₁ : List Row) (c : Context) (rest : BlockResult → Result TerminalResult)
+  sim-inner : {v : ℕ} {F : List Frame} {R : Output} {n : ℕ} (fr : Frame) (e : Terminal) (b : ℕ) (R₁ : Output) (c : Context) (rest : BlockResult → Result TerminalResult)
       → terminalAt t (fr .block) ≡ e → length F + suc d ≡ 128
-      → ((r : BlockResult) → Past c (r .context) → Sim rule t v F R n (resumeAt t visit e (blockAt t (fr .block)) fr F (blockOut R₁ (r .statements)) (r .context)) (rest r))
+      → ((r : BlockResult) → Past c (r .context) → Sim rule t v F R n (resumeAt t visit e (blockAt t (fr .block)) fr F (blockPut R₁ (r .statements)) (r .context)) (rest r))
       → Sim rule t v F R n (ok (visiting b (fr ∷ F) R₁ 0 c)) (inside (enclosingBy e (fr .label)) F b c >>= rest)
   unfolding _>>=_ Walks WalkFine
   sim-inner {v} {F} {R} {n} fr e b R₁ c rest q size k =
@@ -324,13 +333,13 @@ module _ (rule : Rule) (t : Table) (d : ℕ) (inner : TraverseInside) (ws : Walk
       (subst (λ (z : Terminal). Along rule t (visiting b (fr ∷ F) R₁ 0 c) (c .visits) (fr ∷ F) R₁ 0 (inside (enclosingBy z (fr .label)) F b c)) q (ws b (fr ∷ F) R₁ 0 c (omega arith)))
       (wf (within (enclosingBy e (fr .label)) (aroundOf rule t F)) b c)
     where
-      under : (r : BlockResult) (a : Report) → Under rule t (resumeAt t visit e (blockAt t (fr .block)) fr F (blockOut R₁ (r .statements)) (r .context)) a
-          → Under rule t (resume t visit fr F (blockOut R₁ (r .statements)) (r .context)) a
-      under r a h = subst (λ (z : Terminal). Under rule t (resumeAt t visit z (blockAt t (fr .block)) fr F (blockOut R₁ (r .statements)) (r .context)) a) (sym q) h
+      under : (r : BlockResult) (a : Report) → Under rule t (resumeAt t visit e (blockAt t (fr .block)) fr F (blockPut R₁ (r .statements)) (r .context)) a
+          → Under rule t (resume t visit fr F (blockPut R₁ (r .statements)) (r .context)) a
+      under r a h = subst (λ (z : Terminal). Under rule t (resumeAt t visit z (blockAt t (fr .block)) fr F (blockPut R₁ (r .statements)) (r .context)) a) (sym q) h
 
       after : (r : BlockResult) (z : Result TerminalResult)
-          → ((a : Report) → Gives rule t (ended (fr ∷ F) (R₁ ++ statementsOut (r .statements)) (0 + countStatements (r .statements)) (r .context)) a → Gives rule t (visiting b (fr ∷ F) R₁ 0 c) a)
-          → Beside rule t v F R n (resumeAt t visit e (blockAt t (fr .block)) fr F (blockOut R₁ (r .statements)) (r .context)) z
+          → ((a : Report) → Gives rule t (ended (fr ∷ F) (listPut R₁ (r .statements)) (0 + countStatements (r .statements)) (r .context)) a → Gives rule t (visiting b (fr ∷ F) R₁ 0 c) a)
+          → Beside rule t v F R n (resumeAt t visit e (blockAt t (fr .block)) fr F (blockPut R₁ (r .statements)) (r .context)) z
           → Beside rule t v F R n (ok (visiting b (fr ∷ F) R₁ 0 c)) z
       after r (refused x y w) go u = go (rejected x y w) (resumes fr F _ _ (r .context) (rejected x y w) size (under r _ u))
       after r (ok s) go (g, u) = (g, λ a h. go a (resumes fr F _ _ (r .context) a size (under r a (u a h))))
@@ -340,9 +349,9 @@ module _ (rule : Rule) (t : Table) (d : ℕ) (inner : TraverseInside) (ws : Walk
       at (refused x y w) h _ = record { raw = h }
       at (ok r) (lt, go) f = record { raw = after r (rest r) go (k r (lt, f) .raw) }
 
-  sim-into : {v : ℕ} {F : List Frame} {R : List Row} {n : ℕ} (fr : Frame) (e : Terminal) (b code at : ℕ) (R₁ : List Row) (c : Context) (rest : BlockResult → Result TerminalResult)
+  sim-into : {v : ℕ} {F : List Frame} {R : Output} {n : ℕ} (fr : Frame) (e : Terminal) (b code at : ℕ) (R₁ : Output) (c : Context) (rest : BlockResult → Result TerminalResult)
       → terminalAt t (fr .block) ≡ e → length F + suc d ≡ 128
-      → ((r : BlockResult) → Past c (r .context) → Sim rule t v F R n (resumeAt t visit e (blockAt t (fr .block)) fr F (blockOut R₁ (r .statements)) (r .context)) (rest r))
+      → ((r : BlockResult) → Past c (r .context) → Sim rule t v F R n (resumeAt t visit e (blockAt t (fr .block)) fr F (blockPut R₁ (r .statements)) (r .context)) (rest r))
       → Sim rule t v F R n (into b code at fr F R₁ c) (traverseUnscheduled (inside (enclosingBy e (fr .label)) F) b code at c >>= rest)
   unfolding into traverseUnscheduled
   sim-into {F = F} fr e b code at R₁ c rest q size k =
@@ -350,12 +359,12 @@ module _ (rule : Rule) (t : Table) (d : ℕ) (inner : TraverseInside) (ws : Walk
 
   -- ---- If and Branch
 
-  abbrev labelled : (b : ℕ) → Option ℕ → ℕ → Frame
-  labelled b g n = frameOf b g (opens g) n
+  abbrev labelled : (b : ℕ) → Option ℕ → Output → ℕ → Frame
+  labelled b g R n = frameOf b g (opens g) R n
 
-  if-else : {v : ℕ} {F : List Frame} {R : List Row} {n : ℕ} (x y a f : ℕ) (g : Option ℕ) (i b : ℕ) (c : Context) (th : Statements)
+  if-else : {v : ℕ} {F : List Frame} {R : Output} {n : ℕ} (x y a f : ℕ) (g : Option ℕ) (i b : ℕ) (c : Context) (th : Statements)
       → terminalAt t b ≡ if x y a f → length F + suc d ≡ 128 → v ≤ c .visits → Tops (scheduleIds g i) (c .stack)
-      → Sim rule t v F R n (resumeAt t visit (if x y a f) (blockAt t b) (labelled b g n) F (blockOut R th) c)
+      → Sim rule t v F R n (resumeAt t visit (if x y a f) (blockAt t b) (labelled b g R n) F (blockPut R th) c)
       (traverseAlternate (inside (another g) F) a f c >>= λ s. unscheduleIf g i (s .context) >>= λ c2. ok
       (record { statement = some (IF x (blockAt t b .id) g th (s .present) (s .statements)); next = g; context = c2 }))
   unfolding traverseAlternate resumeAt closingRowOf
@@ -365,29 +374,30 @@ module _ (rule : Rule) (t : Table) (d : ℕ) (inner : TraverseInside) (ws : Walk
       K s = unscheduleIf g i (s .context) >>= λ c2. ok (record { statement = some (IF x (blockAt t b .id) g th (s .present) (s .statements)); next = g; context = c2 })
 
       at : (y : Bool) → Sim rule t v F R n
-          (elim y [ true ↦ ok (close t (labelled b g n) F (blockOut R th) c) | false ↦ into a 13 a (secondPart (labelled b g n)) F (blockOut R th) c ])
+          (elim y [ true ↦ ok (close t (labelled b g R n) F (blockPut R th) c) | false ↦ into a 13 a (secondPart (labelled b g R n)) F (blockPut R th) c ])
           (_>>=_ {A = AlternateResult} (elim y [
             | true ↦ ok (record { present = false; statements = done; context = c })
             | false ↦ traverseUnscheduled (inside (another g) F) a 13 a c >>= λ r. ok (record { present = true; statements = r .statements; context = r .context })
           ]) K)
-      at true = sim-ok _ K (sim-close (labelled b g n) (scheduleIds g i) _ _ _ _ c q (off-if g i c) (ids-if g i) u (rows-if R x (blockAt t b .id) g th done) h)
+      at true = sim-ok _ K (sim-close (labelled b g R n) (scheduleIds g i) _ _ _ _ c q (off-if g i c) (ids-if g i) u (parts-if R x (blockAt t b .id) g th done) refl refl h)
       at false =
-          sim-assoc (traverseUnscheduled (inside (another g) F) a 13 a c) _ K (sim-into (secondPart (labelled b g n)) _ a 13 a _ c _ q size (λ r p.
-          sim-ok _ K (sim-close (secondPart (labelled b g n)) (scheduleIds g i) _ _ _ _ (r .context) q (off-if g i (r .context)) (ids-if g i)
+          sim-assoc (traverseUnscheduled (inside (another g) F) a 13 a c) _ K (sim-into (secondPart (labelled b g R n)) _ a 13 a _ c _ q size (λ r p.
+          sim-ok _ K (sim-close (secondPart (labelled b g R n)) (scheduleIds g i) _ _ _ _ (r .context) q (off-if g i (r .context)) (ids-if g i)
           (tops-same (scheduleIds g i) c (r .context) (p .1 .same) u)
-          (rows-else R x (blockAt t b .id) g th (r .statements)) (omega arith))))
+          (parts-else R x (blockAt t b .id) g th (r .statements)) refl refl (omega arith))))
 
-  other-way : {v : ℕ} {F : List Frame} {R : List Row} {n : ℕ} (x y a b : ℕ) (R₂ : List Row) (c : Context) (th : Statements)
-      → terminalAt t b ≡ branch x y a → length F + suc d ≡ 128 → v ≤ c .visits → R₂ ≡ blockOut R th
-      → Sim rule t v F R n (into a 19 b (secondPart (frameOf b none 0 n)) F R₂ c)
+  other-way : {v : ℕ} {F : List Frame} {R : Output} {n : ℕ} (x y a b : ℕ) (R₂ : Output) (c : Context) (th : Statements)
+      → terminalAt t b ≡ branch x y a → length F + suc d ≡ 128 → v ≤ c .visits → R₂ ≡ blockPut R th
+      → Sim rule t v F R n (into a 19 b (secondPart (frameOf b none 0 R n)) F R₂ c)
       (traverseUnscheduled (inside (another none) F) a 19 b c >>= λ s. ok (record { statement = some (IF x (blockAt t b .id) none th true (s .statements)); next = none; context = s .context }))
   unfolding resumeAt closingRowOf
   other-way {R = R} {n} x y a b R₂ c th q size h e =
-      sim-into (secondPart (frameOf b none 0 n)) _ a 19 b _ c _ q size (λ r p.
-      sim-bound (r .context) _ (sim-close (secondPart (frameOf b none 0 n)) [] _ _ _ _ (r .context) q (unfold unscheduleAll in refl) refl tt
-      (ap (λ (z : List Row). blockOut z (r .statements) ++ (row 10 x 1 (blockAt t b .id) (orNone none) 0 ∷ [])) e ∙ rows-else R x (blockAt t b .id) none th (r .statements)) (omega arith)))
+      sim-into (secondPart (frameOf b none 0 R n)) _ a 19 b _ c _ q size (λ r p.
+      sim-bound (r .context) _ (sim-close (secondPart (frameOf b none 0 R n)) [] _ _ _ _ (r .context) q (unfold unscheduleAll in refl) refl tt
+      (subst (λ (z : Output). Parts R (IF x (blockAt t b .id) none th true (r .statements)) (row 10 x 1 (blockAt t b .id) (orNone none) 0)
+      (blockPut z (r .statements))) (sym e) (parts-else R x (blockAt t b .id) none th (r .statements))) refl refl (omega arith)))
 
-  branch-sim : {v : ℕ} {F : List Frame} {R : List Row} {n : ℕ} (x y a b : ℕ) (c : Context) → terminalAt t b ≡ branch x y a → length F + suc d ≡ 128 → v ≤ c .visits
+  branch-sim : {v : ℕ} {F : List Frame} {R : Output} {n : ℕ} (x y a b : ℕ) (c : Context) → terminalAt t b ≡ branch x y a → length F + suc d ≡ 128 → v ≤ c .visits
       → Sim rule t v F R n (branchTurn (aroundOf rule t F) b y a (blockAt t b .id) F R n c)
       (traverseConsequent (aroundOf rule t F) (inside (another none) F) b y (blockAt t b .id) c >>= λ r. traverseUnscheduled (inside (another none) F) a 19 b (r .context) >>= λ s.
       ok (record { statement = some (IF x (blockAt t b .id) none (r .statements) true (s .statements)); next = none; context = s .context }))
@@ -401,8 +411,8 @@ module _ (rule : Rule) (t : Table) (d : ℕ) (inner : TraverseInside) (ws : Walk
 
       at : (z : Bool) → Sim rule t v F R n
           (elim z [
-            | true ↦ visitBreak (aroundOf rule t F) b y (blockAt t b .id) c >>= λ s. into a 19 b (secondPart (frameOf b none 0 n)) F ((R ++ jumpOut s) ++ (blockRow (added s 0) ∷ [])) c
-            | false ↦ ok (visiting y (frameOf b none 0 n ∷ F) R 0 c)
+            | true ↦ visitBreak (aroundOf rule t F) b y (blockAt t b .id) c >>= λ s. into a 19 b (secondPart (frameOf b none 0 R n)) F ((R ⊕ jumpOut s) ⊕ (blockRow (added s 0) ∷ [])) c
+            | false ↦ ok (visiting y (frameOf b none 0 R n ∷ F) R 0 c)
           ])
           (_>>=_ {A = BlockResult} (elim z [
             | true ↦ visitBreak (aroundOf rule t F) b y (blockAt t b .id) c >>= λ s. ok (record
@@ -410,65 +420,68 @@ module _ (rule : Rule) (t : Table) (d : ℕ) (inner : TraverseInside) (ws : Walk
             | false ↦ inside (another none) F y c
           ]) K)
       at true =
-          sim-assoc (visitBreak (aroundOf rule t F) b y (blockAt t b .id) c) _ K (sim-go _ _ _ (λ s. sim-ok _ K (other-way x y a b _ c (followedBy s done) q size h (rows-single R s))))
-      at false = sim-inner (frameOf b none 0 n) _ y R c K q size (λ r p. other-way x y a b _ (r .context) (r .statements) q size (omega arith) refl)
+          sim-assoc (visitBreak (aroundOf rule t F) b y (blockAt t b .id) c) _ K
+          (sim-bind UnlinedStep _ _ _ (break-unlined (aroundOf rule t F) b y (blockAt t b .id) c)
+          (λ s u. sim-ok _ K (other-way x y a b _ c (followedBy s done) q size h (single-put R s u))))
+      at false = sim-inner (frameOf b none 0 R n) _ y R c K q size (λ r p. other-way x y a b _ (r .context) (r .statements) q size (omega arith) refl)
 
   -- ---- Label and scopes, loops: the last part closes the statement
 
   abbrev Lasts : Terminal → Type 0
-  Lasts e = (k : Block) (fr : Frame) (F : List Frame) (R : List Row) (c : Context) → resumeAt t visit e k fr F R c ≡ ok (close t fr F R c)
+  Lasts e = (k : Block) (fr : Frame) (F : List Frame) (R : Output) (c : Context) → resumeAt t visit e k fr F R c ≡ ok (close t fr F R c)
 
-  enclosed-sim : {v : ℕ} {F : List Frame} {R : List Row} {n : ℕ} (e : Terminal) (b x code at : ℕ) (g : Option ℕ) (c₀ c : Context) (make : Statements → Statement)
+  enclosed-sim : {v : ℕ} {F : List Frame} {R : Output} {n : ℕ} (e : Terminal) (b x code at : ℕ) (g : Option ℕ) (c₀ c : Context) (make : Statements → Statement)
       → terminalAt t b ≡ e → Lasts e → length F + suc d ≡ 128 → v ≤ c .visits → Tops (scheduleIds g (c₀ .nextId)) (c .stack)
-      → ((s : Statements) → blockOut R s ++ (closingRowOf e (blockAt t b) false g 0 ∷ []) ≡ R ++ statementOut (make s))
-      → Sim rule t v F R n (into x code at (labelled b g n) F R c) (traverseEnclosed (inside (enclosingBy e g) F) x code at g c₀ c make)
+      → ((s : Statements) → Parts R (make s) (closingRowOf e (blockAt t b) false g 0) (blockPut R s)) → ((s : Statements) → enclosingLabel (enclosingBy e g) ≡ labelOf (make s))
+      → Sim rule t v F R n (into x code at (labelled b g R n) F R c) (traverseEnclosed (inside (enclosingBy e g) F) x code at g c₀ c make)
   unfolding traverseEnclosed
-  enclosed-sim {v} {F} {R} {n} e b x code at g c₀ c make q l size h u o =
-      sim-into (labelled b g n) e x code at _ c _ q size (λ r p.
+  enclosed-sim {v} {F} {R} {n} e b x code at g c₀ c make q l size h u o lab =
+      sim-into (labelled b g R n) e x code at _ c _ q size (λ r p.
       subst (λ (z : Result State). Sim rule t v F R n z
       (unscheduleIf g (c₀ .nextId) (r .context) >>= λ c1. ok (record { statement = some (make (r .statements)); next = g; context = c1 }))) (sym (l _ _ _ _ _))
-      (sim-close (labelled b g n) (scheduleIds g (c₀ .nextId)) e _ _ _ (r .context) q (off-if g (c₀ .nextId) (r .context)) (ids-if g (c₀ .nextId))
+      (sim-close (labelled b g R n) (scheduleIds g (c₀ .nextId)) e _ _ _ (r .context) q (off-if g (c₀ .nextId) (r .context)) (ids-if g (c₀ .nextId))
       (tops-same (scheduleIds g (c₀ .nextId)) c (r .context) (p .1 .same) u)
-      (o (r .statements)) (omega arith)))
+      (o (r .statements)) refl (lab (r .statements)) (omega arith)))
 
-  loop-sim : {v : ℕ} {F : List Frame} {R : List Row} {n : ℕ} (e : Terminal) (b l : ℕ) (bad : Bool) (w i : ℕ) (c : Context) (g : Option ℕ) (R₁ : List Row) (make : Statements → Statement)
+  loop-sim : {v : ℕ} {F : List Frame} {R : Output} {n : ℕ} (e : Terminal) (b l : ℕ) (bad : Bool) (w i : ℕ) (c : Context) (g : Option ℕ) (R₁ : Output) (make : Statements → Statement)
       → terminalAt t b ≡ e → Lasts e → length F + suc d ≡ 128 → v ≤ w → Tops (i ∷ []) (c .stack)
-      → ((s : Statements) → blockOut R₁ s ++ (closingRowOf e (blockAt t b) false g 0 ∷ []) ≡ R ++ statementOut (make s))
-      → Sim rule t v F R n (intoLoop b l bad w (frameOf b g 1 n) F R₁ c) (traverseLoop (inside (enclosingBy e g) F) b l bad w i c g make)
+      → ((s : Statements) → Parts R (make s) (closingRowOf e (blockAt t b) false g 0) (blockPut R₁ s)) → ((s : Statements) → enclosingLabel (enclosingBy e g) ≡ labelOf (make s))
+      → Sim rule t v F R n (intoLoop b l bad w (frameOf b g 1 R n) F R₁ c) (traverseLoop (inside (enclosingBy e g) F) b l bad w i c g make)
   unfolding traverseLoop intoLoop withVisits
-  loop-sim {v} {F} {R} {n} e b l bad w i c g R₁ make q la size h u o =
-      sim-go _ _ _ (λ _. sim-inner (frameOf b g 1 n) e l R₁ (withVisits w c) _ q size (λ r p.
+  loop-sim {v} {F} {R} {n} e b l bad w i c g R₁ make q la size h u o lab =
+      sim-go _ _ _ (λ _. sim-inner (frameOf b g 1 R n) e l R₁ (withVisits w c) _ q size (λ r p.
       subst (λ (z : Result State). Sim rule t v F R n z (unschedule i (r .context) >>= λ c1. ok (record { statement = some (make (r .statements)); next = g; context = c1 }))) (sym (la _ _ _ _ _))
-      (sim-close (frameOf b g 1 n) (i ∷ []) e _ _ _ (r .context) q (off-loop i (r .context)) refl (tops-same (i ∷ []) c (r .context) (p .1 .same) u) (o (r .statements)) (omega arith))))
+      (sim-close (frameOf b g 1 R n) (i ∷ []) e _ _ _ (r .context) q (off-loop i (r .context)) refl (tops-same (i ∷ []) c (r .context) (p .1 .same) u)
+      (o (r .statements)) refl (lab (r .statements)) (omega arith))))
 
   -- ---- Switch: what is put out before the cases that are left is R₁, and `make` is given these. `ids` are those of the entries so far
 
-  abbrev switched : (b : ℕ) → Option ℕ → (entries left made n : ℕ) → Frame
-  switched b g entries left made n = record { block = b; second = false; label = g; entries = entries; left = left; built = made; count = n }
+  abbrev switched : (b : ℕ) → Option ℕ → (entries left made : ℕ) → Output → (n : ℕ) → Frame
+  switched b g entries left made R n = record { block = b; second = false; label = g; entries = entries; left = left; built = made; first = length (R .rows); count = n }
 
-  cases-sim : {v : ℕ} {F : List Frame} {R : List Row} {n : ℕ} (x i m f b : ℕ) (g : Option ℕ) (j : ℕ) (ids : List ℕ) (entries made : ℕ) (R₁ : List Row) (c : Context) (make : Cases → Statement)
+  cases-sim : {v : ℕ} {F : List Frame} {R : Output} {n : ℕ} (x i m f b : ℕ) (g : Option ℕ) (j : ℕ) (ids : List ℕ) (entries made : ℕ) (R₁ : Output) (c : Context) (make : Cases → Statement)
       → terminalAt t b ≡ switch x i m f → length F + suc d ≡ 128 → j ≤ length (t .cases) - i → v ≤ c .visits → entries ≡ length ids → Tops ids (c .stack)
-      → ((z : Cases) → (R₁ ++ casesOut z) ++ (row 12 x (made + countCases z) (blockAt t b .id) (orNone g) 0 ∷ []) ≡ R ++ statementOut (make z))
-      → Sim rule t v F R n (ok (choosing (switched b g entries j made n) F R₁ c))
+      → ((z : Cases) → Parts R (make z) (row 12 x (made + countCases z) (blockAt t b .id) (orNone g) 0) (casesPut R₁ z)) → ((z : Cases) → g ≡ labelOf (make z))
+      → Sim rule t v F R n (ok (choosing (switched b g entries j made R n) F R₁ c))
       (traverseCases (inside (a-switch g) F) b f (casesLastFirst t i j) ids c >>= λ r. unscheduleAll (r .ids) (r .context) >>= λ c2. ok
       (record { statement = some (make (r .cases)); next = g; context = c2 }))
   unfolding step chooseCase traverseCases resumeAt closingRowOf
-  cases-sim {v} {F} {R} {n} x i m f b g zero ids entries made R₁ c make q size few h k u e =
-      sim-turn (choosing (switched b g entries 0 made n) F R₁ c) (ok (close t (switched b g entries 0 made n) F R₁ c)) _ refl
-      (subst (λ (l : List Case). Sim rule t v F R n (ok (close t (switched b g entries 0 made n) F R₁ c)) (traverseCases (inside (a-switch g) F) b f l ids c >>= K)) (sym (cases-none t i))
-      (sim-ok _ K (sim-close (switched b g entries 0 made n) ids _ R₁ _ (make no-cases) c q refl k u e₀ h)))
+  cases-sim {v} {F} {R} {n} x i m f b g zero ids entries made R₁ c make q size few h k u e lab =
+      sim-turn (choosing (switched b g entries 0 made R n) F R₁ c) (ok (close t (switched b g entries 0 made R n) F R₁ c)) _ refl
+      (subst (λ (l : List Case). Sim rule t v F R n (ok (close t (switched b g entries 0 made R n) F R₁ c)) (traverseCases (inside (a-switch g) F) b f l ids c >>= K)) (sym (cases-none t i))
+      (sim-ok _ K (sim-close (switched b g entries 0 made R n) ids _ R₁ _ (make no-cases) c q refl k u e₀ refl (lab no-cases) h)))
     where
       K : CasesResult → Result TerminalResult
       K r = unscheduleAll (r .ids) (r .context) >>= λ c2. ok (record { statement = some (make (r .cases)); next = g; context = c2 })
 
-      e₀ : R₁ ++ (row 12 x made (blockAt t b .id) (orNone g) 0 ∷ []) ≡ R ++ statementOut (make no-cases)
-      e₀ = unfold casesOut in (rw (append-nil R₁, add-zero made) at (e no-cases))
-  cases-sim {v} {F} {R} {n} x i m f b g (suc j) ids entries made R₁ c make q size few h k u e =
-      sim-turn (choosing (switched b g entries (suc j) made n) F R₁ c) (chooseCase t i f (suc j) (switched b g entries (suc j) made n) F R₁ c) _
-      (ap (λ (z : Terminal). turn (chooseCase t (switchColumns z .first) (switchColumns z .fallthrough) (suc j) (switched b g entries (suc j) made n) F R₁ c)) q)
-      (subst (λ (l : List Case). Sim rule t v F R n (chooseCase t i f (suc j) (switched b g entries (suc j) made n) F R₁ c)
+      e₀ : Parts R (make no-cases) (row 12 x made (blockAt t b .id) (orNone g) 0) R₁
+      e₀ = subst₂ (λ (z : Output) (y : ℕ). Parts R (make no-cases) (row 12 x y (blockAt t b .id) (orNone g) 0) z) (no-case-put R₁) (add-zero made) (e no-cases)
+  cases-sim {v} {F} {R} {n} x i m f b g (suc j) ids entries made R₁ c make q size few h k u e lab =
+      sim-turn (choosing (switched b g entries (suc j) made R n) F R₁ c) (chooseCase t i f (suc j) (switched b g entries (suc j) made R n) F R₁ c) _
+      (ap (λ (z : Terminal). turn (chooseCase t (switchColumns z .first) (switchColumns z .fallthrough) (suc j) (switched b g entries (suc j) made R n) F R₁ c)) q)
+      (subst (λ (l : List Case). Sim rule t v F R n (chooseCase t i f (suc j) (switched b g entries (suc j) made R n) F R₁ c)
       (traverseCases (inside (a-switch g) F) b f l ids c >>= K make)) (sym (cases-next t i j (omega arith)))
-      (at (isScheduled c blk) refl (λ ids′ entries′ made′ R′ c′ make′ h′ k′ u′ e′. cases-sim x i m f b g j ids′ entries′ made′ R′ c′ make′ q size (omega arith) h′ k′ u′ e′)))
+      (at (isScheduled c blk) refl (λ ids′ entries′ made′ R′ c′ make′ h′ k′ u′ e′ lab′. cases-sim x i m f b g j ids′ entries′ made′ R′ c′ make′ q size (omega arith) h′ k′ u′ e′ lab′)))
     where
       blk : ℕ
       blk = caseAt t (i + j) .block
@@ -479,25 +492,23 @@ module _ (rule : Rule) (t : Table) (d : ℕ) (inner : TraverseInside) (ws : Walk
       K : (Cases → Statement) → CasesResult → Result TerminalResult
       K mk r = unscheduleAll (r .ids) (r .context) >>= λ c2. ok (record { statement = some (mk (r .cases)); next = g; context = c2 })
 
-      rows-on : (r : BlockResult) (z : Cases)
-          → ((blockOut R₁ (r .statements) ++ (row 11 tst 0 0 0 0 ∷ [])) ++ casesOut z) ++
-          (row 12 x (suc made + countCases z) (blockAt t b .id) (orNone g) 0 ∷ []) ≡ R ++ statementOut (make (CASE tst (r .statements) z))
-      rows-on r z =
-          let m : suc made + countCases z ≡ made + suc (countCases z) = omega arith in
-          ap (λ (y : ℕ). ((blockOut R₁ (r .statements) ++ (row 11 tst 0 0 0 0 ∷ [])) ++ casesOut z) ++ (row 12 x y (blockAt t b .id) (orNone g) 0 ∷ [])) m
-          ∙ ap (λ (y : List Row). y ++ (row 12 x (made + suc (countCases z)) (blockAt t b .id) (orNone g) 0 ∷ [])) (sym (rows-case R₁ tst (r .statements) z))
-          ∙ e (CASE tst (r .statements) z)
+      parts-on : (r : BlockResult) (z : Cases)
+          → Parts R (make (CASE tst (r .statements) z)) (row 12 x (suc made + countCases z) (blockAt t b .id) (orNone g) 0) (casesPut (blockPut R₁ (r .statements) ⊕ (row 11 tst 0 0 0 0 ∷ [])) z)
+      parts-on r z =
+          let m : made + suc (countCases z) ≡ suc made + countCases z = omega arith in
+          subst₂ (λ (y : Output) (k : ℕ). Parts R (make (CASE tst (r .statements) z)) (row 12 x k (blockAt t b .id) (orNone g) 0) y)
+          (case-put R₁ tst (r .statements) z) m (e (CASE tst (r .statements) z))
 
       Again : Type 0
-      Again = (ids′ : List ℕ) (entries′ made′ : ℕ) (R′ : List Row) (c′ : Context) (make′ : Cases → Statement) → v ≤ c′ .visits → entries′ ≡ length ids′ → Tops ids′ (c′ .stack)
-          → ((z : Cases) → (R′ ++ casesOut z) ++ (row 12 x (made′ + countCases z) (blockAt t b .id) (orNone g) 0 ∷ []) ≡ R ++ statementOut (make′ z))
-          → Sim rule t v F R n (ok (choosing (switched b g entries′ j made′ n) F R′ c′)) (traverseCases (inside (a-switch g) F) b f (casesLastFirst t i j) ids′ c′ >>= K make′)
+      Again = (ids′ : List ℕ) (entries′ made′ : ℕ) (R′ : Output) (c′ : Context) (make′ : Cases → Statement) → v ≤ c′ .visits → entries′ ≡ length ids′ → Tops ids′ (c′ .stack)
+          → ((z : Cases) → Parts R (make′ z) (row 12 x (made′ + countCases z) (blockAt t b .id) (orNone g) 0) (casesPut R′ z)) → ((z : Cases) → g ≡ labelOf (make′ z))
+          → Sim rule t v F R n (ok (choosing (switched b g entries′ j made′ R n) F R′ c′)) (traverseCases (inside (a-switch g) F) b f (casesLastFirst t i j) ids′ c′ >>= K make′)
 
       at : (y : Bool) → isScheduled c blk ≡ y → Again
           → Sim rule t v F R n
           (elim y [
-            | true ↦ refuseIf (not (eqb blk f)) 14 b (c .visits) >>= λ _. ok (choosing (switched b g entries j made n) F R₁ c)
-            | false ↦ ok (visiting blk (switched b g entries j made n ∷ F) R₁ 0 c)
+            | true ↦ refuseIf (not (eqb blk f)) 14 b (c .visits) >>= λ _. ok (choosing (switched b g entries j made R n) F R₁ c)
+            | false ↦ ok (visiting blk (switched b g entries j made R n ∷ F) R₁ 0 c)
           ])
           (_>>=_ {A = CasesResult} (elim y [
             | true ↦ refuseIf (not (eqb blk f)) 14 b (c .visits) >>= λ _. traverseCases (inside (a-switch g) F) b f (casesLastFirst t i j) ids c
@@ -505,33 +516,37 @@ module _ (rule : Rule) (t : Table) (d : ℕ) (inner : TraverseInside) (ws : Walk
                 traverseCases (inside (a-switch g) F) b f (casesLastFirst t i j) (r .context .nextId ∷ ids) c1 >>= λ z. ok
                 (record { cases = CASE tst (r .statements) (z .cases); ids = z .ids; context = z .context })
           ]) (K make))
-      at true o again = sim-assoc (refuseIf (not (eqb blk f)) 14 b (c .visits)) _ (K make) (sim-go _ _ _ (λ _. again ids entries made R₁ c make h k u e))
+      at true o again = sim-assoc (refuseIf (not (eqb blk f)) 14 b (c .visits)) _ (K make) (sim-go _ _ _ (λ _. again ids entries made R₁ c make h k u e lab))
       at false o again =
-          sim-assoc (inside (a-switch g) F blk c) _ (K make) (sim-inner (switched b g entries j made n) _ blk R₁ c _ q size (λ r p.
+          sim-assoc (inside (a-switch g) F blk c) _ (K make) (sim-inner (switched b g entries j made R n) _ blk R₁ c _ q size (λ r p.
           sim-assoc (schedule (target-case blk) (r .context)) _ (K make) (sim-bind (Onto (r .context)) _ _ _ (onto-scheduled (target-case blk) (r .context)) (λ c1 p₁.
           sim-map (traverseCases (inside (a-switch g) F) b f (casesLastFirst t i j) (r .context .nextId ∷ ids) c1) _ (K make)
           (again (r .context .nextId ∷ ids) (suc entries) (suc made) _ c1 (λ z. make (CASE tst (r .statements) z)) (omega arith) (omega arith)
-          (p₁ .1 ids (tops-same ids c (r .context) (p .1 .same) u)) (rows-on r))))))
+          (p₁ .1 ids (tops-same ids c (r .context) (p .1 .same) u)) (parts-on r) (λ z. lab (CASE tst (r .statements) z)))))))
 
   -- ---- terminals with no nested list
 
-  silent : {v : ℕ} {F : List Frame} {R : List Row} {n : ℕ} (g : Option ℕ) (c : Context) → v ≤ c .visits
+  silent : {v : ℕ} {F : List Frame} {R : Output} {n : ℕ} (g : Option ℕ) (c : Context) → v ≤ c .visits
       → Sim rule t v F R n (ok (leave g F R n c)) (ok (record { statement = none; next = g; context = c }))
-  silent {F = F} {R} {n} g c h = record { raw = (h, λ a q. subst (λ (z : List Row). Gives rule t (leave g F z n c) a) (append-nil R) q) }
+  silent {F = F} {R} {n} g c h = record { raw = (h, λ a q. subst (λ (z : Output). Gives rule t (leave g F z n c) a) (output-eq (append-nil (R .rows)) refl) q) }
 
-  jumped : {v : ℕ} {F : List Frame} {R : List Row} {n : ℕ} (c : Context) (m : Result TerminalResult) → v ≤ c .visits → Good (λ s. Kept c (s .context)) m
-      → Sim rule t v F R n (m >>= λ s. ok (leave (s .next) F (R ++ jumpOut (s .statement)) (added (s .statement) n) (s .context))) m
+  abbrev Jumped : Context → TerminalResult → Type 0
+  Jumped c s = Kept c (s .context) × UnlinedStep (s .statement)
+
+  jumped : {v : ℕ} {F : List Frame} {R : Output} {n : ℕ} (c : Context) (m : Result TerminalResult) → v ≤ c .visits → Good (Jumped c) m
+      → Sim rule t v F R n (m >>= λ s. ok (leave (s .next) F (R ⊕ jumpOut (s .statement)) (added (s .statement) n) (s .context))) m
   unfolding _>>=_
   jumped c (refused e q w) h k = record { raw = refl }
-  jumped c (ok s) h k = record { raw = (omega arith, λ a q. q) }
+  jumped {F = F} {R} {n} c (ok s) h (k, u) =
+      record { raw = (omega arith, λ a q. subst (λ (z : Output). Gives rule t (leave (s .next) F z (added (s .statement) n) (s .context)) a) (sym (unlined-step R (s .statement) u)) q) }
 
-  jump-kept : (o : Around) (w : Variant) (b g i : ℕ) (c : Context) → Good (λ s. Kept c (s .context)) (visitGoto o w b g i c)
+  goto-jumped : (o : Around) (w : Variant) (b g i : ℕ) (c : Context) → Good (Jumped c) (visitGoto o w b g i c)
   unfolding visitGoto
-  jump-kept o Break b g i c = good-bind Any (λ s. Kept c (s .context)) _ _ (good-any (visitBreak o b g i c)) (λ s _. refl)
-  jump-kept o Continue b g i c = good-bind Any (λ s. Kept c (s .context)) _ _ (good-any (visitContinue o b g i c)) (λ s _. refl)
-  jump-kept o Try b g i c = refl
+  goto-jumped o Break b g i c = good-bind UnlinedStep (Jumped c) _ _ (break-unlined o b g i c) (λ s u. (refl, u))
+  goto-jumped o Continue b g i c = good-bind Unlined (Jumped c) _ _ (continue-unlined o b g i c) (λ s u. (refl, u))
+  goto-jumped o Try b g i c = (refl, tt)
 
-  value-sim : {v : ℕ} {F : List Frame} {R : List Row} {n : ℕ} (e : Terminal) (b : ℕ) (k : Block) (f : ℕ) (c : Context) → T (not (isMaybeThrow e)) → v ≤ c .visits
+  value-sim : {v : ℕ} {F : List Frame} {R : Output} {n : ℕ} (e : Terminal) (b : ℕ) (k : Block) (f : ℕ) (c : Context) → T (not (isMaybeThrow e)) → v ≤ c .visits
       → Sim rule t v F R n (valueTurn t visit e b k f F R n c) (visitValueStatement t visit e b k f c)
   unfolding valueTurn visitValueStatement
   value-sim {v} {F} {R} {n} e b k f c m h =
@@ -543,7 +558,7 @@ module _ (rule : Rule) (t : Table) (d : ℕ) (inner : TraverseInside) (ws : Walk
       (terminal-took t visit (value-took t d) e (k .id) (k .span) (c .visits) b m)) (λ r q.
       sim-by _ (off-if g (c .nextId) (withVisits (r .visits) (scheduledIf g c)) ∙ pop-all (scheduleIds g (c .nextId)) (withVisits (r .visits) (scheduledIf g c))
       (unfold withVisits in tops-if g c) ∙ one g (withVisits (r .visits) (scheduledIf g c)))
-      (sim-leave (INSTR (r .id) (r .place) (k .span) (r .value)) (rows-value R (r .id) (r .place) (k .span) (r .value)) (seen g r (omega arith))))))
+      (sim-leave (INSTR (r .id) (r .place) (k .span) (r .value)) (instr-put R (r .id) (r .place) (k .span) (r .value)) (seen g r (omega arith))))))
     where
       g : Option ℕ
       g = unlessScheduled c f
@@ -557,7 +572,7 @@ module _ (rule : Rule) (t : Table) (d : ℕ) (inner : TraverseInside) (ws : Walk
       seen (some f) r q = unfold withVisits in (rw (unscheduled-kept (withVisits (r .visits) (scheduledIf (some f) c))) q)
 
       X : ValueTerminalResult → Result State
-      X r = ok (leave g F ((R ++ valueOut (r .value)) ++ (instrRow (r .id) (r .place) (k .span) ∷ [])) (suc n) (unscheduledIf g (withVisits (r .visits) (scheduledIf g c))))
+      X r = ok (leave g F ((R ⊕ valueOut (r .value)) ⊕ (instrRow (r .id) (r .place) (k .span) ∷ [])) (suc n) (unscheduledIf g (withVisits (r .visits) (scheduledIf g c))))
 
       Y : ValueTerminalResult → Result TerminalResult
       Y r = unscheduleIf g (c .nextId) (withVisits (r .visits) (scheduledIf g c)) >>= λ c2. ok (record { statement = some (INSTR (r .id) (r .place) (k .span) (r .value)); next = g; context = c2 })
@@ -579,79 +594,81 @@ module _ (rule : Rule) (t : Table) (d : ℕ) (inner : TraverseInside) (ws : Walk
 
   -- ---- every terminal
 
-  terminal-sim : {v : ℕ} {F : List Frame} {R : List Row} {n : ℕ} (e : Terminal) (b : ℕ) (c : Context) → terminalAt t b ≡ e → length F + suc d ≡ 128 → v ≤ c .visits
+  terminal-sim : {v : ℕ} {F : List Frame} {R : Output} {n : ℕ} (e : Terminal) (b : ℕ) (c : Context) → terminalAt t b ≡ e → length F + suc d ≡ 128 → v ≤ c .visits
       → Sim rule t v F R n (terminalTurn (aroundOf rule t F) t visit e b (blockAt t b) F R n c) (visitTerminal t visit inner (aroundOf rule t F) e b (blockAt t b) c)
   unfolding terminalTurn visitTerminal
   terminal-sim absent b c q size h = record { raw = refl }
   terminal-sim unreachable b c q size h = silent none c h
-  terminal-sim (throw x) b c q size h = unfold statementOut in sim-leave _ refl h
-  terminal-sim (return x) b c q size h = unfold statementOut in sim-leave _ refl h
-  terminal-sim {F = F} (goto g w) b c q size h = jumped c (visitGoto (aroundOf rule t F) w b g (blockAt t b .id) c) h (jump-kept (aroundOf rule t F) w b g (blockAt t b .id) c)
-  terminal-sim {n = n} (if x y a f) b c q size h =
+  terminal-sim {R = R} (throw x) b c q size h = sim-leave _ (throw-put R x (blockAt t b .id)) h
+  terminal-sim {R = R} (return x) b c q size h = sim-leave _ (return-put R x (blockAt t b .id)) h
+  terminal-sim {F = F} (goto g w) b c q size h = jumped c (visitGoto (aroundOf rule t F) w b g (blockAt t b .id) c) h (goto-jumped (aroundOf rule t F) w b g (blockAt t b .id) c)
+  terminal-sim {R = R} {n} (if x y a f) b c q size h =
       sim-bind (λ g. Free g c) _ _ _ (reaches c f) (λ g free. sim-by _ (opened-if g c free)
-      (sim-into (labelled b g n) _ y 12 y _ (scheduledIf g c) _ q size (λ r p.
+      (sim-into (labelled b g R n) _ y 12 y _ (scheduledIf g c) _ q size (λ r p.
       if-else x y a f g (c .nextId) b (r .context) (r .statements) q size (omega (arith, kept-if g c))
       (tops-same (scheduleIds g (c .nextId)) (scheduledIf g c) (r .context) (p .1 .same) (tops-if g c)))))
   terminal-sim (branch x y a) b c q size h = branch-sim x y a b c q size h
   terminal-sim {v} {F} {R} {n} (switch x i m f) b c q size h =
       sim-bind (λ g. Free g c) _ _ _ (reaches c f) (λ g free. sim-by _ (opened-switch g c free)
-      (subst (λ (l : List Case). Sim rule t v F R n (ok (choosing (switched b g (opens g) (numberOfCases t i m) 0 n) F R (scheduledSwitch g c)))
+      (subst (λ (l : List Case). Sim rule t v F R n (ok (choosing (switched b g (opens g) (numberOfCases t i m) 0 R n) F R (scheduledSwitch g c)))
       (traverseCases (inside (a-switch g) F) b f l (scheduleIds g (c .nextId)) (scheduledSwitch g c) >>= K g)) (sym (cases-number t i m))
       (cases-sim x i m f b g (numberOfCases t i m) (scheduleIds g (c .nextId)) (opens g) 0 R (scheduledSwitch g c) (SWITCH x (blockAt t b .id) g) q size
       (number-below t i m) (omega (arith, kept-switch g c)) (ids-if g (c .nextId)) (tops-switch g c)
-      (λ z. ap (λ (k : ℕ). (R ++ casesOut z) ++ (row 12 x k (blockAt t b .id) (orNone g) 0 ∷ [])) (zero-add (countCases z)) ∙ rows-switch R x (blockAt t b .id) g z))))
+      (λ z. subst (λ (k : ℕ). Parts R (SWITCH x (blockAt t b .id) g z) (row 12 x k (blockAt t b .id) (orNone g) 0) (casesPut R z))
+      (sym (zero-add (countCases z))) (parts-switch R x (blockAt t b .id) g z)) (λ z. refl))))
     where
       K : Option ℕ → CasesResult → Result TerminalResult
       K g r = unscheduleAll (r .ids) (r .context) >>= λ c2. ok (record { statement = some (SWITCH x (blockAt t b .id) g (r .cases)); next = g; context = c2 })
   terminal-sim {v} {F} {R} {n} (do-while l x f) b c q size h =
       sim-bind (Onto c) _ _ _ (onto-scheduled (target-loop f x l) c) (λ c1 p. unfold intoLoop withVisits resumeAt closingRowOf in sim-go _ _ _ (λ _.
-      sim-inner (frameOf b (unlessScheduled c f) 1 n) _ l _ c1 _ q size (λ r p₁.
+      sim-inner (frameOf b (unlessScheduled c f) 1 R n) _ l _ c1 _ q size (λ r p₁.
       sim-bind (λ w. r .context .visits ≤ w .visits) _ _ _ (values x none (blockAt t b .span) (r .context .visits)) (λ w p₂.
-      sim-close (frameOf b (unlessScheduled c f) 1 n) (c .nextId ∷ []) _ _ _ _ (withVisits (w .visits) (r .context)) q (off-loop (c .nextId) (withVisits (w .visits) (r .context))) refl
-      (tops-same (c .nextId ∷ []) c1 (r .context) (p₁ .1 .same) (p .1 [] tt)) (rows-do-while R (blockAt t b .id) (unlessScheduled c f) (r .statements) (w .value)) (omega arith)))))
+      sim-close (frameOf b (unlessScheduled c f) 1 R n) (c .nextId ∷ []) _ _ _ _ (withVisits (w .visits) (r .context)) q (off-loop (c .nextId) (withVisits (w .visits) (r .context))) refl
+      (tops-same (c .nextId ∷ []) c1 (r .context) (p₁ .1 .same) (p .1 [] tt)) (parts-do-while R (blockAt t b .id) (unlessScheduled c f) (r .statements) (w .value)) refl refl (omega arith)))))
   terminal-sim {R = R} (while x l f) b c q size h =
       sim-go _ _ _ (λ g. sim-bind (Onto c) _ _ _ (onto-scheduled (target-loop f x l) c) (λ c1 p.
       sim-bind (λ w. c1 .visits ≤ w .visits) _ _ _ (values x none (blockAt t b .span) (c1 .visits)) (λ w p₁.
       loop-sim _ b l (loopIsTaken c l f) (w .visits) (c .nextId) c1 g _ _ q (unfold resumeAt in λ _ _ _ _ _. refl) size (omega arith) (p .1 [] tt)
-      (unfold closingRowOf in rows-while R (blockAt t b .id) g (w .value)))))
+      (unfold closingRowOf in parts-while R (blockAt t b .id) g (w .value)) (λ s. refl))))
   terminal-sim {R = R} (for i x u l f) b c q size h =
       sim-bind (Onto c) _ _ _ (onto-scheduled (target-loop f (continueBlockOf u x) l) c) (λ c1 p.
       sim-bind (λ w. c1 .visits ≤ w .visits) _ _ _ (values i none (blockAt t b .span) (c1 .visits)) (λ n p₁.
       sim-bind (λ w. n .visits ≤ w .visits) _ _ _ (values x none (blockAt t b .span) (n .visits)) (λ w p₂.
       sim-bind (Updated u (w .visits)) _ _ _ (updates u (blockAt t b .span) (w .visits)) (λ z p₃.
       loop-sim _ b l (loopIsTaken c l f) (z .visits) (c .nextId) c1 (unlessScheduled c f) _ _ q (unfold resumeAt in λ _ _ _ _ _. refl) size (omega arith) (p .1 [] tt)
-      (unfold closingRowOf in λ s. ap (λ (y : ℕ). blockOut
-      (((R ++ valueOut (valueBlockResultToSequence t n (blockAt t b .span))) ++ valueOut (w .value)) ++ updateOut (z .value)) s ++
-      (row 15 (blockAt t b .id) (orNone (unlessScheduled c f)) y 0 0 ∷ [])) (sym (p₃ .1))
-      ∙ rows-for R (blockAt t b .id) (unlessScheduled c f) (valueBlockResultToSequence t n (blockAt t b .span)) (w .value) (z .value) s)))))
+      (unfold closingRowOf in λ s. subst (λ (y : ℕ). Parts R
+      (FOR (blockAt t b .id) (unlessScheduled c f) (valueBlockResultToSequence t n (blockAt t b .span)) (w .value) (z .value) s)
+      (row 15 (blockAt t b .id) (orNone (unlessScheduled c f)) y 0 0)
+      (blockPut (((R ⊕ valueOut (valueBlockResultToSequence t n (blockAt t b .span))) ⊕ valueOut (w .value)) ⊕ updateOut (z .value)) s)) (p₃ .1)
+      (parts-for R (blockAt t b .id) (unlessScheduled c f) (valueBlockResultToSequence t n (blockAt t b .span)) (w .value) (z .value) s)) (λ s. refl)))))
   terminal-sim {R = R} (for-of i x l f) b c q size h =
       sim-bind (Onto c) _ _ _ (onto-scheduled (target-loop f i l) c) (λ c1 p.
       sim-bind (λ w. c1 .visits ≤ w .visits) _ _ _ (values i none (blockAt t b .span) (c1 .visits)) (λ n p₁.
       sim-bind (λ w. n .visits ≤ w .visits) _ _ _ (values x none (blockAt t b .span) (n .visits)) (λ w p₂.
       loop-sim _ b l (loopIsTaken c l f) (w .visits) (c .nextId) c1 (unlessScheduled c f) _ _ q (unfold resumeAt in λ _ _ _ _ _. refl) size (omega arith) (p .1 [] tt)
-      (unfold closingRowOf in rows-for-of R (blockAt t b .id) (unlessScheduled c f) (blockAt t b .span) (valueBlockResultToSequence t n (blockAt t b .span))
-      (valueBlockResultToSequence t w (blockAt t b .span))))))
+      (unfold closingRowOf in parts-for-of R (blockAt t b .id) (unlessScheduled c f) (blockAt t b .span) (valueBlockResultToSequence t n (blockAt t b .span))
+      (valueBlockResultToSequence t w (blockAt t b .span))) (λ s. refl))))
   terminal-sim {R = R} (for-in i l f) b c q size h =
       sim-bind (Onto c) _ _ _ (onto-scheduled (target-loop f i l) c) (λ c1 p.
       sim-bind (λ w. c1 .visits ≤ w .visits) _ _ _ (values i none (blockAt t b .span) (c1 .visits)) (λ n p₁.
       loop-sim _ b l (loopIsTaken c l f) (n .visits) (c .nextId) c1 (unlessScheduled c f) _ _ q (unfold resumeAt in λ _ _ _ _ _. refl) size (omega arith) (p .1 [] tt)
-      (unfold closingRowOf in rows-for-in R (blockAt t b .id) (unlessScheduled c f) (blockAt t b .span) (valueBlockResultToSequence t n (blockAt t b .span)))))
+      (unfold closingRowOf in parts-for-in R (blockAt t b .id) (unlessScheduled c f) (blockAt t b .span) (valueBlockResultToSequence t n (blockAt t b .span))) (λ s. refl)))
   terminal-sim (logical o x f) b c q size h = value-sim (logical o x f) b (blockAt t b) f c tt h
   terminal-sim (ternary x f) b c q size h = value-sim (ternary x f) b (blockAt t b) f c tt h
   terminal-sim (optional g x f) b c q size h = value-sim (optional g x f) b (blockAt t b) f c tt h
   terminal-sim {R = R} (label x f) b c q size h =
       sim-bind (λ g. Free g c) _ _ _ (reaches c f) (λ g free. sim-by _ (opened-if g c free)
       (enclosed-sim _ b x 17 b g c (scheduledIf g c) _ q (unfold resumeAt in λ _ _ _ _ _. refl) size (omega (arith, kept-if g c)) (tops-if g c)
-      (unfold closingRowOf in rows-label R (blockAt t b .id) g)))
+      (unfold closingRowOf in parts-label R (blockAt t b .id) g) (λ s. refl)))
   terminal-sim (sequence x f) b c q size h = value-sim (sequence x f) b (blockAt t b) f c tt h
   terminal-sim (maybe-throw n) b c q size h = silent (unlessScheduled c n) c h
   terminal-sim {R = R} {n} (try x y f m) b c q size h =
       sim-bind (λ g. Free g c) _ _ _ (reaches c f) (λ g free. sim-by _ (opened-if g c free)
-      (unfold scheduleCatchHandler resumeAt closingRowOf in sim-inner (labelled b g n) _ x _ (scheduleCatchHandler y (scheduledIf g c)) _ q size (λ r p.
-      sim-inner (secondPart (labelled b g n)) _ y _ (r .context) _ q size (λ s p₁.
-      sim-close (secondPart (labelled b g n)) (scheduleIds g (c .nextId)) _ _ _ _ (s .context) q (off-if g (c .nextId) (s .context)) (ids-if g (c .nextId))
+      (unfold scheduleCatchHandler resumeAt closingRowOf in sim-inner (labelled b g R n) _ x _ (scheduleCatchHandler y (scheduledIf g c)) _ q size (λ r p.
+      sim-inner (secondPart (labelled b g R n)) _ y _ (r .context) _ q size (λ s p₁.
+      sim-close (secondPart (labelled b g R n)) (scheduleIds g (c .nextId)) _ _ _ _ (s .context) q (off-if g (c .nextId) (s .context)) (ids-if g (c .nextId))
       (tops-same (scheduleIds g (c .nextId)) (r .context) (s .context) (p₁ .1 .same) (tops-same (scheduleIds g (c .nextId)) (scheduledIf g c) (r .context) (p .1 .same) (tops-if g c)))
-      (rows-try R (blockAt t b .id) g m (r .statements) (s .statements)) (omega (arith, kept-if g c))))))
+      (parts-try R (blockAt t b .id) g m (r .statements) (s .statements)) refl refl (omega (arith, kept-if g c))))))
   terminal-sim {R = R} (scope p x f s) b c q size h =
       sim-by _ (opened-if (unlessScheduled c f) c (untaken-free c f))
       (enclosed-sim _ b x 18 b (unlessScheduled c f) c (markScopeFallthroughIf (unlessScheduled c f) (scheduledIf (unlessScheduled c f) c)) _ q (unfold resumeAt in λ _ _ _ _ _. refl) size
@@ -659,7 +676,7 @@ module _ (rule : Rule) (t : Table) (d : ℕ) (inner : TraverseInside) (ws : Walk
       (tops-same (scheduleIds (unlessScheduled c f) (c .nextId)) (scheduledIf (unlessScheduled c f) c)
       (markScopeFallthroughIf (unlessScheduled c f) (scheduledIf (unlessScheduled c f) c)) (marked (unlessScheduled c f) (scheduledIf (unlessScheduled c f) c))
       (tops-if (unlessScheduled c f) c))
-      (unfold closingRowOf in rows-scope R p s))
+      (unfold closingRowOf in parts-scope R p s) (λ s. refl))
     where
       marked : (g : Option ℕ) (z : Context) → markScopeFallthroughIf g z .stack ≡ z .stack
       marked none z = unfold markScopeFallthroughIf in refl
@@ -667,21 +684,21 @@ module _ (rule : Rule) (t : Table) (d : ℕ) (inner : TraverseInside) (ws : Walk
 
   -- ---- the chain
 
-  abbrev OnRows : List Row → ℕ → Option Statement → List Row
-  OnRows R b o = (R ++ instructionsOut t (instructionRowsAt t b)) ++ jumpOut o
+  abbrev OnRows : Output → ℕ → Option Statement → Output
+  OnRows R b o = stepPut (R ⊕ instructionsOut t (instructionRowsAt t b)) o
 
   abbrev OnCount : ℕ → ℕ → Option Statement → ℕ
   OnCount m b o = added o (m + length (instructionRowsAt t b))
 
-  chain-on : (S : State) (v : ℕ) (F : List Frame) (R : List Row) (m b : ℕ) (o : Option Statement) (nx : Option ℕ) (c : Context) (again : TraverseBlock) → v < c .visits
+  chain-on : (S : State) (v : ℕ) (F : List Frame) (R : Output) (m b : ℕ) (o : Option Statement) (nx : Option ℕ) (c : Context) (again : TraverseBlock) → v < c .visits
       → ((a : Report) → Gives rule t (leave nx F (OnRows R b o) (OnCount m b o) c) a → Gives rule t S a)
       → ((k : ℕ) → Along rule t (visiting k F (OnRows R b o) (OnCount m b o) c) (c .visits) F (OnRows R b o) (OnCount m b o) (again k c))
       → Along rule t S v F R m (thenNext t b again o nx c)
   unfolding thenNext
-  chain-on S v F R m b o none c again lt u ih = (lt, λ a q. u a (subst₂ (λ (z : List Row) (y : ℕ). Gives rule t (ended F z y c) a) e₁ e₂ q))
+  chain-on S v F R m b o none c again lt u ih = (lt, λ a q. u a (subst₂ (λ (z : Output) (y : ℕ). Gives rule t (ended F z y c) a) e₁ e₂ q))
     where
-      e₁ : R ++ statementsOut (instructionStatements t (instructionRowsAt t b) (followedBy o done)) ≡ OnRows R b o
-      e₁ = rows-chain R t (instructionRowsAt t b) o done ∙ unfold statementsOut in append-nil (OnRows R b o)
+      e₁ : listPut R (instructionStatements t (instructionRowsAt t b) (followedBy o done)) ≡ OnRows R b o
+      e₁ = chain-put R t (instructionRowsAt t b) o done ∙ no-list-put (OnRows R b o)
 
       e₂ : m + countStatements (instructionStatements t (instructionRowsAt t b) (followedBy o done)) ≡ OnCount m b o
       e₂ = count-chain m t (instructionRowsAt t b) o done ∙ add-zero (OnCount m b o)
@@ -693,21 +710,21 @@ module _ (rule : Rule) (t : Table) (d : ℕ) (inner : TraverseInside) (ws : Walk
       at (ok r) (lt₂, h) = unfold _>>=_ in (
         omega arith,
         λ a q. u a (h a
-            (subst₂ (λ (z : List Row) (y : ℕ). Gives rule t (ended F z y (r .context)) a) (rows-chain R t (instructionRowsAt t b) o (r .statements))
+            (subst₂ (λ (z : Output) (y : ℕ). Gives rule t (ended F z y (r .context)) a) (chain-put R t (instructionRowsAt t b) o (r .statements))
             (count-chain m t (instructionRowsAt t b) o (r .statements)) q)),
       )
 
-  visit-deep : (b : ℕ) (F : List Frame) (R : List Row) (m : ℕ) (c : Context) → length F + suc d ≡ 128
+  visit-deep : (b : ℕ) (F : List Frame) (R : Output) (m : ℕ) (c : Context) → length F + suc d ≡ 128
       → visitTurn rule t b F R m c ≡ enterBlock t b c >>= λ c1. terminalTurn (aroundOf rule t F) t (visitValueBlock t d) (terminalAt t b) b (blockAt t b) F
-      (R ++ instructionsOut t (instructionRowsAt t b)) (m + length (instructionRowsAt t b)) c1
+      (R ⊕ instructionsOut t (instructionRowsAt t b)) (m + length (instructionRowsAt t b)) c1
   unfolding visitTurn refuseIf _>>=_
   visit-deep b F R m c size =
       let e : depthLeft F ≡ d = omega arith in
       ap (λ (y : Bool). refuseIf y 30 b (c .visits) >>= λ _. enterBlock t b c >>= λ c1.
-      terminalTurn (aroundOf rule t F) t (visitValueBlock t (depthLeft F)) (terminalAt t b) b (blockAt t b) F (R ++ instructionsOut t (instructionRowsAt t b))
+      terminalTurn (aroundOf rule t F) t (visitValueBlock t (depthLeft F)) (terminalAt t b) b (blockAt t b) F (R ⊕ instructionsOut t (instructionRowsAt t b))
       (m + length (instructionRowsAt t b)) c1) (lt-leb 128 (length F) (omega arith))
       ∙ ap (λ (z : ℕ). enterBlock t b c >>= λ c1. terminalTurn (aroundOf rule t F) t (visitValueBlock t z) (terminalAt t b) b (blockAt t b) F
-      (R ++ instructionsOut t (instructionRowsAt t b)) (m + length (instructionRowsAt t b)) c1) e
+      (R ⊕ instructionsOut t (instructionRowsAt t b)) (m + length (instructionRowsAt t b)) c1) e
 
   enter-late : (b : ℕ) (c : Context) → 8192 ≤ c .visits → enterBlock t b c ≡ refused 31 b (c .visits)
   unfolding enterBlock beginVisit refuseIf _>>=_
@@ -716,17 +733,17 @@ module _ (rule : Rule) (t : Table) (d : ℕ) (inner : TraverseInside) (ws : Walk
       λ v. refuseIf (has (c .emitted) b) 11 b v >>= λ _. ok (emit b (withVisits v c)))
       (le-leb 8192 (c .visits) h)
 
-  chain-sim : (n b : ℕ) (F : List Frame) (R : List Row) (m : ℕ) (c : Context) → length F + suc d ≡ 128 → 8193 ≤ n + c .visits
+  chain-sim : (n b : ℕ) (F : List Frame) (R : Output) (m : ℕ) (c : Context) → length F + suc d ≡ 128 → 8193 ≤ n + c .visits
       → Along rule t (visiting b F R m c) (c .visits) F R m (visitBlock t (visitValueBlock t d) inner (aroundOf rule t F) n b c)
   unfolding visitBlock step
   chain-sim zero b F R m c size lt =
       gives-turn rule t (visiting b F R m c) (refused 31 b (c .visits)) (rejected 31 b (c .visits))
       (ap turn (visit-deep b F R m c size ∙ ap (λ (z : Result Context). z >>= λ c1. terminalTurn (aroundOf rule t F) t (visitValueBlock t d) (terminalAt t b) b (blockAt t b) F
-      (R ++ instructionsOut t (instructionRowsAt t b)) (m + length (instructionRowsAt t b)) c1) (enter-late b c (omega arith)) ∙ gone))
+      (R ⊕ instructionsOut t (instructionRowsAt t b)) (m + length (instructionRowsAt t b)) c1) (enter-late b c (omega arith)) ∙ gone))
       refl
     where
       gone : (refused 31 b (c .visits) >>= λ c1. terminalTurn (aroundOf rule t F) t (visitValueBlock t d) (terminalAt t b) b (blockAt t b) F
-          (R ++ instructionsOut t (instructionRowsAt t b)) (m + length (instructionRowsAt t b)) c1) ≡ refused 31 b (c .visits)
+          (R ⊕ instructionsOut t (instructionRowsAt t b)) (m + length (instructionRowsAt t b)) c1) ≡ refused 31 b (c .visits)
       gone = unfold _>>=_ in refl
   chain-sim (suc n) b F R m c size lt =
       at (enterBlock t b c) (enter-counts t b c) (ap turn (visit-deep b F R m c size)) (λ k R′ m′ c′ le. chain-sim n k F R′ m′ c′ size le)
@@ -735,7 +752,7 @@ module _ (rule : Rule) (t : Table) (d : ℕ) (inner : TraverseInside) (ws : Walk
       S = visiting b F R m c
 
       f : Context → Result State
-      f c1 = terminalTurn (aroundOf rule t F) t (visitValueBlock t d) (terminalAt t b) b (blockAt t b) F (R ++ instructionsOut t (instructionRowsAt t b)) (m + length (instructionRowsAt t b)) c1
+      f c1 = terminalTurn (aroundOf rule t F) t (visitValueBlock t d) (terminalAt t b) b (blockAt t b) F (R ⊕ instructionsOut t (instructionRowsAt t b)) (m + length (instructionRowsAt t b)) c1
 
       g : Context → Result BlockResult
       g c1 =
@@ -744,11 +761,11 @@ module _ (rule : Rule) (t : Table) (d : ℕ) (inner : TraverseInside) (ws : Walk
 
       Again : Type 0
       Again =
-          (k : ℕ) (R′ : List Row) (m′ : ℕ) (c′ : Context) → 8193 ≤ n + c′ .visits → Along rule t (visiting k F R′ m′ c′) (c′ .visits) F R′ m′
+          (k : ℕ) (R′ : Output) (m′ : ℕ) (c′ : Context) → 8193 ≤ n + c′ .visits → Along rule t (visiting k F R′ m′ c′) (c′ .visits) F R′ m′
           (visitBlock t (visitValueBlock t d) inner (aroundOf rule t F) n k c′)
 
       after : (c1 : Context) (y : Result TerminalResult) → c1 .visits ≡ suc (c .visits) → step rule t S ≡ turn (f c1) → Again
-          → Beside rule t (c1 .visits) F (R ++ instructionsOut t (instructionRowsAt t b)) (m + length (instructionRowsAt t b)) (f c1) y
+          → Beside rule t (c1 .visits) F (R ⊕ instructionsOut t (instructionRowsAt t b)) (m + length (instructionRowsAt t b)) (f c1) y
           → Along rule t S (c .visits) F R m (y >>= λ s. thenNext t b (visitBlock t (visitValueBlock t d) inner (aroundOf rule t F) n) (s .statement) (s .next) (s .context))
       after c1 (refused e p w) q st again u = unfold _>>=_ in gives-turn rule t S (f c1) (rejected e p w) st u
       after c1 (ok s) q st again (le, u) = unfold _>>=_ in
@@ -768,27 +785,27 @@ walk-sim rule t zero b F R m c size = gives-turn rule t (visiting b F R m c) (re
     full : visitTurn rule t b F R m c ≡ refused 30 b (c .visits)
     full = unfold visitTurn refuseIf _>>=_ in
         ap (λ (y : Bool). refuseIf y 30 b (c .visits) >>= λ _. enterBlock t b c >>= λ c1.
-        terminalTurn (aroundOf rule t F) t (visitValueBlock t (depthLeft F)) (terminalAt t b) b (blockAt t b) F (R ++ instructionsOut t (instructionRowsAt t b))
+        terminalTurn (aroundOf rule t F) t (visitValueBlock t (depthLeft F)) (terminalAt t b) b (blockAt t b) F (R ⊕ instructionsOut t (instructionRowsAt t b))
         (m + length (instructionRowsAt t b)) c1) (le-leb 128 (length F) (omega arith))
 walk-sim rule t (suc d) b F R m c size = chain-sim rule t d (traverseBlock t d) (walk-sim rule t d) (walk-fine t d) 8193 b F R m c size (omega arith)
 
 -- the root list has ended
 root-ends : (rule : Rule) (t : Table) (r : BlockResult)
-    → Gives rule t (ended [] ([] ++ statementsOut (r .statements)) (0 + countStatements (r .statements)) (r .context))
-    (accepted (rows (r .statements)) (r .context .visits))
-unfolding step
+    → Gives rule t (ended [] (listPut noOutput (r .statements)) (0 + countStatements (r .statements)) (r .context))
+    (accepted (rows (r .statements)) (lines (r .statements)) (r .context .visits))
+unfolding step lines
 root-ends rule t r =
-    halts (ap (λ (z : ℕ). halt (accepted (statementsOut (r .statements) ++ (blockRow z ∷ [])) (r .context .visits))) (zero-add (countStatements (r .statements)))
-    ∙ ap (λ (z : List Row). halt (accepted z (r .context .visits))) (sym (block-rows (r .statements) [])))
+    halts (ap (λ (z : ℕ). halt (accepted (statementsOut (r .statements) ++ (blockRow z ∷ [])) (linesIn 0 (r .statements)) (r .context .visits))) (zero-add (countStatements (r .statements)))
+    ∙ ap (λ (z : List Row). halt (accepted z (linesIn 0 (r .statements)) (r .context .visits))) (sym (block-rows (r .statements) [])))
 
 -- the machine gives what the definition gives, for every table
 pub machine-builds : (rule : Rule) (t : Table) → Gives rule t (begin t) (report rule t)
 unfolding report buildTree Walks
-machine-builds rule t = at (traverseBlock t 128 (outermost rule) (t .entry) start) (walk-sim rule t 128 (t .entry) [] [] 0 start refl)
+machine-builds rule t = at (traverseBlock t 128 (outermost rule) (t .entry) start) (walk-sim rule t 128 (t .entry) [] noOutput 0 start refl)
   where
-    at : (y : Result BlockResult) → Along rule t (begin t) (start .visits) [] [] 0 y → Gives rule t (begin t) (reported y)
+    at : (y : Result BlockResult) → Along rule t (begin t) (start .visits) [] noOutput 0 y → Gives rule t (begin t) (reported y)
     at (refused e p w) h = unfold reported in h
-    at (ok r) (lt, h) = unfold reported in h (accepted (rows (r .statements)) (r .context .visits)) (root-ends rule t r)
+    at (ok r) (lt, h) = unfold reported in h (accepted (rows (r .statements)) (lines (r .statements)) (r .context .visits)) (root-ends rule t r)
 
 going-halt : {s : State} {a : Report} → going s ≡ halt a → ⊥
 going-halt e = let z : _≡_ {A = ℕ} 0 1 = cc in omega arith

@@ -8,27 +8,28 @@ use mathlib.Core.Option.{none, some}
 use mathlib.Core.Bool.{Bool, true, false, _||_}
 use lib.ListN.{length}
 use lib.Dec.{eqb}
-use Rattle.table.specs.Table.{Table, while, terminalAt, isAbsent}
-use Rattle.definition.specs.Context.{Flags, has, add, remove, ControlFlowTarget, target-if, target-switch, target-case, target-loop, Entry, Context}
-use Rattle.definition.specs.Context.{start, isScheduled, emit, withVisits, markScopeFallthrough, pushed, schedule, unscheduledBy, popped, unscheduleTop}
-use Rattle.definition.specs.Context.{unschedule}
-use Rattle.definition.specs.Plain.{fallthroughOf}
+use Rattle.table.specs.Table.{Table, switch, while, terminalAt, isAbsent}
+use Rattle.definition.specs.Context.{Flags, has, add, remove, ControlFlowTarget, target-if, target-switch, target-case, target-loop, isBlocked}
+use Rattle.definition.specs.Context.{blockedCode, blockAsked, Entry, Context, start, isScheduled, emit, withVisits, markScopeFallthrough, pushed}
+use Rattle.definition.specs.Context.{schedule, unscheduledBy, popped, unscheduleTop, unschedule}
+use Rattle.definition.specs.Plain.{Width, IsCase, fallthroughOf}
 use Rattle.definition.specs.Result.{refused, ok, refuseIf}
 use Rattle.definition.specs.Statement.{enterBlock, unlessScheduled}
 use Rattle.definition.specs.Value.{beginVisit}
-use Rattle.definition.proofs.Semantics.{Frame, in-label, in-scope, in-loop}
+use Rattle.definition.proofs.Semantics.{Frame, in-label, in-scope, in-loop, in-switch, in-case}
 use Rattle.definition.proofs.Ranged.{Ranged}
 use Rattle.definition.proofs.PlainEnough.{PlainEnough}
 use Rattle.definition.proofs.Steps.{true-false, refused-ok, ok-eq, bind-ok, unless-ok}
 use Rattle.definition.proofs.Flags.{has-add, has-remove, has-still, has-new, length-add, has-none, length-none, below-blocks}
-use Rattle.definition.proofs.Resolve.{Framed, no-frame, label-framed, scope-framed, loop-framed}
+use Rattle.definition.proofs.Resolve.{Framed, no-frame, label-framed, scope-framed, loop-framed, switch-framed, case-framed}
 
 module _ (t : Table) where
-  -- x is the fallthrough of an emitted block, or a loop block or test
+  -- x is the fallthrough of an emitted block, or a loop block or test, or a case block
   pub data Known (emitted : Flags) (x : ℕ) : Type 0 where
     fallthrough-of : (b : ℕ) → has emitted b ≡ true → fallthroughOf (terminalAt t b) ≡ some x → Known emitted x
     loop-of : (w y g : ℕ) → terminalAt t w ≡ while y x g → Known emitted x
     test-of : (w l g : ℕ) → terminalAt t w ≡ while x l g → Known emitted x
+    a-case : IsCase t x → Known emitted x
 
   pub record StateOk (F : List Frame) (c : Context) : Type 0 where
     pub wide : length (c .emitted) ≡ 1024
@@ -51,6 +52,7 @@ module _ (t : Table) where
   known-still emitted b x (fallthrough-of d h e) = fallthrough-of d (has-still emitted b d h) e
   known-still emitted b x (loop-of w y g e) = loop-of w y g e
   known-still emitted b x (test-of w l g e) = test-of w l g e
+  known-still emitted b x (a-case h) = a-case h
 
   pub with-visits-ok : {F : List Frame} {c : Context} (v : ℕ) → StateOk F c → StateOk F (withVisits v c)
   unfolding withVisits
@@ -104,16 +106,17 @@ module _ (t : Table) where
 
   -- ---- the fallthrough of an entered block is not scheduled
 
-  not-known : (pl : PlainEnough t) (emitted : Flags) (b f : ℕ) → has emitted b ≡ false → fallthroughOf (terminalAt t b) ≡ some f → Known emitted f → ⊥
+  not-known : {width : Width} (pl : PlainEnough width t) (emitted : Flags) (b f : ℕ) → has emitted b ≡ false → fallthroughOf (terminalAt t b) ≡ some f → Known emitted f → ⊥
   not-known pl emitted b f o e (fallthrough-of d h e′) = true-false (sym h ∙ ap (has emitted) (pl .one-fallthrough d b f e′ e) ∙ o)
   not-known pl emitted b f o e (loop-of w y g e′) = pl .no-loop b f w y f g e e′ refl
   not-known pl emitted b f o e (test-of w l g e′) = pl .no-test b f w f l g e e′ refl
+  not-known pl emitted b f o e (a-case h) = pl .case-fallthrough b f e h
 
   both-false : (x y : Bool) → (x ≡ true → ⊥) → y ≡ false → x || y ≡ false
   both-false true y n h = absurd (n refl)
   both-false false y n h = h
 
-  pub fallthrough-free : (pl : PlainEnough t) {F : List Frame} {c c₁ : Context} (b f : ℕ) → Entered b F c c₁ → fallthroughOf (terminalAt t b) ≡ some f → isScheduled c₁ f ≡ false
+  pub fallthrough-free : {width : Width} (pl : PlainEnough width t) {F : List Frame} {c c₁ : Context} (b f : ℕ) → Entered b F c c₁ → fallthroughOf (terminalAt t b) ≡ some f → isScheduled c₁ f ≡ false
   unfolding isScheduled
   fallthrough-free pl {F} {c} {c₁} b f p e =
       both-false (has (c₁ .scheduled) f) (has (c₁ .catchHandlers) f) (λ h. not-known pl (c .emitted) b f (p .old) e (p .before f h)) (p .state .no-catch f)
@@ -129,6 +132,8 @@ module _ (t : Table) where
   framed-still y (label-framed i f p) = label-framed i f (framed-still y p)
   framed-still {scopes} y (scope-framed i f h p) = scope-framed i f (has-still scopes y f h) (framed-still y p)
   framed-still y (loop-framed i f x w l ll o h p) = loop-framed i f x w l ll o h (framed-still y p)
+  framed-still y (switch-framed i f w x k n h p) = switch-framed i f w x k n h (framed-still y p)
+  framed-still y (case-framed i k h p) = case-framed i k h (framed-still y p)
 
   known-add : (emitted s : Flags) (f : ℕ) → Known emitted f → ((x : ℕ) → has s x ≡ true → Known emitted x) → (x : ℕ) → has (add s f) x ≡ true → Known emitted x
   known-add emitted s f k r x e = elim (has-add s f x e) [ inl h ↦ subst (λ (z : ℕ). Known emitted z) (sym h) k | inr h ↦ r x h ]
@@ -166,15 +171,31 @@ module _ (t : Table) where
     framed = loop-framed (c .nextId) f x w l l _ e (p .framed);
   }
 
-  pub schedule-ok : (f : ℕ) (c c₁ : Context) → schedule (target-if f) c ≡ ok c₁ → pushed (target-if f) c ≡ c₁
-  unfolding schedule
-  schedule-ok f c c₁ e =
-      let (u, h, e₁) = bind-ok (refuseIf (has (c .scheduled) f) 90 f (c .visits)) _ c₁ e in ok-eq e₁
+  pub push-switch-ok : {F : List Frame} {c : Context} (w x k n f : ℕ) → StateOk F c → terminalAt t w ≡ switch x k n f → Known (c .emitted) f
+      → StateOk (in-switch f ∷ F) (pushed (target-switch f) c)
+  unfolding pushed
+  push-switch-ok {F} {c} w x k n f p e q = record {
+    wide = p .wide;
+    wide-scopes = p .wide-scopes;
+    no-catch = p .no-catch;
+    known = known-add (c .emitted) (c .scheduled) f q (p .known);
+    framed = switch-framed (c .nextId) f w x k n e (p .framed);
+  }
 
-  pub schedule-loop-ok : (f x l : ℕ) (c c₁ : Context) → schedule (target-loop f x l) c ≡ ok c₁ → pushed (target-loop f x l) c ≡ c₁
+  pub push-case-ok : {F : List Frame} {c : Context} (k : ℕ) → StateOk F c → IsCase t k → StateOk (in-case k ∷ F) (pushed (target-case k) c)
+  unfolding pushed
+  push-case-ok {F} {c} k p h = record {
+    wide = p .wide;
+    wide-scopes = p .wide-scopes;
+    no-catch = p .no-catch;
+    known = known-add (c .emitted) (c .scheduled) k (a-case h) (p .known);
+    framed = case-framed (c .nextId) k h (p .framed);
+  }
+
+  pub schedule-ok : (g : ControlFlowTarget) (c c₁ : Context) → schedule g c ≡ ok c₁ → pushed g c ≡ c₁
   unfolding schedule
-  schedule-loop-ok f x l c c₁ e =
-      let (u, h, e₁) = bind-ok (refuseIf (has (add (c .scheduled) f) x) 15 x (c .visits)) _ c₁ e in ok-eq e₁
+  schedule-ok g c c₁ e =
+      let (u, h, e₁) = bind-ok (refuseIf (isBlocked g (c .scheduled)) (blockedCode g) (blockAsked g) (c .visits)) _ c₁ e in ok-eq e₁
 
   -- ---- and popped
 
@@ -190,6 +211,8 @@ module _ (t : Table) where
   framed-tail (label-framed i f p) = p
   framed-tail (scope-framed i f h p) = p
   framed-tail (loop-framed i f x w l ll o h p) = p
+  framed-tail (switch-framed i f w x k n h p) = p
+  framed-tail (case-framed i k h p) = p
 
   pub record Closed (F : List Frame) (S : List Entry) (c : Context) : Type 0 where
     pub state : StateOk F c

@@ -3,37 +3,45 @@ use mathlib.Core.Path.{_≡_, refl, sym, ap, _∙_, subst}
 use Prim.Native.Nat.{ℕ, zero, suc, _<_}
 use native.Mathlib.Omega.{arith}
 use mathlib.Core.Logic.{_⊎_, inl, inr}
-use mathlib.Core.List.{List, [], _∷_, _++_}
+use mathlib.Core.List.{List, [], _∷_, _++_, reverseAux}
 use mathlib.Core.Option.{Option, none, some}
-use mathlib.Core.Bool.{Bool, true, false}
+use mathlib.Core.Bool.{Bool, true, false, not, _||_}
+use lib.ListN.{take, drop}
 use lib.Dec.{eqb}
-use borrow.Author.Tests.{eqb-true}
+use borrow.Author.Tests.{eqb-true, eq-eqb}
 use Rattle.table.specs.declared.columns.Span.{Span}
-use Rattle.table.specs.Table.{codeOf, Table, Block, Operation, other, load-local, store-local, Terminal, absent, unreachable, throw, return, goto, if, branch}
-use Rattle.table.specs.Table.{switch, do-while, while, for, for-of, for-in, logical, ternary, optional, sequence, maybe-throw, try, scope, Variant, Break}
-use Rattle.table.specs.Table.{Continue, Try, blockAt, terminalAt, instructionAt, instructionRowsAt, isAbsent, isUnreachable, label}
-use Rattle.definition.specs.Context.{getBreakTarget, getContinueTarget, Resolution, has, Entry, target-if, target-loop, Context, isScheduled, withVisits}
-use Rattle.definition.specs.Context.{markScopeFallthrough, pushed, schedule, unschedule, breakTargetFrom, continueTargetFrom}
-use Rattle.definition.specs.Plain.{fallthroughOf, plainCodes, isBranch, isStore, endsInStore, NotBranch, otherNames, All}
-use Rattle.definition.specs.Around.{Rule, rust, language, Around, a-loop, another, within, switchInside, kindBy, breakKindIn, breakUnnamed, continueUnnamed}
+use Rattle.table.specs.Table.{codeOf, Table, Block, Case, Operation, other, load-local, store-local, Terminal, absent, unreachable, throw, return, goto, if}
+use Rattle.table.specs.Table.{branch, switch, do-while, while, for, for-of, for-in, logical, ternary, optional, sequence, maybe-throw, try, scope, Variant}
+use Rattle.table.specs.Table.{Break, Continue, Try, blockAt, terminalAt, instructionAt, instructionRowsAt, isAbsent, isUnreachable, label}
+use Rattle.definition.specs.Context.{getBreakTarget, getContinueTarget, Resolution, has, Entry, target-if, target-switch, target-case, target-loop}
+use Rattle.definition.specs.Context.{Context, isScheduled, withVisits, markScopeFallthrough, pushed, schedule, unschedule, breakTargetFrom}
+use Rattle.definition.specs.Context.{continueTargetFrom}
+use Rattle.definition.specs.Plain.{Width, paper-01, with-switch, blocksOf, caseBlocksOf, IsCase, fallthroughOf, plainCodes, isBranch, isStore, endsInStore, NotBranch, otherNames, All}
+use Rattle.definition.specs.Around.{Rule, rust, language, Enclosing, Around, a-loop, a-switch, another, within, switchInside, kindBy, breakKindIn, breakUnnamed, continueUnnamed}
 use Rattle.definition.specs.Result.{Result, ok, _>>=_, refuseIf}
 use Rattle.definition.specs.Run.{Answers}
+use Rattle.definition.specs.BlockRun.{caseList}
 use Rattle.definition.specs.Completion.{contains, Completion, break, continue}
 use Rattle.definition.specs.TreeRun.{performs, performsAll, runStatements, completed, prefix, then, thenOn, jumpCompletion}
-use Rattle.definition.specs.Statement.{breakToScope, visitBreak, visitContinue, TerminalResult, BlockResult, TraverseBlock, TraverseInside, enterBlock, unlessScheduled}
-use Rattle.definition.specs.Statement.{unlessUnreachable, scheduleIf, unscheduleIf, markScopeFallthroughIf, traverseUnscheduled, AlternateResult}
-use Rattle.definition.specs.Statement.{traverseAlternate, breakResolved, continueResolved, visitGoto, traverseEnclosed, loopIsTaken, traverseLoop}
+use Rattle.definition.specs.Statement.{breakToScope, visitBreak, visitContinue, TerminalResult, BlockResult, TraverseBlock, TraverseInside, enterBlock}
+use Rattle.definition.specs.Statement.{unlessScheduled, unlessUnreachable, scheduleIf, unscheduleIf, markScopeFallthroughIf, traverseUnscheduled}
+use Rattle.definition.specs.Statement.{AlternateResult, traverseAlternate, breakResolved, continueResolved, visitGoto, traverseEnclosed, loopIsTaken}
+use Rattle.definition.specs.Statement.{traverseLoop, CasesResult, casesLastFirst, traverseCases, scheduleSwitch, scheduleIds, unscheduleAll}
 use Rattle.definition.specs.Statement.{visitTerminal, instructionStatements, followedBy, thenNext, visitBlock, traverseBlock}
-use Rattle.definition.specs.Tree.{Kind, implicit, labeled, unlabeled, Value, PLAIN, no-instructions, Statement, IF, WHILE, LABEL, SCOPE, BREAK, CONTINUE, Statements, done, _▸_}
+use Rattle.definition.specs.Tree.{Kind, implicit, labeled, unlabeled, Value, PLAIN, no-instructions, Statement, IF, SWITCH, CASE, WHILE, LABEL, SCOPE, BREAK, CONTINUE, Statements, done, _▸_}
 use Rattle.definition.specs.Value.{visitValueBlock, beginVisit, ValueBlockResult, VisitValueBlock, instructionsOf, wrapWithSequence, finalValue}
 use Rattle.definition.specs.Value.{storedToNamed, allButLast, last, extractValueBlockResult, branchValue, visitValueBlockAt}
-use Rattle.definition.proofs.Semantics.{Frame, in-label, in-scope, in-loop, target, Built, built-return, built-throw, built-jump, built-if, built-if-only, built-label, built-scope, built-while}
+use Rattle.definition.proofs.Semantics.{Frame, in-label, in-scope, in-loop, in-switch, in-case, target, Built, BuiltCases, built-none, built-case}
+use Rattle.definition.proofs.Semantics.{built-switch, built-return, built-throw, built-jump, built-if, built-if-only, built-label, built-scope}
+use Rattle.definition.proofs.Semantics.{built-while}
 use Rattle.definition.proofs.Ranged.{Ranged}
-use Rattle.definition.proofs.PlainEnough.{PlainEnough}
-use Rattle.definition.proofs.Steps.{true-false, refused-ok, ok-eq, bind-ok}
+use Rattle.definition.proofs.PlainEnough.{PlainEnough, wide-codes}
+use Rattle.definition.proofs.Runnable.{Straight, StraightAll, Runnable}
+use Rattle.definition.proofs.Steps.{true-false, refused-ok, ok-eq, bind-ok, unless-ok}
+use Rattle.definition.proofs.Resolve.{Clear, Fits, fits-label, fits-scope, fits-loop, fits-switch, fits-case, clear-around, clear-paper}
 use Rattle.definition.proofs.Resolve.{break-exit, break-names, break-label, break-target, continue-target}
 use Rattle.definition.proofs.State.{Known, fallthrough-of, StateOk, with-visits-ok, Entered, enter-ok, fallthrough-free, untaken-free, push-label-ok}
-use Rattle.definition.proofs.State.{push-scope-ok, push-loop-ok, schedule-ok, schedule-loop-ok, Closed, unschedule-ok}
+use Rattle.definition.proofs.State.{push-scope-ok, push-loop-ok, push-switch-ok, push-case-ok, schedule-ok, Closed, unschedule-ok}
 
 -- ---- the value of a test
 
@@ -76,10 +84,34 @@ module _ (t : Table) where
   branch-performs b x i v [] r h e = ap (λ (z : ValueBlockResult). performs (z .value)) (sym (ok-eq e))
   branch-performs b x i v (q ∷ rs) r h e = ap (λ (z : ValueBlockResult). performs (z .value)) (sym (ok-eq e)) ∙ extract-performs b q rs v h
 
+  -- and it is a value that is run
+
+  straight-instructions : (rs : List ℕ) → StraightAll (instructionsOf t rs no-instructions)
+  unfolding instructionsOf
+  straight-instructions [] = tt
+  straight-instructions (r ∷ rs) = (tt, straight-instructions rs)
+
+  straight-wrapped : (rs : List ℕ) (i n : ℕ) → Straight (wrapWithSequence t rs i (PLAIN n))
+  unfolding wrapWithSequence
+  straight-wrapped [] i n = tt
+  straight-wrapped (r ∷ rs) i n = (straight-instructions (r ∷ rs), tt)
+
+  straight-extracted : (b r : ℕ) (rs : List ℕ) (v : ℕ) → endsInStore t (r ∷ rs) ≡ false → Straight (extractValueBlockResult t b r rs v .value)
+  unfolding extractValueBlockResult
+  straight-extracted b r rs v h =
+      subst (λ (z : Value). Straight (wrapWithSequence t (allButLast r rs) (instructionAt t (last r rs) .id) z))
+      (sym (last-plain (last r rs) (storedToNamed t (instructionAt t (last r rs) .operation)) (instructionAt t (last r rs) .operation) (last-no-store r rs h)))
+      (straight-wrapped (allButLast r rs) (instructionAt t (last r rs) .id) (last r rs))
+
+  straight-branch : (b x i v : ℕ) (rs : List ℕ) (r : ValueBlockResult) → endsInStore t rs ≡ false → branchValue t b x i rs v ≡ ok r → Straight (r .value)
+  unfolding branchValue
+  straight-branch b x i v [] r h e = subst (λ (z : ValueBlockResult). Straight (z .value)) (ok-eq e) tt
+  straight-branch b x i v (q ∷ rs) r h e = subst (λ (z : ValueBlockResult). Straight (z .value)) (ok-eq e) (straight-extracted b q rs v h)
+
   unfoldable pub TestOk : VisitValueBlock → Type 0
   TestOk values =
       (x y c a : ℕ) (span : Span) (v : ℕ) (r : ValueBlockResult) → terminalAt t x ≡ branch y c a → endsInStore t (instructionRowsAt t x) ≡ false → values x none
-      span v ≡ ok r → performs (r .value) ≡ instructionRowsAt t x
+      span v ≡ ok r → (performs (r .value) ≡ instructionRowsAt t x) × Straight (r .value)
 
   pub value-ok : (d : ℕ) → TestOk (visitValueBlock t d)
   unfolding TestOk visitValueBlock visitValueBlockAt
@@ -87,7 +119,9 @@ module _ (t : Table) where
   value-ok (suc d) x y c a span v r e h k =
       let (v₁, h₁, k₁) = bind-ok (beginVisit t x v) _ r k in
       let (u, h₂, k₂) = bind-ok (refuseIf false 23 x v₁) _ r k₁ in
-      branch-performs x y (blockAt t x .id) v₁ (instructionRowsAt t x) r h (subst (λ (m : Terminal). visitValueBlockAt t (visitValueBlock t d) m x (blockAt t x) none span v₁ ≡ ok r) e k₂)
+      let k₃ : branchValue t x y (blockAt t x .id) (instructionRowsAt t x) v₁ ≡ ok r =
+      subst (λ (m : Terminal). visitValueBlockAt t (visitValueBlock t d) m x (blockAt t x) none span v₁ ≡ ok r) e k₂ in
+      (branch-performs x y (blockAt t x .id) v₁ (instructionRowsAt t x) r h k₃, straight-branch x y (blockAt t x .id) v₁ (instructionRowsAt t x) r h k₃)
 
 -- ---- a part of the walk
 
@@ -96,8 +130,16 @@ module _ (t : Table) where
     pub tree : Built t F b (r .statements)
     pub left : Closed t F S (r .context)
 
-  unfoldable pub WalkOk : TraverseBlock → Type 0
-  WalkOk inner = (F : List Frame) (b : ℕ) (c : Context) (r : BlockResult) → StateOk t F c → NotBranch t b → inner b c ≡ ok r → Made F b (c .stack) r
+  -- the frames are those of what is around, and the rule is the entry's
+  pub record Suits (rule : Rule) (o : Around) (F : List Frame) : Type 0 where
+    pub by-rule : o .rule ≡ rule
+    pub fits : Fits t F (o .statements)
+
+  unfoldable pub BlockOk : List Frame → TraverseBlock → Type 0
+  BlockOk F inner = (b : ℕ) (c : Context) (r : BlockResult) → StateOk t F c → NotBranch t b → inner b c ≡ ok r → Made F b (c .stack) r
+
+  unfoldable pub WalkOk : Rule → TraverseInside → Type 0
+  WalkOk rule inner = (o : Around) (F : List Frame) → Suits rule o F → BlockOk F (inner o)
 
   -- what a block's end gives: it ends the list, or the fallthrough goes on
   pub data StepOk (F : List Frame) (b : ℕ) (S : List Entry) (s : TerminalResult) : Type 0 where
@@ -105,14 +147,14 @@ module _ (t : Table) where
     goes-on : (f : ℕ) → s .next ≡ some f → NotBranch t f → ((r : Statements) → Built t F f r → Built t F b (instructionStatements t (instructionRowsAt t b) (followedBy (s .statement) r)))
         → Closed t F S (s .context) → StepOk F b S s
 
-  next-ok : (F : List Frame) (b : ℕ) (S : List Entry) (again : TraverseBlock) (s : TerminalResult) (r : BlockResult) → WalkOk again → StepOk F b S s
+  next-ok : (F : List Frame) (b : ℕ) (S : List Entry) (again : TraverseBlock) (s : TerminalResult) (r : BlockResult) → BlockOk F again → StepOk F b S s
       → thenNext t b again (s .statement) (s .next) (s .context) ≡ ok r → Made F b S r
-  unfolding WalkOk thenNext
+  unfolding BlockOk thenNext
   next-ok F b S again s r w (ends-here h p q) e =
       subst (λ (z : BlockResult). Made F b S z) (ok-eq (subst (λ (z : Option ℕ). thenNext t b again (s .statement) z (s .context) ≡ ok r) h e)) (record { tree = p; left = q })
   next-ok F b S again s r w (goes-on f h n p q) e =
       let (r₁, h₁, e₁) = bind-ok (again f (s .context)) _ r (subst (λ (z : Option ℕ). thenNext t b again (s .statement) z (s .context) ≡ ok r) h e) in
-      let m : Made F f (s .context .stack) r₁ = w F f (s .context) r₁ (q .state) n h₁ in
+      let m : Made F f (s .context .stack) r₁ = w f (s .context) r₁ (q .state) n h₁ in
       subst (λ (z : BlockResult). Made F b S z) (ok-eq e₁) (record { tree = p (r₁ .statements) (m .tree); left = record { state = m .left .state; same = m .left .same ∙ q .same } })
 
   -- a target on top of the stack
@@ -124,31 +166,31 @@ module _ (t : Table) where
   opened-label : {F : List Frame} {c c₁ : Context} (f : ℕ) → StateOk t F c → Known t (c .emitted) f → scheduleIf (some f) c ≡ ok c₁ → Opened (in-label f) F c c₁
   unfolding scheduleIf pushed
   opened-label {F} {c} {c₁} f p k e =
-      subst (λ (d : Context). Opened (in-label f) F c d) (schedule-ok t f c c₁ e)
+      subst (λ (d : Context). Opened (in-label f) F c d) (schedule-ok t (target-if f) c c₁ e)
       (record { state = push-label-ok t f p k; top = record { id = c .nextId; target = target-if f; ownsLoop = false }; stack = refl })
 
   opened-scope : {F : List Frame} {c c₁ : Context} (f : ℕ) → f < 1024 → StateOk t F c → Known t (c .emitted) f → scheduleIf (some f) c ≡ ok c₁
       → Opened (in-scope f) F c (markScopeFallthroughIf (some f) c₁)
   unfolding scheduleIf pushed markScopeFallthroughIf markScopeFallthrough
   opened-scope {F} {c} {c₁} f h p k e =
-      subst (λ (d : Context). Opened (in-scope f) F c (markScopeFallthrough f d)) (schedule-ok t f c c₁ e)
+      subst (λ (d : Context). Opened (in-scope f) F c (markScopeFallthrough f d)) (schedule-ok t (target-if f) c c₁ e)
       (record { state = push-scope-ok t f h p k; top = record { id = c .nextId; target = target-if f; ownsLoop = false }; stack = refl })
 
   opened-loop : {F : List Frame} {c c₁ : Context} (w x l f : ℕ) → StateOk t F c → terminalAt t w ≡ while x l f → Known t (c .emitted) f
       → schedule (target-loop f x l) c ≡ ok c₁ → Opened (in-loop f x) F c c₁
   unfolding pushed
   opened-loop {F} {c} {c₁} w x l f p h k e =
-      subst (λ (d : Context). Opened (in-loop f x) F c d) (schedule-loop-ok t f x l c c₁ e)
+      subst (λ (d : Context). Opened (in-loop f x) F c d) (schedule-ok t (target-loop f x l) c c₁ e)
       (record { state = push-loop-ok t w x l f p h k; top = record { id = c .nextId; target = target-loop f x l; ownsLoop = _ }; stack = refl })
 
-  unscheduled-ok : (inner : TraverseBlock) → WalkOk inner → (F : List Frame) (b code at : ℕ) (c : Context) (r : BlockResult) → StateOk t F c → NotBranch t b
+  unscheduled-ok : (inner : TraverseBlock) (F : List Frame) → BlockOk F inner → (b code at : ℕ) (c : Context) (r : BlockResult) → StateOk t F c → NotBranch t b
       → traverseUnscheduled inner b code at c ≡ ok r → Made F b (c .stack) r
-  unfolding traverseUnscheduled WalkOk
-  unscheduled-ok inner w F b code at c r p n e =
-      let (u, h, e₁) = bind-ok (refuseIf (isScheduled c b) code at (c .visits)) _ r e in w F b c r p n e₁
+  unfolding traverseUnscheduled BlockOk
+  unscheduled-ok inner F w b code at c r p n e =
+      let (u, h, e₁) = bind-ok (refuseIf (isScheduled c b) code at (c .visits)) _ r e in w b c r p n e₁
 
   -- the fallthrough of an entered block of a plain table is taken
-  plain-reachable : (m : Terminal) → contains plainCodes (codeOf m) ≡ true → isUnreachable m ≡ false
+  plain-reachable : (m : Terminal) → contains (plainCodes with-switch) (codeOf m) ≡ true → isUnreachable m ≡ false
   plain-reachable absent h = refl
   plain-reachable unreachable h = absurd (true-false (sym h))
   plain-reachable (throw v) h = refl
@@ -172,11 +214,12 @@ module _ (t : Table) where
   plain-reachable (scope false b f s) h = refl
   plain-reachable (scope true b f s) h = refl
 
-  reached-ok : (pl : PlainEnough t) (c : Context) (f : ℕ) (g : Option ℕ) → isScheduled c f ≡ false → unlessUnreachable t c f ≡ ok g → g ≡ some f
+  reached-ok : {width : Width} (pl : PlainEnough width t) (c : Context) (f : ℕ) (g : Option ℕ) → isScheduled c f ≡ false → unlessUnreachable t c f ≡ ok g → g ≡ some f
   unfolding unlessUnreachable
-  reached-ok pl c f g h e =
+  reached-ok {width} pl c f g h e =
       let (u, h₁, e₁) = bind-ok (refuseIf (isAbsent (terminalAt t f)) 10 f (c .visits)) _ g e in
-      sym (ok-eq e₁) ∙ ap (λ (y : Bool). elim y [ true ↦ none | false ↦ unlessScheduled c f ]) (plain-reachable (terminalAt t f) (pl .ends f)) ∙ untaken-free t c f h
+      sym (ok-eq e₁) ∙ ap (λ (y : Bool). elim y [ true ↦ none | false ↦ unlessScheduled c f ])
+      (plain-reachable (terminalAt t f) (wide-codes width (codeOf (terminalAt t f)) (pl .ends f))) ∙ untaken-free t c f h
 
   closed-ok : {G : Frame} {F : List Frame} {c c₁ d c₂ : Context} (f : ℕ) → Opened G F c c₁ → Closed t (G ∷ F) (c₁ .stack) d → unscheduleIf (some f) (c .nextId) d ≡ ok c₂ → Closed t F (c .stack) c₂
   unfolding unscheduleIf
@@ -188,29 +231,29 @@ module _ (t : Table) where
     no-alt : a ≡ f → s .present ≡ false → s .statements ≡ done → Closed t F S (s .context) → AltOk F a f S s
     an-alt : s .present ≡ true → Built t F a (s .statements) → Closed t F S (s .context) → AltOk F a f S s
 
-  alternate-at : (inner : TraverseBlock) → WalkOk inner → (F : List Frame) (a f : ℕ) (c : Context) (s : AlternateResult) (y : Bool) → eqb a f ≡ y → StateOk t F c → NotBranch t a
+  alternate-at : (inner : TraverseBlock) (F : List Frame) → BlockOk F inner → (a f : ℕ) (c : Context) (s : AlternateResult) (y : Bool) → eqb a f ≡ y → StateOk t F c → NotBranch t a
       → elim y [
         | true ↦ ok (record { present = false; statements = done; context = c })
         | false ↦ traverseUnscheduled inner a 13 a c >>= λ r. ok (record { present = true; statements = r .statements; context = r .context })
       ] ≡ ok s
       → AltOk F a f (c .stack) s
-  alternate-at inner w F a f c s true h p n e =
+  alternate-at inner F w a f c s true h p n e =
       subst (λ (z : AlternateResult). AltOk F a f (c .stack) z) (ok-eq e) (no-alt (eqb-true a f h) refl refl (record { state = p; same = refl }))
-  alternate-at inner w F a f c s false h p n e =
+  alternate-at inner F w a f c s false h p n e =
       let (r, h₁, e₁) = bind-ok (traverseUnscheduled inner a 13 a c) _ s e in
-      let m : Made F a (c .stack) r = unscheduled-ok inner w F a 13 a c r p n h₁ in
+      let m : Made F a (c .stack) r = unscheduled-ok inner F w a 13 a c r p n h₁ in
       subst (λ (z : AlternateResult). AltOk F a f (c .stack) z) (ok-eq e₁) (an-alt refl (m .tree) (m .left))
 
-  alternate-ok : (inner : TraverseBlock) → WalkOk inner → (F : List Frame) (a f : ℕ) (c : Context) (s : AlternateResult) → StateOk t F c → NotBranch t a
+  alternate-ok : (inner : TraverseBlock) (F : List Frame) → BlockOk F inner → (a f : ℕ) (c : Context) (s : AlternateResult) → StateOk t F c → NotBranch t a
       → traverseAlternate inner a f c ≡ ok s → AltOk F a f (c .stack) s
   unfolding traverseAlternate
-  alternate-ok inner w F a f c s p n e = alternate-at inner w F a f c s (eqb a f) refl p n e
+  alternate-ok inner F w a f c s p n e = alternate-at inner F w a f c s (eqb a f) refl p n e
 
   if-built : (F : List Frame) (b x y a f i : ℕ) (S : List Entry) (s₁ : Statements) (s : AlternateResult) → terminalAt t b ≡ if x y a f
       → Built t (in-label f ∷ F) y s₁ → AltOk (in-label f ∷ F) a f S s
       → (r : Statements) → Built t F f r → Built t F b (instructionStatements t (instructionRowsAt t b) (IF x i (some f) s₁ (s .present) (s .statements) ▸ r))
-  if-built F b x y a f i S s₁ s e p (no-alt h n q k) r m = rw (n, q) (built-if-only x y f i (e ∙ ap (λ (z : ℕ). if x y z f) h) p m)
-  if-built F b x y a f i S s₁ s e p (an-alt n q k) r m = rw n (built-if x y a f i e p q m)
+  if-built F b x y a f i S s₁ s e p (no-alt h n q k) r m = rw (n, q) (built-if-only x y f i (e ∙ ap (λ (z : ℕ). if x y z f) h) p m refl)
+  if-built F b x y a f i S s₁ s e p (an-alt n q k) r m = rw n (built-if x y a f i e p q m refl)
 
   alt-left : {F : List Frame} {a f : ℕ} {S : List Entry} {s : AlternateResult} → AltOk F a f S s → Closed t F S (s .context)
   alt-left (no-alt h n q k) = k
@@ -219,11 +262,34 @@ module _ (t : Table) where
   and-then : {F : List Frame} {S S′ : List Entry} {c : Context} → Closed t F S c → S ≡ S′ → Closed t F S′ c
   and-then p h = record { state = p .state; same = p .same ∙ h }
 
-  module _ (pl : PlainEnough t) (rg : Ranged t) (values : VisitValueBlock) (vo : TestOk t values) (inner : TraverseInside) (wo : (a : Around) → WalkOk (inner a)) where
-    if-ok : {F : List Frame} {c₀ c : Context} (o : Around) (b x y a f : ℕ) (k : Block) (s : TerminalResult) → Entered t b F c₀ c → terminalAt t b ≡ if x y a f
+  -- the entry that the law speaks of, for a table of this width: a Switch only in the language entry
+  abbrev pub Covers : Rule → Width → Type 0
+  Covers rust paper-01 = Unit {0}
+  Covers rust with-switch = ⊥
+  Covers language width = Unit {0}
+
+  suits-in : {rule : Rule} {o : Around} {F : List Frame} (e : Enclosing) (G : Frame) → Suits rule o F
+      → (Fits t F (o .statements) → Fits t (G ∷ F) (e ∷ o .statements)) → Suits rule (within e o) (G ∷ F)
+  suits-in e G su k = record { by-rule = su .by-rule; fits = k (su .fits) }
+
+  module _ (rule : Rule) {width : Width} (covers : Covers rule width) (pl : PlainEnough width t) (rg : Ranged t) (values : VisitValueBlock) (vo : TestOk t values)
+      (inner : TraverseInside) (wo : WalkOk rule inner) where
+    inside-label : {F : List Frame} (o : Around) (f : ℕ) → Suits rule o F → BlockOk (in-label f ∷ F) (inner (within (another (some f)) o))
+    unfolding WalkOk
+    inside-label {F} o f su = wo (within (another (some f)) o) (in-label f ∷ F) (suits-in (another (some f)) (in-label f) su (λ p. fits-label f p))
+
+    inside-scope : {F : List Frame} (o : Around) (f : ℕ) → Suits rule o F → BlockOk (in-scope f ∷ F) (inner (within (another none) o))
+    unfolding WalkOk
+    inside-scope {F} o f su = wo (within (another none) o) (in-scope f ∷ F) (suits-in (another none) (in-scope f) su (λ p. fits-scope f p))
+
+    inside-loop : {F : List Frame} (o : Around) (f x : ℕ) → Suits rule o F → BlockOk (in-loop f x ∷ F) (inner (within (a-loop (some f)) o))
+    unfolding WalkOk
+    inside-loop {F} o f x su = wo (within (a-loop (some f)) o) (in-loop f x ∷ F) (suits-in (a-loop (some f)) (in-loop f x) su (λ p. fits-loop f x p))
+
+    if-ok : {F : List Frame} {c₀ c : Context} (o : Around) → Suits rule o F → (b x y a f : ℕ) (k : Block) (s : TerminalResult) → Entered t b F c₀ c → terminalAt t b ≡ if x y a f
         → visitTerminal t values inner o (if x y a f) b k c ≡ ok s → StepOk F b (c .stack) s
     unfolding visitTerminal
-    if-ok {F} {c₀} {c} o b x y a f k s p e h =
+    if-ok {F} {c₀} {c} o su b x y a f k s p e h =
         let (g, h₁, k₁) = bind-ok (unlessUnreachable t c f) _ s h in
         let (c₁, h₂, k₂) = bind-ok (scheduleIf g c) _ s k₁ in
         let (r, h₃, k₃) = bind-ok (traverseUnscheduled (inner (within (another g) o)) y 12 y c₁) _ s k₂ in
@@ -240,30 +306,32 @@ module _ (t : Table) where
             → ok (record { statement = some (IF x (k .id) g (r .statements) (w .present) (w .statements)); next = g; context = c₂ }) ≡ ok s → StepOk F b (c .stack) s
         finish g c₁ r w c₂ q h₂ h₃ h₄ h₅ k₅ =
             let z₁ : Opened (in-label f) F c c₁ = opened-label f (p .state) (fallthrough-of b (p .new) (ap fallthroughOf e)) (rw q at h₂) in
-            let m : Made (in-label f ∷ F) y (c₁ .stack) r = unscheduled-ok (inner (within (another g) o)) (wo (within (another g) o)) (in-label f ∷ F) y 12 y c₁ r (z₁ .state) (parts .0) h₃ in
-            let z : AltOk (in-label f ∷ F) a f (r .context .stack) w = alternate-ok (inner (within (another g) o)) (wo (within (another g) o)) (in-label f ∷ F)
-            a f (r .context) w (m .left .state) (parts .1 .0) h₄ in
+            let m : Made (in-label f ∷ F) y (c₁ .stack) r = unscheduled-ok (inner (within (another (some f)) o)) (in-label f ∷ F) (inside-label o f su) y 12 y
+            c₁ r (z₁ .state) (parts .0) (rw q at h₃) in
+            let z : AltOk (in-label f ∷ F) a f (r .context .stack) w = alternate-ok (inner (within (another (some f)) o)) (in-label f ∷ F) (inside-label o f su)
+            a f (r .context) w (m .left .state) (parts .1 .0) (rw q at h₄) in
             let u : Closed t F (c .stack) c₂ = closed-ok f z₁ (and-then (alt-left z) (m .left .same)) (rw q at h₅) in
             subst (λ (v : TerminalResult). StepOk F b (c .stack) v) (ok-eq k₅)
             (rw q (goes-on f refl (parts .1 .1 .0) (if-built F b x y a f (k .id) (r .context .stack) (r .statements) w e (m .tree) z) u))
 
     -- ---- Label and the scopes
 
-    enclosed-ok : {G : Frame} {F : List Frame} {c c₁ : Context} (a : Around) (b x code at f : ℕ) (make : Statements → Statement) (s : TerminalResult) → Opened G F c c₁ → NotBranch t x → NotBranch t f
+    enclosed-ok : {G : Frame} {F : List Frame} {c c₁ : Context} (a : Around) → BlockOk (G ∷ F) (inner a)
+        → (b x code at f : ℕ) (make : Statements → Statement) (s : TerminalResult) → Opened G F c c₁ → NotBranch t x → NotBranch t f
         → ((s₁ r : Statements) → Built t (G ∷ F) x s₁ → Built t F f r → Built t F b (instructionStatements t (instructionRowsAt t b) (make s₁ ▸ r)))
         → traverseEnclosed (inner a) x code at (some f) c c₁ make ≡ ok s → StepOk F b (c .stack) s
     unfolding traverseEnclosed
-    enclosed-ok {G} {F} {c} {c₁} a b x code at f make s o n nf mk h =
+    enclosed-ok {G} {F} {c} {c₁} a w b x code at f make s o n nf mk h =
         let (r, h₁, k₁) = bind-ok (traverseUnscheduled (inner a) x code at c₁) _ s h in
         let (c₂, h₂, k₂) = bind-ok (unscheduleIf (some f) (c .nextId) (r .context)) _ s k₁ in
-        let m : Made (G ∷ F) x (c₁ .stack) r = unscheduled-ok (inner a) (wo a) (G ∷ F) x code at c₁ r (o .state) n h₁ in
+        let m : Made (G ∷ F) x (c₁ .stack) r = unscheduled-ok (inner a) (G ∷ F) w x code at c₁ r (o .state) n h₁ in
         subst (λ (v : TerminalResult). StepOk F b (c .stack) v) (ok-eq k₂)
         (goes-on f refl nf (λ r′ q. mk (r .statements) r′ (m .tree) q) (closed-ok f o (m .left) h₂))
 
-    label-ok : {F : List Frame} {c₀ c : Context} (o : Around) (b x f : ℕ) (k : Block) (s : TerminalResult) → Entered t b F c₀ c → terminalAt t b ≡ label x f
+    label-ok : {F : List Frame} {c₀ c : Context} (o : Around) → Suits rule o F → (b x f : ℕ) (k : Block) (s : TerminalResult) → Entered t b F c₀ c → terminalAt t b ≡ label x f
         → visitTerminal t values inner o (label x f) b k c ≡ ok s → StepOk F b (c .stack) s
     unfolding visitTerminal
-    label-ok {F} {c₀} {c} o b x f k s p e h =
+    label-ok {F} {c₀} {c} o su b x f k s p e h =
         let (g, h₁, k₁) = bind-ok (unlessUnreachable t c f) _ s h in
         finish g (reached-ok pl c f g (fallthrough-free t pl b f p (ap fallthroughOf e)) h₁) k₁
       where
@@ -273,16 +341,17 @@ module _ (t : Table) where
         taken : (scheduleIf (some f) c >>= λ c₁. traverseEnclosed (inner (within (another (some f)) o)) x 17 b (some f) c c₁ (LABEL (k .id) (some f))) ≡ ok s → StepOk F b (c .stack) s
         taken h₁ =
             let (c₁, h₂, k₂) = bind-ok (scheduleIf (some f) c) _ s h₁ in
-            enclosed-ok (within (another (some f)) o) b x 17 b f (LABEL (k .id) (some f)) s (opened-label f (p .state) (fallthrough-of b (p .new) (ap fallthroughOf e)) h₂) (parts .0) (parts .1 .0)
-            (λ s₁ r p₁ p₂. built-label x f (k .id) e p₁ p₂) k₂
+            enclosed-ok (within (another (some f)) o) (inside-label o f su) b x 17 b f (LABEL (k .id) (some f)) s
+            (opened-label f (p .state) (fallthrough-of b (p .new) (ap fallthroughOf e)) h₂) (parts .0) (parts .1 .0)
+            (λ s₁ r p₁ p₂. built-label x f (k .id) e p₁ p₂ refl) k₂
 
         finish : (g : Option ℕ) → g ≡ some f → (scheduleIf g c >>= λ c₁. traverseEnclosed (inner (within (another g) o)) x 17 b g c c₁ (LABEL (k .id) g)) ≡ ok s → StepOk F b (c .stack) s
         finish g q k₁ = taken (rw q at k₁)
 
-    scope-ok : {F : List Frame} {c₀ c : Context} (o : Around) (b : ℕ) (pr : Bool) (x f n : ℕ) (k : Block) (s : TerminalResult) → Entered t b F c₀ c → terminalAt t b ≡ scope pr x f n
+    scope-ok : {F : List Frame} {c₀ c : Context} (o : Around) → Suits rule o F → (b : ℕ) (pr : Bool) (x f n : ℕ) (k : Block) (s : TerminalResult) → Entered t b F c₀ c → terminalAt t b ≡ scope pr x f n
         → visitTerminal t values inner o (scope pr x f n) b k c ≡ ok s → StepOk F b (c .stack) s
     unfolding visitTerminal
-    scope-ok {F} {c₀} {c} o b pr x f n k s p e h = finish (unlessScheduled c f) (untaken-free t c f (fallthrough-free t pl b f p (ap fallthroughOf e))) h
+    scope-ok {F} {c₀} {c} o su b pr x f n k s p e h = finish (unlessScheduled c f) (untaken-free t c f (fallthrough-free t pl b f p (ap fallthroughOf e))) h
       where
         parts : All (NotBranch t) (otherNames (scope pr x f n))
         parts = subst (λ (m : Terminal). All (NotBranch t) (otherNames m)) e (pl .names b)
@@ -291,9 +360,9 @@ module _ (t : Table) where
             (SCOPE pr n)) ≡ ok s → StepOk F b (c .stack) s
         taken h₁ =
             let (c₁, h₂, k₂) = bind-ok (scheduleIf (some f) c) _ s h₁ in
-            enclosed-ok (within (another none) o) b x 18 b f (SCOPE pr n) s
+            enclosed-ok (within (another none) o) (inside-scope o f su) b x 18 b f (SCOPE pr n) s
             (opened-scope f (omega (arith, rg .fallthroughs b f (ap fallthroughOf e), rg .few)) (p .state) (fallthrough-of b (p .new) (ap fallthroughOf e)) h₂) (parts .0) (parts .1 .0)
-            (λ s₁ r p₁ p₂. built-scope pr x f n e p₁ p₂) k₂
+            (λ s₁ r p₁ p₂. built-scope pr x f n e p₁ p₂ refl) k₂
 
         finish : (g : Option ℕ) → g ≡ some f → (scheduleIf g c >>= λ c₁. traverseEnclosed (inner (within (another none) o)) x 18 b g c
             (markScopeFallthroughIf g c₁) (SCOPE pr n)) ≡ ok s → StepOk F b (c .stack) s
@@ -301,10 +370,10 @@ module _ (t : Table) where
 
     -- ---- While
 
-    while-ok : {F : List Frame} {c₀ c : Context} (o : Around) (b x l f : ℕ) (k : Block) (s : TerminalResult) → Entered t b F c₀ c → terminalAt t b ≡ while x l f
+    while-ok : {F : List Frame} {c₀ c : Context} (o : Around) → Suits rule o F → (b x l f : ℕ) (k : Block) (s : TerminalResult) → Entered t b F c₀ c → terminalAt t b ≡ while x l f
         → visitTerminal t values inner o (while x l f) b k c ≡ ok s → StepOk F b (c .stack) s
-    unfolding visitTerminal traverseLoop WalkOk TestOk withVisits
-    while-ok {F} {c₀} {c} o b x l f k s p e h =
+    unfolding visitTerminal traverseLoop BlockOk TestOk withVisits
+    while-ok {F} {c₀} {c} o su b x l f k s p e h =
         let (g, h₁, k₁) = bind-ok (unlessUnreachable t c f) _ s h in
         let (c₁, h₂, k₂) = bind-ok (schedule (target-loop f x l) c) _ s k₁ in
         let (v, h₃, k₃) = bind-ok (values x none (k .span) (c₁ .visits)) _ s k₂ in
@@ -321,18 +390,161 @@ module _ (t : Table) where
             → ok (record { statement = some (WHILE (k .id) g (v .value) (r .statements)); next = g; context = c₂ }) ≡ ok s → StepOk F b (c .stack) s
         finish g c₁ v r c₂ q h₂ h₃ h₅ h₆ k₆ =
             let z₁ : Opened (in-loop f x) F c c₁ = opened-loop b x l f (p .state) e (fallthrough-of b (p .new) (ap fallthroughOf e)) h₂ in
-            let m : Made (in-loop f x ∷ F) l (c₁ .stack) r = wo (within (a-loop g) o) (in-loop f x ∷ F) l (withVisits (v .visits) c₁) r (with-visits-ok t (v .visits) (z₁ .state)) (parts .0) h₅ in
+            let m : Made (in-loop f x ∷ F) l (c₁ .stack) r = inside-loop o f x su l (withVisits (v .visits) c₁) r (with-visits-ok t (v .visits) (z₁ .state)) (parts .0) (rw q at h₅) in
             let (y, e₁) = pl .tests b x l f e in
+            let w : (performs (v .value) ≡ instructionRowsAt t x) × Straight (v .value) = vo x y l f (k .span) (c₁ .visits) v e₁ (pl .no-store x y l f e₁) h₃ in
             subst (λ (z : TerminalResult). StepOk F b (c .stack) z) (ok-eq k₆)
             (rw q (goes-on f refl (parts .1 .0)
-            (λ r′ p′. built-while x l f y (k .id) (v .value) e e₁ (vo x y l f (k .span) (c₁ .visits) v e₁ (pl .no-store x y l f e₁) h₃) (m .tree) p′)
+            (λ r′ p′. built-while x l f y (k .id) (v .value) e e₁ (w .0) (w .1) (m .tree) p′ refl)
             (unschedule-ok t (c .nextId) (z₁ .top) (c .stack) (r .context) c₂ (m .left .state) (m .left .same ∙ z₁ .stack) h₆)))
+
+    -- ---- Switch
+
+    -- a case block of the Switch with the fallthrough f
+    abbrev CaseOk : ℕ → ℕ → Type 0
+    CaseOk f k = IsCase t k × NotBranch t k × (k ≡ f → ⊥)
+
+    abbrev AllCases : (ℕ → Type 0) → List Case → Type 0
+    AllCases P [] = Unit {0}
+    AllCases P (k ∷ ks) = P (k .block) × AllCases P ks
+
+    every-case : (P : ℕ → Type 0) (ks : List Case) → ((k : ℕ) → contains (blocksOf ks) k ≡ true → P k) → AllCases P ks
+    every-case P [] h = tt
+    every-case P (k ∷ ks) h = (h (k .block) (here (contains (blocksOf ks) (k .block))), every-case P ks (λ j q. h j (there (eqb (k .block) j) (contains (blocksOf ks) j) q)))
+      where
+        here : (y : Bool) → eqb (k .block) (k .block) || y ≡ true
+        here y = ap (λ (z : Bool). z || y) (eq-eqb (k .block) (k .block) refl)
+
+        there : (x y : Bool) → y ≡ true → x || y ≡ true
+        there true y q = refl
+        there false y q = q
+
+    reversed-cases : (P : ℕ → Type 0) (ks later : List Case) → AllCases P ks → AllCases P later → AllCases P (reverseAux ks later)
+    reversed-cases P [] later p q = q
+    reversed-cases P (k ∷ ks) later (h, p) q = reversed-cases P ks (k ∷ later) p (h, q)
+
+    cases-known : (b x i n f : ℕ) → terminalAt t b ≡ switch x i n f → AllCases (CaseOk f) (casesLastFirst t i n)
+    unfolding casesLastFirst
+    cases-known b x i n f e =
+        reversed-cases (CaseOk f) (take n (drop i (t .cases))) [] (every-case (CaseOk f) (take n (drop i (t .cases))) (λ k h. known k (among k h))) tt
+      where
+        among : (k : ℕ) → contains (blocksOf (take n (drop i (t .cases)))) k ≡ true → IsCase t k
+        among k h = record { of = b; among = unfold caseList in (ap (λ (m : Terminal). contains (caseBlocksOf t m) k) e ∙ h) }
+
+        known : (k : ℕ) → IsCase t k → CaseOk f k
+        known k c = (c, pl .case-not-branch k c, λ q. pl .case-fallthrough b k (ap fallthroughOf e ∙ ap some (sym q)) c)
+
+    -- targets pushed over a stack, with their ids
+    data Stacked (F : List Frame) (S : List Entry) : List ℕ → List Frame → List Entry → Type 0 where
+      at-base : Stacked F S [] F S
+      on-top : {G : List Frame} {E : List Entry} {ids : List ℕ} (i : ℕ) (x : Frame) (e : Entry) → Stacked F S ids G E → Stacked F S (i ∷ ids) (x ∷ G) (e ∷ E)
+
+    unschedule-all-ok : {F : List Frame} {S : List Entry} {ids : List ℕ} {G : List Frame} {E : List Entry} → Stacked F S ids G E → (c c₂ : Context) → StateOk t G c → c .stack ≡ E
+        → unscheduleAll ids c ≡ ok c₂ → Closed t F S c₂
+    unfolding unscheduleAll
+    unschedule-all-ok {F} {S} at-base c c₂ p h e = subst (λ (z : Context). Closed t F S z) (ok-eq e) (record { state = p; same = h })
+    unschedule-all-ok (on-top {G} {E} {ids} i x w s) c c₂ p h e =
+        let (c₁, h₁, e₁) = bind-ok (unschedule i c) _ c₂ e in
+        let q : Closed t G E c₁ = unschedule-ok t i w E c c₁ p h h₁ in
+        unschedule-all-ok s c₁ c₂ (q .state) (q .same) e₁
+
+    record CasesMade (F : List Frame) (S : List Entry) (G : List Frame) (ks : List Case) (r : CasesResult) : Type 0 where
+      tree : BuiltCases t G ks (r .cases)
+      above : List Frame
+      state : StateOk t above (r .context)
+      stacked : Stacked F S (r .ids) above (r .context .stack)
+
+    opened-case : {G : List Frame} {c c₁ : Context} (k : ℕ) → StateOk t G c → IsCase t k → schedule (target-case k) c ≡ ok c₁ → Opened (in-case k) G c c₁
+    unfolding pushed
+    opened-case {G} {c} {c₁} k p h e =
+        subst (λ (d : Context). Opened (in-case k) G c d) (schedule-ok t (target-case k) c c₁ e)
+        (record { state = push-case-ok t k p h; top = record { id = c .nextId; target = target-case k; ownsLoop = false }; stack = refl })
+
+    opened-switch : {F : List Frame} {c c₁ : Context} (b x i n f : ℕ) → StateOk t F c → terminalAt t b ≡ switch x i n f → Known t (c .emitted) f → scheduleSwitch (some f) c ≡ ok c₁
+        → Opened (in-switch f) F c c₁
+    unfolding scheduleSwitch pushed
+    opened-switch {F} {c} {c₁} b x i n f p h k e =
+        subst (λ (d : Context). Opened (in-switch f) F c d) (schedule-ok t (target-switch f) c c₁ e)
+        (record { state = push-switch-ok t b x i n f p h k; top = record { id = c .nextId; target = target-switch f; ownsLoop = false }; stack = refl })
+
+    not-false : (y : Bool) → not y ≡ false → y ≡ true
+    not-false true e = refl
+    not-false false e = absurd (true-false e)
+
+    module _ (F : List Frame) (S : List Entry) (o : Around) (b f : ℕ) where
+      -- the cases from the last on, within the switch and the blocks of the later ones
+      cases-ok : (ks : List Case) (G : List Frame) (ids : List ℕ) (c : Context) (r : CasesResult) → Suits rule o G → StateOk t G c → Stacked F S ids G (c .stack) → AllCases (CaseOk f) ks
+          → traverseCases (inner o) b f ks ids c ≡ ok r → CasesMade F S G ks r
+      unfolding traverseCases WalkOk BlockOk
+      cases-ok [] G ids c r su p s a e =
+          subst (λ (z : CasesResult). CasesMade F S G [] z) (ok-eq e) (record { tree = built-none; above = G; state = p; stacked = s })
+      cases-ok (k ∷ ks) G ids c r su p s (a, rest) e = at (isScheduled c (k .block)) (λ G′ ids′ c′ r′ su′ p′ s′ e′. cases-ok ks G′ ids′ c′ r′ su′ p′ s′ rest e′) e
+        where
+          at : (y : Bool)
+              → ((G′ : List Frame) (ids′ : List ℕ) (c′ : Context) (r′ : CasesResult) → Suits rule o G′ → StateOk t G′ c′ → Stacked F S ids′ G′ (c′ .stack)
+              → traverseCases (inner o) b f ks ids′ c′ ≡ ok r′
+              → CasesMade F S G′ ks r′)
+              → elim y [
+                | true ↦ refuseIf (not (eqb (k .block) f)) 14 b (c .visits) >>= λ _. traverseCases (inner o) b f ks ids c
+                | false ↦ inner o (k .block) c >>= λ r. schedule (target-case (k .block)) (r .context) >>= λ c1.
+                    traverseCases (inner o) b f ks (r .context .nextId ∷ ids) c1 >>= λ z. ok (record { cases = CASE (k .test) (r .statements) (z .cases); ids = z .ids; context = z .context })
+              ] ≡ ok r
+              → CasesMade F S G (k ∷ ks) r
+          at true ih h =
+              let (u, h₁, e₁) = bind-ok (refuseIf (not (eqb (k .block) f)) 14 b (c .visits)) _ r h in
+              absurd (a .2 (eqb-true (k .block) f (not-false (eqb (k .block) f) (unless-ok (not (eqb (k .block) f)) 14 b (c .visits) u h₁))))
+          at false ih h =
+              let (r₁, h₁, e₁) = bind-ok (inner o (k .block) c) _ r h in
+              let (c₁, h₂, e₂) = bind-ok (schedule (target-case (k .block)) (r₁ .context)) _ r e₁ in
+              let (z, h₃, e₃) = bind-ok (traverseCases (inner o) b f ks (r₁ .context .nextId ∷ ids) c₁) _ r e₂ in
+              made r₁ c₁ z h₁ h₂ h₃ e₃
+            where
+              made : (r₁ : BlockResult) (c₁ : Context) (z : CasesResult) → inner o (k .block) c ≡ ok r₁ → schedule (target-case (k .block)) (r₁ .context) ≡ ok c₁
+                  → traverseCases (inner o) b f ks (r₁ .context .nextId ∷ ids) c₁ ≡ ok z → ok (record { cases = CASE (k .test) (r₁ .statements) (z .cases); ids = z .ids; context = z .context }) ≡ ok r
+                  → CasesMade F S G (k ∷ ks) r
+              made r₁ c₁ z h₁ h₂ h₃ e₃ =
+                  let m : Made G (k .block) (c .stack) r₁ = wo o G su (k .block) c r₁ p (a .1) h₁ in
+                  let z₁ : Opened (in-case (k .block)) G (r₁ .context) c₁ = opened-case (k .block) (m .left .state) (a .0) h₂ in
+                  let s₁ : Stacked F S (r₁ .context .nextId ∷ ids) (in-case (k .block) ∷ G) (c₁ .stack) =
+                  subst (λ (E : List Entry). Stacked F S (r₁ .context .nextId ∷ ids) (in-case (k .block) ∷ G) E)
+                  (sym (z₁ .stack ∙ ap (λ (E : List Entry). z₁ .top ∷ E) (m .left .same))) (on-top (r₁ .context .nextId) (in-case (k .block)) (z₁ .top) s) in
+                  let q : CasesMade F S (in-case (k .block) ∷ G) ks z =
+                  ih (in-case (k .block) ∷ G) (r₁ .context .nextId ∷ ids) c₁ z (record { by-rule = su .by-rule; fits = fits-case (k .block) (su .fits) }) (z₁ .state) s₁ h₃ in
+                  subst (λ (w : CasesResult). CasesMade F S G (k ∷ ks) w) (ok-eq e₃)
+                  (record { tree = built-case k (k .test) (m .tree) (q .tree); above = q .above; state = q .state; stacked = q .stacked })
+
+    switch-ok : {F : List Frame} {c₀ c : Context} (o : Around) → Suits rule o F → (b x i n f : ℕ) (k : Block) (s : TerminalResult) → Entered t b F c₀ c → terminalAt t b ≡ switch x i n f
+        → visitTerminal t values inner o (switch x i n f) b k c ≡ ok s → StepOk F b (c .stack) s
+    unfolding visitTerminal
+    switch-ok {F} {c₀} {c} o su b x i n f k s p e h =
+        let (g, h₁, k₁) = bind-ok (unlessUnreachable t c f) _ s h in
+        let (c₁, h₂, k₂) = bind-ok (scheduleSwitch g c) _ s k₁ in
+        let (r, h₃, k₃) = bind-ok (traverseCases (inner (within (a-switch g) o)) b f (casesLastFirst t i n) (scheduleIds g (c .nextId)) c₁) _ s k₂ in
+        let (c₂, h₄, k₄) = bind-ok (unscheduleAll (r .ids) (r .context)) _ s k₃ in
+        finish g c₁ r c₂ (reached-ok pl c f g (fallthrough-free t pl b f p (ap fallthroughOf e)) h₁) h₂ h₃ h₄ k₄
+      where
+        parts : All (NotBranch t) (otherNames (switch x i n f))
+        parts = subst (λ (m : Terminal). All (NotBranch t) (otherNames m)) e (pl .names b)
+
+        finish : (g : Option ℕ) (c₁ : Context) (r : CasesResult) (c₂ : Context) → g ≡ some f → scheduleSwitch g c ≡ ok c₁
+            → traverseCases (inner (within (a-switch g) o)) b f (casesLastFirst t i n) (scheduleIds g (c .nextId)) c₁ ≡ ok r → unscheduleAll (r .ids) (r .context) ≡ ok c₂
+            → ok (record { statement = some (SWITCH x (k .id) g (r .cases)); next = g; context = c₂ }) ≡ ok s → StepOk F b (c .stack) s
+        finish g c₁ r c₂ q h₂ h₃ h₄ k₄ =
+            let z₁ : Opened (in-switch f) F c c₁ = opened-switch b x i n f (p .state) e (fallthrough-of b (p .new) (ap fallthroughOf e)) (rw q at h₂) in
+            let m : CasesMade F (c .stack) (in-switch f ∷ F) (casesLastFirst t i n) r =
+            cases-ok F (c .stack) (within (a-switch (some f)) o) b f (casesLastFirst t i n) (in-switch f ∷ F) (c .nextId ∷ []) c₁ r
+            (suits-in (a-switch (some f)) (in-switch f) su (λ z. fits-switch f z)) (z₁ .state)
+            (subst (λ (E : List Entry). Stacked F (c .stack) (c .nextId ∷ []) (in-switch f ∷ F) E) (sym (z₁ .stack)) (on-top (c .nextId) (in-switch f) (z₁ .top) at-base))
+            (cases-known b x i n f e) (rw q at h₃) in
+            subst (λ (v : TerminalResult). StepOk F b (c .stack) v) (ok-eq k₄)
+            (rw q (goes-on f refl (parts .0) (λ r′ p′. built-switch x i n f (k .id) e (m .tree) p′ refl) (unschedule-all-ok (m .stacked) (r .context) c₂ (m .state) refl h₄)))
 
     -- ---- Goto
 
     -- a jump's rows end as it goes
     pub data JumpOk (F : List Frame) (g : ℕ) (s : Option Statement) : Type 0 where
-      goes-as : (e : Completion) → target F e ≡ some g → ((answers : Answers) → runStatements (followedBy s done) answers ≡ completed [] e answers) → JumpOk F g s
+      goes-as : (e : Completion) → target F e ≡ some g → ((answers : Answers) → runStatements (followedBy s done) answers ≡ completed [] e answers) → Runnable (followedBy s done)
+          → JumpOk F g s
 
     run-break : (g i : ℕ) (k : Kind) (n : ℕ) (answers : Answers) → runStatements (BREAK g i k n ▸ done) answers ≡ completed [] (jumpCompletion k g i break) answers
     unfolding runStatements then thenOn prefix completed jumpCompletion
@@ -356,39 +568,57 @@ module _ (t : Table) where
         at language true unlabeled = unfold kindBy in inr refl
         at language false unlabeled = unfold kindBy in inl refl
 
-    break-in : {F : List Frame} {c : Context} (o : Around) (g : ℕ) (r : Resolution) → StateOk t F c → breakTargetFrom (c .stack) g true 0 ≡ some r → has (c .scopeFallthroughs) g ≡ false
+    -- a break that comes out Unlabeled has no switch before its loop
+    clear-of : {F : List Frame} {c : Context} (o : Around) → Suits rule o F → StateOk t F c → breakKindIn o unlabeled ≡ unlabeled → Clear t F
+    unfolding breakKindIn
+    clear-of {F} {c} o su p h = at rule width covers pl (switchInside (o .statements)) refl (ap (λ (z : Rule). kindBy z (switchInside (o .statements)) unlabeled) (sym (su .by-rule)) ∙ h)
+      where
+        at : (rule : Rule) (width : Width) → Covers rule width → PlainEnough width t → (y : Bool) → switchInside (o .statements) ≡ y
+            → kindBy rule (switchInside (o .statements)) unlabeled ≡ unlabeled → Clear t F
+        at rust paper-01 k pl y e h = clear-paper t (p .framed) pl
+        at rust with-switch k pl y e h = absurd k
+        at language width k pl false e h = clear-around t (su .fits) e
+        at language width k pl true e h = absurd (other (ap (λ (z : Bool). kindBy language z unlabeled) (sym e) ∙ h))
+          where
+            other : kindBy language true unlabeled ≡ unlabeled → ⊥
+            other q = unfold kindBy in (let z : _≡_ {A = ℕ} 0 1 = cc q in omega arith)
+
+    break-in : {F : List Frame} {c : Context} (o : Around) → Suits rule o F → (g : ℕ) (r : Resolution) → (IsCase t g → ⊥) → StateOk t F c
+        → breakTargetFrom (c .stack) g true 0 ≡ some r → has (c .scopeFallthroughs) g ≡ false
         → (i : ℕ) → target F (jumpCompletion (breakKindIn o (r .kind)) g i break) ≡ some g
-    break-in {F} o g r p e n i = elim (kind-in o (r .kind)) [
-      | inl h ↦ rw h (break-target t (p .framed) g r e n (r .kind) refl i)
-      | inr h ↦ rw h (break-label t (p .framed) g r e n i)
+    break-in {F} o su g r nc p e n i = elim (kind-in o (r .kind)) [
+      | inl h ↦ rw h (break-target t (p .framed) g r e nc n (r .kind) refl (λ q. clear-of o su p (ap (breakKindIn o) (sym q) ∙ h ∙ q)) i)
+      | inr h ↦ rw h (break-label t (p .framed) g r e nc n i)
     ]
 
-    broke : {F : List Frame} {c : Context} (o : Around) (b v g i : ℕ) (r : Resolution) (s : Option Statement) (y : Bool) (x : Result (Option Statement)) → StateOk t F c
+    broke : {F : List Frame} {c : Context} (o : Around) → Suits rule o F
+        → (b v g i : ℕ) (r : Resolution) (s : Option Statement) (y : Bool) (x : Result (Option Statement)) → (IsCase t g → ⊥) → StateOk t F c
         → breakTargetFrom (c .stack) g true 0 ≡ some r → r .target ≡ g → has (c .scopeFallthroughs) g ≡ y
         → elim y [ true ↦ x | false ↦ refuseIf (breakUnnamed o r) 29 b v >>= λ _. ok (some (BREAK g i (breakKindIn o (r .kind)) (r .loops))) ] ≡ ok s
         → (x ≡ ok s → JumpOk F g s) → JumpOk F g s
-    broke o b v g i r s true x p e q n h z = z h
-    broke {F} {c} o b v g i r s false x p e q n h z =
+    broke o su b v g i r s true x nc p e q n h z = z h
+    broke {F} {c} o su b v g i r s false x nc p e q n h z =
         let (u, h₁, h₂) = bind-ok (refuseIf (breakUnnamed o r) 29 b v) _ s h in
         subst (λ (w : Option Statement). JumpOk F g w) (ok-eq h₂)
-        (goes-as (jumpCompletion (breakKindIn o (r .kind)) g i break) (break-in o g r p e n i) (run-break g i (breakKindIn o (r .kind)) (r .loops)))
+        (goes-as (jumpCompletion (breakKindIn o (r .kind)) g i break) (break-in o su g r nc p e n i) (run-break g i (breakKindIn o (r .kind)) (r .loops)) (tt, tt))
 
     -- to a scope: no row, as good as an Implicit one
     to-scope : {F : List Frame} (c : Context) (b g : ℕ) (r : Resolution) (s : Option Statement) (k : Kind) → StateOk t F c → breakTargetFrom (c .stack) g true 0 ≡ some r → r .kind ≡ k
         → breakToScope k b (c .visits) ≡ ok s → JumpOk F g s
     unfolding breakToScope jumpCompletion
     to-scope {F} c b g r s implicit p e k h =
-        subst (λ (w : Option Statement). JumpOk F g w) (ok-eq h) (goes-as (jumpCompletion implicit g 0 break) (break-exit t (p .framed) g true 0 r e k) (run-done g))
+        subst (λ (w : Option Statement). JumpOk F g w) (ok-eq h) (goes-as (jumpCompletion implicit g 0 break) (break-exit t (p .framed) g true 0 r e k) (run-done g) tt)
     to-scope c b g r s labeled p e k h = absurd (refused-ok h)
     to-scope c b g r s unlabeled p e k h = absurd (refused-ok h)
 
-    break-ok : {F : List Frame} (o : Around) (c : Context) (b g i : ℕ) (r : Option Resolution) (s : Option Statement) → StateOk t F c → breakTargetFrom (c .stack) g true 0 ≡ r
+    break-ok : {F : List Frame} (o : Around) → Suits rule o F → (c : Context) (b g i : ℕ) (r : Option Resolution) (s : Option Statement) → (IsCase t g → ⊥)
+        → StateOk t F c → breakTargetFrom (c .stack) g true 0 ≡ r
         → breakResolved o b g i c r ≡ ok s → JumpOk F g s
     unfolding breakResolved
-    break-ok o c b g i none s p e h = absurd (refused-ok h)
-    break-ok o c b g i (some r) s p e h =
+    break-ok o su c b g i none s nc p e h = absurd (refused-ok h)
+    break-ok o su c b g i (some r) s nc p e h =
         let q : r .target ≡ g = break-names t (c .stack) g true 0 r e in
-        broke o b (c .visits) g i r s (has (c .scopeFallthroughs) g) (breakToScope (r .kind) b (c .visits)) p e q refl (named q h) (λ z. to-scope c b g r s (r .kind) p e refl z)
+        broke o su b (c .visits) g i r s (has (c .scopeFallthroughs) g) (breakToScope (r .kind) b (c .visits)) nc p e q refl (named q h) (λ z. to-scope c b g r s (r .kind) p e refl z)
       where
         named : {n : ℕ} → n ≡ g → elim (has (c .scopeFallthroughs) n) [
           | true ↦ breakToScope (r .kind) b (c .visits)
@@ -417,70 +647,72 @@ module _ (t : Table) where
     continue-ok {F} o c b g i (some k) s p e h =
         let (u, h₁, h₂) = bind-ok (refuseIf (continueUnnamed o k) 29 b (c .visits)) _ s h in
         subst (λ (z : Statement). JumpOk F g (some z)) (ok-eq h₂)
-        (goes-as (jumpCompletion (k .kind) (k .target) i continue) (continue-target t pl (p .framed) g (k .target) (k .kind) (k .loops) e i) (run-continue (k .target) i (k .kind) (k .loops)))
+        (goes-as (jumpCompletion (k .kind) (k .target) i continue) (continue-target t pl (p .framed) g (k .target) (k .kind) (k .loops) e i) (run-continue (k .target) i (k .kind) (k .loops)) (tt, tt))
 
     jump-built : {F : List Frame} (b g : ℕ) (v : Variant) (s : Option Statement) → terminalAt t b ≡ goto g v → JumpOk F g s
         → Built t F b (instructionStatements t (instructionRowsAt t b) (followedBy s done))
-    jump-built b g v s e (goes-as z q r) = built-jump g v z (followedBy s done) e q r
+    jump-built b g v s e (goes-as z q r w) = built-jump g v z (followedBy s done) e q r w refl
 
-    jump-ok : {F : List Frame} {c₀ c : Context} (o : Around) (b g i : ℕ) (v : Variant) (s : TerminalResult) → Entered t b F c₀ c → terminalAt t b ≡ goto g v
+    jump-ok : {F : List Frame} {c₀ c : Context} (o : Around) → Suits rule o F → (b g i : ℕ) (v : Variant) (s : TerminalResult) → Entered t b F c₀ c → terminalAt t b ≡ goto g v
         → visitGoto o v b g i c ≡ ok s → StepOk F b (c .stack) s
     unfolding visitGoto visitBreak visitContinue getBreakTarget getContinueTarget
-    jump-ok {F} {c₀} {c} o b g i Break s p e h =
+    jump-ok {F} {c₀} {c} o su b g i Break s p e h =
         let (z, h₁, k₁) = bind-ok (breakResolved o b g i c (breakTargetFrom (c .stack) g true 0)) _ s h in
         subst (λ (w : TerminalResult). StepOk F b (c .stack) w) (ok-eq k₁)
-        (ends-here refl (jump-built b g Break z e (break-ok o c b g i (breakTargetFrom (c .stack) g true 0) z (p .state) refl h₁)) (record { state = p .state; same = refl }))
-    jump-ok {F} {c₀} {c} o b g i Continue s p e h =
+        (ends-here refl (jump-built b g Break z e
+        (break-ok o su c b g i (breakTargetFrom (c .stack) g true 0) z (pl .case-goto b g Break e) (p .state) refl h₁))
+        (record { state = p .state; same = refl }))
+    jump-ok {F} {c₀} {c} o su b g i Continue s p e h =
         let (z, h₁, k₁) = bind-ok (continueResolved o b g i c (continueTargetFrom (c .stack) g true 0)) _ s h in
         subst (λ (w : TerminalResult). StepOk F b (c .stack) w) (ok-eq k₁)
         (ends-here refl (jump-built b g Continue (some z) e (continue-ok o c b g i (continueTargetFrom (c .stack) g true 0) z (p .state) refl h₁)) (record { state = p .state; same = refl }))
-    jump-ok o b g i Try s p e h = absurd (pl .no-goto-try b g e)
+    jump-ok o su b g i Try s p e h = absurd (pl .no-goto-try b g e)
 
     -- ---- every end
 
     -- a terminal that no plain table has
-    not-plain : {m : Terminal} (b : ℕ) → terminalAt t b ≡ m → contains plainCodes (codeOf m) ≡ false → ⊥
-    not-plain b e h = true-false (sym (pl .ends b) ∙ ap (λ (m : Terminal). contains plainCodes (codeOf m)) e ∙ h)
+    not-plain : {m : Terminal} (b : ℕ) → terminalAt t b ≡ m → contains (plainCodes with-switch) (codeOf m) ≡ false → ⊥
+    not-plain b e h = true-false (sym (wide-codes width (codeOf (terminalAt t b)) (pl .ends b)) ∙ ap (λ (m : Terminal). contains (plainCodes with-switch) (codeOf m)) e ∙ h)
 
-    terminal-ok : {F : List Frame} {c₀ c : Context} (o : Around) (b : ℕ) (m : Terminal) (s : TerminalResult) → Entered t b F c₀ c → NotBranch t b → terminalAt t b ≡ m
+    terminal-ok : {F : List Frame} {c₀ c : Context} (o : Around) → Suits rule o F → (b : ℕ) (m : Terminal) (s : TerminalResult) → Entered t b F c₀ c → NotBranch t b → terminalAt t b ≡ m
         → visitTerminal t values inner o m b (blockAt t b) c ≡ ok s → StepOk F b (c .stack) s
     unfolding visitTerminal
-    terminal-ok o b absent s p nb e h = absurd (refused-ok h)
-    terminal-ok o b unreachable s p nb e h = absurd (not-plain b e refl)
-    terminal-ok {F} {c₀} {c} o b (throw v) s p nb e h =
-        subst (λ (z : TerminalResult). StepOk F b (c .stack) z) (ok-eq h) (ends-here refl (built-throw v e) (record { state = p .state; same = refl }))
-    terminal-ok {F} {c₀} {c} o b (return v) s p nb e h =
-        subst (λ (z : TerminalResult). StepOk F b (c .stack) z) (ok-eq h) (ends-here refl (built-return v e) (record { state = p .state; same = refl }))
-    terminal-ok o b (goto g v) s p nb e h = jump-ok o b g (blockAt t b .id) v s p e h
-    terminal-ok o b (if x y a f) s p nb e h = if-ok o b x y a f (blockAt t b) s p e h
-    terminal-ok o b (branch x y a) s p nb e h = absurd (true-false (sym (ap isBranch e) ∙ nb))
-    terminal-ok o b (switch x i n f) s p nb e h = absurd (not-plain b e refl)
-    terminal-ok o b (do-while l x f) s p nb e h = absurd (not-plain b e refl)
-    terminal-ok o b (while x l f) s p nb e h = while-ok o b x l f (blockAt t b) s p e h
-    terminal-ok o b (for i x u l f) s p nb e h = absurd (not-plain b e refl)
-    terminal-ok o b (for-of i x l f) s p nb e h = absurd (not-plain b e refl)
-    terminal-ok o b (for-in i l f) s p nb e h = absurd (not-plain b e refl)
-    terminal-ok o b (logical op x f) s p nb e h = absurd (not-plain b e refl)
-    terminal-ok o b (ternary x f) s p nb e h = absurd (not-plain b e refl)
-    terminal-ok o b (optional g x f) s p nb e h = absurd (not-plain b e refl)
-    terminal-ok o b (label x f) s p nb e h = label-ok o b x f (blockAt t b) s p e h
-    terminal-ok o b (sequence x f) s p nb e h = absurd (not-plain b e refl)
-    terminal-ok o b (maybe-throw n) s p nb e h = absurd (not-plain b e refl)
-    terminal-ok o b (try x h′ f n) s p nb e h = absurd (not-plain b e refl)
-    terminal-ok o b (scope pr x f n) s p nb e h = scope-ok o b pr x f n (blockAt t b) s p e h
+    terminal-ok o su b absent s p nb e h = absurd (refused-ok h)
+    terminal-ok o su b unreachable s p nb e h = absurd (not-plain b e refl)
+    terminal-ok {F} {c₀} {c} o su b (throw v) s p nb e h =
+        subst (λ (z : TerminalResult). StepOk F b (c .stack) z) (ok-eq h) (ends-here refl (built-throw v e refl) (record { state = p .state; same = refl }))
+    terminal-ok {F} {c₀} {c} o su b (return v) s p nb e h =
+        subst (λ (z : TerminalResult). StepOk F b (c .stack) z) (ok-eq h) (ends-here refl (built-return v e refl) (record { state = p .state; same = refl }))
+    terminal-ok o su b (goto g v) s p nb e h = jump-ok o su b g (blockAt t b .id) v s p e h
+    terminal-ok o su b (if x y a f) s p nb e h = if-ok o su b x y a f (blockAt t b) s p e h
+    terminal-ok o su b (branch x y a) s p nb e h = absurd (true-false (sym (ap isBranch e) ∙ nb))
+    terminal-ok o su b (switch x i n f) s p nb e h = switch-ok o su b x i n f (blockAt t b) s p e h
+    terminal-ok o su b (do-while l x f) s p nb e h = absurd (not-plain b e refl)
+    terminal-ok o su b (while x l f) s p nb e h = while-ok o su b x l f (blockAt t b) s p e h
+    terminal-ok o su b (for i x u l f) s p nb e h = absurd (not-plain b e refl)
+    terminal-ok o su b (for-of i x l f) s p nb e h = absurd (not-plain b e refl)
+    terminal-ok o su b (for-in i l f) s p nb e h = absurd (not-plain b e refl)
+    terminal-ok o su b (logical op x f) s p nb e h = absurd (not-plain b e refl)
+    terminal-ok o su b (ternary x f) s p nb e h = absurd (not-plain b e refl)
+    terminal-ok o su b (optional g x f) s p nb e h = absurd (not-plain b e refl)
+    terminal-ok o su b (label x f) s p nb e h = label-ok o su b x f (blockAt t b) s p e h
+    terminal-ok o su b (sequence x f) s p nb e h = absurd (not-plain b e refl)
+    terminal-ok o su b (maybe-throw n) s p nb e h = absurd (not-plain b e refl)
+    terminal-ok o su b (try x h′ f n) s p nb e h = absurd (not-plain b e refl)
+    terminal-ok o su b (scope pr x f n) s p nb e h = scope-ok o su b pr x f n (blockAt t b) s p e h
 
-    visit-block-ok : (o : Around) (n : ℕ) → WalkOk (visitBlock t values inner o n)
-    unfolding WalkOk visitBlock
-    visit-block-ok o zero F b c r p nb e = absurd (refused-ok e)
-    visit-block-ok o (suc n) F b c r p nb e =
+    visit-block-ok : (o : Around) (F : List Frame) → Suits rule o F → (n : ℕ) → BlockOk F (visitBlock t values inner o n)
+    unfolding BlockOk visitBlock
+    visit-block-ok o F su zero b c r p nb e = absurd (refused-ok e)
+    visit-block-ok o F su (suc n) b c r p nb e =
         let (c₁, h₁, k₁) = bind-ok (enterBlock t b c) _ r e in
         let (s, h₂, k₂) = bind-ok (visitTerminal t values inner o (terminalAt t b) b (blockAt t b) c₁) _ r k₁ in
         let q : Entered t b F c c₁ = enter-ok t rg b c₁ p h₁ in
-        let m : Made F b (c₁ .stack) r = next-ok F b (c₁ .stack) (visitBlock t values inner o n) s r (visit-block-ok o n) (terminal-ok o b (terminalAt t b) s q nb refl h₂) k₂ in
+        let m : Made F b (c₁ .stack) r = next-ok F b (c₁ .stack) (visitBlock t values inner o n) s r (visit-block-ok o F su n) (terminal-ok o su b (terminalAt t b) s q nb refl h₂) k₂ in
         record { tree = m .tree; left = and-then (m .left) (q .same) }
 
-  module _ (pl : PlainEnough t) (rg : Ranged t) where
-    pub walk-ok : (d : ℕ) (o : Around) → WalkOk (traverseBlock t d o)
-    unfolding WalkOk traverseBlock
-    walk-ok zero o F b c r p nb e = absurd (refused-ok e)
-    walk-ok (suc d) o F b c r p nb e = visit-block-ok pl rg (visitValueBlock t d) (value-ok t d) (traverseBlock t d) (walk-ok d) o 8193 F b c r p nb e
+  module _ (rule : Rule) {width : Width} (covers : Covers rule width) (pl : PlainEnough width t) (rg : Ranged t) where
+    pub walk-ok : (d : ℕ) → WalkOk rule (traverseBlock t d)
+    unfolding WalkOk BlockOk traverseBlock
+    walk-ok zero o F su b c r p nb e = absurd (refused-ok e)
+    walk-ok (suc d) o F su b c r p nb e = visit-block-ok rule covers pl rg (visitValueBlock t d) (value-ok t d) (traverseBlock t d) (walk-ok d) o F su 8193 b c r p nb e

@@ -64,7 +64,7 @@ module _ (Q : ℕ → Type 0) (again : (visits : ℕ) → visits < mostVisits �
   VisitCounted visit = (block : ℕ) (fallthrough : Option ℕ) (span : Span) (visits : ℕ) → Q visits → Counted Q (λ r. r .visits) (visit block fallthrough span visits)
 
   module _ (t : Table) (visit : VisitValueBlock) (visits-counted : VisitCounted visit) where
-    nested : (block : ℕ) (fallthrough : Option ℕ) (span : Span) (visits : ℕ) → Q visits → Counted Q (λ r. r .visits) (visit block fallthrough span visits)
+    pub nested : (block : ℕ) (fallthrough : Option ℕ) (span : Span) (visits : ℕ) → Q visits → Counted Q (λ r. r .visits) (visit block fallthrough span visits)
     unfolding VisitCounted
     nested block fallthrough span visits h = visits-counted block fallthrough span visits h
 
@@ -163,7 +163,7 @@ module _ (Q : ℕ → Type 0) (again : (visits : ℕ) → visits < mostVisits �
   abbrev pub In : Context → Type 0
   In cx = Q (cx .visits)
 
-  schedule-counted : (target : ControlFlowTarget) (cx : Context) → In cx → Counted Q (λ d. d .visits) (schedule target cx)
+  pub schedule-counted : (target : ControlFlowTarget) (cx : Context) → In cx → Counted Q (λ d. d .visits) (schedule target cx)
   unfolding schedule pushed
   schedule-counted target cx h = counted-unless Q (λ d. d .visits) _ _ _ (cx .visits) _ h (λ _. h)
 
@@ -177,7 +177,7 @@ module _ (Q : ℕ → Type 0) (again : (visits : ℕ) → visits < mostVisits �
   schedule-switch-counted none cx h = h
   schedule-switch-counted (some fallthrough) cx h = schedule-counted (target-switch fallthrough) cx h
 
-  unschedule-counted : (id : ℕ) (cx : Context) → In cx → Counted Q (λ d. d .visits) (unschedule id cx)
+  pub unschedule-counted : (id : ℕ) (cx : Context) → In cx → Counted Q (λ d. d .visits) (unschedule id cx)
   unfolding unschedule unscheduleTop popped
   unschedule-counted id cx h = at (cx .stack)
     where
@@ -185,12 +185,12 @@ module _ (Q : ℕ → Type 0) (again : (visits : ℕ) → visits < mostVisits �
       at [] = h
       at (top ∷ below) = counted-pick Q (λ d. d .visits) (eqb (top .id) id) _ _ (λ _. h) (λ _. h)
 
-  unschedule-if-counted : (taken : Option ℕ) (id : ℕ) (cx : Context) → In cx → Counted Q (λ d. d .visits) (unscheduleIf taken id cx)
+  pub unschedule-if-counted : (taken : Option ℕ) (id : ℕ) (cx : Context) → In cx → Counted Q (λ d. d .visits) (unscheduleIf taken id cx)
   unfolding unscheduleIf
   unschedule-if-counted none id cx h = h
   unschedule-if-counted (some fallthrough) id cx h = unschedule-counted id cx h
 
-  unschedule-all-counted : (ids : List ℕ) (cx : Context) → In cx → Counted Q (λ d. d .visits) (unscheduleAll ids cx)
+  pub unschedule-all-counted : (ids : List ℕ) (cx : Context) → In cx → Counted Q (λ d. d .visits) (unscheduleAll ids cx)
   unfolding unscheduleAll
   unschedule-all-counted [] cx h = h
   unschedule-all-counted (id ∷ ids) cx h = counted-bind Q (λ d. d .visits) (λ d. d .visits) _ _ (unschedule-counted id cx h) (λ d k. unschedule-all-counted ids d k)
@@ -247,11 +247,11 @@ module _ (Q : ℕ → Type 0) (again : (visits : ℕ) → visits < mostVisits �
     value : (block : ℕ) (span : Span) (visits : ℕ) → Q visits → Counted Q (λ r. r .visits) (visit block none span visits)
     value block span visits h = nested t visit visits-counted block none span visits h
 
-    unscheduled-counted : (block code at : ℕ) (cx : Context) → In cx → Counted Q (λ r. r .context .visits) (traverseUnscheduled traverse block code at cx)
+    pub unscheduled-counted : (block code at : ℕ) (cx : Context) → In cx → Counted Q (λ r. r .context .visits) (traverseUnscheduled traverse block code at cx)
     unfolding traverseUnscheduled
     unscheduled-counted block code at cx h = counted-unless Q (λ r. r .context .visits) _ code at (cx .visits) _ h (λ _. inner block cx h)
 
-    alternate-counted : (alternate fallthrough : ℕ) (cx : Context) → In cx → Counted Q (λ r. r .context .visits) (traverseAlternate traverse alternate fallthrough cx)
+    pub alternate-counted : (alternate fallthrough : ℕ) (cx : Context) → In cx → Counted Q (λ r. r .context .visits) (traverseAlternate traverse alternate fallthrough cx)
     unfolding traverseAlternate
     alternate-counted alternate fallthrough cx h =
         counted-pick Q (λ r. r .context .visits) (eqb alternate fallthrough) _ _ (λ _. h)
@@ -279,7 +279,7 @@ module _ (Q : ℕ → Type 0) (again : (visits : ℕ) → visits < mostVisits �
         counted-bind Q (λ r. r .context .visits) (λ r. r .context .visits) _ _ (inner loop (withVisits visits cx) h) (λ body a.
         counted-bind Q (λ d. d .visits) (λ r. r .context .visits) _ _ (unschedule-counted id (body .context) a) (λ _ k. k)))
 
-    cases-counted : (at fallthrough : ℕ) (cases : List Case) (ids : List ℕ) (cx : Context) → In cx → Counted Q (λ r. r .context .visits) (traverseCases traverse at fallthrough cases ids cx)
+    pub cases-counted : (at fallthrough : ℕ) (cases : List Case) (ids : List ℕ) (cx : Context) → In cx → Counted Q (λ r. r .context .visits) (traverseCases traverse at fallthrough cases ids cx)
     unfolding traverseCases
     cases-counted at fallthrough [] ids cx h = h
     cases-counted at fallthrough (case ∷ earlier) ids cx h =
@@ -366,7 +366,7 @@ module _ (Q : ℕ → Type 0) (again : (visits : ℕ) → visits < mostVisits �
         counted-bind Q (λ d. d .visits) (λ r. r .context .visits) _ _ (schedule-if-counted (unlessScheduled cx fallthrough) cx h) (λ inside a.
         enclosed-counted t visit visits-counted _ (walk-counted _) body 18 at _ cx _ _ (mark-in (unlessScheduled cx fallthrough) inside a))
 
-    next-counted : (at : ℕ) (again : TraverseBlock) (statement : Option Statement) (next : Option ℕ) (cx : Context) → WalkCounted again → In cx
+    pub next-counted : (at : ℕ) (again : TraverseBlock) (statement : Option Statement) (next : Option ℕ) (cx : Context) → WalkCounted again → In cx
         → Counted Q (λ r. r .context .visits) (thenNext t at again statement next cx)
     unfolding thenNext WalkCounted
     next-counted at again statement none cx w h = h
@@ -378,7 +378,7 @@ module _ (Q : ℕ → Type 0) (again : (visits : ℕ) → visits < mostVisits �
         counted-bind Q (λ begun. begun) (λ d. d .visits) _ _ (begin-counted t block (cx .visits) h) (λ begun a.
         counted-unless Q (λ d. d .visits) _ 11 block begun _ a (λ _. a))
 
-    blocks-counted : (around : Around) (blocksLeft : ℕ) → WalkCounted (visitBlock t visit traverse around blocksLeft)
+    pub blocks-counted : (around : Around) (blocksLeft : ℕ) → WalkCounted (visitBlock t visit traverse around blocksLeft)
     unfolding visitBlock WalkCounted
     blocks-counted around zero block cx h = h
     blocks-counted around (suc blocksLeft) block cx h =
@@ -395,7 +395,7 @@ module _ (Q : ℕ → Type 0) (again : (visits : ℕ) → visits < mostVisits �
 -- ---- every outcome
 
 visitsOf : Report → ℕ
-visitsOf (accepted rows visits) = visits
+visitsOf (accepted rows lines visits) = visits
 visitsOf (rejected code at visits) = visits
 
 reported-counted : (Q : ℕ → Type 0) (result : Result BlockResult) → Counted Q (λ r. r .context .visits) result → Q (visitsOf (reported result))
@@ -403,31 +403,32 @@ unfolding reported visitsOf
 reported-counted Q (ok root) h = h
 reported-counted Q (refused code at visits) h = h
 
-outcome-visits : (lent : ℕ) (r : Report) → outcomeOf lent r .visits ≡ visitsOf r
+outcome-visits : (lent lentIndex : ℕ) (r : Report) → outcomeOf lent lentIndex r .visits ≡ visitsOf r
 unfolding outcomeOf placed refusal visitsOf
-outcome-visits lent (accepted rows visits) = by (leb (length rows) (lent / 6)) refl
+outcome-visits lent lentIndex (accepted rows lines visits) = by (leb (length rows) (lent / 6)) (leb (length lines) (lentIndex / 3)) refl refl
   where
-    by : (fits : Bool) → leb (length rows) (lent / 6) ≡ fits → placed lent rows visits .visits ≡ visits
-    by true e = rw (e, placed)
-    by false e = rw (e, placed)
-outcome-visits lent (rejected code at visits) = refl
+    by : (fits indexFits : Bool) → leb (length rows) (lent / 6) ≡ fits → leb (length lines) (lentIndex / 3) ≡ indexFits → placed lent lentIndex rows lines visits .visits ≡ visits
+    by true true e f = rw (e, f, placed)
+    by true false e f = rw (e, f, placed)
+    by false indexFits e f = rw (e, placed)
+outcome-visits lent lentIndex (rejected code at visits) = refl
 
 abbrev Most : ℕ → Type 0
 Most visits = visits ≤ mostVisits
 
 -- "visits in the result, at most 8,192"
-pub visits-most : (rule : Rule) (words : List ℕ) (lent : ℕ) → built rule words lent .visits ≤ mostVisits
+pub visits-most : (rule : Rule) (words : List ℕ) (lent lentIndex : ℕ) → built rule words lent lentIndex .visits ≤ mostVisits
 unfolding built afterCheck refusal report buildTree WalkCounted start
-visits-most rule words lent = at (checked words)
+visits-most rule words lent lentIndex = at (checked words)
   where
     table : Table
     table = tableOf words
 
-    at : (verdict : Verdict) → afterCheck rule lent verdict words .visits ≤ mostVisits
+    at : (verdict : Verdict) → afterCheck rule lent lentIndex verdict words .visits ≤ mostVisits
     at (check.refused code place) = omega arith
     at check.accepted =
         omega (
           arith,
-          outcome-visits lent (report rule table),
+          outcome-visits lent lentIndex (report rule table),
           reported-counted Most (buildTree rule table) (statements-counted Most (λ _ h _. h) table 128 (outermost rule) (table .entry) start (omega arith)),
         )

@@ -1,4 +1,5 @@
 pub mod Tree
+pub mod Index
 pub mod Reading
 pub mod Result
 pub mod Context
@@ -9,6 +10,7 @@ pub mod Value
 pub mod Statement
 pub mod Goal
 pub mod Build
+pub mod Preview
 pub mod Run
 pub mod BlockRun
 pub mod Completion
@@ -18,3 +20,4 @@ pub mod Machine
 pub mod Framed
 pub mod RunLaw
 pub mod Relabeled
+pub mod RelabeledRows

@@ -9,6 +9,7 @@ use lib.ListN.{length, getD}
 use lib.Dec.{eqb, leb}
 use Rattle.table.specs.Table.{Table, Block, Case, Terminal, absent, unreachable, throw, return, goto, if, branch, switch, do-while, while, for, for-of, for-in, logical, ternary, optional, sequence, maybe-throw, try, scope, blockAt, terminalAt, instructionAt, instructionRowsAt, label}
 use Rattle.definition.specs.Build.{accepted, Report, rejected}
+use Rattle.definition.specs.Index.{Line}
 use Rattle.definition.specs.Context.{target-if, target-switch, target-case, target-loop, Entry, Context, start, isScheduled, withVisits, scheduleCatchHandler, pushed, schedule, unscheduledBy, popped}
 use Rattle.definition.specs.Around.{Rule, Enclosing, a-loop, a-switch, another, Around}
 use Rattle.definition.specs.Result.{refused, Result, ok, _>>=_, refuseIf}
@@ -20,7 +21,8 @@ use Rattle.definition.specs.Value.{visitValueBlock, mostDepth, VisitValu
 
 -- A statement of which a nested list is awaited; all else of it is in the table. `block` has its terminal; `second` says that the later of two
 -- parts is awaited, an alternate or a handler; `label` is the fallthrough, if it is taken; so many `entries` of the control stack are this statement's.
--- Of a Switch, `left` cases are still to come and `built` are made. `count` statements stand before this one in the list around it
+-- Of a Switch, `left` cases are still to come and `built` are made. The statement's own rows begin at row `first` (M-101), and `count` statements stand
+-- before it in the list around it
 pub record Frame : Type 0 where
   pub block : ℕ
   pub second : Bool
@@ -28,6 +30,7 @@ pub record Frame : Type 0 where
   pub entries : ℕ
   pub left : ℕ
   pub built : ℕ
+  pub first : ℕ
   pub count : ℕ
 
 -- the statement that a frame stands for, to a jump inside of it (M-102): its terminal says whether it is a loop or a switch
@@ -54,6 +57,12 @@ enclosingBy (maybe-throw continuation) taken = another taken
 enclosingBy (try body handler fallthrough binding) taken = another taken
 enclosingBy (scope pruned body fallthrough number) taken = another none
 
+-- the label of its row; a scope's has none
+abbrev pub enclosingLabel : Enclosing → Option ℕ
+enclosingLabel (a-loop taken) = taken
+enclosingLabel (a-switch taken) = taken
+enclosingLabel (another taken) = taken
+
 abbrev pub enclosings : Table → List Frame → List Enclosing
 enclosings t [] = []
 enclosings t (frame ∷ frames) = enclosingBy (terminalAt t (frame .block)) (frame .label) ∷ enclosings t frames
@@ -62,13 +71,26 @@ enclosings t (frame ∷ frames) = enclosingBy (terminalAt t (frame .block)) (fra
 abbrev pub aroundOf : Rule → Table → List Frame → Around
 aroundOf rule t frames = record { rule = rule; statements = enclosings t frames }
 
+-- what is put out: rows of the tree and lines of its index, both in order
+pub record Output : Type 0 where
+  pub rows : List Row
+  pub lines : List Line
+
+abbrev pub noOutput : Output
+noOutput = record { rows = []; lines = [] }
+
+infixl 45 _⊕_
+-- rows behind what is out
+abbrev pub _⊕_ : Output → List Row → Output
+_⊕_ out more = record { rows = out .rows ++ more; lines = out .lines }
+
 -- In order: a block is to be visited next; the list in hand has ended; a Switch takes its next case; a statement's entries are taken off the stack.
--- The innermost frame comes first; `rows` are out, in order; `count` statements of the list in hand are out
+-- The innermost frame comes first; `count` statements of the list in hand are out
 pub data State : Type 0 where
-  visiting : (block : ℕ) → (frames : List Frame) → (rows : List Row) → (count : ℕ) → (cx : Context) → State
-  ended : (frames : List Frame) → (rows : List Row) → (count : ℕ) → (cx : Context) → State
-  choosing : (frame : Frame) → (frames : List Frame) → (rows : List Row) → (cx : Context) → State
-  popping : (frame : Frame) → (frames : List Frame) → (rows : List Row) → (cx : Context) → State
+  visiting : (block : ℕ) → (frames : List Frame) → (out : Output) → (count : ℕ) → (cx : Context) → State
+  ended : (frames : List Frame) → (out : Output) → (count : ℕ) → (cx : Context) → State
+  choosing : (frame : Frame) → (frames : List Frame) → (out : Output) → (cx : Context) → State
+  popping : (frame : Frame) → (frames : List Frame) → (out : Output) → (cx : Context) → State
 
 pub data Turn : Type 0 where
   going : State → Turn
@@ -79,9 +101,9 @@ turn (ok state) = going state
 turn (refused code at visits) = halt (rejected code at visits)
 
 -- on to the block at the same depth, if there is one
-abbrev pub leave : Option ℕ → List Frame → List Row → (count : ℕ) → Context → State
-leave none frames rows count cx = ended frames rows count cx
-leave (some next) frames rows count cx = visiting next frames rows count cx
+abbrev pub leave : Option ℕ → List Frame → Output → (count : ℕ) → Context → State
+leave none frames out count cx = ended frames out count cx
+leave (some next) frames out count cx = visiting next frames out count cx
 
 -- ---- rows
 
@@ -171,43 +193,55 @@ abbrev pub opens : Option ℕ → ℕ
 opens none = 0
 opens (some fallthrough) = 1
 
-abbrev pub frameOf : (block : ℕ) → (label : Option ℕ) → (entries count : ℕ) → Frame
-frameOf block taken entries count = record { block = block; second = false; label = taken; entries = entries; left = 0; built = 0; count = count }
+-- of a statement that begins where so much is out
+abbrev pub frameOf : (block : ℕ) → (label : Option ℕ) → (entries : ℕ) → Output → (count : ℕ) → Frame
+frameOf block taken entries out count = record { block = block; second = false; label = taken; entries = entries; left = 0; built = 0; first = length (out .rows); count = count }
 
 abbrev pub secondPart : Frame → Frame
-secondPart frame = record { block = frame .block; second = true; label = frame .label; entries = frame .entries; left = frame .left; built = frame .built; count = frame .count }
+secondPart frame = record { block = frame .block; second = true; label = frame .label; entries = frame .entries; left = frame .left; built = frame .built; first = frame .first; count = frame .count }
 
 abbrev pub withEntries : ℕ → Frame → Frame
-withEntries entries frame = record { block = frame .block; second = frame .second; label = frame .label; entries = entries; left = frame .left; built = frame .built; count = frame .count }
+withEntries entries frame = record { block = frame .block; second = frame .second; label = frame .label; entries = entries; left = frame .left; built = frame .built; first = frame .first; count = frame .count }
 
 abbrev pub withLeft : ℕ → Frame → Frame
-withLeft left frame = record { block = frame .block; second = frame .second; label = frame .label; entries = frame .entries; left = left; built = frame .built; count = frame .count }
+withLeft left frame = record { block = frame .block; second = frame .second; label = frame .label; entries = frame .entries; left = left; built = frame .built; first = frame .first; count = frame .count }
 
 -- one case more is built, and has an entry
 abbrev pub caseBuilt : Frame → Frame
-caseBuilt frame = record { block = frame .block; second = frame .second; label = frame .label; entries = suc (frame .entries); left = frame .left; built = suc (frame .built); count = frame .count }
+caseBuilt frame = record { block = frame .block; second = frame .second; label = frame .label; entries = suc (frame .entries); left = frame .left; built = suc (frame .built); first = frame .first; count = frame .count }
 
 -- a nested list that must not be scheduled
-unfoldable pub into : (block code at : ℕ) → Frame → List Frame → List Row → Context → Result State
-into block code at frame frames rows cx = refuseIf (isScheduled cx block) code at (cx .visits) >>= λ _. ok (visiting block (frame ∷ frames) rows 0 cx)
+unfoldable pub into : (block code at : ℕ) → Frame → List Frame → Output → Context → Result State
+into block code at frame frames out cx = refuseIf (isScheduled cx block) code at (cx .visits) >>= λ _. ok (visiting block (frame ∷ frames) out 0 cx)
 
 -- the body of a loop whose values are made, at so many visits
-unfoldable pub intoLoop : (at loop : ℕ) → (taken : Bool) → (visits : ℕ) → Frame → List Frame → List Row → Context → Result State
-intoLoop at loop taken visits frame frames rows cx = refuseIf taken 16 at visits >>= λ _. ok (visiting loop (frame ∷ frames) rows 0 (withVisits visits cx))
+unfoldable pub intoLoop : (at loop : ℕ) → (taken : Bool) → (visits : ℕ) → Frame → List Frame → Output → Context → Result State
+intoLoop at loop taken visits frame frames out cx = refuseIf taken 16 at visits >>= λ _. ok (visiting loop (frame ∷ frames) out 0 (withVisits visits cx))
+
+-- a statement's line (M-101), if it has a label, where its closing row is the next to be put out
+abbrev pub lineOut : Option ℕ → (first closing : ℕ) → List Line
+lineOut none first closing = []
+lineOut (some taken) first closing = record { label = taken; first = first; closing = closing } ∷ []
+
+-- its closing row and its line
+abbrev pub closed : Table → Frame → Output → Output
+closed t frame out = record {
+  rows = out .rows ++ (closingRow t (frame .block) (frame .second) (frame .label) (frame .built) ∷ []);
+  lines = out .lines ++ lineOut (enclosingLabel (enclosingBy (terminalAt t (frame .block)) (frame .label))) (frame .first) (length (out .rows));
+}
 
 -- the statement is complete
-abbrev pub complete : Table → Frame → List Frame → List Row → Context → State
-complete t frame frames rows cx =
-    leave (frame .label) frames (rows ++ (closingRow t (frame .block) (frame .second) (frame .label) (frame .built) ∷ [])) (suc (frame .count)) cx
+abbrev pub complete : Table → Frame → List Frame → Output → Context → State
+complete t frame frames out cx = leave (frame .label) frames (closed t frame out) (suc (frame .count)) cx
 
-abbrev pub closeBy : (entries : ℕ) → Table → Frame → List Frame → List Row → Context → State
-closeBy zero t frame frames rows cx = complete t frame frames rows cx
-closeBy (suc zero) t frame frames rows cx = complete t frame frames rows (unscheduled cx)
-closeBy (suc (suc more)) t frame frames rows cx = popping (withEntries (suc more) frame) frames rows (unscheduled cx)
+abbrev pub closeBy : (entries : ℕ) → Table → Frame → List Frame → Output → Context → State
+closeBy zero t frame frames out cx = complete t frame frames out cx
+closeBy (suc zero) t frame frames out cx = complete t frame frames out (unscheduled cx)
+closeBy (suc (suc more)) t frame frames out cx = popping (withEntries (suc more) frame) frames out (unscheduled cx)
 
 -- one entry is taken off the stack; with the last the statement is complete
-unfoldable pub close : Table → Frame → List Frame → List Row → Context → State
-close t frame frames rows cx = closeBy (frame .entries) t frame frames rows cx
+unfoldable pub close : Table → Frame → List Frame → Output → Context → State
+close t frame frames out cx = closeBy (frame .entries) t frame frames out cx
 
 -- ---- switches
 
@@ -222,13 +256,13 @@ unfoldable pub numberOfCases : Table → (first number : ℕ) → ℕ
 numberOfCases t first number = length (casesLastFirst t first number)
 
 -- a Switch with the cases from `first` on, `left` of them still to come: the last of these is built, unless it is scheduled
-unfoldable pub chooseCase : Table → (first fallthrough left : ℕ) → Frame → List Frame → List Row → Context → Result State
-chooseCase t first fallthrough zero frame frames rows cx = ok (close t frame frames rows cx)
-chooseCase t first fallthrough (suc left) frame frames rows cx =
+unfoldable pub chooseCase : Table → (first fallthrough left : ℕ) → Frame → List Frame → Output → Context → Result State
+chooseCase t first fallthrough zero frame frames out cx = ok (close t frame frames out cx)
+chooseCase t first fallthrough (suc left) frame frames out cx =
     let block : ℕ = caseAt t (first + left) .block in
     elim (isScheduled cx block) [
-      | true ↦ refuseIf (not (eqb block fallthrough)) 14 (frame .block) (cx .visits) >>= λ _. ok (choosing (withLeft left frame) frames rows cx)
-      | false ↦ ok (visiting block (withLeft left frame ∷ frames) rows 0 cx)
+      | true ↦ refuseIf (not (eqb block fallthrough)) 14 (frame .block) (cx .visits) >>= λ _. ok (choosing (withLeft left frame) frames out cx)
+      | false ↦ ok (visiting block (withLeft left frame ∷ frames) out 0 cx)
     ]
 
 -- a Switch's first case and fallthrough. (Another terminal has none, and its clause is there to be total.)
@@ -264,125 +298,125 @@ switchColumns (scope pruned body fallthrough number) = noSwitch
 
 -- ---- a nested list has ended, and its BLOCK row is out
 
-unfoldable pub resumeAt : Table → VisitValueBlock → Terminal → Block → Frame → List Frame → List Row → Context → Result State
-resumeAt t visit absent block frame frames rows cx = ok (close t frame frames rows cx)
-resumeAt t visit unreachable block frame frames rows cx = ok (close t frame frames rows cx)
-resumeAt t visit (throw value) block frame frames rows cx = ok (close t frame frames rows cx)
-resumeAt t visit (return value) block frame frames rows cx = ok (close t frame frames rows cx)
-resumeAt t visit (goto target variant) block frame frames rows cx = ok (close t frame frames rows cx)
-resumeAt t visit (if test consequent alternate fallthrough) block frame frames rows cx =
+unfoldable pub resumeAt : Table → VisitValueBlock → Terminal → Block → Frame → List Frame → Output → Context → Result State
+resumeAt t visit absent block frame frames out cx = ok (close t frame frames out cx)
+resumeAt t visit unreachable block frame frames out cx = ok (close t frame frames out cx)
+resumeAt t visit (throw value) block frame frames out cx = ok (close t frame frames out cx)
+resumeAt t visit (return value) block frame frames out cx = ok (close t frame frames out cx)
+resumeAt t visit (goto target variant) block frame frames out cx = ok (close t frame frames out cx)
+resumeAt t visit (if test consequent alternate fallthrough) block frame frames out cx =
     elim (frame .second) [
-      | true ↦ ok (close t frame frames rows cx)
-      | false ↦ elim (eqb alternate fallthrough) [ true ↦ ok (close t frame frames rows cx) | false ↦ into alternate 13 alternate (secondPart frame) frames rows cx ]
+      | true ↦ ok (close t frame frames out cx)
+      | false ↦ elim (eqb alternate fallthrough) [ true ↦ ok (close t frame frames out cx) | false ↦ into alternate 13 alternate (secondPart frame) frames out cx ]
     ]
-resumeAt t visit (branch test consequent alternate) block frame frames rows cx =
+resumeAt t visit (branch test consequent alternate) block frame frames out cx =
     elim (frame .second) [
-      | true ↦ ok (close t frame frames rows cx)
-      | false ↦ into alternate 19 (frame .block) (secondPart frame) frames rows cx
+      | true ↦ ok (close t frame frames out cx)
+      | false ↦ into alternate 19 (frame .block) (secondPart frame) frames out cx
     ]
-resumeAt t visit (switch test first number fallthrough) block frame frames rows cx =
+resumeAt t visit (switch test first number fallthrough) block frame frames out cx =
     let case : Case = caseAt t (first + frame .left) in
     schedule (target-case (case .block)) cx >>= λ inside.
-    ok (choosing (caseBuilt frame) frames (rows ++ (row 11 (case .test) 0 0 0 0 ∷ [])) inside)
-resumeAt t visit (do-while loop test fallthrough) block frame frames rows cx =
-    visit test none (block .span) (cx .visits) >>= λ tested. ok (close t frame frames (rows ++ valueOut (tested .value)) (withVisits (tested .visits) cx))
-resumeAt t visit (while test loop fallthrough) block frame frames rows cx = ok (close t frame frames rows cx)
-resumeAt t visit (for init test update loop fallthrough) block frame frames rows cx = ok (close t frame frames rows cx)
-resumeAt t visit (for-of init test loop fallthrough) block frame frames rows cx = ok (close t frame frames rows cx)
-resumeAt t visit (for-in init loop fallthrough) block frame frames rows cx = ok (close t frame frames rows cx)
-resumeAt t visit (logical operator test fallthrough) block frame frames rows cx = ok (close t frame frames rows cx)
-resumeAt t visit (ternary test fallthrough) block frame frames rows cx = ok (close t frame frames rows cx)
-resumeAt t visit (optional flag test fallthrough) block frame frames rows cx = ok (close t frame frames rows cx)
-resumeAt t visit (label body fallthrough) block frame frames rows cx = ok (close t frame frames rows cx)
-resumeAt t visit (sequence body fallthrough) block frame frames rows cx = ok (close t frame frames rows cx)
-resumeAt t visit (maybe-throw continuation) block frame frames rows cx = ok (close t frame frames rows cx)
-resumeAt t visit (try body handler fallthrough binding) block frame frames rows cx =
+    ok (choosing (caseBuilt frame) frames (out ⊕ (row 11 (case .test) 0 0 0 0 ∷ [])) inside)
+resumeAt t visit (do-while loop test fallthrough) block frame frames out cx =
+    visit test none (block .span) (cx .visits) >>= λ tested. ok (close t frame frames (out ⊕ valueOut (tested .value)) (withVisits (tested .visits) cx))
+resumeAt t visit (while test loop fallthrough) block frame frames out cx = ok (close t frame frames out cx)
+resumeAt t visit (for init test update loop fallthrough) block frame frames out cx = ok (close t frame frames out cx)
+resumeAt t visit (for-of init test loop fallthrough) block frame frames out cx = ok (close t frame frames out cx)
+resumeAt t visit (for-in init loop fallthrough) block frame frames out cx = ok (close t frame frames out cx)
+resumeAt t visit (logical operator test fallthrough) block frame frames out cx = ok (close t frame frames out cx)
+resumeAt t visit (ternary test fallthrough) block frame frames out cx = ok (close t frame frames out cx)
+resumeAt t visit (optional flag test fallthrough) block frame frames out cx = ok (close t frame frames out cx)
+resumeAt t visit (label body fallthrough) block frame frames out cx = ok (close t frame frames out cx)
+resumeAt t visit (sequence body fallthrough) block frame frames out cx = ok (close t frame frames out cx)
+resumeAt t visit (maybe-throw continuation) block frame frames out cx = ok (close t frame frames out cx)
+resumeAt t visit (try body handler fallthrough binding) block frame frames out cx =
     elim (frame .second) [
-      | true ↦ ok (close t frame frames rows cx)
-      | false ↦ ok (visiting handler (secondPart frame ∷ frames) rows 0 cx)
+      | true ↦ ok (close t frame frames out cx)
+      | false ↦ ok (visiting handler (secondPart frame ∷ frames) out 0 cx)
     ]
-resumeAt t visit (scope pruned body fallthrough number) block frame frames rows cx = ok (close t frame frames rows cx)
+resumeAt t visit (scope pruned body fallthrough number) block frame frames out cx = ok (close t frame frames out cx)
 
-abbrev pub resume : Table → VisitValueBlock → Frame → List Frame → List Row → Context → Result State
-resume t visit frame frames rows cx = resumeAt t visit (terminalAt t (frame .block)) (blockAt t (frame .block)) frame frames rows cx
+abbrev pub resume : Table → VisitValueBlock → Frame → List Frame → Output → Context → Result State
+resume t visit frame frames out cx = resumeAt t visit (terminalAt t (frame .block)) (blockAt t (frame .block)) frame frames out cx
 
 -- ---- the terminal of a block that is entered
 
 -- Branch: a break in place of the consequent where that is scheduled
-unfoldable pub branchTurn : Around → (at consequent alternate id : ℕ) → List Frame → List Row → (count : ℕ) → Context → Result State
-branchTurn around at consequent alternate id frames rows count cx =
+unfoldable pub branchTurn : Around → (at consequent alternate id : ℕ) → List Frame → Output → (count : ℕ) → Context → Result State
+branchTurn around at consequent alternate id frames out count cx =
     elim (isScheduled cx consequent) [
       | true ↦ visitBreak around at consequent id cx >>= λ statement.
-          into alternate 19 at (secondPart (frameOf at none 0 count)) frames ((rows ++ jumpOut statement) ++ (blockRow (added statement 0) ∷ [])) cx
-      | false ↦ ok (visiting consequent (frameOf at none 0 count ∷ frames) rows 0 cx)
+          into alternate 19 at (secondPart (frameOf at none 0 out count)) frames ((out ⊕ jumpOut statement) ⊕ (blockRow (added statement 0) ∷ [])) cx
+      | false ↦ ok (visiting consequent (frameOf at none 0 out count ∷ frames) out 0 cx)
     ]
 
 -- Logical, Ternary, Optional, Sequence
-unfoldable pub valueTurn : Table → VisitValueBlock → Terminal → (at : ℕ) → Block → (fallthrough : ℕ) → List Frame → List Row → (count : ℕ) → Context → Result State
-valueTurn t visit terminal at block fallthrough frames rows count cx =
+unfoldable pub valueTurn : Table → VisitValueBlock → Terminal → (at : ℕ) → Block → (fallthrough : ℕ) → List Frame → Output → (count : ℕ) → Context → Result State
+valueTurn t visit terminal at block fallthrough frames out count cx =
     let taken : Option ℕ = unlessScheduled cx fallthrough in
     visitValueBlockTerminal t visit terminal (block .id) (block .span) (cx .visits) at >>= λ result.
-    ok (leave taken frames ((rows ++ valueOut (result .value)) ++ (instrRow (result .id) (result .place) (block .span) ∷ [])) (suc count)
+    ok (leave taken frames ((out ⊕ valueOut (result .value)) ⊕ (instrRow (result .id) (result .place) (block .span) ∷ [])) (suc count)
     (unscheduledIf taken (withVisits (result .visits) (scheduledIf taken cx))))
 
-unfoldable pub terminalTurn : Around → Table → VisitValueBlock → Terminal → (at : ℕ) → Block → List Frame → List Row → (count : ℕ) → Context → Result State
-terminalTurn around t visit absent at block frames rows count cx = refused 99 at (cx .visits)
-terminalTurn around t visit unreachable at block frames rows count cx = ok (ended frames rows count cx)
-terminalTurn around t visit (throw value) at block frames rows count cx = ok (ended frames (rows ++ (row 23 value (block .id) 0 0 0 ∷ [])) (suc count) cx)
-terminalTurn around t visit (return value) at block frames rows count cx = ok (ended frames (rows ++ (row 22 value (block .id) 0 0 0 ∷ [])) (suc count) cx)
-terminalTurn around t visit (goto target variant) at block frames rows count cx =
+unfoldable pub terminalTurn : Around → Table → VisitValueBlock → Terminal → (at : ℕ) → Block → List Frame → Output → (count : ℕ) → Context → Result State
+terminalTurn around t visit absent at block frames out count cx = refused 99 at (cx .visits)
+terminalTurn around t visit unreachable at block frames out count cx = ok (ended frames out count cx)
+terminalTurn around t visit (throw value) at block frames out count cx = ok (ended frames (out ⊕ (row 23 value (block .id) 0 0 0 ∷ [])) (suc count) cx)
+terminalTurn around t visit (return value) at block frames out count cx = ok (ended frames (out ⊕ (row 22 value (block .id) 0 0 0 ∷ [])) (suc count) cx)
+terminalTurn around t visit (goto target variant) at block frames out count cx =
     visitGoto around variant at target (block .id) cx >>= λ result.
-    ok (leave (result .next) frames (rows ++ jumpOut (result .statement)) (added (result .statement) count) (result .context))
-terminalTurn around t visit (if test consequent alternate fallthrough) at block frames rows count cx =
+    ok (leave (result .next) frames (out ⊕ jumpOut (result .statement)) (added (result .statement) count) (result .context))
+terminalTurn around t visit (if test consequent alternate fallthrough) at block frames out count cx =
     unlessUnreachable t cx fallthrough >>= λ taken.
-    into consequent 12 consequent (frameOf at taken (opens taken) count) frames rows (scheduledIf taken cx)
-terminalTurn around t visit (branch test consequent alternate) at block frames rows count cx = branchTurn around at consequent alternate (block .id) frames rows count cx
-terminalTurn around t visit (switch test first number fallthrough) at block frames rows count cx =
+    into consequent 12 consequent (frameOf at taken (opens taken) out count) frames out (scheduledIf taken cx)
+terminalTurn around t visit (branch test consequent alternate) at block frames out count cx = branchTurn around at consequent alternate (block .id) frames out count cx
+terminalTurn around t visit (switch test first number fallthrough) at block frames out count cx =
     unlessUnreachable t cx fallthrough >>= λ taken.
-    ok (choosing (withLeft (numberOfCases t first number) (frameOf at taken (opens taken) count)) frames rows (scheduledSwitch taken cx))
-terminalTurn around t visit (do-while loop test fallthrough) at block frames rows count cx =
+    ok (choosing (withLeft (numberOfCases t first number) (frameOf at taken (opens taken) out count)) frames out (scheduledSwitch taken cx))
+terminalTurn around t visit (do-while loop test fallthrough) at block frames out count cx =
     let taken : Option ℕ = unlessScheduled cx fallthrough in
     schedule (target-loop fallthrough test loop) cx >>= λ inside.
-    intoLoop at loop (loopIsTaken cx loop fallthrough) (inside .visits) (frameOf at taken 1 count) frames rows inside
-terminalTurn around t visit (while test loop fallthrough) at block frames rows count cx =
+    intoLoop at loop (loopIsTaken cx loop fallthrough) (inside .visits) (frameOf at taken 1 out count) frames out inside
+terminalTurn around t visit (while test loop fallthrough) at block frames out count cx =
     unlessUnreachable t cx fallthrough >>= λ taken.
     schedule (target-loop fallthrough test loop) cx >>= λ inside.
     visit test none (block .span) (inside .visits) >>= λ tested.
-    intoLoop at loop (loopIsTaken cx loop fallthrough) (tested .visits) (frameOf at taken 1 count) frames (rows ++ valueOut (tested .value)) inside
-terminalTurn around t visit (for init test update loop fallthrough) at block frames rows count cx =
+    intoLoop at loop (loopIsTaken cx loop fallthrough) (tested .visits) (frameOf at taken 1 out count) frames (out ⊕ valueOut (tested .value)) inside
+terminalTurn around t visit (for init test update loop fallthrough) at block frames out count cx =
     let taken : Option ℕ = unlessScheduled cx fallthrough in
     schedule (target-loop fallthrough (continueBlockOf update test) loop) cx >>= λ inside.
     visit init none (block .span) (inside .visits) >>= λ first.
     visit test none (block .span) (first .visits) >>= λ tested.
     visitUpdate visit update (block .span) (tested .visits) >>= λ updated.
-    intoLoop at loop (loopIsTaken cx loop fallthrough) (updated .visits) (frameOf at taken 1 count) frames
-    (((rows ++ valueOut (valueBlockResultToSequence t first (block .span))) ++ valueOut (tested .value)) ++ updateOut (updated .value)) inside
-terminalTurn around t visit (for-of init test loop fallthrough) at block frames rows count cx =
+    intoLoop at loop (loopIsTaken cx loop fallthrough) (updated .visits) (frameOf at taken 1 out count) frames
+    (((out ⊕ valueOut (valueBlockResultToSequence t first (block .span))) ⊕ valueOut (tested .value)) ⊕ updateOut (updated .value)) inside
+terminalTurn around t visit (for-of init test loop fallthrough) at block frames out count cx =
     let taken : Option ℕ = unlessScheduled cx fallthrough in
     schedule (target-loop fallthrough init loop) cx >>= λ inside.
     visit init none (block .span) (inside .visits) >>= λ first.
     visit test none (block .span) (first .visits) >>= λ tested.
-    intoLoop at loop (loopIsTaken cx loop fallthrough) (tested .visits) (frameOf at taken 1 count) frames
-    ((rows ++ valueOut (valueBlockResultToSequence t first (block .span))) ++ valueOut (valueBlockResultToSequence t tested (block .span))) inside
-terminalTurn around t visit (for-in init loop fallthrough) at block frames rows count cx =
+    intoLoop at loop (loopIsTaken cx loop fallthrough) (tested .visits) (frameOf at taken 1 out count) frames
+    ((out ⊕ valueOut (valueBlockResultToSequence t first (block .span))) ⊕ valueOut (valueBlockResultToSequence t tested (block .span))) inside
+terminalTurn around t visit (for-in init loop fallthrough) at block frames out count cx =
     let taken : Option ℕ = unlessScheduled cx fallthrough in
     schedule (target-loop fallthrough init loop) cx >>= λ inside.
     visit init none (block .span) (inside .visits) >>= λ first.
-    intoLoop at loop (loopIsTaken cx loop fallthrough) (first .visits) (frameOf at taken 1 count) frames (rows ++ valueOut (valueBlockResultToSequence t first (block .span))) inside
-terminalTurn around t visit (logical operator test fallthrough) at block frames rows count cx = valueTurn t visit (logical operator test fallthrough) at block fallthrough frames rows count cx
-terminalTurn around t visit (ternary test fallthrough) at block frames rows count cx = valueTurn t visit (ternary test fallthrough) at block fallthrough frames rows count cx
-terminalTurn around t visit (optional flag test fallthrough) at block frames rows count cx = valueTurn t visit (optional flag test fallthrough) at block fallthrough frames rows count cx
-terminalTurn around t visit (label body fallthrough) at block frames rows count cx =
+    intoLoop at loop (loopIsTaken cx loop fallthrough) (first .visits) (frameOf at taken 1 out count) frames (out ⊕ valueOut (valueBlockResultToSequence t first (block .span))) inside
+terminalTurn around t visit (logical operator test fallthrough) at block frames out count cx = valueTurn t visit (logical operator test fallthrough) at block fallthrough frames out count cx
+terminalTurn around t visit (ternary test fallthrough) at block frames out count cx = valueTurn t visit (ternary test fallthrough) at block fallthrough frames out count cx
+terminalTurn around t visit (optional flag test fallthrough) at block frames out count cx = valueTurn t visit (optional flag test fallthrough) at block fallthrough frames out count cx
+terminalTurn around t visit (label body fallthrough) at block frames out count cx =
     unlessUnreachable t cx fallthrough >>= λ taken.
-    into body 17 at (frameOf at taken (opens taken) count) frames rows (scheduledIf taken cx)
-terminalTurn around t visit (sequence body fallthrough) at block frames rows count cx = valueTurn t visit (sequence body fallthrough) at block fallthrough frames rows count cx
-terminalTurn around t visit (maybe-throw continuation) at block frames rows count cx = ok (leave (unlessScheduled cx continuation) frames rows count cx)
-terminalTurn around t visit (try body handler fallthrough binding) at block frames rows count cx =
+    into body 17 at (frameOf at taken (opens taken) out count) frames out (scheduledIf taken cx)
+terminalTurn around t visit (sequence body fallthrough) at block frames out count cx = valueTurn t visit (sequence body fallthrough) at block fallthrough frames out count cx
+terminalTurn around t visit (maybe-throw continuation) at block frames out count cx = ok (leave (unlessScheduled cx continuation) frames out count cx)
+terminalTurn around t visit (try body handler fallthrough binding) at block frames out count cx =
     unlessUnreachable t cx fallthrough >>= λ taken.
-    ok (visiting body (frameOf at taken (opens taken) count ∷ frames) rows 0 (scheduleCatchHandler handler (scheduledIf taken cx)))
-terminalTurn around t visit (scope pruned body fallthrough number) at block frames rows count cx =
+    ok (visiting body (frameOf at taken (opens taken) out count ∷ frames) out 0 (scheduleCatchHandler handler (scheduledIf taken cx)))
+terminalTurn around t visit (scope pruned body fallthrough number) at block frames out count cx =
     let taken : Option ℕ = unlessScheduled cx fallthrough in
-    into body 18 at (frameOf at taken (opens taken) count) frames rows (markScopeFallthroughIf taken (scheduledIf taken cx))
+    into body 18 at (frameOf at taken (opens taken) out count) frames out (markScopeFallthroughIf taken (scheduledIf taken cx))
 
 -- ---- turns
 
@@ -391,22 +425,22 @@ abbrev pub depthLeft : List Frame → ℕ
 depthLeft frames = 127 - length frames
 
 -- "Order at a visit: 30, 31, 10, then 11". The block's instructions are put out, and then its terminal is looked at
-unfoldable pub visitTurn : Rule → Table → (block : ℕ) → List Frame → List Row → (count : ℕ) → Context → Result State
-visitTurn rule t block frames rows count cx =
+unfoldable pub visitTurn : Rule → Table → (block : ℕ) → List Frame → Output → (count : ℕ) → Context → Result State
+visitTurn rule t block frames out count cx =
     refuseIf (leb mostDepth (length frames)) 30 block (cx .visits) >>= λ _.
     enterBlock t block cx >>= λ entered.
     terminalTurn (aroundOf rule t frames) t (visitValueBlock t (depthLeft frames)) (terminalAt t block) block (blockAt t block) frames
-    (rows ++ instructionsOut t (instructionRowsAt t block)) (count + length (instructionRowsAt t block)) entered
+    (out ⊕ instructionsOut t (instructionRowsAt t block)) (count + length (instructionRowsAt t block)) entered
 
 unfoldable pub step : Rule → Table → State → Turn
-step rule t (visiting block frames rows count cx) = turn (visitTurn rule t block frames rows count cx)
-step rule t (ended [] rows count cx) = halt (accepted (rows ++ (blockRow count ∷ [])) (cx .visits))
-step rule t (ended (frame ∷ frames) rows count cx) = turn (resume t (visitValueBlock t (depthLeft frames)) frame frames (rows ++ (blockRow count ∷ [])) cx)
-step rule t (choosing frame frames rows cx) = turn (chooseCase t (switchColumns (terminalAt t (frame .block)) .first) (switchColumns (terminalAt t (frame .block)) .fallthrough) (frame .left) frame frames rows cx)
-step rule t (popping frame frames rows cx) = going (close t frame frames rows cx)
+step rule t (visiting block frames out count cx) = turn (visitTurn rule t block frames out count cx)
+step rule t (ended [] out count cx) = halt (accepted (out .rows ++ (blockRow count ∷ [])) (out .lines) (cx .visits))
+step rule t (ended (frame ∷ frames) out count cx) = turn (resume t (visitValueBlock t (depthLeft frames)) frame frames (out ⊕ (blockRow count ∷ [])) cx)
+step rule t (choosing frame frames out cx) = turn (chooseCase t (switchColumns (terminalAt t (frame .block)) .first) (switchColumns (terminalAt t (frame .block)) .fallthrough) (frame .left) frame frames out cx)
+step rule t (popping frame frames out cx) = going (close t frame frames out cx)
 
 abbrev pub begin : Table → State
-begin t = visiting (t .entry) [] [] 0 start
+begin t = visiting (t .entry) [] noOutput 0 start
 
 -- from a state the machine comes to a halt with this report
 pub data Gives (rule : Rule) (t : Table) : State → Report → Type 0 where

@@ -1,5 +1,5 @@
 -- M-102, "which differs only as follows": two trees that are the same but for BREAKs that are Unlabeled in the first and Labeled in the second.
-use Prim.Native.Nat.{ℕ}
+use Prim.Native.Nat.{ℕ, _≤_}
 use mathlib.Core.Path.{_≡_}
 use mathlib.Core.Option.{Option}
 use mathlib.Core.Bool.{Bool}
@@ -39,12 +39,17 @@ mutual
     no-case-left : RelabeledCases no-cases no-cases
     a-case : (test : ℕ) {body body′ : Statements} {rest rest′ : Cases} → RelabeledAll body body′ → RelabeledCases rest rest′ → RelabeledCases (CASE test body rest) (CASE test body′ rest′)
 
--- what the first entry gives, and the language entry: "the same, or 29". Where the first refuses, the second refuses alike, or with 29
-abbrev pub Apart : {A : Type 0} → (A → A → Type 0) → Result A → Result A → Type 0
-Apart Alike (ok a) (ok b) = Alike a b
-Apart Alike (ok a) (refused code at visits) = code ≡ 29
-Apart Alike (refused code at visits) (ok b) = ⊥
-Apart Alike (refused code at visits) (refused code′ at′ visits′) = ((code ≡ code′) × (at ≡ at′) × (visits ≡ visits′)) ⊎ (code′ ≡ 29)
+-- what the first entry gives, and the language entry: "the same, or 29". Where the first refuses, the second refuses alike, or with 29; and 29 comes
+-- with no more visits than the first entry has (`seen` is the count of a result)
+abbrev pub Apart : {A : Type 0} → (A → A → Type 0) → (seen : A → ℕ) → Result A → Result A → Type 0
+Apart Alike seen (ok a) (ok b) = Alike a b
+Apart Alike seen (ok a) (refused code at visits) = (code ≡ 29) × (visits ≤ seen a)
+Apart Alike seen (refused code at visits) (ok b) = ⊥
+Apart Alike seen (refused code at visits) (refused code′ at′ visits′) = ((code ≡ code′) × (at ≡ at′) × (visits ≡ visits′)) ⊎ ((code′ ≡ 29) × (visits′ ≤ visits))
+
+-- the count of visits that a list of statements leaves
+abbrev pub visitsAfter : BlockResult → ℕ
+visitsAfter result = result .context .visits
 
 -- lists of statements that are so, with one Context after them: the same visits, too
 pub data AlikeBlocks : BlockResult → BlockResult → Type 0 where

@@ -8,8 +8,9 @@ use lib.ListN.{replicate}
 use Rattle.table.specs.Table.{Table, Block, Case, Continue, Try, Terminal, absent, unreachable, throw, return, goto, if, branch, switch, do-while, while, for, for-of, for-in, logical, ternary, optional, label, sequence, maybe-throw, try, scope, noBlock}
 use Rattle.text.specs.Ascii.{ascii}
 use Rattle.text.specs.Decimal.{digitsOf, decimal}
+use Rattle.text.specs.Placed.{refusal, placed}
 use Rattle.lines.specs.Lines.{namedBy, linesFrom, lines}
-use Rattle.dot.specs.Dot.{lineText, linesText, graphText, refusal, placed}
+use Rattle.dot.specs.Dot.{lineText, linesText, graphText}
 
 abbrev block : Terminal → Block
 block terminal = record { first = 0; count = 0; terminal = terminal; id = 0; span = noBlock .span }
@@ -83,10 +84,10 @@ unfolding digitsOf decimal namedBy linesFrom lines lineText linesText graphText
 the-samples = refl
 
 -- W has 74 bytes, and a zero after them where more are lent; 73 are not enough
-pub W-fits : placed 75 (graphText W) ≡ record { code = 0; at = 0; length = 74; buffer = graphText W ++ (0 ∷ []) }
+pub W-fits : placed 44 75 (graphText W) ≡ record { code = 0; at = 0; length = 74; buffer = graphText W ++ (0 ∷ []) }
 unfolding digitsOf decimal namedBy linesFrom lines lineText linesText graphText placed
 W-fits = refl
 
-pub W-short : placed 73 (graphText W) ≡ record { code = 44; at = 0; length = 0; buffer = replicate 73 0 }
+pub W-short : placed 44 73 (graphText W) ≡ record { code = 44; at = 0; length = 0; buffer = replicate 73 0 }
 unfolding digitsOf decimal namedBy linesFrom lines lineText linesText graphText placed refusal
 W-short = refl

@@ -1,2 +1,1 @@
 pub mod Dot
-pub mod Entry

@@ -1,8 +1,7 @@
 // Text into a lent buffer: what is stored past its end is stored nowhere, and counted.
-ghost use mathlib.Core.Path.{_≡_};
-ghost use mathlib.Core.List.{[], _∷_, _++_};
-ghost use Prim.Native.Nat.{_+_, _-_, _^_, _<_, _≤_};
-ghost use lib.ListN.{length, take, replicate};
+ghost use mathlib.Core.List.{[], _∷_};
+ghost use Prim.Native.Nat.{_+_, _^_, _<_, _≤_};
+ghost use lib.ListN.{length};
 ghost use Rattle.text.specs.Decimal.{decimal};
 ghost use Rattle.text.specs.Printed.{Wrote};
 ghost use Rattle.dot.specs.Dot.{lineText};
@@ -70,16 +69,4 @@ pub fn write_line(text: &mut [u8], start: usize, from: u32, to: u32) -> usize
     let target = write_bytes(text, arrow, b" -> n");
     let end = write_number(text, target, to);
     write_bytes(text, end, b";\n")
-}
-
-// Clears the bytes from an index on.
-pub fn clear(text: &mut [u8], from: usize)
-    requires { ⌜ from ≤ length (now text) ⌝ }
-    ensures { λ _. ⌜ now (text .exit) ≡ take from (now (text .entry)) ++ replicate (length (now (text .entry)) - from) 0 ⌝ }
-{
-    let mut i = from;
-    while i < text.len() {
-        text[i] = 0;
-        i += 1;
-    }
 }

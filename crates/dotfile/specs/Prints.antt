@@ -1,24 +1,17 @@
 -- What treedot prints of a file. A file has one text (`text`, `file-printed-one`), so that the answer and every lent byte are fixed.
 use Prim.Native.Nat.{ℕ}
-use mathlib.Core.List.{List, []}
-use lib.Dec.{eqb}
-use lib.ListN.{take}
+use mathlib.Core.List.{List}
 use Rattle.text.specs.declared.write.Written.{Written}
 use Rattle.text.specs.Layout.{layout}
 use Rattle.text.specs.declared.version.Version.the-variants.{New}
-use Rattle.text.specs.Decimal.{choose}
-use Rattle.text.specs.Printed.{printed}
+use Rattle.text.specs.Placed.{printedPlacing}
 use Rattle.text.specs.Prints.{FilePrinted}
 use Rattle.text.specs.Prints as text
-use Rattle.dot.specs.Dot.{Drawing, drawn}
-
--- the text of a drawing; of a refusal two lines, with no rows and no visits
-unfoldable pub printedDrawing : Drawing → List ℕ
-printedDrawing drawing = choose (eqb (drawing .code) 0) (λ _. take (drawing .length) (drawing .buffer)) (λ _. printed (drawing .code) (drawing .at) 0 0 [])
+use Rattle.dot.specs.Dot.{drawn}
 
 -- what a table's words print, in `room` bytes
 abbrev pub drawingText : (room : ℕ) → List ℕ → List ℕ
-drawingText room words = printedDrawing (drawn words room)
+drawingText room words = printedPlacing (drawn words room)
 
 -- a file in the form prints its table's drawing; any other file prints its refusal
 abbrev pub Prints : (file : List ℕ) → (room : ℕ) → (text : List ℕ) → Type 0

@@ -20,9 +20,10 @@ use Rattle.table.proofs.RangeLaws.{in-range}
 use Rattle.table.proofs.BlockLaws.{no-number, some-number, end-by}
 use Rattle.definition.proofs.Never.{or-false}
 use Rattle.definition.proofs.Simulation.{bind-assoc}
+use Rattle.definition.proofs.Lines.{out-nil, out-assoc}
 use Rattle.definition.specs.Context.{Flags, has, add, remove, pushed, popped, target-if, target-loop, withVisits, schedule, unscheduledBy}
 use Rattle.definition.specs.Context as definition
-use Rattle.definition.specs.Machine.{State, visiting, turn, leave, intoLoop, scheduledIf, unscheduled, unscheduledTop, unscheduledIf, valueOut, updateOut, valueTurn, terminalTurn}
+use Rattle.definition.specs.Machine.{Output, _⊕_, State, visiting, turn, leave, intoLoop, scheduledIf, unscheduled, unscheduledTop, unscheduledIf, valueOut, updateOut, valueTurn, terminalTurn}
 use Rattle.definition.specs.Machine as machine
 use Rattle.definition.specs.Result.{Result, ok, refused, _>>=_, refuseIf}
 use Rattle.definition.specs.Statement.{unlessScheduled, unlessUnreachable, loopIsTaken, continueBlockOf, visitUpdate}
@@ -45,7 +46,7 @@ use Rattle.loops.specs.declared.Values.{Values}
 use Rattle.loops.specs.declared.Loop as loops
 use Rattle.control.specs.declared.ControlFlowTarget.the-variants.{Loop}
 use Rattle.plan.specs.Plans.{frameOf, changed, applied, openFrame, refusing, leaving, unlessTaken, brieflyIf}
-use Rattle.plan.specs.Planned.{Seen, NamedChange, Fitting, PlannedBare, Entered, nowhere, terminalStep}
+use Rattle.plan.specs.Planned.{Seen, Stands, NamedChange, Fitting, PlannedBare, Entered, nowhere, terminalStep}
 use Rattle.loops.specs.Loops.{PlannedRows, Made, plainMade, flatMade, testedValues, forValues, forOfValues, noneMade, valueMade, plainForm, flatForm}
 use Rattle.loops.specs.Loops.{updateMade, testedMade, forMade, forOfMade, noValues, valuesOf, Makes, Spent, MakesMore, MakesTested, loopTurn}
 use Rattle.loops.specs.Loops.{afterValues, enteringBody, enteringLoop, loopTaken, continuesAt, valueFallthrough}
@@ -190,11 +191,11 @@ seen-visits after seen = record { scheduled = seen .scheduled; handlers = seen .
 
 -- ---- the turn that all loops share is its plan
 
-into-taken : (at l v : ℕ) (taken : Bool) (fr : machine.Frame) (F : List machine.Frame) (R : List Row) (C : definition.Context) → taken ≡ true → intoLoop at l taken v fr F R C ≡ refused 16 at v
+into-taken : (at l v : ℕ) (taken : Bool) (fr : machine.Frame) (F : List machine.Frame) (R : Output) (C : definition.Context) → taken ≡ true → intoLoop at l taken v fr F R C ≡ refused 16 at v
 unfolding intoLoop refuseIf _>>=_
 into-taken at l v taken fr F R C e = rw e
 
-into-body : (at l v : ℕ) (taken : Bool) (fr : machine.Frame) (F : List machine.Frame) (R : List Row) (C : definition.Context) → taken ≡ false
+into-body : (at l v : ℕ) (taken : Bool) (fr : machine.Frame) (F : List machine.Frame) (R : Output) (C : definition.Context) → taken ≡ false
     → intoLoop at l taken v fr F R C ≡ ok (visiting l (fr ∷ F) R 0 (withVisits v C))
 unfolding intoLoop refuseIf _>>=_
 into-body at l v taken fr F R C e = rw e
@@ -202,23 +203,23 @@ into-body at l v taken fr F R C e = rw e
 abbrev blocksOf : (f n c l : ℕ) → loops.Loop
 blocksOf f n c l = record { fallthrough = f; label = n; «continue_block» = c; «loop_block» = l }
 
-module _ (S H : Flags) (p : Position) (f c l n : ℕ) (values : ℕ → Result Made) (F : List machine.Frame) (R : List Row) (C : definition.Context) (seen : Seen S H (p .visits) C) (h : f < 1024) where
+module _ (S H : Flags) (p : Position) (f c l n : ℕ) (values : ℕ → Result Made) (F : List machine.Frame) (R : Output) (C : definition.Context) (seen : Seen S H (p .visits) C) (h : f < 1024) where
   refused-same : continueScheduled S f c ≡ true → turn (loopTurn (p .block) f c l (unlessNone n) (p .count) values F R C) ≡ applied (refusing p 15 c) F R C
   unfolding loopTurn _>>=_
   refused-same e =
       ap (λ (z : Result definition.Context). turn
       (z >>= λ inside. values (inside .visits) >>= λ made. intoLoop (p .block) l (loopIsTaken C l f) (made .visits)
-      (machine.frameOf (p .block) (unlessNone n) 1 (p .count)) F (R ++ made .out) inside)) (loop-not-scheduled S H (p .visits) C seen f c l h e)
+      (machine.frameOf (p .block) (unlessNone n) 1 R (p .count)) F (R ⊕ made .out) inside)) (loop-not-scheduled S H (p .visits) C seen f c l h e)
       ∙ turn-refused 15 c (p .visits) ∙ sym (refuse-applied p 15 c F R C (λ z. omega arith))
 
-  body-same : (r : Values) (out : List Row) → length F ≡ p .depth → continueScheduled S f c ≡ false
-      → turn (intoLoop (p .block) l (loopIsTaken C l f) (r .visits) (machine.frameOf (p .block) (unlessNone n) 1 (p .count)) F out
+  body-same : (r : Values) (out : Output) → Stands F R (p .depth) (p .rows) → continueScheduled S f c ≡ false
+      → turn (intoLoop (p .block) l (loopIsTaken C l f) (r .visits) (machine.frameOf (p .block) (unlessNone n) 1 R (p .count)) F out
       (pushed (target-loop f c l) C)) ≡ applied (enteringBody (loopTaken S H l f) p r (blocksOf f n c l)) F out C
   body-same r out d e =
-      ap (λ (z : Bool). turn (intoLoop (p .block) l z (r .visits) (machine.frameOf (p .block) (unlessNone n) 1 (p .count)) F out
+      ap (λ (z : Bool). turn (intoLoop (p .block) l z (r .visits) (machine.frameOf (p .block) (unlessNone n) 1 R (p .count)) F out
       (pushed (target-loop f c l) C))) (loop-taken S H (p .visits) C seen f c l h) ∙ by (loopTaken S H l f)
     where
-      by : (y : Bool) → turn (intoLoop (p .block) l y (r .visits) (machine.frameOf (p .block) (unlessNone n) 1 (p .count)) F out
+      by : (y : Bool) → turn (intoLoop (p .block) l y (r .visits) (machine.frameOf (p .block) (unlessNone n) 1 R (p .count)) F out
           (pushed (target-loop f c l) C)) ≡ applied (enteringBody y p r (blocksOf f n c l)) F out C
       by true =
           ap turn (into-taken (p .block) l (r .visits) true _ F out _ refl) ∙ turn-refused 16 (p .block) (r .visits) ∙ sym
@@ -226,28 +227,28 @@ module _ (S H : Flags) (p : Position) (f c l n : ℕ) (values : ℕ → Result M
       by false = ap turn (into-body (p .block) l (r .visits) false _ F out _ refl) ∙ turn-ok _
           ∙ sym (nest-applied l (openFrame p n 1) (p .depth + 1) (r .rows) (r .visits) 65535 65535 (Schedule (Loop f c l)) F out C (pushed (target-loop f c l) (withVisits (r .visits) C))
           (rw no-number (loop-scheduled S H (r .visits) (withVisits (r .visits) C) (seen-visits (r .visits) seen) f c l h e))
-          ∙ rw (within-all (p .depth + 1 - 1) F (omega (arith, d)), ← (visits-inside f c l (r .visits) C)))
+          ∙ rw (d .many, within-all (p .depth + 1 - 1) F (omega (arith, d .deep)), ← (visits-inside f c l (r .visits) C)))
 
-  entered-same : {b b′ : List ℕ} (r : Values) (m : Makes p (values (p .visits)) b r b′) → length F ≡ p .depth → continueScheduled S f c ≡ false
-      → turn (loopTurn (p .block) f c l (unlessNone n) (p .count) values F R C) ≡ applied (enteringLoop (eqb (r .code) 0) (loopTaken S H l f) p r (blocksOf f n c l)) F (R ++ m .out) C
+  entered-same : {b b′ : List ℕ} (r : Values) (m : Makes p (values (p .visits)) b r b′) → Stands F R (p .depth) (p .rows) → continueScheduled S f c ≡ false
+      → turn (loopTurn (p .block) f c l (unlessNone n) (p .count) values F R C) ≡ applied (enteringLoop (eqb (r .code) 0) (loopTaken S H l f) p r (blocksOf f n c l)) F (R ⊕ m .out) C
   unfolding loopTurn
   entered-same r m d e =
       ap (λ (z : Result definition.Context). turn (z >>= rest)) (loop-scheduled S H (p .visits) C seen f c l h e) ∙ started ∙ by (eqb (r .code) 0) refl
     where
       k : Made → Result State
-      k made = intoLoop (p .block) l (loopIsTaken C l f) (made .visits) (machine.frameOf (p .block) (unlessNone n) 1 (p .count)) F (R ++ made .out) (pushed (target-loop f c l) C)
+      k made = intoLoop (p .block) l (loopIsTaken C l f) (made .visits) (machine.frameOf (p .block) (unlessNone n) 1 R (p .count)) F (R ⊕ made .out) (pushed (target-loop f c l) C)
 
       rest : definition.Context → Result State
-      rest inside = values (inside .visits) >>= λ made. intoLoop (p .block) l (loopIsTaken C l f) (made .visits) (machine.frameOf (p .block) (unlessNone n) 1 (p .count)) F (R ++ made .out) inside
+      rest inside = values (inside .visits) >>= λ made. intoLoop (p .block) l (loopIsTaken C l f) (made .visits) (machine.frameOf (p .block) (unlessNone n) 1 R (p .count)) F (R ⊕ made .out) inside
 
       started : turn (ok (pushed (target-loop f c l) C) >>= rest) ≡ turn (values (p .visits) >>= k)
       started = unfold _>>=_ in ap (λ (v : ℕ). turn (values v >>= k)) (loop-visits S H (p .visits) C seen f c l h)
 
-      by : (y : Bool) → eqb (r .code) 0 ≡ y → turn (values (p .visits) >>= k) ≡ applied (enteringLoop y (loopTaken S H l f) p r (blocksOf f n c l)) F (R ++ m .out) C
-      by true q = ap turn (made-on m k (eqb-true (r .code) 0 q)) ∙ body-same r (R ++ m .out) d e
+      by : (y : Bool) → eqb (r .code) 0 ≡ y → turn (values (p .visits) >>= k) ≡ applied (enteringLoop y (loopTaken S H l f) p r (blocksOf f n c l)) F (R ⊕ m .out) C
+      by true q = ap turn (made-on m k (eqb-true (r .code) 0 q)) ∙ body-same r (R ⊕ m .out) d e
       by false q =
           ap turn (made-off m k (eqb-false (r .code) 0 q)) ∙ turn-refused (r .code) (r .at) (r .visits) ∙ sym
-          (refuse-applied (afterValues p r) (r .code) (r .at) F (R ++ m .out) C (eqb-false (r .code) 0 q))
+          (refuse-applied (afterValues p r) (r .code) (r .at) F (R ⊕ m .out) C (eqb-false (r .code) 0 q))
 
 -- ---- planners of loops
 
@@ -306,7 +307,7 @@ module _ (w : List ℕ) (S H : Flags) (p : Position) (en : Entered w p) where
 
   -- the block's turn is that of a loop with these blocks, this label and these values
   abbrev Turns : (f c l n : ℕ) → (ℕ → Result Made) → Type 0
-  Turns f c l n values = (F : List machine.Frame) (R : List Row) (C : definition.Context) → Seen S H (p .visits) C
+  Turns f c l n values = (F : List machine.Frame) (R : Output) (C : definition.Context) → Seen S H (p .visits) C
       → turn (terminalStep w p F R C) ≡ turn (loopTurn (p .block) f c l (unlessNone n) (p .count) values F R C)
 
   loop-refused : (f c l n : ℕ) (values : ℕ → Result Made) (plan : Plan) → Turns f c l n values → f < blockCount w → continueScheduled S f c ≡ true → plan ≡ refusing p 15 c → PlannedBare w S H p plan
@@ -350,7 +351,7 @@ module _ (w : List ℕ) (S H : Flags) (p : Position) (en : Entered w p) where
 
   -- a loop that does not ask whether its fallthrough is reachable
   abbrev Loops : Terminal → (f c l : ℕ) → (ℕ → Result Made) → Type 0
-  Loops e f c l values = (F : List machine.Frame) (R : List Row) (C : definition.Context)
+  Loops e f c l values = (F : List machine.Frame) (R : Output) (C : definition.Context)
       → terminalTurn nowhere (tableOf w) visit e (p .block) (blockAt (tableOf w) (p .block)) F R (p .count) C ≡ loopTurn (p .block) f c l (unlessScheduled C f) (p .count) values F R C
 
   turns : (e : Terminal) (f c l n : ℕ) (values : ℕ → Result Made) → Is e → Loops e f c l values → f < blockCount w → n ≡ unlessTaken (has S f || has H f) f → Turns f c l n values
@@ -360,12 +361,12 @@ module _ (w : List ℕ) (S H : Flags) (p : Position) (en : Entered w p) where
 
   do-while-turns : (l c f n : ℕ) → Is (do-while l c f) → f < blockCount w → n ≡ unlessTaken (has S f || has H f) f → Turns f c l n (λ v. ok (noneMade v))
   unfolding terminalTurn loopTurn _>>=_
-  do-while-turns l c f n q h o = turns (do-while l c f) f c l n (λ v. ok (noneMade v)) q (λ F R C. then-same (schedule (target-loop f c l) C) _ _ (λ inside. rw (append-nil R))) h o
+  do-while-turns l c f n q h o = turns (do-while l c f) f c l n (λ v. ok (noneMade v)) q (λ F R C. then-same (schedule (target-loop f c l) C) _ _ (λ inside. rw (out-nil R))) h o
 
-  module _ (f l : ℕ) (F : List machine.Frame) (R : List Row) (C inside : definition.Context) (taken : Option ℕ) where
+  module _ (f l : ℕ) (F : List machine.Frame) (R : Output) (C inside : definition.Context) (taken : Option ℕ) where
     -- the loop's body, after its values
     abbrev body : Made → Result State
-    body made = intoLoop (p .block) l (loopIsTaken C l f) (made .visits) (machine.frameOf (p .block) taken 1 (p .count)) F (R ++ made .out) inside
+    body made = intoLoop (p .block) l (loopIsTaken C l f) (made .visits) (machine.frameOf (p .block) taken 1 R (p .count)) F (R ⊕ made .out) inside
 
   for-in-turns : (c l f n : ℕ) → Is (for-in c l f) → f < blockCount w → n ≡ unlessTaken (has S f || has H f) f → Turns f c l n (λ v. valueMade visit (flatForm (tableOf w) span) c span (noneMade v))
   unfolding terminalTurn loopTurn
@@ -381,7 +382,7 @@ module _ (w : List ℕ) (S H : Flags) (p : Position) (en : Entered w p) where
       ∙ value-then visit flat c span (noneMade (inside .visits)) (λ made. valueMade visit flat test span made >>= k)
       ∙ then-same (visit c none span (inside .visits)) _ _ (λ first.
       value-then visit flat test span (record { out = valueOut (flat first); visits = first .visits }) k
-      ∙ then-same (visit test none span (first .visits)) _ _ (λ tested. rw (append-assoc R (valueOut (flat first)) (valueOut (flat tested))))))))) h o
+      ∙ then-same (visit test none span (first .visits)) _ _ (λ tested. rw (out-assoc R (valueOut (flat first)) (valueOut (flat tested))))))))) h o
 
   for-turns : (init test : ℕ) (update : Option ℕ) (l f n : ℕ) → Is (for init test update l f) → f < blockCount w → n ≡ unlessTaken (has S f || has H f) f
       → Turns f (continueBlockOf update test) l n (λ v. forMade (tableOf w) visit init test update span (noneMade v))
@@ -400,10 +401,10 @@ module _ (w : List ℕ) (S H : Flags) (p : Position) (en : Entered w p) where
       ∙ then-same (visit test none span (first .visits)) _ _ (λ tested.
       update-then visit update span (record { out = valueOut (flat first) ++ valueOut (tested .value); visits = tested .visits }) k
       ∙ then-same (visitUpdate visit update span (tested .visits)) _ _ (λ updated.
-      rw (append-assoc R (valueOut (flat first)) (valueOut (tested .value)), append-assoc R (valueOut (flat first) ++ valueOut (tested .value)) (updateOut (updated .value)))))))))) h o
+      rw (append-assoc (R .rows) (valueOut (flat first)) (valueOut (tested .value)), append-assoc (R .rows) (valueOut (flat first) ++ valueOut (tested .value)) (updateOut (updated .value)))))))))) h o
 
   -- While asks first whether its fallthrough is reachable
-  while-asks : (c l f : ℕ) (F : List machine.Frame) (R : List Row) (C : definition.Context)
+  while-asks : (c l f : ℕ) (F : List machine.Frame) (R : Output) (C : definition.Context)
       → terminalTurn nowhere (tableOf w) visit (while c l f) (p .block) (blockAt (tableOf w) (p .block)) F R (p .count) C
       ≡ unlessUnreachable (tableOf w) C f >>= λ taken. loopTurn (p .block) f c l taken (p .count) (λ v. valueMade visit plainForm c span (noneMade v)) F R C
   unfolding terminalTurn loopTurn
@@ -527,7 +528,7 @@ value-moved n after C = at (unlessNone n)
 
 -- a terminal with such a fallthrough: its turn, and the fallthrough's range
 pub record ValueTerminal (e : Terminal) (f : ℕ) : Type 0 where
-  pub turns : (t : Table) (visit : VisitValueBlock) (at : ℕ) (block : Block) (F : List machine.Frame) (R : List Row) (count : ℕ) (C : definition.Context)
+  pub turns : (t : Table) (visit : VisitValueBlock) (at : ℕ) (block : Block) (F : List machine.Frame) (R : Output) (count : ℕ) (C : definition.Context)
       → terminalTurn nowhere t visit e at block F R count C ≡ valueTurn t visit e at block f F R count C
   pub below : (blocks places cases : ℕ) → InRange blocks places cases e → f < blocks
 
@@ -581,11 +582,11 @@ module _ (w : List ℕ) (S H : Flags) (p : Position) (en : Entered w p) (f : ℕ
       (blockAt (tableOf w) (p .block) .id) (blockAt (tableOf w) (p .block) .span) (p .visits) (p .block)
 
   -- the statement, once its value is made
-  left : List machine.Frame → List Row → definition.Context → ValueTerminalResult → Result State
-  left F R C result = ok (leave (unlessScheduled C f) F ((R ++ valueOut (result .value)) ++ (instrRow (result .id) (result .place) (blockAt (tableOf w) (p .block) .span) ∷ [])) (suc (p .count))
+  left : List machine.Frame → Output → definition.Context → ValueTerminalResult → Result State
+  left F R C result = ok (leave (unlessScheduled C f) F ((R ⊕ valueOut (result .value)) ⊕ (instrRow (result .id) (result .place) (blockAt (tableOf w) (p .block) .span) ∷ [])) (suc (p .count))
       (unscheduledIf (unlessScheduled C f) (withVisits (result .visits) (scheduledIf (unlessScheduled C f) C))))
 
-  value-step : (F : List machine.Frame) (R : List Row) (C : definition.Context) → Seen S H (p .visits) C → terminalStep w p F R C ≡ outcome >>= left F R C
+  value-step : (F : List machine.Frame) (R : Output) (C : definition.Context) → Seen S H (p .visits) C → terminalStep w p F R C ≡ outcome >>= left F R C
   unfolding valueTurn left
   value-step F R C seen =
       value-terminal (terminalAt (tableOf w) (p .block)) f q .turns (tableOf w) (visitValueBlock (tableOf w) (127 - p .depth)) (p .block)
@@ -598,7 +599,7 @@ module _ (w : List ℕ) (S H : Flags) (p : Position) (en : Entered w p) (f : ℕ
       held = λ e. absurd (z e);
       same =
           λ F R C d seen. ap turn (value-step F R C seen ∙ then-off (left F R C) v z) ∙ turn-refused (r .code) (r .at) (r .tally .visits) ∙ sym
-          (refuse-applied (afterValues p (valuesOf r)) (r .code) (r .at) F (R ++ []) C z);
+          (refuse-applied (afterValues p (valuesOf r)) (r .code) (r .at) F (R ⊕ []) C z);
       fitting = λ e. absurd (z e);
     })
 
@@ -635,14 +636,14 @@ module _ (w : List ℕ) (S H : Flags) (p : Position) (en : Entered w p) (f : ℕ
         named true g = tt
         named false g = label-below free g
 
-        same : (F : List machine.Frame) (R : List Row) (C : definition.Context) → length F ≡ p .depth → Seen S H (p .visits) C
-            → turn (terminalStep w p F R C) ≡ applied (leaving n (p .depth) (p .count + 1) rows (r .tally .visits) (brieflyIf (eqb n 65535) n)) F (R ++ (valueOut (v .value) ++ (last ∷ []))) C
+        same : (F : List machine.Frame) (R : Output) (C : definition.Context) → Stands F R (p .depth) (p .rows) → Seen S H (p .visits) C
+            → turn (terminalStep w p F R C) ≡ applied (leaving n (p .depth) (p .count + 1) rows (r .tally .visits) (brieflyIf (eqb n 65535) n)) F (R ⊕ (valueOut (v .value) ++ (last ∷ []))) C
         same F R C d seen =
             ap turn (value-step F R C seen ∙ then-on (left F R C) v z) ∙ unfold left in (turn-ok _
             ∙ rw (
               label-scheduled w (en .promise) S H (p .visits) C seen f (few-blocks w (en .promise) f fallthrough-below) ∙ ap unlessNone (sym o),
               value-moved n (r .tally .visits) C,
-              append-assoc R (valueOut (v .value)) (last ∷ []),
+              out-assoc R (valueOut (v .value)) (last ∷ []),
             )
-            (sym (leave-applied n (p .depth) (p .count + 1) rows (r .tally .visits) (brieflyIf (eqb n 65535) n) F (R ++ (valueOut (v .value) ++ (last ∷ []))) C _
-            (label-briefly free (withVisits (r .tally .visits) C) (seen-visits (r .tally .visits) seen .scheduled)) ∙ rw (within-all (p .depth) F d, add-one))))
+            (sym (leave-applied n (p .depth) (p .count + 1) rows (r .tally .visits) (brieflyIf (eqb n 65535) n) F (R ⊕ (valueOut (v .value) ++ (last ∷ []))) C _
+            (label-briefly free (withVisits (r .tally .visits) C) (seen-visits (r .tally .visits) seen .scheduled)) ∙ rw (within-all (p .depth) F (d .deep), add-one))))

@@ -10,7 +10,7 @@ use Rattle.table.specs.Table.{Table, Terminal, absent, unreachable, throw, retu
 use Rattle.table.specs.Table.{ternary, optional, label, sequence, maybe-throw, try, scope, tableOf, blockAt, unlessNone}
 use Rattle.definition.specs.Context.{Flags, has}
 use Rattle.definition.specs.Context as definition
-use Rattle.definition.specs.Machine.{State, intoLoop, valueOut}
+use Rattle.definition.specs.Machine.{Output, _⊕_, State, intoLoop, valueOut}
 use Rattle.definition.specs.Machine as machine
 use Rattle.definition.specs.Result.{Result, ok, refused, _>>=_}
 use Rattle.definition.specs.Statement.{loopIsTaken}
@@ -125,11 +125,11 @@ pub record MakesTested (words : List ℕ) (p : Position) (init test : ℕ) (buff
 
 -- ---- the turn that all loops share
 
-unfoldable pub loopTurn : (at fallthrough continueBlock loop : ℕ) → (taken : Option ℕ) → (count : ℕ) → (values : ℕ → Result Made) → List machine.Frame → List Row → definition.Context → Result State
-loopTurn at fallthrough continueBlock loop taken count values frames rows cx =
+unfoldable pub loopTurn : (at fallthrough continueBlock loop : ℕ) → (taken : Option ℕ) → (count : ℕ) → (values : ℕ → Result Made) → List machine.Frame → Output → definition.Context → Result State
+loopTurn at fallthrough continueBlock loop taken count values frames out cx =
     definition.schedule (definition.target-loop fallthrough continueBlock loop) cx >>= λ inside.
     values (inside .visits) >>= λ made.
-    intoLoop at loop (loopIsTaken cx loop fallthrough) (made .visits) (machine.frameOf at taken 1 count) frames (rows ++ made .out) inside
+    intoLoop at loop (loopIsTaken cx loop fallthrough) (made .visits) (machine.frameOf at taken 1 out count) frames (out ⊕ made .out) inside
 
 -- ---- its plan
 

@@ -1,3 +1,4 @@
+pub mod CountLaws
 pub mod PlanLaws
 pub mod StepLaws
 pub mod PlannedLaws

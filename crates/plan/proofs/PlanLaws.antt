@@ -12,17 +12,18 @@ use Rattle.table.specs.Table.{unlessNone}
 use Rattle.definition.specs.Build.{accepted, rejected}
 use Rattle.definition.specs.Context.{Flags, has, target-if, target-switch, withVisits}
 use Rattle.definition.specs.Context as definition
-use Rattle.definition.specs.Machine.{visiting, choosing, popping, going, halt, leave, opens, scheduledIf, scheduledSwitch, unscheduled, unscheduledIf}
+use Rattle.definition.specs.Machine.{Output, visiting, choosing, popping, going, halt, leave, opens, scheduledIf, scheduledSwitch, unscheduled, unscheduledIf}
 use Rattle.definition.specs.Machine as machine
 use Rattle.definition.specs.Result.{Result, ok, _>>=_}
-use Rattle.definition.specs.Tree.{Row}
 use Rattle.definition.proofs.Never.{schedule-free}
 use Rattle.definition.proofs.Steps.{true-false}
 use Rattle.plan.specs.declared.Position.{Position}
 use Rattle.plan.specs.declared.Frame.{Frame}
 use Rattle.plan.specs.declared.Change.{Change}
+use Rattle.plan.specs.declared.Line.{Line}
+use Rattle.plan.specs.declared.Line.the-variants.{Nothing}
 use Rattle.plan.specs.declared.Stage.the-variants.{Visit}
-use Rattle.plan.specs.Plans.{frameOf, within, changed, handled, scoped, contextAfter, unlessRefused, onward, applied, refusing, stageAfter, leaving}
+use Rattle.plan.specs.Plans.{frameOf, within, changed, handled, scoped, contextAfter, unlessRefused, onward, lined, applied, withLine, refusing, stageAfter, leaving}
 use Rattle.plan.specs.Plans.{nesting, choosingNext, poppingNext, accepting, unlessTaken, entriesIf, scheduleIf, scheduleSwitch, brieflyIf}
 use Rattle.plan.specs.Planned.{Nested}
 
@@ -51,7 +52,7 @@ visits-same v C e = ap (λ (z : ℕ). withVisits z C) (sym e)
 
 -- ---- plans
 
-pub refuse-applied : (p : Position) (code at : ℕ) (F : List machine.Frame) (R : List Row) (C : definition.Context) → (code ≡ 0 → ⊥)
+pub refuse-applied : (p : Position) (code at : ℕ) (F : List machine.Frame) (R : Output) (C : definition.Context) → (code ≡ 0 → ⊥)
     → applied (refusing p code at) F R C ≡ halt (rejected code at (p .visits))
 unfolding applied
 refuse-applied p code at F R C h =
@@ -61,39 +62,44 @@ refuse-applied p code at F R C h =
     ]) (ne-eqb code 0 h)
 
 -- D is the Context that the plan's change leaves
-pub leave-applied : (next depth count rows visits : ℕ) (change : Change) (F : List machine.Frame) (R : List Row) (C D : definition.Context) → changed change (withVisits visits C) ≡ ok D
-    → applied (leaving next depth count rows visits change) F R C ≡ going (leave (unlessNone next) (within depth F) R count D)
-unfolding applied unlessNone
-leave-applied next depth count rows visits change F R C D e =
-    ap (λ (after : Result definition.Context). onward (stageAfter (eqb next 65535)) (leaving next depth count rows visits change) F R after) e ∙ at (eqb next 65535)
-  where
-    at : (y : Bool) → onward (stageAfter y) (leaving next depth count rows visits change) F R (ok D) ≡ going (leave (elim y [ true ↦ none | false ↦ some next ]) (within depth F) R count D)
-    at true = refl
-    at false = refl
+module _ (next depth count rows visits : ℕ) (change : Change) (F : List machine.Frame) (R : Output) (C D : definition.Context) (e : changed change (withVisits visits C) ≡ ok D) where
+  -- with a line (M-101)
+  pub leave-lined : (line : Line) → applied (withLine (leaving next depth count rows visits change) line) F R C ≡ going (leave (unlessNone next) (within depth F) (lined line rows R) count D)
+  unfolding applied unlessNone
+  leave-lined line =
+      ap (λ (after : Result definition.Context). onward (stageAfter (eqb next 65535)) (withLine (leaving next depth count rows visits change) line) F (lined line rows R) after) e ∙ at (eqb next 65535)
+    where
+      at : (y : Bool) → onward (stageAfter y) (withLine (leaving next depth count rows visits change) line) F (lined line rows R) (ok D)
+          ≡ going (leave (elim y [ true ↦ none | false ↦ some next ]) (within depth F) (lined line rows R) count D)
+      at true = refl
+      at false = refl
 
-pub nest-applied : (block : ℕ) (frame : Frame) (depth rows visits handler scope : ℕ) (change : Change) (F : List machine.Frame) (R : List Row) (C D : definition.Context)
+  pub leave-applied : applied (leaving next depth count rows visits change) F R C ≡ going (leave (unlessNone next) (within depth F) R count D)
+  leave-applied = leave-lined Nothing
+
+pub nest-applied : (block : ℕ) (frame : Frame) (depth rows visits handler scope : ℕ) (change : Change) (F : List machine.Frame) (R : Output) (C D : definition.Context)
     → changed change (scoped (unlessNone scope) (handled (unlessNone handler) (withVisits visits C))) ≡ ok D
     → applied (nesting block frame depth rows visits handler scope change) F R C ≡ going (visiting block (frameOf frame ∷ within (depth - 1) F) R 0 D)
 unfolding applied
 nest-applied block frame depth rows visits handler scope change F R C D e =
     ap (λ (after : Result definition.Context). onward Visit (nesting block frame depth rows visits handler scope change) F R after) e
 
-pub choose-asked : (frame : Frame) (depth rows visits : ℕ) (change : Change) (F : List machine.Frame) (R : List Row) (C : definition.Context)
+pub choose-asked : (frame : Frame) (depth rows visits : ℕ) (change : Change) (F : List machine.Frame) (R : Output) (C : definition.Context)
     → applied (choosingNext frame depth rows visits change) F R C ≡ unlessRefused (changed change (withVisits visits C)) (choosing (frameOf frame) (within (depth - 1) F) R)
 unfolding applied unlessNone
 choose-asked frame depth rows visits change F R C = refl
 
-pub choose-applied : (frame : Frame) (depth rows visits : ℕ) (change : Change) (F : List machine.Frame) (R : List Row) (C D : definition.Context) → changed change (withVisits visits C) ≡ ok D
+pub choose-applied : (frame : Frame) (depth rows visits : ℕ) (change : Change) (F : List machine.Frame) (R : Output) (C D : definition.Context) → changed change (withVisits visits C) ≡ ok D
     → applied (choosingNext frame depth rows visits change) F R C ≡ going (choosing (frameOf frame) (within (depth - 1) F) R D)
 choose-applied frame depth rows visits change F R C D e =
     choose-asked frame depth rows visits change F R C ∙ ap (λ (after : Result definition.Context). unlessRefused after (choosing (frameOf frame) (within (depth - 1) F) R)) e
 
-pub pop-applied : (frame : Frame) (depth rows visits : ℕ) (F : List machine.Frame) (R : List Row) (C : definition.Context)
+pub pop-applied : (frame : Frame) (depth rows visits : ℕ) (F : List machine.Frame) (R : Output) (C : definition.Context)
     → applied (poppingNext frame depth rows visits) F R C ≡ going (popping (frameOf frame) (within (depth - 1) F) R (unscheduled (withVisits visits C)))
 unfolding applied unlessNone
 pop-applied frame depth rows visits F R C = refl
 
-pub accept-applied : (rows visits : ℕ) (F : List machine.Frame) (R : List Row) (C : definition.Context) → applied (accepting rows visits) F R C ≡ halt (accepted R visits)
+pub accept-applied : (rows visits : ℕ) (F : List machine.Frame) (R : Output) (C : definition.Context) → applied (accepting rows visits) F R C ≡ halt (accepted (R .rows) (R .lines) visits)
 unfolding applied
 accept-applied rows visits F R C = refl
 

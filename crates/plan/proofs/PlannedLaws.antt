@@ -6,7 +6,7 @@ use mathlib.Core.Bool.{false, _||_}
 use mathlib.Core.List.{List, [], _++_, append-nil, append-assoc}
 use mathlib.Core.Option.{Option}
 use lib.Dec.{eqb}
-use lib.ListN.{length}
+use lib.ListN.{length, length-append}
 use Rattle.table.specs.Words.{blockCount, placeCount, caseCount, blockWord, codeAt}
 use Rattle.table.specs.Promise.{Promise, InRange, Ends}
 use Rattle.table.specs.Table.{Terminal, absent, unreachable, throw, return, goto, if, branch, switch, do-while, while, for, for-of, for-in, logical, ternary}
@@ -15,76 +15,82 @@ use Rattle.table.proofs.RangeLaws.{in-range}
 use Rattle.definition.specs.Build.{rejected}
 use Rattle.definition.specs.Context.{Flags, has, pushed, withVisits}
 use Rattle.definition.specs.Context as definition
-use Rattle.definition.specs.Machine.{State, halt, turn, opens, terminalTurn}
+use Rattle.definition.specs.Machine.{Output, _⊕_, State, halt, turn, opens, terminalTurn}
 use Rattle.definition.specs.Machine as machine
 use Rattle.definition.specs.Result.{Result, _>>=_}
 use Rattle.definition.specs.Statement.{unlessUnreachable}
 use Rattle.definition.specs.Tree.{Row}
 use Rattle.definition.specs.Around.{Around}
 use Rattle.definition.specs.Value.{VisitValueBlock, visitValueBlock}
+use Rattle.definition.proofs.Lines.{out-nil, out-assoc}
 use Rattle.rows.specs.Rows.{Holds}
 use Rattle.rows.specs.Stack as stack
 use Rattle.plan.specs.declared.Position.{Position}
 use Rattle.plan.specs.declared.Frame.{Frame}
 use Rattle.plan.specs.declared.Plan.{Plan}
 use Rattle.plan.specs.Plans.{frameOf, applied, refusing, unlessTaken}
-use Rattle.plan.specs.Planned.{Seen, Fitting, Planned, PlannedBare, Entered, terminalStepIn, nowhere, terminalStep}
+use Rattle.plan.specs.Planned.{Seen, Fitting, Stands, Planned, PlannedBare, Entered, terminalStepIn, nowhere, terminalStep}
+use Rattle.plan.proofs.CountLaws.{counted-on}
 use Rattle.plan.proofs.PlanLaws.{refuse-applied, Label, label-taken, label-most}
 use Rattle.plan.proofs.StepLaws.{label-missing, label-reached, turn-refused}
 
 -- ---- a planner's turn by another
 
+-- with rows more behind what is out
+pub stands-after : {F : List machine.Frame} {R : Output} {depth rows rows₁ : ℕ} (more : List Row) → rows₁ ≡ rows + length more → Stands F R depth rows → Stands F (R ⊕ more) depth rows₁
+stands-after {R = R} more e s = record { deep = s .deep; many = omega (arith, e, s .many, length-append (R .rows) more) }
+
 module _ {top : List machine.Frame} {depth rows : ℕ} {buffer buffer′ : List ℕ} {plan : Plan}
-    {next next′ : List machine.Frame → List Row → definition.Context → Result State} {On On′ : definition.Context → Type 0} where
+    {next next′ : List machine.Frame → Output → definition.Context → Result State} {On On′ : definition.Context → Type 0} where
   -- another step that comes to the same, and a Context of which more is known
-  pub planned-as : ((F : List machine.Frame) (R : List Row) (C : definition.Context) → next′ F R C ≡ next F R C) → ((C : definition.Context) → On′ C → On C)
+  pub planned-as : ((F : List machine.Frame) (R : Output) (C : definition.Context) → next′ F R C ≡ next F R C) → ((C : definition.Context) → On′ C → On C)
       → Planned next On top depth rows buffer plan buffer′ → Planned next′ On′ top depth rows buffer plan buffer′
   planned-as e on m = record { out = m .out; held = m .held; same = λ F R C d o. ap turn (e F R C) ∙ m .same F R C d (on C o); fitting = m .fitting }
 
   -- the same after some rows more
   pub planned-after : {rows₁ : ℕ} {buffer₁ : List ℕ} (more : List Row) (to : definition.Context → definition.Context)
       → ((before : List Row) → Holds buffer rows (stack.pushed before []) → Holds buffer₁ rows₁ (stack.pushed (before ++ more) []))
-      → ((F : List machine.Frame) (R : List Row) (C : definition.Context) → On′ C → next′ F R C ≡ next F (R ++ more) (to C)) → ((C : definition.Context) → On′ C → On (to C))
-      → ((F : List machine.Frame) (R : List Row) (C : definition.Context) → applied plan F R (to C) ≡ applied plan F R C)
+      → ((F : List machine.Frame) (R : Output) (C : definition.Context) → On′ C → next′ F R C ≡ next F (R ⊕ more) (to C)) → ((C : definition.Context) → On′ C → On (to C))
+      → ((F : List machine.Frame) (R : Output) (C : definition.Context) → applied plan F R (to C) ≡ applied plan F R C)
       → Planned next On top depth rows₁ buffer₁ plan buffer′ → Planned next′ On′ top depth rows buffer plan buffer′
   planned-after more to put e on same m = record {
     out = more ++ m .out;
     held = λ z before h. rw (← (append-assoc before more (m .out))) (m .held z (before ++ more) (put before h));
     same =
-        λ F R C l o. ap turn (e F R C o) ∙ m .same F (R ++ more) (to C) l (on C o) ∙ same (top ++ F) ((R ++ more) ++ m .out) C ∙ ap
-        (λ (z : List Row). applied plan (top ++ F) z C) (append-assoc R more (m .out));
+        λ F R C l o. ap turn (e F R C o) ∙ m .same F (R ⊕ more) (to C) (stands-after more (counted-on more put) l) (on C o) ∙ same (top ++ F) ((R ⊕ more) ⊕ m .out) C ∙ ap
+        (λ (z : Output). applied plan (top ++ F) z C) (out-assoc R more (m .out));
     fitting = m .fitting;
   }
 
 -- a plan sets the visits
-pub applied-visits : (plan : Plan) (v : ℕ) (F : List machine.Frame) (R : List Row) (C : definition.Context) → applied plan F R (withVisits v C) ≡ applied plan F R C
+pub applied-visits : (plan : Plan) (v : ℕ) (F : List machine.Frame) (R : Output) (C : definition.Context) → applied plan F R (withVisits v C) ≡ applied plan F R C
 unfolding applied withVisits
 applied-visits plan v F R C = refl
 
 -- ---- a planner with no row
 
 pub bare-planned : (w : List ℕ) (S H : Flags) (p : Position) (plan : Plan) → (plan .code ≡ 0 → plan .position .rows ≡ p .rows)
-    → ((F : List machine.Frame) (R : List Row) (C : definition.Context) → length F ≡ p .depth → Seen S H (p .visits) C → turn (terminalStep w p F R C) ≡ applied plan F R C)
+    → ((F : List machine.Frame) (R : Output) (C : definition.Context) → Stands F R (p .depth) (p .rows) → Seen S H (p .visits) C → turn (terminalStep w p F R C) ≡ applied plan F R C)
     → (plan .code ≡ 0 → Fitting [] (p .depth) plan) → PlannedBare w S H p plan
 bare-planned w S H p plan rows same fit buffer = record {
   out = [];
   held = λ z before h. rw (append-nil before, rows z) h;
-  same = λ F R C d seen. rw (append-nil R) (same F R C d seen);
+  same = λ F R C d seen. rw (out-nil R) (same F R C d seen);
   fitting = fit;
 }
 
 -- a jump, with this around
-pub step-in : (around : Around) (w : List ℕ) (p : Position) (e : Terminal) (F : List machine.Frame) (R : List Row) (C : definition.Context) → terminalAt (tableOf w) (p .block) ≡ e
+pub step-in : (around : Around) (w : List ℕ) (p : Position) (e : Terminal) (F : List machine.Frame) (R : Output) (C : definition.Context) → terminalAt (tableOf w) (p .block) ≡ e
     → terminalStepIn around w p F R C ≡ terminalTurn around (tableOf w) (visitValueBlock (tableOf w) (127 - p .depth)) e (p .block) (blockAt (tableOf w) (p .block)) F R (p .count) C
 step-in around w p e F R C q =
     ap (λ (z : Terminal). terminalTurn around (tableOf w) (visitValueBlock (tableOf w) (127 - p .depth)) z (p .block) (blockAt (tableOf w) (p .block)) F R (p .count) C) q
 
-pub step-by : (w : List ℕ) (p : Position) (e : Terminal) (F : List machine.Frame) (R : List Row) (C : definition.Context) → terminalAt (tableOf w) (p .block) ≡ e
+pub step-by : (w : List ℕ) (p : Position) (e : Terminal) (F : List machine.Frame) (R : Output) (C : definition.Context) → terminalAt (tableOf w) (p .block) ≡ e
     → terminalStep w p F R C ≡ terminalTurn nowhere (tableOf w) (visitValueBlock (tableOf w) (127 - p .depth)) e (p .block) (blockAt (tableOf w) (p .block)) F R (p .count) C
 step-by w p e F R C q = step-in nowhere w p e F R C q
 
 -- a terminal that is no jump does not look at what is around
-pub around-unread : (around : Around) (t : Table) (visit : VisitValueBlock) (e : Terminal) (at : ℕ) (block : Block) (F : List machine.Frame) (R : List Row) (n : ℕ) (C : definition.Context)
+pub around-unread : (around : Around) (t : Table) (visit : VisitValueBlock) (e : Terminal) (at : ℕ) (block : Block) (F : List machine.Frame) (R : Output) (n : ℕ) (C : definition.Context)
     → (codeOf e ≡ 4 → ⊥) → (codeOf e ≡ 6 → ⊥) → terminalTurn around t visit e at block F R n C ≡ terminalTurn nowhere t visit e at block F R n C
 unfolding terminalTurn
 around-unread a t v absent at k F R n C f g = refl
@@ -114,7 +120,7 @@ refuse-fits p code at h e = absurd (h e)
 
 -- a fallthrough that is not there
 missing-same : (w : List ℕ) (S H : Flags) (p : Position) → Promise w → (f : ℕ) → f < blockCount w → blockWord w f 2 ≡ 0 → (k : definition.Context → Option ℕ → Result State)
-    → (F : List machine.Frame) (R : List Row) (C : definition.Context) → Seen S H (p .visits) C → turn (unlessUnreachable (tableOf w) C f >>= k C) ≡ applied (refusing p 10 f) F R C
+    → (F : List machine.Frame) (R : Output) (C : definition.Context) → Seen S H (p .visits) C → turn (unlessUnreachable (tableOf w) C f >>= k C) ≡ applied (refusing p 10 f) F R C
 unfolding _>>=_
 missing-same w S H p pr f h e k F R C seen =
     ap (λ (z : Result (Option ℕ)). turn (z >>= k C)) (label-missing w pr S H (p .visits) C seen f h e) ∙ turn-refused 10 f (C .visits) ∙ ap (λ (v : ℕ). halt (rejected 10 f v)) (seen .visits)
@@ -137,11 +143,11 @@ ranges w pr b h e q = subst (λ (z : Terminal). InRange (blockCount w) (placeCou
 -- ---- terminals that ask whether their fallthrough is reachable
 
 abbrev pub Rest : Type 0
-Rest = List machine.Frame → List Row → definition.Context → Option ℕ → Result State
+Rest = List machine.Frame → Output → definition.Context → Option ℕ → Result State
 
 -- the terminal's turn looks at the fallthrough f first
 abbrev pub Asks : List ℕ → Position → Terminal → ℕ → Rest → Type 0
-Asks w p e f k = (F : List machine.Frame) (R : List Row) (C : definition.Context)
+Asks w p e f k = (F : List machine.Frame) (R : Output) (C : definition.Context)
     → terminalTurn nowhere (tableOf w) (visitValueBlock (tableOf w) (127 - p .depth)) e (p .block) (blockAt (tableOf w) (p .block)) F R (p .count) C ≡ unlessUnreachable (tableOf w) C f >>= k F R C
 
 -- the label that the code takes
@@ -151,8 +157,8 @@ Reached w S H f n = n ≡ unlessTaken (eqb (codeAt w f) 1 || (has S f || has H f
 abbrev pub Takes : Flags → Flags → (f n : ℕ) → Type 0
 Takes S H f n = n ≡ unlessTaken (has S f || has H f) f
 
-abbrev pub here : Position → Option ℕ → machine.Frame
-here p taken = machine.frameOf (p .block) taken (opens taken) (p .count)
+abbrev pub here : Position → Output → Option ℕ → machine.Frame
+here p out taken = machine.frameOf (p .block) taken (opens taken) out (p .count)
 
 -- a label is a block's number, or 65,535
 pub reached-most : (w : List ℕ) (S H : Flags) (f : ℕ) {n : ℕ} → Reached w S H f n → f < 1024 → n ≤ 65535
@@ -169,7 +175,7 @@ module _ (w : List ℕ) (S H : Flags) (p : Position) (en : Entered w p) (e : Ter
 
   pub reached-same : (n : ℕ) (plan : Plan) → (codeAt w f ≡ 0 → ⊥) → Reached w S H f n
       → (plan .code ≡ 0 → plan .position .rows ≡ p .rows) → (plan .code ≡ 0 → Fitting [] (p .depth) plan)
-      → ((F : List machine.Frame) (R : List Row) (C : definition.Context) → length F ≡ p .depth → Seen S H (p .visits) C → turn (k F R C (unlessNone n)) ≡ applied plan F R C)
+      → ((F : List machine.Frame) (R : Output) (C : definition.Context) → Stands F R (p .depth) (p .rows) → Seen S H (p .visits) C → turn (k F R C (unlessNone n)) ≡ applied plan F R C)
       → PlannedBare w S H p plan
   reached-same n plan z r rows fit same = bare-planned w S H p plan rows (λ F R C d seen.
       ap turn (step-by w p e F R C (ends .is) ∙ asks F R C) ∙ reach-same w S H p (en .promise) f n h (omega (arith, h, ends .few)) z r (k F R C) C seen ∙ same F R C d seen) fit

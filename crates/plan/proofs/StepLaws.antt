@@ -18,15 +18,14 @@ use Rattle.table.proofs.BlockLaws.{no-number, some-number, code-at}
 use Rattle.definition.specs.Build.{rejected}
 use Rattle.definition.specs.Context.{Flags, has, add, isScheduled, pushed, target-if}
 use Rattle.definition.specs.Context as definition
-use Rattle.definition.specs.Machine.{State, visiting, going, halt, turn, into, opens, scheduledIf}
+use Rattle.definition.specs.Machine.{Output, State, visiting, going, halt, turn, into, opens, scheduledIf}
 use Rattle.definition.specs.Machine as machine
 use Rattle.definition.specs.Result.{ok, refused, _>>=_, refuseIf}
 use Rattle.definition.specs.Statement.{unlessScheduled, unlessUnreachable}
-use Rattle.definition.specs.Tree.{Row}
 use Rattle.plan.specs.declared.Position.{Position}
 use Rattle.plan.specs.declared.Frame.{Frame}
 use Rattle.plan.specs.Plans.{frameOf, applied, openFrame, unlessTaken, entriesIf, scheduleIf, scheduledWith, enclosing}
-use Rattle.plan.specs.Planned.{Seen}
+use Rattle.plan.specs.Planned.{Seen, Stands}
 use Rattle.plan.proofs.PlanLaws.{within-all, visits-same, refuse-applied, nest-applied, Label, no-label, free-label, label-entries, label-if}
 
 -- ---- sets
@@ -77,12 +76,12 @@ pub turn-ok : (s : State) → turn (ok s) ≡ going s
 unfolding turn
 turn-ok s = refl
 
-pub into-busy : (block code at : ℕ) (fr : machine.Frame) (F : List machine.Frame) (R : List Row) (C : definition.Context) → isScheduled C block ≡ true
+pub into-busy : (block code at : ℕ) (fr : machine.Frame) (F : List machine.Frame) (R : Output) (C : definition.Context) → isScheduled C block ≡ true
     → into block code at fr F R C ≡ refused code at (C .visits)
 unfolding into refuseIf _>>=_
 into-busy block code at fr F R C e = rw e
 
-pub into-free : (block code at : ℕ) (fr : machine.Frame) (F : List machine.Frame) (R : List Row) (C : definition.Context) → isScheduled C block ≡ false
+pub into-free : (block code at : ℕ) (fr : machine.Frame) (F : List machine.Frame) (R : Output) (C : definition.Context) → isScheduled C block ≡ false
     → into block code at fr F R C ≡ ok (visiting block (fr ∷ F) R 0 C)
 unfolding into refuseIf _>>=_
 into-free block code at fr F R C e = rw e
@@ -101,14 +100,14 @@ busy-with S H v n block C (free-label h _) k seen =
     wide h = rw (seen .scheduled) (omega (arith, seen .wide))
 
 -- what `enclose` plans is what the machine does
-pub enclose-same : (S H : Flags) (p : Position) (n block code at : ℕ) (F : List machine.Frame) (R : List Row) (C : definition.Context)
-    → Label S n → block < 1024 → (code ≡ 0 → ⊥) → Seen S H (p .visits) C → length F ≡ p .depth
-    → turn (into block code at (machine.frameOf (p .block) (unlessNone n) (opens (unlessNone n)) (p .count)) F R (scheduledIf (unlessNone n) C))
+pub enclose-same : (S H : Flags) (p : Position) (n block code at : ℕ) (F : List machine.Frame) (R : Output) (C : definition.Context)
+    → Label S n → block < 1024 → (code ≡ 0 → ⊥) → Seen S H (p .visits) C → Stands F R (p .depth) (p .rows)
+    → turn (into block code at (machine.frameOf (p .block) (unlessNone n) (opens (unlessNone n)) R (p .count)) F R (scheduledIf (unlessNone n) C))
     ≡ applied (enclosing (scheduledWith (has S block || has H block) n block) p n block code at) F R C
 enclose-same S H p n block code at F R C l k nz seen d = by (eqb block n || (has S block || has H block)) refl
   where
     fr : machine.Frame
-    fr = machine.frameOf (p .block) (unlessNone n) (opens (unlessNone n)) (p .count)
+    fr = machine.frameOf (p .block) (unlessNone n) (opens (unlessNone n)) R (p .count)
 
     D : definition.Context
     D = scheduledIf (unlessNone n) C
@@ -128,4 +127,4 @@ enclose-same S H p n block code at F R C l k nz seen d = by (eqb block n || (has
         ap turn (into-free block code at fr F R D (busy ∙ e)) ∙ turn-ok _
         ∙ sym (nest-applied block (openFrame p n (entriesIf (eqb n 65535))) (p .depth + 1) (p .rows) (p .visits) 65535 65535 (scheduleIf (eqb n 65535) n) F R C D
         (rw (no-number, visits-same (p .visits) C (seen .visits)) (label-if l C (seen .scheduled)))
-        ∙ rw (label-entries n, within-all (p .depth + 1 - 1) F (omega (arith, d))))
+        ∙ rw (label-entries n, d .many, within-all (p .depth + 1 - 1) F (omega (arith, d .deep))))

@@ -10,7 +10,7 @@ use Rattle.table.specs.Table.{tableOf, terminalAt, blockAt, unlessNone}
 use Rattle.definition.specs.Around.{rust, Around, outermost}
 use Rattle.definition.specs.Context.{Flags}
 use Rattle.definition.specs.Context as definition
-use Rattle.definition.specs.Machine.{State, turn}
+use Rattle.definition.specs.Machine.{Output, _⊕_, State, turn}
 use Rattle.definition.specs.Machine as machine
 use Rattle.definition.specs.Result.{Result}
 use Rattle.definition.specs.Tree.{Row}
@@ -67,19 +67,24 @@ pub record Fitting (top : List machine.Frame) (depth : ℕ) (plan : Plan) : Type
   pub next : plan .position .depth ≤ deepest (plan .keep) depth
   pub nested : Nested (plan .position .stage) (plan .keep)
 
+-- so many frames, and so many rows out
+pub record Stands (frames : List machine.Frame) (out : Output) (depth rows : ℕ) : Type 0 where
+  pub deep : length frames ≡ depth
+  pub many : length (out .rows) ≡ rows
+
 -- `top` and then the frames are `depth` in all; `On` says what is known of the Context
-pub record Planned (step : List machine.Frame → List Row → definition.Context → Result State) (On : definition.Context
+pub record Planned (step : List machine.Frame → Output → definition.Context → Result State) (On : definition.Context
     → Type 0) (top : List machine.Frame) (depth rows : ℕ) (buffer : List ℕ) (plan : Plan) (buffer′ : List ℕ) : Type 0 where
   pub out : List Row
   pub held : plan .code ≡ 0 → (before : List Row) → Holds buffer rows (pushed before []) → Holds buffer′ (plan .position .rows) (pushed (before ++ out) [])
-  pub same : (frames : List machine.Frame) (before : List Row) (cx : definition.Context) → length (top ++ frames) ≡ depth → On cx
-      → turn (step frames before cx) ≡ applied plan (top ++ frames) (before ++ out) cx
+  pub same : (frames : List machine.Frame) (before : Output) (cx : definition.Context) → Stands (top ++ frames) before depth rows → On cx
+      → turn (step frames before cx) ≡ applied plan (top ++ frames) (before ⊕ out) cx
   pub fitting : plan .code ≡ 0 → Fitting top depth plan
 
 -- ---- the terminal of a block that is entered
 
 -- what the machine's turn comes to, with this around
-abbrev pub terminalStepIn : Around → List ℕ → Position → List machine.Frame → List Row → definition.Context → Result State
+abbrev pub terminalStepIn : Around → List ℕ → Position → List machine.Frame → Output → definition.Context → Result State
 terminalStepIn around words p frames before cx =
     machine.terminalTurn around (tableOf words) (visitValueBlock (tableOf words) (127 - p .depth)) (terminalAt (tableOf words) (p .block)) (p .block)
     (blockAt (tableOf words) (p .block)) frames before (p .count) cx
@@ -88,7 +93,7 @@ terminalStepIn around words p frames before cx =
 abbrev pub nowhere : Around
 nowhere = outermost rust
 
-abbrev pub terminalStep : List ℕ → Position → List machine.Frame → List Row → definition.Context → Result State
+abbrev pub terminalStep : List ℕ → Position → List machine.Frame → Output → definition.Context → Result State
 terminalStep words p = terminalStepIn nowhere words p
 
 -- what holds of a position there

@@ -1,7 +1,7 @@
 -- What a plan means for the machine of turns.
 use Prim.Native.Nat.{ℕ, zero, suc, _+_, _-_}
 use mathlib.Core.Bool.{Bool, true, false, _||_}
-use mathlib.Core.List.{List, [], _∷_}
+use mathlib.Core.List.{List, [], _∷_, _++_}
 use mathlib.Core.Option.{Option, none, some}
 use lib.Dec.{eqb}
 use lib.ListN.{length, getD, drop}
@@ -9,10 +9,10 @@ use Rattle.table.specs.Table.{unlessNone}
 use Rattle.definition.specs.Build.{accepted, rejected}
 use Rattle.definition.specs.Context.{schedule, scheduleCatchHandler, markScopeFallthrough, withVisits}
 use Rattle.definition.specs.Context as definition
-use Rattle.definition.specs.Machine.{State, visiting, ended, choosing, popping, Turn, going, halt, unscheduled}
+use Rattle.definition.specs.Machine.{Output, State, visiting, ended, choosing, popping, Turn, going, halt, unscheduled}
 use Rattle.definition.specs.Machine as machine
 use Rattle.definition.specs.Result.{Result, ok, refused, _>>=_}
-use Rattle.definition.specs.Tree.{Row}
+use Rattle.definition.specs.Index as index
 use Rattle.control.specs.declared.ControlFlowTarget.the-variants.{If, Switch}
 use Rattle.control.specs.Abstraction.{targetOf}
 use Rattle.plan.specs.declared.Stage.{Stage}
@@ -21,15 +21,17 @@ use Rattle.plan.specs.declared.Position.{Position}
 use Rattle.plan.specs.declared.Frame.{Frame}
 use Rattle.plan.specs.declared.Change.{Change}
 use Rattle.plan.specs.declared.Change.the-variants.{Nothing, Schedule, ScheduleBriefly, Unschedule}
+use Rattle.plan.specs.declared.Line.{Line}
+use Rattle.plan.specs.declared.Line.the-variants as line
 use Rattle.plan.specs.declared.Plan.{Plan}
 
 -- ---- from the code's records to the machine's
 
 abbrev pub frameOf : Frame → machine.Frame
-frameOf frame = record { block = frame .block; second = frame .second; label = unlessNone (frame .label); entries = frame .entries; left = frame .left; built = frame .built; count = frame .count }
+frameOf frame = record { block = frame .block; second = frame .second; label = unlessNone (frame .label); entries = frame .entries; left = frame .left; built = frame .built; first = frame .first; count = frame .count }
 
 abbrev pub noFrame : Frame
-noFrame = record { block = 0; label = 65535; entries = 0; left = 0; built = 0; count = 0; second = false }
+noFrame = record { block = 0; label = 65535; entries = 0; left = 0; built = 0; first = 0; count = 0; second = false }
 
 -- the first so many frames of the array, the last of them first
 unfoldable pub framesOf : List Frame → ℕ → List machine.Frame
@@ -37,14 +39,14 @@ framesOf frames zero = []
 framesOf frames (suc n) = frameOf (getD frames n noFrame) ∷ framesOf frames n
 
 -- the state at a stage. (With no frame, Choose and Pop do not occur; nor does Halt.)
-abbrev pub stateAt : Stage → (block : ℕ) → List machine.Frame → List Row → (count : ℕ) → definition.Context → State
-stateAt Visit block frames rows count cx = visiting block frames rows count cx
-stateAt Ended block frames rows count cx = ended frames rows count cx
-stateAt Choose block [] rows count cx = ended [] rows count cx
-stateAt Choose block (frame ∷ frames) rows count cx = choosing frame frames rows cx
-stateAt Pop block [] rows count cx = ended [] rows count cx
-stateAt Pop block (frame ∷ frames) rows count cx = popping frame frames rows cx
-stateAt Halt block frames rows count cx = ended frames rows count cx
+abbrev pub stateAt : Stage → (block : ℕ) → List machine.Frame → Output → (count : ℕ) → definition.Context → State
+stateAt Visit block frames out count cx = visiting block frames out count cx
+stateAt Ended block frames out count cx = ended frames out count cx
+stateAt Choose block [] out count cx = ended [] out count cx
+stateAt Choose block (frame ∷ frames) out count cx = choosing frame frames out cx
+stateAt Pop block [] out count cx = ended [] out count cx
+stateAt Pop block (frame ∷ frames) out count cx = popping frame frames out cx
+stateAt Halt block frames out count cx = ended frames out count cx
 
 -- ---- what the driver does with a plan
 
@@ -79,17 +81,26 @@ abbrev pub unlessRefused : Result definition.Context → (definition.Context →
 unlessRefused (ok cx) more = going (more cx)
 unlessRefused (refused code at visits) more = halt (rejected code at visits)
 
-abbrev pub onward : Stage → Plan → List machine.Frame → List Row → Result definition.Context → Turn
-onward Visit plan frames rows after = unlessRefused after (visiting (plan .position .block) (kept (plan .keep) (plan .frame) (plan .position .depth) frames) rows (plan .position .count))
-onward Ended plan frames rows after = unlessRefused after (ended (kept (plan .keep) (plan .frame) (plan .position .depth) frames) rows (plan .position .count))
-onward Choose plan frames rows after = unlessRefused after (stateAt Choose 0 (kept (plan .keep) (plan .frame) (plan .position .depth) frames) rows 0)
-onward Pop plan frames rows after = unlessRefused after (stateAt Pop 0 (kept (plan .keep) (plan .frame) (plan .position .depth) frames) rows 0)
-onward Halt plan frames rows after = halt (accepted rows (plan .position .visits))
+abbrev pub onward : Stage → Plan → List machine.Frame → Output → Result definition.Context → Turn
+onward Visit plan frames out after = unlessRefused after (visiting (plan .position .block) (kept (plan .keep) (plan .frame) (plan .position .depth) frames) out (plan .position .count))
+onward Ended plan frames out after = unlessRefused after (ended (kept (plan .keep) (plan .frame) (plan .position .depth) frames) out (plan .position .count))
+onward Choose plan frames out after = unlessRefused after (stateAt Choose 0 (kept (plan .keep) (plan .frame) (plan .position .depth) frames) out 0)
+onward Pop plan frames out after = unlessRefused after (stateAt Pop 0 (kept (plan .keep) (plan .frame) (plan .position .depth) frames) out 0)
+onward Halt plan frames out after = halt (accepted (out .rows) (out .lines) (plan .position .visits))
 
-unfoldable pub applied : Plan → List machine.Frame → List Row → definition.Context → Turn
-applied plan frames rows cx =
+-- the line of a statement (M-101) whose closing row is the last of the rows that are out
+abbrev pub linesBy : Line → (rows : ℕ) → List index.Line
+linesBy line.Nothing rows = []
+linesBy (line.Put label first) rows = record { label = label; first = first; closing = rows - 1 } ∷ []
+
+abbrev pub lined : Line → (rows : ℕ) → Output → Output
+lined line.Nothing rows out = out
+lined (line.Put label first) rows out = record { rows = out .rows; lines = out .lines ++ linesBy (line.Put label first) rows }
+
+unfoldable pub applied : Plan → List machine.Frame → Output → definition.Context → Turn
+applied plan frames out cx =
     elim (eqb (plan .code) 0) [
-      | true ↦ onward (plan .position .stage) plan frames rows (contextAfter plan cx)
+      | true ↦ onward (plan .position .stage) plan frames (lined (plan .line) (plan .position .rows) out) (contextAfter plan cx)
       | false ↦ halt (rejected (plan .code) (plan .at) (plan .position .visits))
     ]
 
@@ -100,16 +111,16 @@ abbrev pub advanced : Position → (count rows visits : ℕ) → Stage → Posit
 advanced p count rows visits stage = record { block = p .block; depth = p .depth; count = count; rows = rows; visits = visits; stage = stage }
 
 abbrev pub openFrame : Position → (label entries : ℕ) → Frame
-openFrame p taken entries = record { block = p .block; label = taken; entries = entries; left = 0; built = 0; count = p .count; second = false }
+openFrame p taken entries = record { block = p .block; label = taken; entries = entries; left = 0; built = 0; first = p .rows; count = p .count; second = false }
 
 abbrev pub second : Frame → Frame
-second frame = record { block = frame .block; label = frame .label; entries = frame .entries; left = frame .left; built = frame .built; count = frame .count; second = true }
+second frame = record { block = frame .block; label = frame .label; entries = frame .entries; left = frame .left; built = frame .built; first = frame .first; count = frame .count; second = true }
 
 abbrev pub withCounts : Frame → (entries left built : ℕ) → Frame
-withCounts frame entries left built = record { block = frame .block; label = frame .label; entries = entries; left = left; built = built; count = frame .count; second = frame .second }
+withCounts frame entries left built = record { block = frame .block; label = frame .label; entries = entries; left = left; built = built; first = frame .first; count = frame .count; second = frame .second }
 
 abbrev pub refusing : Position → (code at : ℕ) → Plan
-refusing p code at = record { code = code; at = at; position = p; frame = noFrame; keep = false; handler = 65535; scope = 65535; change = Nothing }
+refusing p code at = record { code = code; at = at; position = p; frame = noFrame; keep = false; handler = 65535; scope = 65535; change = Nothing; line = line.Nothing }
 
 abbrev pub stageAfter : Bool → Stage
 stageAfter true = Ended
@@ -125,6 +136,7 @@ leaving next depth count rows visits change = record {
   handler = 65535;
   scope = 65535;
   change = change;
+  line = line.Nothing;
 }
 
 abbrev pub nesting : (block : ℕ) → Frame → (depth rows visits handler scope : ℕ) → Change → Plan
@@ -137,6 +149,7 @@ nesting block frame depth rows visits handler scope change = record {
   handler = handler;
   scope = scope;
   change = change;
+  line = line.Nothing;
 }
 
 abbrev pub choosingNext : Frame → (depth rows visits : ℕ) → Change → Plan
@@ -149,6 +162,7 @@ choosingNext frame depth rows visits change = record {
   handler = 65535;
   scope = 65535;
   change = change;
+  line = line.Nothing;
 }
 
 abbrev pub poppingNext : Frame → (depth rows visits : ℕ) → Plan
@@ -161,6 +175,7 @@ poppingNext frame depth rows visits = record {
   handler = 65535;
   scope = 65535;
   change = Unschedule;
+  line = line.Nothing;
 }
 
 abbrev pub accepting : (rows visits : ℕ) → Plan
@@ -173,13 +188,17 @@ accepting rows visits = record {
   handler = 65535;
   scope = 65535;
   change = Nothing;
+  line = line.Nothing;
 }
 
 abbrev pub withHandler : Plan → ℕ → Plan
-withHandler plan handler = record { code = plan .code; at = plan .at; position = plan .position; frame = plan .frame; keep = plan .keep; handler = handler; scope = plan .scope; change = plan .change }
+withHandler plan handler = record { code = plan .code; at = plan .at; position = plan .position; frame = plan .frame; keep = plan .keep; handler = handler; scope = plan .scope; change = plan .change; line = plan .line }
 
 abbrev pub withScope : Plan → ℕ → Plan
-withScope plan scope = record { code = plan .code; at = plan .at; position = plan .position; frame = plan .frame; keep = plan .keep; handler = plan .handler; scope = scope; change = plan .change }
+withScope plan scope = record { code = plan .code; at = plan .at; position = plan .position; frame = plan .frame; keep = plan .keep; handler = plan .handler; scope = scope; change = plan .change; line = plan .line }
+
+abbrev pub withLine : Plan → Line → Plan
+withLine plan line = record { code = plan .code; at = plan .at; position = plan .position; frame = plan .frame; keep = plan .keep; handler = plan .handler; scope = plan .scope; change = plan .change; line = line }
 
 -- ---- labels
 

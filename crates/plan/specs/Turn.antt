@@ -13,7 +13,7 @@ use Rattle.definition.specs.Context.{Flags, emit, isScheduled, getBreakTarget, 
 use Rattle.definition.specs.Context as definition
 use Rattle.definition.specs.Around.{Around}
 use Rattle.definition.specs.Goal.{Goal, breakGoal, continueGoal, goals}
-use Rattle.definition.specs.Machine.{enclosings, step}
+use Rattle.definition.specs.Machine.{Output, _⊕_, enclosings, step}
 use Rattle.definition.specs.Machine as machine
 use Rattle.definition.specs.Tree.{Row}
 use Rattle.definition.specs.Framed.{Framed, isSwitch}
@@ -27,7 +27,7 @@ use Rattle.plan.specs.declared.Position.{Position}
 use Rattle.plan.specs.declared.Frame.{Frame}
 use Rattle.plan.specs.declared.Plan.{Plan}
 use Rattle.plan.specs.Plans.{frameOf, stateAt, applied}
-use Rattle.plan.specs.Planned.{Seen, Fitting}
+use Rattle.plan.specs.Planned.{Seen, Fitting, Stands}
 
 -- ---- jumps
 
@@ -130,8 +130,8 @@ emitting Halt block cx = cx
 pub record PlannedTurn (words : List ℕ) (around : Around) (On : definition.Context → Type 0) (p : Position) (frame : Frame) (buffer : List ℕ) (plan : Plan) (buffer′ : List ℕ) : Type 0 where
   pub out : List Row
   pub held : plan .code ≡ 0 → (before : List Row) → Holds buffer (p .rows) (pushed before []) → Holds buffer′ (plan .position .rows) (pushed (before ++ out) [])
-  pub same : (frames : List machine.Frame) (before : List Row) (cx : definition.Context) → length (inHand (p .stage) (p .depth) frame ++ frames) ≡ p .depth
+  pub same : (frames : List machine.Frame) (before : Output) (cx : definition.Context) → Stands (inHand (p .stage) (p .depth) frame ++ frames) before (p .depth) (p .rows)
       → enclosings (tableOf words) (inHand (p .stage) (p .depth) frame ++ frames) ≡ around .statements → On cx
       → step (around .rule) (tableOf words) (stateAt (p .stage) (p .block) (inHand (p .stage) (p .depth) frame ++ frames) before (p .count) cx)
-      ≡ applied plan (inHand (p .stage) (p .depth) frame ++ frames) (before ++ out) (emitting (p .stage) (p .block) cx)
+      ≡ applied plan (inHand (p .stage) (p .depth) frame ++ frames) (before ⊕ out) (emitting (p .stage) (p .block) cx)
   pub fitting : plan .code ≡ 0 → Fitting (inHand (p .stage) (p .depth) frame) (p .depth) plan

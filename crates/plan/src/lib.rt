@@ -4,7 +4,7 @@ pub mod fallthrough;
 use control::ControlFlowTarget;
 ghost use mathlib.Core.Path.{_≡_};
 ghost use lib.Dec.{eqb};
-ghost use Rattle.plan.specs.Plans.{advanced, noFrame, openFrame, second, withCounts, refusing, stageAfter, leaving, nesting, choosingNext, poppingNext, accepting, withHandler, withScope};
+ghost use Rattle.plan.specs.Plans.{advanced, noFrame, openFrame, second, withCounts, refusing, stageAfter, leaving, nesting, choosingNext, poppingNext, accepting, withHandler, withScope, withLine};
 
 // No block: paper 01's 65,535.
 pub const NONE: u32 = 65535;
@@ -28,13 +28,15 @@ pub struct Position {
     pub stage: Stage,
 }
 
-// A statement of which a nested list is awaited. `label` is the fallthrough, NONE where it is not taken; `entries` of the stack are its own.
+// A statement of which a nested list is awaited. `label` is the fallthrough, NONE where it is not taken; `entries` of the stack are its own; its own
+// rows begin at row `first`.
 pub struct Frame {
     pub block: u32,
     pub label: u32,
     pub entries: u32,
     pub left: u32,
     pub built: u32,
+    pub first: u32,
     pub count: u32,
     pub second: bool,
 }
@@ -47,6 +49,12 @@ pub enum Change {
     Unschedule,
 }
 
+// A line of the index (M-101): the label and the first row of a statement whose closing row is put out.
+pub enum Line {
+    Nothing,
+    Put(u32, u32),
+}
+
 // The next position, or a refusal, if `code` is not 0. With `keep` the frame is the innermost one then. `handler` and `scope` are marked, unless NONE.
 pub struct Plan {
     pub code: u32,
@@ -57,6 +65,7 @@ pub struct Plan {
     pub handler: u32,
     pub scope: u32,
     pub change: Change,
+    pub line: Line,
 }
 
 // Further on in the same block, at the same depth.
@@ -82,6 +91,7 @@ pub fn no_frame() -> Frame
         entries: 0,
         left: 0,
         built: 0,
+        first: 0,
         count: 0,
         second: false,
     }
@@ -96,6 +106,7 @@ pub fn frame_of(p: Position, label: u32, entries: u32) -> Frame
         entries: entries,
         left: 0,
         built: 0,
+        first: p.rows,
         count: p.count,
         second: false,
     }
@@ -110,6 +121,7 @@ pub fn second_part(frame: Frame) -> Frame
         entries: frame.entries,
         left: frame.left,
         built: frame.built,
+        first: frame.first,
         count: frame.count,
         second: true,
     }
@@ -124,6 +136,7 @@ pub fn with_counts(frame: Frame, entries: u32, left: u32, built: u32) -> Frame
         entries: entries,
         left: left,
         built: built,
+        first: frame.first,
         count: frame.count,
         second: frame.second,
     }
@@ -142,6 +155,7 @@ pub fn refuse(p: Position, code: u32, at: u32) -> Plan
         handler: NONE,
         scope: NONE,
         change: Change::Nothing,
+        line: Line::Nothing,
     }
 }
 
@@ -177,6 +191,7 @@ pub fn leave(next: u32, depth: u32, count: u32, rows: u32, visits: u32, change: 
         handler: NONE,
         scope: NONE,
         change: change,
+        line: Line::Nothing,
     }
 }
 
@@ -208,6 +223,7 @@ pub fn traverse_block(
         handler: NONE,
         scope: NONE,
         change: change,
+        line: Line::Nothing,
     }
 }
 
@@ -232,6 +248,7 @@ pub fn choose(frame: Frame, depth: u32, rows: u32, visits: u32, change: Change) 
         handler: NONE,
         scope: NONE,
         change: change,
+        line: Line::Nothing,
     }
 }
 
@@ -256,6 +273,7 @@ pub fn pop(frame: Frame, depth: u32, rows: u32, visits: u32) -> Plan
         handler: NONE,
         scope: NONE,
         change: Change::Unschedule,
+        line: Line::Nothing,
     }
 }
 
@@ -281,6 +299,7 @@ pub fn accept(rows: u32, visits: u32) -> Plan
         handler: NONE,
         scope: NONE,
         change: Change::Nothing,
+        line: Line::Nothing,
     }
 }
 
@@ -290,6 +309,7 @@ pub fn with_handler(plan: Plan, handler: u32) -> Plan
     let position = plan.position;
     let frame = plan.frame;
     let change = plan.change;
+    let line = plan.line;
     Plan {
         code: plan.code,
         at: plan.at,
@@ -299,11 +319,32 @@ pub fn with_handler(plan: Plan, handler: u32) -> Plan
         handler: handler,
         scope: plan.scope,
         change: change,
+        line: line,
     }
 }
 
 pub fn with_scope(plan: Plan, scope: u32) -> Plan
     ensures { λ r. ⌜ r ≡ withScope plan scope ⌝ }
+{
+    let position = plan.position;
+    let frame = plan.frame;
+    let change = plan.change;
+    let line = plan.line;
+    Plan {
+        code: plan.code,
+        at: plan.at,
+        position: position,
+        frame: frame,
+        keep: plan.keep,
+        handler: plan.handler,
+        scope: scope,
+        change: change,
+        line: line,
+    }
+}
+
+pub fn with_line(plan: Plan, line: Line) -> Plan
+    ensures { λ r. ⌜ r ≡ withLine plan line ⌝ }
 {
     let position = plan.position;
     let frame = plan.frame;
@@ -315,7 +356,8 @@ pub fn with_scope(plan: Plan, scope: u32) -> Plan
         frame: frame,
         keep: plan.keep,
         handler: plan.handler,
-        scope: scope,
+        scope: plan.scope,
         change: change,
+        line: line,
     }
 }

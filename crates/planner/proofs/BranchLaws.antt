@@ -14,7 +14,8 @@ use Rattle.table.proofs.BlockLaws.{no-number}
 use Rattle.definition.specs.Build.{rejected}
 use Rattle.definition.specs.Context.{Flags, has, isScheduled, getBreakTarget}
 use Rattle.definition.specs.Context as definition
-use Rattle.definition.specs.Machine.{State, visiting, going, halt, turn, into, jumpOut, added, blockRow, branchTurn, terminalTurn, secondPart}
+use Rattle.definition.proofs.Lines.{out-nil, out-assoc}
+use Rattle.definition.specs.Machine.{Output, _⊕_, State, visiting, going, halt, turn, into, jumpOut, added, blockRow, branchTurn, terminalTurn, secondPart}
 use Rattle.definition.specs.Around.{Around}
 use Rattle.definition.specs.Goal.{Goal, breakTo}
 use Rattle.definition.proofs.Goals.{break-goal}
@@ -40,14 +41,14 @@ use Rattle.planner.proofs.RowPlanLaws.{row-held}
 
 module _ {w : List ℕ} (p : Position) {x c a : ℕ} (ends : Ends w (p .block) (branch x c a)) where
   module _ (around : Around) where
-    abbrev turned : Bool → (id : ℕ) → List machine.Frame → List Row → definition.Context → Result State
+    abbrev turned : Bool → (id : ℕ) → List machine.Frame → Output → definition.Context → Result State
     turned y id F R C = elim y [
       | true ↦ visitBreak around (p .block) c id C >>= λ statement.
-          into a 19 (p .block) (secondPart (machine.frameOf (p .block) none 0 (p .count))) F ((R ++ jumpOut statement) ++ (blockRow (added statement 0) ∷ [])) C
-      | false ↦ ok (visiting c (machine.frameOf (p .block) none 0 (p .count) ∷ F) R 0 C)
+          into a 19 (p .block) (secondPart (machine.frameOf (p .block) none 0 R (p .count))) F ((R ⊕ jumpOut statement) ⊕ (blockRow (added statement 0) ∷ [])) C
+      | false ↦ ok (visiting c (machine.frameOf (p .block) none 0 R (p .count) ∷ F) R 0 C)
     ]
 
-    branch-is : (y : Bool) (F : List machine.Frame) (R : List Row) (C : definition.Context) → isScheduled C c ≡ y → terminalStepIn around w p F R C ≡ turned y (blockAt (tableOf w) (p .block) .id) F R C
+    branch-is : (y : Bool) (F : List machine.Frame) (R : Output) (C : definition.Context) → isScheduled C c ≡ y → terminalStepIn around w p F R C ≡ turned y (blockAt (tableOf w) (p .block) .id) F R C
     unfolding terminalTurn branchTurn
     branch-is y F R C q = step-in around w p _ F R C (ends .is) ∙ ap (λ (z : Bool). turned z (blockAt (tableOf w) (p .block) .id) F R C) q
 
@@ -60,9 +61,9 @@ module _ {w : List ℕ} (p : Position) {x c a : ℕ} (ends : Ends w (p .block) (
       branch-nested b plan f e = subst (λ (z : Plan). Planned (terminalStepIn around w p) On [] (p .depth) (p .rows) b z b) (sym e) (record {
         out = [];
         held = λ _ before h. rw (append-nil before) h;
-        same = λ F R C d o. rw (append-nil R) (ap turn (branch-is false F R C (seen-scheduled S H (p .visits) C (o .sets) c ∙ f)) ∙ turn-ok _
+        same = λ F R C d o. rw (out-nil R) (ap turn (branch-is false F R C (seen-scheduled S H (p .visits) C (o .sets) c ∙ f)) ∙ turn-ok _
             ∙ sym (nest-applied c (openFrame p 65535 0) (p .depth + 1) (p .rows) (p .visits) 65535 65535 Nothing F R C _ refl ∙ rw
-            (no-number, visits-same (p .visits) C (o .sets .visits), within-all (p .depth + 1 - 1) F (omega (arith, d)))));
+            (no-number, d .many, visits-same (p .visits) C (o .sets .visits), within-all (p .depth + 1 - 1) F (omega (arith, d .deep)))));
         fitting = λ _. record { change = tt; handler = rw no-number tt; scope = rw no-number tt; deep = λ _. omega arith; next = omega arith; nested = tt };
       })
 
@@ -71,10 +72,10 @@ module _ {w : List ℕ} (p : Position) {x c a : ℕ} (ends : Ends w (p .block) (
         abbrev st : Option Statement
         st = met .statement
 
-        abbrev rest : List machine.Frame → List Row → definition.Context → Option Statement → Result State
-        rest F R C s = into a 19 (p .block) (secondPart (machine.frameOf (p .block) none 0 (p .count))) F ((R ++ jumpOut s) ++ (blockRow (added s 0) ∷ [])) C
+        abbrev rest : List machine.Frame → Output → definition.Context → Option Statement → Result State
+        rest F R C s = into a 19 (p .block) (secondPart (machine.frameOf (p .block) none 0 R (p .count))) F ((R ⊕ jumpOut s) ⊕ (blockRow (added s 0) ∷ [])) C
 
-        jumped : (F : List machine.Frame) (R : List Row) (C : definition.Context) → On C → terminalStepIn around w p F R C ≡ jumpedTo (eqb (jump .code) 0) jump st (p .visits) >>= rest F R C
+        jumped : (F : List machine.Frame) (R : Output) (C : definition.Context) → On C → terminalStepIn around w p F R C ≡ jumpedTo (eqb (jump .code) 0) jump st (p .visits) >>= rest F R C
         unfolding visitBreak
         jumped F R C o =
             let q : isScheduled C c ≡ true = seen-scheduled S H (p .visits) C (o .sets) c ∙ busy in
@@ -89,11 +90,11 @@ module _ {w : List ℕ} (p : Position) {x c a : ℕ} (ends : Ends w (p .block) (
           out = [];
           held = λ k. absurd (z k);
           same = λ F R C d o. ap turn (jumped F R C o ∙ ap (λ (y : Bool). jumpedTo y jump st (p .visits) >>= rest F R C) (ne-eqb (jump .code) 0 z)) ∙ turn-refused (jump .code) (jump .at) (p .visits)
-              ∙ sym (refuse-applied p (jump .code) (jump .at) F (R ++ []) C z);
+              ∙ sym (refuse-applied p (jump .code) (jump .at) F (R ⊕ []) C z);
           fitting = λ k. absurd (z k);
         })
 
-        went : (F : List machine.Frame) (R : List Row) (C : definition.Context) → jump .code ≡ 0 → On C → terminalStepIn around w p F R C ≡ rest F R C st
+        went : (F : List machine.Frame) (R : Output) (C : definition.Context) → jump .code ≡ 0 → On C → terminalStepIn around w p F R C ≡ rest F R C st
         unfolding _>>=_
         went F R C z o = jumped F R C o ∙ ap (λ (y : Bool). jumpedTo y jump st (p .visits) >>= rest F R C) (eq-eqb (jump .code) 0 z)
 
@@ -104,7 +105,7 @@ module _ {w : List ℕ} (p : Position) {x c a : ℕ} (ends : Ends w (p .block) (
           same =
               λ F R C d o. ap turn (went F R C z o ∙ into-busy a 19 (p .block) _ F _ C
               (seen-scheduled S H (p .visits) C (o .sets) a ∙ f)) ∙ turn-refused 19 (p .block) (C .visits)
-              ∙ ap (λ (v : ℕ). halt (rejected 19 (p .block) v)) (o .sets .visits) ∙ sym (refuse-applied p 19 (p .block) F (R ++ []) C (λ k. omega arith));
+              ∙ ap (λ (v : ℕ). halt (rejected 19 (p .block) v)) (o .sets .visits) ∙ sym (refuse-applied p 19 (p .block) F (R ⊕ []) C (λ k. omega arith));
           fitting = λ k. absurd (omega (arith, k));
         })
 
@@ -116,13 +117,13 @@ module _ {w : List ℕ} (p : Position) {x c a : ℕ} (ends : Ends w (p .block) (
           same =
               λ F R C d o. ap turn (went F R C z o ∙ into-free a 19 (p .block) _ F _ C
               (seen-scheduled S H (p .visits) C (o .sets) a ∙ f)) ∙ turn-ok _
-              ∙ ap (λ (l : List Row). going (visiting a (secondPart (machine.frameOf (p .block) none 0 (p .count)) ∷ F) l 0 C)) (rows-are R)
-              ∙ sym (nest-applied a (second (openFrame p 65535 0)) (p .depth + 1) rows′ (p .visits) 65535 65535 Nothing F (R ++ (jumpOut st ++ (row op n 0 0 0 0 ∷ []))) C _ refl
-              ∙ rw (no-number, visits-same (p .visits) C (o .sets .visits), within-all (p .depth + 1 - 1) F (omega (arith, d))));
+              ∙ ap (λ (l : Output). going (visiting a (secondPart (machine.frameOf (p .block) none 0 R (p .count)) ∷ F) l 0 C)) (rows-are R)
+              ∙ sym (nest-applied a (second (openFrame p 65535 0)) (p .depth + 1) rows′ (p .visits) 65535 65535 Nothing F (R ⊕ (jumpOut st ++ (row op n 0 0 0 0 ∷ []))) C _ refl
+              ∙ rw (no-number, d .many, visits-same (p .visits) C (o .sets .visits), within-all (p .depth + 1 - 1) F (omega (arith, d .deep))));
           fitting = λ _. record { change = tt; handler = rw no-number tt; scope = rw no-number tt; deep = λ _. omega arith; next = omega arith; nested = tt };
         })
           where
-            rows-are : (R : List Row) → (R ++ jumpOut st) ++ (blockRow (added st 0) ∷ []) ≡ R ++ (jumpOut st ++ (row op n 0 0 0 0 ∷ []))
+            rows-are : (R : Output) → (R ⊕ jumpOut st) ⊕ (blockRow (added st 0) ∷ []) ≡ R ⊕ (jumpOut st ++ (row op n 0 0 0 0 ∷ []))
             rows-are R =
-                ap (λ (k : ℕ). (R ++ jumpOut st) ++ (blockRow k ∷ [])) (sym (counted ∙ met .count z)) ∙ ap (λ (k : ℕ). (R ++ jumpOut st) ++ (row k n 0 0 0 0 ∷ []))
-                (sym o₉) ∙ append-assoc R (jumpOut st) (row op n 0 0 0 0 ∷ [])
+                ap (λ (k : ℕ). (R ⊕ jumpOut st) ⊕ (blockRow k ∷ [])) (sym (counted ∙ met .count z)) ∙ ap (λ (k : ℕ). (R ⊕ jumpOut st) ⊕ (row k n 0 0 0 0 ∷ []))
+                (sym o₉) ∙ out-assoc R (jumpOut st) (row op n 0 0 0 0 ∷ [])

@@ -13,7 +13,7 @@ use Rattle.table.specs.Table.{Terminal, tableOf, terminalAt, goto, Variant, Bre
 use Rattle.table.proofs.BlockLaws.{no-number, try-variant}
 use Rattle.definition.specs.Context.{Flags, getBreakTarget, getContinueTarget}
 use Rattle.definition.specs.Context as definition
-use Rattle.definition.specs.Machine.{State, ended, turn, leave, jumpOut, added, terminalTurn}
+use Rattle.definition.specs.Machine.{Output, _⊕_, State, ended, turn, leave, jumpOut, added, terminalTurn}
 use Rattle.definition.specs.Around.{Around}
 use Rattle.definition.specs.Goal.{Goal, breakTo, continueTo}
 use Rattle.definition.proofs.Goals.{break-goal, continue-goal}
@@ -36,8 +36,8 @@ use Rattle.plan.proofs.StepLaws.{turn-refused, turn-ok}
 use Rattle.plan.proofs.PlannedLaws.{step-in}
 
 -- a jump and then the end of the list
-abbrev jumpStep : Position → (definition.Context → Result (Option Statement)) → List machine.Frame → List Row → definition.Context → Result State
-jumpStep p outcome F R C = outcome C >>= λ s. ok (ended F (R ++ jumpOut s) (added s (p .count)) C)
+abbrev jumpStep : Position → (definition.Context → Result (Option Statement)) → List machine.Frame → Output → definition.Context → Result State
+jumpStep p outcome F R C = outcome C >>= λ s. ok (ended F (R ⊕ jumpOut s) (added s (p .count)) C)
 
 added-count : (s : Option Statement) (n : ℕ) → n + added s 0 ≡ added s n
 added-count none n = omega arith
@@ -45,7 +45,7 @@ added-count (some s) n = omega arith
 
 pub jump-planned : (around : Around) (w : List ℕ) (p : Position) (On : definition.Context → Type 0) (outcome : definition.Context
     → Result (Option Statement)) (O : Flags) (b : List ℕ) (jump : Jumped) (b′ : List ℕ) (plan : Plan)
-    → ((F : List machine.Frame) (R : List Row) (C : definition.Context) → On C → terminalStepIn around w p F R C ≡ jumpStep p outcome F R C) → ((C : definition.Context) → On C → JumpSeen O (p .visits) C)
+    → ((F : List machine.Frame) (R : Output) (C : definition.Context) → On C → terminalStepIn around w p F R C ≡ jumpStep p outcome F R C) → ((C : definition.Context) → On C → JumpSeen O (p .visits) C)
     → JumpMet outcome O (p .visits) (p .rows) b jump b′ → plan ≡ afterJump p jump → Planned (terminalStepIn around w p) On [] (p .depth) (p .rows) b plan b′
 unfolding _>>=_
 jump-planned around w p On outcome O b jump b′ plan step seen met e = subst (λ (z : Plan). Planned (terminalStepIn around w p) On [] (p .depth) (p .rows) b z b′) (sym e) (by (eqb (jump .code) 0) refl)
@@ -61,19 +61,19 @@ jump-planned around w p On outcome O b jump b′ plan step seen met e = subst (�
       out = jumpOut st;
       held = λ _ before h. met .held (eqb-true (jump .code) 0 q) before h;
       same =
-          λ F R C d o. ap turn (step F R C o ∙ ap (λ (z : Result (Option Statement)). z >>= λ s. ok (ended F (R ++ jumpOut s) (added s (p .count)) C))
+          λ F R C d o. ap turn (step F R C o ∙ ap (λ (z : Result (Option Statement)). z >>= λ s. ok (ended F (R ⊕ jumpOut s) (added s (p .count)) C))
           (met .same C (seen C o) ∙ ap (λ (y : Bool). jumpedTo y jump st (p .visits)) q)) ∙ turn-ok _
-          ∙ sym (leave-applied 65535 (p .depth) (p .count + jump .count) (jump .rows) (p .visits) Nothing F (R ++ jumpOut st) C _ refl
-          ∙ rw (no-number, visits-same (p .visits) C (seen C o .visits), within-all (p .depth) F d, cnt q));
+          ∙ sym (leave-applied 65535 (p .depth) (p .count + jump .count) (jump .rows) (p .visits) Nothing F (R ⊕ jumpOut st) C _ refl
+          ∙ rw (no-number, visits-same (p .visits) C (seen C o .visits), within-all (p .depth) F (d .deep), cnt q));
       fitting = λ _. record { change = tt; handler = rw no-number tt; scope = rw no-number tt; deep = λ z. absurd (let o : _≡_ {A = ℕ} 0 1 = cc in omega arith); next = omega arith; nested = tt };
     }
     by false q = record {
       out = [];
       held = λ z. absurd (nz z);
       same =
-          λ F R C d o. ap turn (step F R C o ∙ ap (λ (z : Result (Option Statement)). z >>= λ s. ok (ended F (R ++ jumpOut s) (added s (p .count)) C))
+          λ F R C d o. ap turn (step F R C o ∙ ap (λ (z : Result (Option Statement)). z >>= λ s. ok (ended F (R ⊕ jumpOut s) (added s (p .count)) C))
           (met .same C (seen C o) ∙ ap (λ (y : Bool). jumpedTo y jump st (p .visits)) q))
-          ∙ turn-refused (jump .code) (jump .at) (p .visits) ∙ sym (refuse-applied p (jump .code) (jump .at) F (R ++ []) C nz);
+          ∙ turn-refused (jump .code) (jump .at) (p .visits) ∙ sym (refuse-applied p (jump .code) (jump .at) F (R ⊕ []) C nz);
       fitting = λ z. absurd (nz z);
     }
       where
@@ -112,12 +112,12 @@ module _ {w : List ℕ} (p : Position) (variant : ℕ) {to first count id : ℕ}
       ∙ ap (λ (z : Option Goal). after F R C (breakTo (p .block) to id C z)) (sym (found Break 0 v refl C o))
       ∙ moved F R C (breakOutcome (p .block) to id aim C))) (λ C o. o .seen) met e
     where
-      after : List machine.Frame → List Row → definition.Context → Result (Option Statement) → Result State
+      after : List machine.Frame → Output → definition.Context → Result (Option Statement) → Result State
       after F R C m =
           (m >>= λ statement. ok (record { statement = statement; next = none; context = C })) >>= λ (r : TerminalResult). ok
-          (leave (r .next) F (R ++ jumpOut (r .statement)) (added (r .statement) (p .count)) (r .context))
+          (leave (r .next) F (R ⊕ jumpOut (r .statement)) (added (r .statement) (p .count)) (r .context))
 
-      moved : (F : List machine.Frame) (R : List Row) (C : definition.Context) (m : Result (Option Statement)) → after F R C m ≡ (m >>= λ s. ok (ended F (R ++ jumpOut s) (added s (p .count)) C))
+      moved : (F : List machine.Frame) (R : Output) (C : definition.Context) (m : Result (Option Statement)) → after F R C m ≡ (m >>= λ s. ok (ended F (R ⊕ jumpOut s) (added s (p .count)) C))
       moved F R C (ok s) = refl
       moved F R C (refused a c v) = refl
 
@@ -131,13 +131,13 @@ module _ {w : List ℕ} (p : Position) (variant : ℕ) {to first count id : ℕ}
       ∙ ap (λ (z : Option Goal). after F R C (continueTo (p .block) to id C z)) (sym (found Continue 1 v refl C o))
       ∙ moved F R C (continueTo (p .block) to id C (aimOf aim)))) (λ C o. o .seen) met e
     where
-      after : List machine.Frame → List Row → definition.Context → Result Statement → Result State
+      after : List machine.Frame → Output → definition.Context → Result Statement → Result State
       after F R C m =
           (m >>= λ statement. ok (record { statement = some statement; next = none; context = C })) >>= λ (r : TerminalResult). ok
-          (leave (r .next) F (R ++ jumpOut (r .statement)) (added (r .statement) (p .count)) (r .context))
+          (leave (r .next) F (R ⊕ jumpOut (r .statement)) (added (r .statement) (p .count)) (r .context))
 
-      moved : (F : List machine.Frame) (R : List Row) (C : definition.Context) (m : Result Statement)
-          → after F R C m ≡ ((m >>= λ s. ok (some s)) >>= λ s. ok (ended F (R ++ jumpOut s) (added s (p .count)) C))
+      moved : (F : List machine.Frame) (R : Output) (C : definition.Context) (m : Result Statement)
+          → after F R C m ≡ ((m >>= λ s. ok (some s)) >>= λ s. ok (ended F (R ⊕ jumpOut s) (added s (p .count)) C))
       moved F R C (ok s) = refl
       moved F R C (refused a c v) = refl
 
@@ -148,6 +148,6 @@ module _ {w : List ℕ} (p : Position) (variant : ℕ) {to first count id : ℕ}
     out = [];
     held = λ _ before h. rw (append-nil before) h;
     same = λ F R C d o. ap turn (step-in around w p _ F R C (variant-is Try variant refl (try-variant variant n₀ n₁))) ∙ turn-ok _
-        ∙ sym (leave-applied 65535 (p .depth) (p .count) (p .rows) (p .visits) Nothing F (R ++ []) C _ refl ∙ rw (no-number, visits-same (p .visits) C (o .seen .visits), within-all (p .depth) F d));
+        ∙ sym (leave-applied 65535 (p .depth) (p .count) (p .rows) (p .visits) Nothing F (R ⊕ []) C _ refl ∙ rw (no-number, visits-same (p .visits) C (o .seen .visits), within-all (p .depth) F (d .deep)));
     fitting = λ _. record { change = tt; handler = rw no-number tt; scope = rw no-number tt; deep = λ z. absurd (let o : _≡_ {A = ℕ} 0 1 = cc in omega arith); next = omega arith; nested = tt };
   })

@@ -16,7 +16,7 @@ use Rattle.table.proofs.BlockLaws.{no-number, some-number}
 use Rattle.definition.specs.Build.{rejected}
 use Rattle.definition.specs.Context.{Flags, has, pushed, isScheduled, markScopeFallthrough}
 use Rattle.definition.specs.Context as definition
-use Rattle.definition.specs.Machine.{visiting, ended, going, halt, turn, into, opens, scheduledIf, terminalTurn}
+use Rattle.definition.specs.Machine.{Output, _⊕_, visiting, ended, going, halt, turn, into, opens, scheduledIf, terminalTurn}
 use Rattle.definition.specs.Machine as machine
 use Rattle.definition.specs.Result.{ok}
 use Rattle.definition.specs.Statement.{unlessScheduled, markScopeFallthroughIf}
@@ -30,8 +30,8 @@ use Rattle.plan.specs.declared.Position.{Position}
 use Rattle.plan.specs.declared.Frame.{Frame}
 use Rattle.plan.specs.declared.Change.the-variants.{Nothing}
 use Rattle.plan.specs.declared.Plan.{Plan}
-use Rattle.plan.specs.Plans.{frameOf, scoped, contextAfter, applied, onward, openFrame, leaving, unlessTaken, entriesIf, scheduleIf, scheduledWith, enclosing, withScope}
-use Rattle.plan.specs.Planned.{Seen, Fitting, Planned, PlannedBare, Entered, terminalStep, SameVisits}
+use Rattle.plan.specs.Plans.{frameOf, scoped, contextAfter, lined, applied, onward, openFrame, leaving, unlessTaken, entriesIf, scheduleIf, scheduledWith, enclosing, withScope}
+use Rattle.plan.specs.Planned.{Stands, Seen, Fitting, Planned, PlannedBare, Entered, terminalStep, SameVisits}
 use Rattle.plan.proofs.PlanLaws.{within-all, visits-same, leave-applied, nest-applied, Label, no-label, free-label, label-taken, label-entries, label-if}
 use Rattle.plan.proofs.StepLaws.{label-scheduled, into-busy, into-free, turn-refused, turn-ok, busy-with}
 use Rattle.plan.proofs.PlannedLaws.{bare-planned, step-by, Takes}
@@ -62,12 +62,12 @@ unfolding markScopeFallthroughIf
 scope-visits none C = refl
 scope-visits (some f) C = unfold pushed markScopeFallthrough in refl
 
-refused-applied : (plan : Plan) (F : List machine.Frame) (R : List Row) (C : definition.Context) → (plan .code ≡ 0 → ⊥)
+refused-applied : (plan : Plan) (F : List machine.Frame) (R : Output) (C : definition.Context) → (plan .code ≡ 0 → ⊥)
     → applied plan F R C ≡ halt (rejected (plan .code) (plan .at) (plan .position .visits))
 unfolding applied
 refused-applied plan F R C h =
     ap (λ (y : Bool). elim y [
-      | true ↦ onward (plan .position .stage) plan F R (contextAfter plan C)
+      | true ↦ onward (plan .position .stage) plan F (lined (plan .line) (plan .position .rows) R) (contextAfter plan C)
       | false ↦ halt (rejected (plan .code) (plan .at) (plan .position .visits))
     ]) (ne-eqb (plan .code) 0 h)
 
@@ -92,8 +92,8 @@ module _ (w : List ℕ) (S H : Flags) (p : Position) (en : Entered w p) (pruned 
   fits true z = absurd (omega (arith, z))
   fits false z = record { change = named-if n l; handler = rw no-number tt; scope = label-in n l; deep = λ _. omega arith; next = omega arith; nested = tt }
 
-  scoped-by : (F : List machine.Frame) (R : List Row) (C : definition.Context) → length F ≡ p .depth → Seen S H (p .visits) C → (b : Bool) → eqb x n || (has S x || has H x) ≡ b
-      → turn (into x 18 (p .block) (machine.frameOf (p .block) (unlessNone n) (opens (unlessNone n)) (p .count)) F R
+  scoped-by : (F : List machine.Frame) (R : Output) (C : definition.Context) → Stands F R (p .depth) (p .rows) → Seen S H (p .visits) C → (b : Bool) → eqb x n || (has S x || has H x) ≡ b
+      → turn (into x 18 (p .block) (machine.frameOf (p .block) (unlessNone n) (opens (unlessNone n)) R (p .count)) F R
       (markScopeFallthroughIf (unlessNone n) (scheduledIf (unlessNone n) C))) ≡ applied (E b) F R C
   scoped-by F R C d seen true o =
       ap turn (into-busy x 18 (p .block) _ F R _ (scope-busy (unlessNone n) (unlessNone n) C x ∙ busy-with S H (p .visits) n x C l (few .0) seen ∙ o)) ∙ turn-refused 18 (p .block) _
@@ -103,7 +103,7 @@ module _ (w : List ℕ) (S H : Flags) (p : Position) (en : Entered w p) (pruned 
       ∙ sym (nest-applied x (openFrame p n (entriesIf (eqb n 65535))) (p .depth + 1) (p .rows) (p .visits) 65535 n (scheduleIf (eqb n 65535) n) F R C
       (markScopeFallthroughIf (unlessNone n) (scheduledIf (unlessNone n) C))
       (rw (no-number, visits-same (p .visits) C (seen .visits), scope-moved (unlessNone n) C) (label-if l (scoped (unlessNone n) C) (scope-seen (unlessNone n) C ∙ seen .scheduled)))
-      ∙ rw (label-entries n, within-all (p .depth + 1 - 1) F (omega (arith, d))))
+      ∙ rw (label-entries n, d .many, within-all (p .depth + 1 - 1) F (omega (arith, d .deep))))
 
   abbrev busy-now : Bool
   busy-now = eqb x n || (has S x || has H x)
@@ -112,7 +112,7 @@ module _ (w : List ℕ) (S H : Flags) (p : Position) (en : Entered w p) (pruned 
       → plan ≡ withScope inner n → PlannedBare w S H p plan
   unfolding terminalTurn
   scope-enclosed plan b i e = rw (e, i, b) (bare-planned w S H p (E busy-now) (rows busy-now) (λ F R C d seen. ap turn (step-by w p _ F R C (ends .is))
-      ∙ ap (λ (g : Option ℕ). turn (into x 18 (p .block) (machine.frameOf (p .block) g (opens g) (p .count)) F R (markScopeFallthroughIf g (scheduledIf g C)))) (label-is C seen)
+      ∙ ap (λ (g : Option ℕ). turn (into x 18 (p .block) (machine.frameOf (p .block) g (opens g) R (p .count)) F R (markScopeFallthroughIf g (scheduledIf g C)))) (label-is C seen)
       ∙ scoped-by F R C d seen busy-now refl) (fits busy-now))
 
 -- what the code of a scope returns
@@ -126,7 +126,7 @@ module _ {w : List ℕ} {S H : Flags} {p : Position} {plan : Plan} (en : Entered
 -- a planner that puts out some rows and goes on at the same depth
 pub left-planned : (w : List ℕ) (p : Position) (out : List Row) (b b′ : List ℕ) (rows′ count′ : ℕ) (plan : Plan)
     → ((before : List Row) → Holds b (p .rows) (stack.pushed before []) → Holds b′ rows′ (stack.pushed (before ++ out) []))
-    → ((F : List machine.Frame) (R : List Row) (C : definition.Context) → length F ≡ p .depth → C .visits ≡ p .visits → terminalStep w p F R C ≡ ok (ended F (R ++ out) count′ C))
+    → ((F : List machine.Frame) (R : Output) (C : definition.Context) → Stands F R (p .depth) (p .rows) → C .visits ≡ p .visits → terminalStep w p F R C ≡ ok (ended F (R ⊕ out) count′ C))
     → plan ≡ leaving 65535 (p .depth) count′ rows′ (p .visits) Nothing
     → Planned (terminalStep w p) (λ C. C .visits ≡ p .visits) [] (p .depth) (p .rows) b plan b′
 left-planned w p out b b′ rows′ count′ plan held same e = subst (λ (z : Plan). Planned (terminalStep w p) (λ C. C .visits ≡ p .visits) [] (p .depth) (p .rows) b z b′) (sym e) (record {
@@ -134,8 +134,8 @@ left-planned w p out b b′ rows′ count′ plan held same e = subst (λ (z : P
   held = λ _ before h. held before h;
   same =
       λ F R C d v. ap turn (same F R C d v) ∙ turn-ok _ ∙ sym
-      (leave-applied 65535 (p .depth) count′ rows′ (p .visits) Nothing F (R ++ out) C _ refl ∙ rw
-      (no-number, visits-same (p .visits) C v, within-all (p .depth) F d));
+      (leave-applied 65535 (p .depth) count′ rows′ (p .visits) Nothing F (R ⊕ out) C _ refl ∙ rw
+      (no-number, visits-same (p .visits) C v, within-all (p .depth) F (d .deep)));
   fitting = λ _. record { change = tt; handler = rw no-number tt; scope = rw no-number tt; deep = λ z. absurd (let o : _≡_ {A = ℕ} 0 1 = cc in omega arith); next = omega arith; nested = tt };
 })
 

@@ -17,7 +17,8 @@ use Rattle.table.specs.Table.{terminalAt, blockAt, rowsFrom, instructionRowsAt}
 use Rattle.table.proofs.BlockLaws.{code-at, length-rows}
 use Rattle.definition.specs.Context.{Flags, has, emit, withVisits, isScheduled, getBreakTarget, getContinueTarget}
 use Rattle.definition.specs.Context as definition
-use Rattle.definition.specs.Machine.{State, enclosings, aroundOf, turn, step, visitTurn, terminalTurn, instructionsOut, depthLeft}
+use Rattle.definition.proofs.Lines.{out-assoc}
+use Rattle.definition.specs.Machine.{Output, _⊕_, State, enclosings, aroundOf, turn, step, visitTurn, terminalTurn, instructionsOut, depthLeft}
 use Rattle.definition.specs.Around.{Rule, Around}
 use Rattle.definition.specs.Goal.{Goal}
 use Rattle.definition.specs.Machine as machine
@@ -38,12 +39,13 @@ use Rattle.plan.specs.declared.Position.{Position}
 use Rattle.plan.specs.declared.Frame.{Frame}
 use Rattle.plan.specs.declared.Plan.{Plan}
 use Rattle.plan.specs.Plans.{stateAt, applied, refusing}
-use Rattle.plan.specs.Planned.{Seen, Fitting, Planned, Entered, terminalStepIn, terminalStep}
+use Rattle.plan.specs.Planned.{Stands, Seen, Fitting, Planned, Entered, terminalStepIn, terminalStep}
 use Rattle.planner.specs.Jumps.{JumpSeen, GotoSeen, BranchSeen}
 use Rattle.plan.specs.Turn.{Resolves, Shown, AtTerminal, Visits, inHand, StageFits, Ready, emitting, PlannedTurn}
 use Rattle.plan.proofs.PlanLaws.{refuse-applied}
 use Rattle.plan.proofs.StepLaws.{turn-refused}
-use Rattle.plan.proofs.PlannedLaws.{planned-as, around-unread, applied-visits}
+use Rattle.plan.proofs.CountLaws.{counted-on}
+use Rattle.plan.proofs.PlannedLaws.{stands-after, planned-as, around-unread, applied-visits}
 
 -- ---- what the planners of jumps see
 
@@ -100,14 +102,14 @@ resolves-entered (maybe-throw continuation) b v A C f h = tt
 resolves-entered (try body handler fallthrough binding) b v A C f h = tt
 resolves-entered (scope pruned body fallthrough number) b v A C f h = tt
 
-module _ (rule : Rule) (t : Table) (b : ℕ) (F : List machine.Frame) (R : List Row) (m : ℕ) (C : definition.Context) where
+module _ (rule : Rule) (t : Table) (b : ℕ) (F : List machine.Frame) (R : Output) (m : ℕ) (C : definition.Context) where
   too-deep : 128 ≤ length F → visitTurn rule t b F R m C ≡ refused 30 b (C .visits)
   unfolding visitTurn refuseIf _>>=_
   too-deep h = rw (le-leb 128 (length F) h)
 
   inside : Result definition.Context → Result State
   inside entered =
-      entered >>= λ D. terminalTurn (aroundOf rule t F) t (visitValueBlock t (depthLeft F)) (terminalAt t b) b (blockAt t b) F (R ++ instructionsOut t (instructionRowsAt t b))
+      entered >>= λ D. terminalTurn (aroundOf rule t F) t (visitValueBlock t (depthLeft F)) (terminalAt t b) b (blockAt t b) F (R ⊕ instructionsOut t (instructionRowsAt t b))
       (m + length (instructionRowsAt t b)) D
 
   not-deep : length F < 128 → visitTurn rule t b F R m C ≡ inside (enterBlock t b C)
@@ -135,7 +137,7 @@ module _ (rule : Rule) (t : Table) (b : ℕ) (F : List machine.Frame) (R : List 
   inside-refused c a v = refl
 
   inside-ok : (D : definition.Context) → inside (ok D) ≡ terminalTurn (aroundOf rule t F) t (visitValueBlock t (depthLeft F)) (terminalAt t b) b (blockAt t b) F
-      (R ++ instructionsOut t (instructionRowsAt t b)) (m + length (instructionRowsAt t b)) D
+      (R ⊕ instructionsOut t (instructionRowsAt t b)) (m + length (instructionRowsAt t b)) D
   unfolding inside _>>=_
   inside-ok D = refl
 
@@ -144,7 +146,7 @@ unfolding emit withVisits
 emit-visits b v C = refl
 
 -- the visits are set once more where a plan is applied
-entered-applied : (plan : Plan) (b v : ℕ) (F : List machine.Frame) (R : List Row) (C : definition.Context) → applied plan F R (emit b (withVisits v C)) ≡ applied plan F R (emit b C)
+entered-applied : (plan : Plan) (b v : ℕ) (F : List machine.Frame) (R : Output) (C : definition.Context) → applied plan F R (emit b (withVisits v C)) ≡ applied plan F R (emit b C)
 entered-applied plan b v F R C = ap (applied plan F R) (emit-visits b v C) ∙ applied-visits plan v F R (emit b C)
 
 module _ (w : List ℕ) (E S H Z : Flags) (p : Position) (aim : Aim) (around : Around) (here : Visits w p) (frame : Frame) where
@@ -164,34 +166,34 @@ module _ (w : List ℕ) (E S H Z : Flags) (p : Position) (aim : Aim) (around : A
 
   planned : {buffer buffer′ : List ℕ} (plan : Plan) (out : List Row)
       → (plan .code ≡ 0 → (before : List Row) → Holds buffer (p .rows) (pushed before []) → Holds buffer′ (plan .position .rows) (pushed (before ++ out) []))
-      → ((F : List machine.Frame) (R : List Row) (C : definition.Context) → length F ≡ p .depth → enclosings (tableOf w) F ≡ around .statements → On C
-      → turn (visitTurn (around .rule) (tableOf w) b F R (p .count) C) ≡ applied plan F (R ++ out) (emit b C))
+      → ((F : List machine.Frame) (R : Output) (C : definition.Context) → Stands F R (p .depth) (p .rows) → enclosings (tableOf w) F ≡ around .statements → On C
+      → turn (visitTurn (around .rule) (tableOf w) b F R (p .count) C) ≡ applied plan F (R ⊕ out) (emit b C))
       → (plan .code ≡ 0 → Fitting [] (p .depth) plan) → PlannedTurn w around On p frame buffer plan buffer′
   unfolding step
   planned plan out held same fit = record {
     out = out;
     held = held;
     same =
-        λ F R C. subst (λ (s : Stage). length (inHand s (p .depth) frame ++ F) ≡ p .depth → enclosings (tableOf w) (inHand s (p .depth) frame ++ F) ≡ around .statements → On C → step (around .rule) (tableOf w)
-        (stateAt s b (inHand s (p .depth) frame ++ F) R (p .count) C) ≡ applied plan (inHand s (p .depth) frame ++ F) (R ++ out) (emitting s b C))
+        λ F R C. subst (λ (s : Stage). Stands (inHand s (p .depth) frame ++ F) R (p .depth) (p .rows) → enclosings (tableOf w) (inHand s (p .depth) frame ++ F) ≡ around .statements → On C → step (around .rule) (tableOf w)
+        (stateAt s b (inHand s (p .depth) frame ++ F) R (p .count) C) ≡ applied plan (inHand s (p .depth) frame ++ F) (R ⊕ out) (emitting s b C))
         (sym (here .stage)) (λ l n o. same F R C l n o);
     fitting = λ z. subst (λ (s : Stage). Fitting (inHand s (p .depth) frame) (p .depth) plan) (sym (here .stage)) (fit z);
   }
 
   refused-turn : (buffer : List ℕ) (q : Position) (code at : ℕ) (plan : Plan) → (code ≡ 0 → ⊥) → plan ≡ refusing q code at
-      → ((F : List machine.Frame) (R : List Row) (C : definition.Context) → length F ≡ p .depth → On C
+      → ((F : List machine.Frame) (R : Output) (C : definition.Context) → Stands F R (p .depth) (p .rows) → On C
       → visitTurn (around .rule) (tableOf w) b F R (p .count) C ≡ refused code at (q .visits)) → PlannedTurn w around On p frame buffer plan buffer
   refused-turn buffer q code at plan nz e same = subst (λ (z : Plan). PlannedTurn w around On p frame buffer z buffer) (sym e) (planned (refusing q code at) [] (λ z. absurd (nz z))
-      (λ F R C l _ o. ap turn (same F R C l o) ∙ turn-refused code at (q .visits) ∙ sym (refuse-applied q code at F (R ++ []) (emit b C) nz)) (λ z. absurd (nz z)))
+      (λ F R C l _ o. ap turn (same F R C l o) ∙ turn-refused code at (q .visits) ∙ sym (refuse-applied q code at F (R ⊕ []) (emit b C) nz)) (λ z. absurd (nz z)))
 
   pub deep-planned : (buffer : List ℕ) (plan : Plan) → 128 ≤ p .depth → plan ≡ refusing p 30 b → PlannedTurn w around On p frame buffer plan buffer
-  deep-planned buffer plan h e = refused-turn buffer p 30 b plan (λ z. omega arith) e (λ F R C l o. too-deep (around .rule) (tableOf w) b F R (p .count) C (omega (arith, l)) ∙ ap (refused 30 b) (o .visits))
+  deep-planned buffer plan h e = refused-turn buffer p 30 b plan (λ z. omega arith) e (λ F R C l o. too-deep (around .rule) (tableOf w) b F R (p .count) C (omega (arith, l .deep)) ∙ ap (refused 30 b) (o .visits))
 
   module _ (shallow : p .depth < 128) where
-    entering-turn : (F : List machine.Frame) (R : List Row) (C : definition.Context) (code at v : ℕ) → length F ≡ p .depth
+    entering-turn : (F : List machine.Frame) (R : Output) (C : definition.Context) (code at v : ℕ) → Stands F R (p .depth) (p .rows)
         → enterBlock (tableOf w) b C ≡ refused code at v → visitTurn (around .rule) (tableOf w) b F R (p .count) C ≡ refused code at v
     entering-turn F R C code at v l e =
-        not-deep (around .rule) (tableOf w) b F R (p .count) C (omega (arith, l)) ∙ ap (inside (around .rule) (tableOf w) b F R (p .count) C) e ∙ inside-refused (around .rule) (tableOf w) b F R (p .count)
+        not-deep (around .rule) (tableOf w) b F R (p .count) C (omega (arith, l .deep)) ∙ ap (inside (around .rule) (tableOf w) b F R (p .count) C) e ∙ inside-refused (around .rule) (tableOf w) b F R (p .count)
         C code at v
 
     pub visits-planned : (buffer : List ℕ) (plan : Plan) → 8192 ≤ p .visits → plan ≡ refusing p 31 b → PlannedTurn w around On p frame buffer plan buffer
@@ -222,8 +224,8 @@ module _ (w : List ℕ) (E S H Z : Flags) (p : Position) (aim : Aim) (around : A
             → Planned (terminalStepIn around w q) (AtTerminal w S H Z q aim around) [] (q .depth) (q .rows) buffer₁ plan buffer′ → PlannedTurn w around On p frame buffer plan buffer′
         entered-planned {first} {count} heads buffer buffer₁ buffer′ q plan z eb ed ec ev put m = planned plan (lines ++ m .out)
             (λ y before h. subst (λ (R : List Row). Holds buffer′ (plan .position .rows) (pushed R [])) (append-assoc before lines (m .out)) (m .held y (before ++ lines) (written before h)))
-            (λ F R C l n o. ap turn (goes F R C l n o) ∙ m .same F (R ++ lines) (emit b (withVisits (suc (C .visits)) C)) (l ∙ sym ed) (sees C o)
-            ∙ entered-applied plan b (suc (C .visits)) F ((R ++ lines) ++ m .out) C ∙ ap (λ (X : List Row). applied plan F X (emit b C)) (append-assoc R lines (m .out)))
+            (λ F R C l n o. ap turn (goes F R C l n o) ∙ m .same F (R ⊕ lines) (emit b (withVisits (suc (C .visits)) C)) (record { deep = l .deep ∙ sym ed; many = stands-after lines (counted-on lines written) l .many }) (sees C o)
+            ∙ entered-applied plan b (suc (C .visits)) F ((R ⊕ lines) ⊕ m .out) C ∙ ap (λ (X : Output). applied plan F X (emit b C)) (out-assoc R lines (m .out)))
             (λ y. subst (λ (d : ℕ). Fitting [] d plan) ed (m .fitting y))
           where
             rows-are : instructionRowsAt (tableOf w) b ≡ rowsFrom first count
@@ -237,12 +239,12 @@ module _ (w : List ℕ) (E S H Z : Flags) (p : Position) (aim : Aim) (around : A
                 (ap (λ (is : List ℕ). pushInstructionRows (tableOf w) is (pushed before [])) (sym rows-are) ∙ push-instruction-rows-after
                 (tableOf w) (instructionRowsAt (tableOf w) b) before) (put .kept (pushed before []) h)
 
-            goes : (F : List machine.Frame) (R : List Row) (C : definition.Context) → length F ≡ p .depth → enclosings (tableOf w) F ≡ around .statements → On C
-                → visitTurn (around .rule) (tableOf w) b F R (p .count) C ≡ terminalStepIn around w q F (R ++ lines) (emit b (withVisits (suc (C .visits)) C))
-            goes F R C l n o = not-deep (around .rule) (tableOf w) b F R (p .count) C (omega (arith, l))
+            goes : (F : List machine.Frame) (R : Output) (C : definition.Context) → Stands F R (p .depth) (p .rows) → enclosings (tableOf w) F ≡ around .statements → On C
+                → visitTurn (around .rule) (tableOf w) b F R (p .count) C ≡ terminalStepIn around w q F (R ⊕ lines) (emit b (withVisits (suc (C .visits)) C))
+            goes F R C l n o = not-deep (around .rule) (tableOf w) b F R (p .count) C (omega (arith, l .deep))
                 ∙ ap (inside (around .rule) (tableOf w) b F R (p .count) C) (enters (around .rule) (tableOf w) b F R (p .count) C (omega (arith, o .visits, few)) present (ap (λ (k : Flags). has k b) (o .emitted) ∙ z))
                 ∙ inside-ok (around .rule) (tableOf w) b F R (p .count) C (emit b (withVisits (suc (C .visits)) C))
-                ∙ rw (eb, ed, ec, l, ← n, ap length rows-are ∙ length-rows first count) refl
+                ∙ rw (eb, ed, ec, l .deep, ← n, ap length rows-are ∙ length-rows first count) refl
 
             sees : (C : definition.Context) → On C → AtTerminal w S H Z q aim around (emit b (withVisits (suc (C .visits)) C))
             sees C o = entered-sees q C o (next-visit C q o ev) eb

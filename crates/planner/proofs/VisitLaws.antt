@@ -14,7 +14,7 @@ use Rattle.table.proofs.TableLaws.{length-cases}
 use Rattle.table.proofs.BlockLaws.{no-number, some-number, end-by}
 use Rattle.definition.specs.Context.{Flags, has, pushed, scheduleCatchHandler}
 use Rattle.definition.specs.Context as definition
-use Rattle.definition.specs.Machine.{visiting, choosing, going, turn, leave, into, scheduledIf, scheduledSwitch, withLeft, numberOfCases, terminalTurn}
+use Rattle.definition.specs.Machine.{Output, visiting, choosing, going, turn, leave, into, scheduledIf, scheduledSwitch, withLeft, numberOfCases, terminalTurn}
 use Rattle.definition.specs.Machine as machine
 use Rattle.definition.specs.Result.{ok}
 use Rattle.definition.specs.Statement.{casesLastFirst}
@@ -25,7 +25,7 @@ use Rattle.plan.specs.declared.Change.{Change}
 use Rattle.plan.specs.declared.Change.the-variants.{Nothing}
 use Rattle.plan.specs.declared.Plan.{Plan}
 use Rattle.plan.specs.Plans.{applied, openFrame, refusing, leaving, nesting, choosingNext, entriesIf, scheduleIf, scheduleSwitch, scheduledWith, enclosing, withHandler}
-use Rattle.plan.specs.Planned.{Seen, NamedChange, Fitting, PlannedBare, Entered}
+use Rattle.plan.specs.Planned.{Stands, Seen, NamedChange, Fitting, PlannedBare, Entered}
 use Rattle.plan.proofs.PlanLaws.{within-all, visits-same, leave-applied, leave-nested, nest-applied, choose-applied, Label, label-below, label-entries, label-if, label-switch}
 use Rattle.plan.proofs.StepLaws.{label-scheduled, enclose-same, turn-ok}
 use Rattle.plan.proofs.PlannedLaws.{bare-planned, step-by, Rest, Asks, Reached, Takes, here, reached-missing, reached-same, reached-label}
@@ -51,7 +51,7 @@ enclosing-rows false p n block code at = refl
 -- ---- terminals that ask whether their fallthrough is reachable, and then have one nested block
 
 module _ (w : List ℕ) (S H : Flags) (p : Position) (en : Entered w p) (e : Terminal) (f x code at : ℕ) (ends : Ends w (p .block) e)
-    (asks : Asks w p e f (λ F R C taken. into x code at (here p taken) F R (scheduledIf taken C))) (h : f < blockCount w) (u : x < blockCount w) (nz : code ≡ 0 → ⊥) where
+    (asks : Asks w p e f (λ F R C taken. into x code at (here p R taken) F R (scheduledIf taken C))) (h : f < blockCount w) (u : x < blockCount w) (nz : code ≡ 0 → ⊥) where
   reached-enclosed : (n : ℕ) (plan : Plan) → (codeAt w f ≡ 0 → ⊥) → Reached w S H f n → plan ≡ enclosing (scheduledWith (has S x || has H x) n x) p n x code at → PlannedBare w S H p plan
   reached-enclosed n plan z r o = rw o
       (reached-same w S H p en e f _ ends asks h n (enclosing busy p n x code at) z r
@@ -77,25 +77,25 @@ number-is w first number h =
     whole (suc n) (x ∷ l) k = ap suc (whole n l (omega arith))
 
 abbrev switchFrame : Position → (n entries left : ℕ) → Frame
-switchFrame p n entries left = record { block = p .block; label = n; entries = entries; left = left; built = 0; count = p .count; second = false }
+switchFrame p n entries left = record { block = p .block; label = n; entries = entries; left = left; built = 0; first = p .rows; count = p .count; second = false }
 
-if-asks : (w : List ℕ) (p : Position) (t c a f : ℕ) → Asks w p (if t c a f) f (λ F R C taken. into c 12 c (here p taken) F R (scheduledIf taken C))
+if-asks : (w : List ℕ) (p : Position) (t c a f : ℕ) → Asks w p (if t c a f) f (λ F R C taken. into c 12 c (here p R taken) F R (scheduledIf taken C))
 unfolding terminalTurn
 if-asks w p t c a f F R C = refl
 
-label-asks : (w : List ℕ) (p : Position) (x f : ℕ) → Asks w p (label x f) f (λ F R C taken. into x 17 (p .block) (here p taken) F R (scheduledIf taken C))
+label-asks : (w : List ℕ) (p : Position) (x f : ℕ) → Asks w p (label x f) f (λ F R C taken. into x 17 (p .block) (here p R taken) F R (scheduledIf taken C))
 unfolding terminalTurn
 label-asks w p x f F R C = refl
 
 abbrev switchRest : List ℕ → Position → (i m : ℕ) → Rest
-switchRest w p i m F R C taken = ok (choosing (withLeft (numberOfCases (tableOf w) i m) (here p taken)) F R (scheduledSwitch taken C))
+switchRest w p i m F R C taken = ok (choosing (withLeft (numberOfCases (tableOf w) i m) (here p R taken)) F R (scheduledSwitch taken C))
 
 switch-asks : (w : List ℕ) (p : Position) (t i m f : ℕ) → Asks w p (switch t i m f) f (switchRest w p i m)
 unfolding terminalTurn
 switch-asks w p t i m f F R C = refl
 
 abbrev tryRest : Position → (x y : ℕ) → Rest
-tryRest p x y F R C taken = ok (visiting x (here p taken ∷ F) R 0 (scheduleCatchHandler y (scheduledIf taken C)))
+tryRest p x y F R C taken = ok (visiting x (here p R taken ∷ F) R 0 (scheduleCatchHandler y (scheduledIf taken C)))
 
 try-asks : (w : List ℕ) (p : Position) (x y f : ℕ) (binding : Option ℕ) → Asks w p (try x y f binding) f (tryRest p x y)
 unfolding terminalTurn
@@ -145,12 +145,12 @@ module _ {w : List ℕ} {S H : Flags} {p : Position} {plan : Plan} (en : Entered
         named true h = tt
         named false h = h refl
 
-        same : (F : List machine.Frame) (R : List Row) (C : definition.Context) → length F ≡ p .depth → Seen S H (p .visits) C
+        same : (F : List machine.Frame) (R : Output) (C : definition.Context) → Stands F R (p .depth) (p .rows) → Seen S H (p .visits) C
             → turn (switchRest w p i m F R C (unlessNone n)) ≡ applied (choosingNext frame (p .depth + 1) (p .rows) (p .visits) (scheduleSwitch (eqb n 65535) n)) F R C
         same F R C d seen = turn-ok _ ∙ rw (number-is w i m (ends .named .1))
             (sym (choose-applied frame (p .depth + 1) (p .rows) (p .visits) (scheduleSwitch (eqb n 65535) n) F R C (scheduledSwitch (unlessNone n) C)
             (rw (visits-same (p .visits) C (seen .visits)) (label-switch l C (seen .scheduled)))
-            ∙ rw (label-entries n, within-all (p .depth + 1 - 1) F (omega (arith, d)))))
+            ∙ rw (label-entries n, d .many, within-all (p .depth + 1 - 1) F (omega (arith, d .deep)))))
 
   module _ {x y f kind : ℕ} {binding : Option ℕ} (ends : Ends w (p .block) (try x y f binding)) (reached : kind ≡ codeAt w f) where
     pub try-missing : kind ≡ 0 → plan ≡ refusing p 10 f → PlannedBare w S H p plan
@@ -176,13 +176,13 @@ module _ {w : List ℕ} {S H : Flags} {p : Position} {plan : Plan} (en : Entered
         handler-seen : (C : definition.Context) → Seen S H (p .visits) C → scheduleCatchHandler y C .scheduled ≡ S
         handler-seen C seen = unfold scheduleCatchHandler in seen .scheduled
 
-        same : (F : List machine.Frame) (R : List Row) (C : definition.Context) → length F ≡ p .depth → Seen S H (p .visits) C
+        same : (F : List machine.Frame) (R : Output) (C : definition.Context) → Stands F R (p .depth) (p .rows) → Seen S H (p .visits) C
             → turn (tryRest p x y F R C (unlessNone n)) ≡ applied (tryPlan p x y n) F R C
         same F R C d seen = turn-ok _
             ∙ sym (nest-applied x (openFrame p n (entriesIf (eqb n 65535))) (p .depth + 1) (p .rows) (p .visits) y 65535 (scheduleIf (eqb n 65535) n) F R C
             (scheduleCatchHandler y (scheduledIf (unlessNone n) C))
             (rw (no-number, some-number y (λ v. omega (arith, few)), visits-same (p .visits) C (seen .visits), caught (unlessNone n) C) (label-if l (scheduleCatchHandler y C) (handler-seen C seen)))
-            ∙ rw (label-entries n, within-all (p .depth + 1 - 1) F (omega (arith, d))))
+            ∙ rw (label-entries n, d .many, within-all (p .depth + 1 - 1) F (omega (arith, d .deep))))
 
   -- ---- MaybeThrow and Unreachable
 
@@ -191,7 +191,7 @@ module _ {w : List ℕ} {S H : Flags} {p : Position} {plan : Plan} (en : Entered
   maybe-throw-left {f} {n} ends q e = rw e (bare-planned w S H p (leaving n (p .depth) (p .count) (p .rows) (p .visits) Nothing) (λ _. refl) (λ F R C d seen.
       ap turn (step-by w p _ F R C (ends .is)) ∙ turn-ok _
       ∙ ap (λ (z : Option ℕ). going (leave z F R (p .count) C)) (label-scheduled w (en .promise) S H (p .visits) C seen f (omega (arith, ends .named, ends .few)) ∙ ap unlessNone (sym q))
-      ∙ sym (leave-applied n (p .depth) (p .count) (p .rows) (p .visits) Nothing F R C _ refl ∙ rw (visits-same (p .visits) C (seen .visits), within-all (p .depth) F d)))
+      ∙ sym (leave-applied n (p .depth) (p .count) (p .rows) (p .visits) Nothing F R C _ refl ∙ rw (visits-same (p .visits) C (seen .visits), within-all (p .depth) F (d .deep))))
       (λ _. record {
         change = tt;
         handler = rw no-number tt;
@@ -205,5 +205,5 @@ module _ {w : List ℕ} {S H : Flags} {p : Position} {plan : Plan} (en : Entered
   unfolding terminalTurn terminalOf
   unreachable-left code e = rw e (bare-planned w S H p (leaving 65535 (p .depth) (p .count) (p .rows) (p .visits) Nothing) (λ _. refl) (λ F R C d seen.
       ap turn (step-by w p _ F R C (end-by w (p .block) (en .block) 1 code)) ∙ turn-ok _
-      ∙ sym (leave-applied 65535 (p .depth) (p .count) (p .rows) (p .visits) Nothing F R C _ refl ∙ rw (no-number, visits-same (p .visits) C (seen .visits), within-all (p .depth) F d)))
+      ∙ sym (leave-applied 65535 (p .depth) (p .count) (p .rows) (p .visits) Nothing F R C _ refl ∙ rw (no-number, visits-same (p .visits) C (seen .visits), within-all (p .depth) F (d .deep))))
       (λ _. record { change = tt; handler = rw no-number tt; scope = rw no-number tt; deep = λ z. absurd (let o : _≡_ {A = ℕ} 0 1 = cc in omega arith); next = omega arith; nested = tt }))

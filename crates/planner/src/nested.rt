@@ -88,6 +88,7 @@ pub fn visit_switch<'a>(
         entries: entries_of(label),
         left: terminal.number,
         built: 0,
+        first: p.rows,
         count: p.count,
         second: false,
     };

@@ -98,13 +98,13 @@ module _ (ws : List ℕ) (p : Promise ws) where
     cased = cased;
   }
 
-module _ (rule : Rule) (words : List ℕ) (lent : ℕ) (h : built rule words lent .code ≡ 0) (few : built rule words lent .rows ≤ 2048) (list : List Row)
-    (held : wordsOf list ≡ take (built rule words lent .rows * 6) (built rule words lent .buffer)) where
+module _ (rule : Rule) (words : List ℕ) (lent lentIndex : ℕ) (h : built rule words lent lentIndex .code ≡ 0) (few : built rule words lent lentIndex .rows ≤ 2048) (list : List Row)
+    (held : wordsOf list ≡ take (built rule words lent lentIndex .rows * 6) (built rule words lent lentIndex .buffer)) where
   pub built-reads : OneTree list
   built-reads =
-      let a : Accepted rule words lent = accepted-of rule words lent h in
+      let a : Accepted rule words lent lentIndex = accepted-of rule words lent lentIndex h in
       let root : Statements = a .root .statements in
-      let e : rows root ≡ list = sym (words-rows list (rows root) (held ∙ rows-of-buffer rule words lent a)) in
+      let e : rows root ≡ list = sym (words-rows list (rows root) (held ∙ rows-of-buffer rule words lent lentIndex a)) in
       let k : Bounded (tableOf words) _ _ _ _ = bounded words (promised words (a .checks)) in
       let formed : WellFormed root = tree-formed (tableOf words) (ranged words (a .checks)) rule (a .root) (a .builds) in
       subst OneTree e (record {
@@ -117,13 +117,13 @@ module _ (rule : Rule) (words : List ℕ) (lent : ℕ) (h : built rule words len
   built-accepted = accepts list built-reads
 
 -- the same of the words: the check of the rows that an accepted build leaves is 0 at 0
-module _ (rule : Rule) (words : List ℕ) (lent : ℕ) (h : built rule words lent .code ≡ 0) (few : built rule words lent .rows ≤ 2048) where
-  pub built-answered : Answer (take (built rule words lent .rows * 6) (built rule words lent .buffer)) 0 0
+module _ (rule : Rule) (words : List ℕ) (lent lentIndex : ℕ) (h : built rule words lent lentIndex .code ≡ 0) (few : built rule words lent lentIndex .rows ≤ 2048) where
+  pub built-answered : Answer (take (built rule words lent lentIndex .rows * 6) (built rule words lent lentIndex .buffer)) 0 0
   built-answered =
-      let a : Accepted rule words lent = accepted-of rule words lent h in
+      let a : Accepted rule words lent lentIndex = accepted-of rule words lent lentIndex h in
       let list : List Row = rows (a .root .statements) in
-      let held : wordsOf list ≡ take (built rule words lent .rows * 6) (built rule words lent .buffer) = sym (rows-of-buffer rule words lent a) in
-      let reads : OneTree list = built-reads rule words lent h few list held in
+      let held : wordsOf list ≡ take (built rule words lent lentIndex .rows * 6) (built rule words lent lentIndex .buffer) = sym (rows-of-buffer rule words lent lentIndex a) in
+      let reads : OneTree list = built-reads rule words lent lentIndex h few list held in
       of-rows list held (some-row list (accepts list reads)) (omega (arith, few, a .number)) 0 0 (one-tree reads)
     where
       some-row : (list : List Row) → rowsVerdict list 0 [] ≡ accepted → 1 ≤ length list

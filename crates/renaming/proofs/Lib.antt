@@ -4,6 +4,7 @@ pub mod Arounds
 pub mod Tables
 pub mod Values
 pub mod Trees
+pub mod RenamedLines
 pub mod Walk
 pub mod WordLaws
 pub mod Checks

@@ -312,9 +312,10 @@ module _ (ws : List ℕ) (h : checked ws ≡ accepted) where
       let p : Promise ws = promised ws h in renamed-is (newNumber (walkingOrder (tableOf ws))) (oldNumber (walkingOrder (tableOf ws))) ws (p .sized) .entry ∙
       entry-first (tableOf ws) (entry-here ws p) (named-here ws p)
 
-  pub rearranged-built : (rule : Rule) (lent : ℕ) → built rule (rearranged ws) lent ≡ renamedOutcome (newNumber (walkingOrder (tableOf ws))) (built rule ws lent)
+  pub rearranged-built : (rule : Rule) (lent lentIndex : ℕ)
+      → built rule (rearranged ws) lent lentIndex ≡ renamedOutcome (newNumber (walkingOrder (tableOf ws))) (built rule ws lent lentIndex)
   unfolding rearranged
-  rearranged-built rule lent = built-renamed _ _ rule ws lent (walking-renaming ws (promised ws h)) h
+  rearranged-built rule lent lentIndex = built-renamed _ _ rule ws lent lentIndex (walking-renaming ws (promised ws h)) h
 
   -- "and so restores the first table exactly"
   pub rearranged-restored : restoredBy (walkingOrder (tableOf ws)) (rearranged ws) ≡ ws

@@ -74,7 +74,7 @@ module _ (new : ℕ → ℕ) (m : Moves new) where
   cases-same (CASE x b rest) = ap suc (cases-same rest)
 
   mutual
-    statement-rows : (s : Statement) (after : List Row) → statementRows (renamedStatement new s) (renamedRows after) ≡ renamedRows (statementRows s after)
+    pub statement-rows : (s : Statement) (after : List Row) → statementRows (renamedStatement new s) (renamedRows after) ≡ renamedRows (statementRows s after)
     statement-rows (INSTR id lvalue span v) after = value-rows v _
     statement-rows (IF x id l c true a) after =
         ap (λ (z : ℕ). blockRows (renamedStatements new c) (blockRows (renamedStatements new a) (row 10 x 1 id z 0 ∷ renamedRows after))) (label-same l)
@@ -114,7 +114,7 @@ module _ (new : ℕ → ℕ) (m : Moves new) where
     statements-rows done after = refl
     statements-rows (s ▸ rest) after = ap (statementRows (renamedStatement new s)) (statements-rows rest after) ∙ statement-rows s _
 
-    block-rows : (s : Statements) (after : List Row) → blockRows (renamedStatements new s) (renamedRows after) ≡ renamedRows (blockRows s after)
+    pub block-rows : (s : Statements) (after : List Row) → blockRows (renamedStatements new s) (renamedRows after) ≡ renamedRows (blockRows s after)
     block-rows done after = refl
     block-rows (s ▸ rest) after =
         ap (λ (z : ℕ). statementRows (renamedStatement new s) (statementsRows (renamedStatements new rest) (row 9 (suc z) 0 0 0 0 ∷ renamedRows after))) (count-same rest)

@@ -136,5 +136,21 @@ renamedBuffer new (op ∷ a ∷ b ∷ c ∷ d ∷ e ∷ after) = rowWords (renam
 unfoldable pub renamedAt : (new : ℕ → ℕ) → (code at : ℕ) → ℕ
 renamedAt new code at = renamedIf (leb 10 code && leb code 31) new at
 
+-- M-101: the label of each line is a block; the words after the lines are none
+unfoldable pub renamedIndex : (new : ℕ → ℕ) → (lines : ℕ) → List ℕ → List ℕ
+renamedIndex new zero index = index
+renamedIndex new (suc lines) [] = []
+renamedIndex new (suc lines) (label ∷ []) = label ∷ []
+renamedIndex new (suc lines) (label ∷ first ∷ []) = label ∷ first ∷ []
+renamedIndex new (suc lines) (label ∷ first ∷ closing ∷ after) = new label ∷ first ∷ closing ∷ renamedIndex new lines after
+
 unfoldable pub renamedOutcome : (new : ℕ → ℕ) → Outcome → Outcome
-renamedOutcome new o = record { code = o .code; at = renamedAt new (o .code) (o .at); rows = o .rows; visits = o .visits; buffer = renamedBuffer new (o .buffer) }
+renamedOutcome new o = record {
+  code = o .code;
+  at = renamedAt new (o .code) (o .at);
+  rows = o .rows;
+  visits = o .visits;
+  lines = o .lines;
+  buffer = renamedBuffer new (o .buffer);
+  index = renamedIndex new (o .lines) (o .index);
+}

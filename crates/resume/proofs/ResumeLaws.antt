@@ -18,7 +18,7 @@ use Rattle.table.proofs.BlockLaws.{no-number, code-at}
 use Rattle.definition.specs.Build.{rejected, accepted}
 use Rattle.definition.specs.Context.{Flags, has, isScheduled, target-case, schedule, withVisits}
 use Rattle.definition.specs.Context as definition
-use Rattle.definition.specs.Machine.{State, visiting, ended, choosing, halt, turn, into, secondPart, caseBuilt, withLeft, close, noCase, caseAt}
+use Rattle.definition.specs.Machine.{Output, _⊕_, State, visiting, ended, choosing, halt, turn, into, secondPart, caseBuilt, withLeft, close, noCase, caseAt}
 use Rattle.definition.specs.Machine.{chooseCase, SwitchColumns, switchColumns, resumeAt, blockRow, valueOut, step}
 use Rattle.definition.specs.Machine as machine
 use Rattle.definition.specs.Result.{Result, ok, refused, _>>=_, refuseIf}
@@ -26,6 +26,7 @@ use Rattle.definition.specs.Tree.{Row, row}
 use Rattle.definition.specs.Value.{visitValueBlock, VisitValueBlock, ValueBlockResult}
 use Rattle.definition.specs.Framed.{isSwitch}
 use Rattle.control.specs.declared.ControlFlowTarget.the-variants.{Case as CaseTarget}
+use Rattle.definition.proofs.Lines.{out-nil}
 use Rattle.rows.specs.Rows.{Written}
 use Rattle.rows.specs.Stack as stack
 use Rattle.rows.proofs.RowLaws.{written-held}
@@ -41,7 +42,7 @@ use Rattle.plan.specs.declared.Frame.{Frame}
 use Rattle.plan.specs.declared.Change.the-variants.{Nothing, Schedule}
 use Rattle.plan.specs.declared.Plan.{Plan}
 use Rattle.plan.specs.Plans.{frameOf, stateAt, second, unlessRefused, applied, refusing, nesting, choosingNext, accepting}
-use Rattle.plan.specs.Planned.{Seen, Fitting, Planned}
+use Rattle.plan.specs.Planned.{Seen, Stands, Fitting, Planned}
 use Rattle.definition.specs.Around.{Around}
 use Rattle.plan.specs.Turn.{inHand, FrameFits, StageFits, Ready, emitting, PlannedTurn}
 use Rattle.resume.specs.Resume.{oneBuilt, leftLess, alternating, Closing, Resuming, Choosing, Begun, closeStep, resumeStep, chooseStep, PlannedClose, PlannedOn, PlannedResume, PlannedChoice}
@@ -69,7 +70,7 @@ module _ (w : List ℕ) (p : Position) (frame : Frame) where
 
   -- the statement closes
   abbrev pub Closed : Type 0
-  Closed = (F : List machine.Frame) (R : List Row) (C : definition.Context) → resumeStep w p frame F R C ≡ closeStep w frame F R C
+  Closed = (F : List machine.Frame) (R : Output) (C : definition.Context) → resumeStep w p frame F R C ≡ closeStep w frame F R C
 
   pub resumed-closed : {buffer buffer′ : List ℕ} {plan : Plan} → Closed → PlannedClose w p frame buffer plan buffer′ → PlannedOn w p frame buffer plan buffer′
   resumed-closed e m = planned-as e (λ C o. o) m
@@ -79,7 +80,7 @@ module _ (w : List ℕ) (p : Position) (frame : Frame) where
 
   -- it goes on with a second part that must not be scheduled
   pub resumed-alternate : (S H : Flags) (block code at : ℕ) (plan : Plan) (buffer : List ℕ)
-      → ((F : List machine.Frame) (R : List Row) (C : definition.Context) → resumeStep w p frame F R C ≡ into block code at (secondPart (frameOf frame)) F R C)
+      → ((F : List machine.Frame) (R : Output) (C : definition.Context) → resumeStep w p frame F R C ≡ into block code at (secondPart (frameOf frame)) F R C)
       → 1 ≤ p .depth → (code ≡ 0 → ⊥) → plan ≡ alternating (has S block || has H block) p frame block code at → PlannedResume w S H p frame buffer plan buffer
   resumed-alternate S H block code at plan buffer e deep nz q = subst (λ (y : Plan). PlannedResume w S H p frame buffer y buffer) (sym q) (by (has S block || has H block) refl)
     where
@@ -88,7 +89,7 @@ module _ (w : List ℕ) (p : Position) (frame : Frame) where
         out = [];
         held = λ z. absurd (nz z);
         same =
-            λ F R C d seen. rw (append-nil R) (ap turn
+            λ F R C d seen. rw (out-nil R) (ap turn
             (e F R C ∙ into-busy block code at (secondPart (frameOf frame)) F R C (seen-scheduled S H (p .visits) C seen block ∙ u)) ∙ turn-refused code at
             (C .visits)
             ∙ ap (λ (v : ℕ). halt (rejected code at v)) (seen .visits) ∙ sym (refuse-applied p code at (frameOf frame ∷ F) R C nz));
@@ -97,9 +98,9 @@ module _ (w : List ℕ) (p : Position) (frame : Frame) where
       by false u = record {
         out = [];
         held = λ _ before h. rw (append-nil before) h;
-        same = λ F R C d seen. rw (append-nil R) (ap turn (e F R C ∙ into-free block code at (secondPart (frameOf frame)) F R C (seen-scheduled S H (p .visits) C seen block ∙ u)) ∙ turn-ok _
+        same = λ F R C d seen. rw (out-nil R) (ap turn (e F R C ∙ into-free block code at (secondPart (frameOf frame)) F R C (seen-scheduled S H (p .visits) C seen block ∙ u)) ∙ turn-ok _
             ∙ sym (nest-applied block (second frame) (p .depth) (p .rows) (p .visits) 65535 65535 Nothing (frameOf frame ∷ F) R C _ refl ∙ rw
-            (no-number, visits-same (p .visits) C (seen .visits), within-rest (p .depth) (frameOf frame) F d)));
+            (no-number, visits-same (p .visits) C (seen .visits), within-rest (p .depth) (frameOf frame) F (d .deep))));
         fitting = λ _. record { change = tt; handler = rw no-number tt; scope = rw no-number tt; deep = λ _. deep; next = omega arith; nested = tt };
       }
 
@@ -107,7 +108,7 @@ module _ (w : List ℕ) (p : Position) (frame : Frame) where
     pub closing-of : Closing w p frame
     closing-of = record { promise = re .promise; block = re .block; depth = re .depth; rows = omega (arith, re .rows); count = re .count }
 
-    resume-at : (e : Terminal) (F : List machine.Frame) (R : List Row) (C : definition.Context) → terminalAt t (frame .block) ≡ e
+    resume-at : (e : Terminal) (F : List machine.Frame) (R : Output) (C : definition.Context) → terminalAt t (frame .block) ≡ e
         → resumeStep w p frame F R C ≡ resumeAt t visit e (blockAt t (frame .block)) (frameOf frame) F R C
     resume-at e F R C q = ap (λ (z : Terminal). resumeAt t visit z (blockAt t (frame .block)) (frameOf frame) F R C) q
 
@@ -117,14 +118,14 @@ module _ (w : List ℕ) (p : Position) (frame : Frame) where
       pub if-alternate-below : a < 1024
       if-alternate-below = omega (arith, ends .named .2, ends .few)
 
-      abbrev ifResumed : (later same : Bool) → List machine.Frame → List Row → definition.Context → Result State
+      abbrev ifResumed : (later same : Bool) → List machine.Frame → Output → definition.Context → Result State
       ifResumed later same F R C =
           elim later [
             | true ↦ ok (close t (frameOf frame) F R C)
             | false ↦ elim same [ true ↦ ok (close t (frameOf frame) F R C) | false ↦ into a 13 a (secondPart (frameOf frame)) F R C ]
           ]
 
-      if-step : (later same : Bool) (F : List machine.Frame) (R : List Row) (C : definition.Context) → frame .second ≡ later → eqb a f ≡ same
+      if-step : (later same : Bool) (F : List machine.Frame) (R : Output) (C : definition.Context) → frame .second ≡ later → eqb a f ≡ same
           → resumeStep w p frame F R C ≡ ifResumed later same F R C
       unfolding resumeAt
       if-step later same F R C s e = resume-at _ F R C (ends .is) ∙ ap (λ (y : Bool). ifResumed (frame .second) y F R C) e ∙ ap (λ (x : Bool). ifResumed x same F R C) s
@@ -135,7 +136,7 @@ module _ (w : List ℕ) (p : Position) (frame : Frame) where
       pub if-without : frame .second ≡ false → a ≡ f → Closed
       if-without s e F R C = if-step false true F R C s (eq-eqb a f e)
 
-      pub if-alternate : frame .second ≡ false → (a ≡ f → ⊥) → (F : List machine.Frame) (R : List Row) (C : definition.Context)
+      pub if-alternate : frame .second ≡ false → (a ≡ f → ⊥) → (F : List machine.Frame) (R : Output) (C : definition.Context)
           → resumeStep w p frame F R C ≡ into a 13 a (secondPart (frameOf frame)) F R C
       if-alternate s e F R C = if-step false false F R C s (ne-eqb a f e)
 
@@ -149,7 +150,7 @@ module _ (w : List ℕ) (p : Position) (frame : Frame) where
       unfolding resumeAt
       branch-second s F R C = resume-at _ F R C (ends .is) ∙ rw s
 
-      pub branch-alternate : frame .second ≡ false → (F : List machine.Frame) (R : List Row) (C : definition.Context)
+      pub branch-alternate : frame .second ≡ false → (F : List machine.Frame) (R : Output) (C : definition.Context)
           → resumeStep w p frame F R C ≡ into a 19 (frame .block) (secondPart (frameOf frame)) F R C
       unfolding resumeAt
       branch-alternate s F R C = resume-at _ F R C (ends .is) ∙ rw s
@@ -161,7 +162,7 @@ module _ (w : List ℕ) (p : Position) (frame : Frame) where
       unfolding resumeAt
       try-second s F R C = resume-at _ F R C (ends .is) ∙ rw s
 
-      try-goes-on : frame .second ≡ false → (F : List machine.Frame) (R : List Row) (C : definition.Context) → resumeStep w p frame F R C ≡ ok (visiting y (secondPart (frameOf frame) ∷ F) R 0 C)
+      try-goes-on : frame .second ≡ false → (F : List machine.Frame) (R : Output) (C : definition.Context) → resumeStep w p frame F R C ≡ ok (visiting y (secondPart (frameOf frame) ∷ F) R 0 C)
       unfolding resumeAt
       try-goes-on s F R C = resume-at _ F R C (ends .is) ∙ rw s
 
@@ -170,9 +171,9 @@ module _ (w : List ℕ) (p : Position) (frame : Frame) where
       try-handler plan buffer s q = subst (λ (q : Plan). PlannedOn w p frame buffer q buffer) (sym q) (record {
         out = [];
         held = λ _ before h. rw (append-nil before) h;
-        same = λ F R C d on. rw (append-nil R) (ap turn (try-goes-on s F R C) ∙ turn-ok _
+        same = λ F R C d on. rw (out-nil R) (ap turn (try-goes-on s F R C) ∙ turn-ok _
             ∙ sym (nest-applied y (second frame) (p .depth) (p .rows) (p .visits) 65535 65535 Nothing (frameOf frame ∷ F) R C _ refl ∙ rw
-            (no-number, visits-same (p .visits) C on, within-rest (p .depth) (frameOf frame) F d)));
+            (no-number, visits-same (p .visits) C on, within-rest (p .depth) (frameOf frame) F (d .deep))));
         fitting = λ _. record { change = tt; handler = rw no-number tt; scope = rw no-number tt; deep = λ _. re .depth; next = omega arith; nested = tt };
       })
 
@@ -189,11 +190,11 @@ module _ (w : List ℕ) (p : Position) (frame : Frame) where
         abbrev caseRow : Row
         caseRow = row 11 test 0 0 0 0
 
-        case-goes-on : (F : List machine.Frame) (R : List Row) (C : definition.Context) → resumeStep w p frame F R C
-            ≡ schedule (target-case block) C >>= λ inside. ok (choosing (caseBuilt (frameOf frame)) F (R ++ (caseRow ∷ [])) inside)
+        case-goes-on : (F : List machine.Frame) (R : Output) (C : definition.Context) → resumeStep w p frame F R C
+            ≡ schedule (target-case block) C >>= λ inside. ok (choosing (caseBuilt (frameOf frame)) F (R ⊕ (caseRow ∷ [])) inside)
         unfolding resumeAt
         case-goes-on F R C = resume-at _ F R C (ends .is)
-            ∙ ap (λ (k : Case). schedule (target-case (k .block)) C >>= λ inside. ok (choosing (caseBuilt (frameOf frame)) F (R ++ (row 11 (k .test) 0 0 0 0 ∷ [])) inside)) (chooses .is noCase)
+            ∙ ap (λ (k : Case). schedule (target-case (k .block)) C >>= λ inside. ok (choosing (caseBuilt (frameOf frame)) F (R ⊕ (row 11 (k .test) 0 0 0 0 ∷ [])) inside)) (chooses .is noCase)
 
         abbrev casePlan : (rows target : ℕ) → Plan
         casePlan rows target = choosingNext (oneBuilt frame) (p .depth) rows (p .visits) (Schedule (CaseTarget target))
@@ -205,8 +206,8 @@ module _ (w : List ℕ) (p : Position) (frame : Frame) where
           held = λ _ before h. rw (← (push-row-after caseRow before)) (written-held put (stack.pushed before []) h);
           same =
               λ F R C d on. ap turn (case-goes-on F R C) ∙ turn-asked _ _ ∙ sym
-              (choose-asked (oneBuilt frame) (p .depth) rows (p .visits) (Schedule (CaseTarget block)) (frameOf frame ∷ F) (R ++ (caseRow ∷ [])) C
-              ∙ rw (visits-same (p .visits) C on, within-rest (p .depth) (frameOf frame) F d, more (frame .entries), more (frame .built)));
+              (choose-asked (oneBuilt frame) (p .depth) rows (p .visits) (Schedule (CaseTarget block)) (frameOf frame ∷ F) (R ⊕ (caseRow ∷ [])) C
+              ∙ rw (visits-same (p .visits) C on, within-rest (p .depth) (frameOf frame) F (d .deep), more (frame .entries), more (frame .built)));
           fitting = λ _. record { change = case-below; handler = rw no-number tt; scope = rw no-number tt; deep = λ _. re .depth; next = omega arith; nested = refl };
         })
           where
@@ -219,10 +220,10 @@ module _ (w : List ℕ) (p : Position) (frame : Frame) where
       abbrev tests : ℕ → Result ValueBlockResult
       tests visits = visitValueBlock (tableOf w) (128 - p .depth) x (unlessNone 65535) (blockAt t (frame .block) .span) visits
 
-      abbrev closes : List machine.Frame → List Row → definition.Context → ValueBlockResult → Result State
-      closes F R C tested = ok (close t (frameOf frame) F (R ++ valueOut (tested .value)) (withVisits (tested .visits) C))
+      abbrev closes : List machine.Frame → Output → definition.Context → ValueBlockResult → Result State
+      closes F R C tested = ok (close t (frameOf frame) F (R ⊕ valueOut (tested .value)) (withVisits (tested .visits) C))
 
-      test-step : (F : List machine.Frame) (R : List Row) (C : definition.Context) → C .visits ≡ p .visits → resumeStep w p frame F R C ≡ (tests (p .visits) >>= closes F R C)
+      test-step : (F : List machine.Frame) (R : Output) (C : definition.Context) → C .visits ≡ p .visits → resumeStep w p frame F R C ≡ (tests (p .visits) >>= closes F R C)
       unfolding resumeAt
       test-step F R C on = resume-at _ F R C (ends .is) ∙ rw (no-number, on)
 
@@ -233,7 +234,7 @@ module _ (w : List ℕ) (p : Position) (frame : Frame) where
         test-refused after plan e nz q = subst (λ (y : Plan). PlannedOn w p frame buffer y buffer₁) (sym q) (record {
           out = [];
           held = λ z. absurd (nz z);
-          same = λ F R C d on. rw (append-nil R) (ap turn (test-step F R C on ∙ then-off (closes F R C) m nz) ∙ turn-refused (r .code) (r .at) (r .tally .visits)
+          same = λ F R C d on. rw (out-nil R) (ap turn (test-step F R C on ∙ then-off (closes F R C) m nz) ∙ turn-refused (r .code) (r .at) (r .tally .visits)
               ∙ ap (λ (v : ℕ). halt (rejected (r .code) (r .at) v)) (sym e) ∙ sym (refuse-applied after (r .code) (r .at) (frameOf frame ∷ F) R C nz));
           fitting = λ z. absurd (nz z);
         })
@@ -252,7 +253,7 @@ module _ (w : List ℕ) (p : Position) (frame : Frame) where
     abbrev pub Other : ℕ → Type 0
     Other c = (c ≡ 5 → ⊥) × (c ≡ 6 → ⊥) × (c ≡ 7 → ⊥) × (c ≡ 8 → ⊥) × (c ≡ 19 → ⊥)
 
-    other-closes : (e : Terminal) (b : Block) → Other (codeOf e) → (F : List machine.Frame) (R : List Row) (C : definition.Context)
+    other-closes : (e : Terminal) (b : Block) → Other (codeOf e) → (F : List machine.Frame) (R : Output) (C : definition.Context)
         → resumeAt t visit e b (frameOf frame) F R C ≡ closeStep w frame F R C
     unfolding resumeAt
     other-closes absent b h F R C = refl
@@ -292,24 +293,24 @@ module _ (w : List ℕ) (p : Position) (frame : Frame) (ch : Choosing w p frame)
       columns = switchColumns (terminalAt (tableOf w) (frame .block))
 
   module _ {x i m f : ℕ} (ends : Ends w (frame .block) (switch x i m f)) where
-    abbrev choice : ℕ → List machine.Frame → List Row → definition.Context → Result State
+    abbrev choice : ℕ → List machine.Frame → Output → definition.Context → Result State
     choice left F R C = chooseCase (tableOf w) i f left (frameOf frame) F R C
 
-    choose-by : (F : List machine.Frame) (R : List Row) (C : definition.Context) → chooseStep w frame F R C ≡ choice (frame .left) F R C
+    choose-by : (F : List machine.Frame) (R : Output) (C : definition.Context) → chooseStep w frame F R C ≡ choice (frame .left) F R C
     choose-by F R C = ap (λ (e : Terminal). chooseCase (tableOf w) (switchColumns e .first) (switchColumns e .fallthrough) (frame .left) (frameOf frame) F R C) (ends .is)
 
     pub last-below : (frame .left ≡ 0 → ⊥) → i + (frame .left - 1) < caseCount w
     last-below some-left = let most : frame .left ≤ caseCount w - i = rw (ends .is) at (ch .case) in let nz : frame .left ≡ 0 → ⊥ = some-left in omega (arith, most)
 
     module _ {test block : ℕ} (chooses : Chooses w (i + (frame .left - 1)) test block) (S H : Flags) (some-left : frame .left ≡ 0 → ⊥) where
-      abbrev chosen : (busy : Bool) → (to left : ℕ) → List machine.Frame → List Row → definition.Context → Result State
+      abbrev chosen : (busy : Bool) → (to left : ℕ) → List machine.Frame → Output → definition.Context → Result State
       chosen busy to left F R C =
           elim busy [
             | true ↦ refuseIf (not (eqb to f)) 14 (frame .block) (C .visits) >>= λ _. ok (choosing (withLeft left (frameOf frame)) F R C)
             | false ↦ ok (visiting to (withLeft left (frameOf frame) ∷ F) R 0 C)
           ]
 
-      more : (n : ℕ) (F : List machine.Frame) (R : List Row) (C : definition.Context) → (n ≡ 0 → ⊥)
+      more : (n : ℕ) (F : List machine.Frame) (R : Output) (C : definition.Context) → (n ≡ 0 → ⊥)
           → choice n F R C ≡ chosen (isScheduled C (caseAt (tableOf w) (i + (n - 1)) .block)) (caseAt (tableOf w) (i + (n - 1)) .block) (n - 1) F R C
       unfolding chooseCase
       more zero F R C h = absurd (h refl)
@@ -317,7 +318,7 @@ module _ (w : List ℕ) (p : Position) (frame : Frame) (ch : Choosing w p frame)
           let e : n ≡ suc n - 1 = omega arith in
           ap (λ (k : ℕ). chosen (isScheduled C (caseAt (tableOf w) (i + k) .block)) (caseAt (tableOf w) (i + k) .block) k F R C) e
 
-      case-chosen : (busy : Bool) (F : List machine.Frame) (R : List Row) (C : definition.Context) → Seen S H (p .visits) C → has S block || has H block ≡ busy
+      case-chosen : (busy : Bool) (F : List machine.Frame) (R : Output) (C : definition.Context) → Seen S H (p .visits) C → has S block || has H block ≡ busy
           → chooseStep w frame F R C ≡ chosen busy block (frame .left - 1) F R C
       case-chosen busy F R C seen e = choose-by F R C ∙ more (frame .left) F R C some-left
           ∙ ap (λ (k : Case). chosen (isScheduled C (k .block)) (k .block) (frame .left - 1) F R C) (chooses .is noCase)
@@ -332,16 +333,16 @@ module _ (w : List ℕ) (p : Position) (frame : Frame) (ch : Choosing w p frame)
         out = [];
         held = λ _ before h. rw (append-nil before) h;
         same =
-            λ F R C d seen. rw (append-nil R) (ap turn (case-chosen false F R C seen e) ∙ turn-ok _
+            λ F R C d seen. rw (out-nil R) (ap turn (case-chosen false F R C seen e) ∙ turn-ok _
             ∙ sym (nest-applied block (leftLess frame) (p .depth) (p .rows) (p .visits) 65535 65535 Nothing (frameOf frame ∷ F) R C _ refl ∙ rw
-            (no-number, visits-same (p .visits) C (seen .visits), within-rest (p .depth) (frameOf frame) F d)));
+            (no-number, visits-same (p .visits) C (seen .visits), within-rest (p .depth) (frameOf frame) F (d .deep))));
         fitting = λ _. record { change = tt; handler = rw no-number tt; scope = rw no-number tt; deep = λ _. ch .closing .depth; next = omega arith; nested = tt };
       })
 
-      abbrev refusal : (same : Bool) → List machine.Frame → List Row → definition.Context → Result State
+      abbrev refusal : (same : Bool) → List machine.Frame → Output → definition.Context → Result State
       refusal same F R C = refuseIf (not same) 14 (frame .block) (C .visits) >>= λ _. ok (choosing (withLeft (frame .left - 1) (frameOf frame)) F R C)
 
-      case-busy : (same : Bool) (F : List machine.Frame) (R : List Row) (C : definition.Context) → Seen S H (p .visits) C → has S block || has H block ≡ true → eqb block f ≡ same
+      case-busy : (same : Bool) (F : List machine.Frame) (R : Output) (C : definition.Context) → Seen S H (p .visits) C → has S block || has H block ≡ true → eqb block f ≡ same
           → chooseStep w frame F R C ≡ refusal same F R C
       case-busy same F R C seen e z = case-chosen true F R C seen e ∙ ap (λ (y : Bool). refusal y F R C) z
 
@@ -351,7 +352,7 @@ module _ (w : List ℕ) (p : Position) (frame : Frame) (ch : Choosing w p frame)
       choice-refused plan buffer e z q = subst (λ (y : Plan). PlannedChoice w S H p frame buffer y buffer) (sym q) (record {
         out = [];
         held = λ y. absurd (let o : _≡_ {A = ℕ} 14 0 = y in omega arith);
-        same = λ F R C d seen. rw (append-nil R) (ap turn (case-busy false F R C seen e (ne-eqb block f z)) ∙ turn-refused 14 (frame .block) (C .visits)
+        same = λ F R C d seen. rw (out-nil R) (ap turn (case-busy false F R C seen e (ne-eqb block f z)) ∙ turn-refused 14 (frame .block) (C .visits)
             ∙ ap (λ (v : ℕ). halt (rejected 14 (frame .block) v)) (seen .visits) ∙ sym (refuse-applied p 14 (frame .block) (frameOf frame ∷ F) R C (λ y. omega arith)));
         fitting = λ y. absurd (let o : _≡_ {A = ℕ} 14 0 = y in omega arith);
       })
@@ -362,9 +363,9 @@ module _ (w : List ℕ) (p : Position) (frame : Frame) (ch : Choosing w p frame)
       choice-skips plan buffer e z q = subst (λ (y : Plan). PlannedChoice w S H p frame buffer y buffer) (sym q) (record {
         out = [];
         held = λ _ before h. rw (append-nil before) h;
-        same = λ F R C d seen. rw (append-nil R) (ap turn (case-busy true F R C seen e (eq-eqb block f z)) ∙ turn-ok _
+        same = λ F R C d seen. rw (out-nil R) (ap turn (case-busy true F R C seen e (eq-eqb block f z)) ∙ turn-ok _
             ∙ sym (choose-applied (leftLess frame) (p .depth) (p .rows) (p .visits) Nothing (frameOf frame ∷ F) R C _ refl ∙ rw
-            (visits-same (p .visits) C (seen .visits), within-rest (p .depth) (frameOf frame) F d)));
+            (visits-same (p .visits) C (seen .visits), within-rest (p .depth) (frameOf frame) F (d .deep))));
         fitting = λ _. fits;
       })
 
@@ -384,15 +385,15 @@ hand-pop (suc depth) frame h = refl
 
 module _ (w : List ℕ) (p : Position) (frame : Frame) where
   -- a plan for the frame in hand is one for the turn
-  pub turn-planned : {around : Around} {On : definition.Context → Type 0} {buffer buffer′ : List ℕ} {plan : Plan} {next : List machine.Frame → List Row → definition.Context → Result State} (stage : Stage) (top : List machine.Frame)
+  pub turn-planned : {around : Around} {On : definition.Context → Type 0} {buffer buffer′ : List ℕ} {plan : Plan} {next : List machine.Frame → Output → definition.Context → Result State} (stage : Stage) (top : List machine.Frame)
       → p .stage ≡ stage → inHand stage (p .depth) frame ≡ top
-      → ((F : List machine.Frame) (R : List Row) (C : definition.Context) → length (top ++ F) ≡ p .depth → step (around .rule) (tableOf w) (stateAt stage (p .block) (top ++ F) R (p .count) C) ≡ turn (next F R C))
+      → ((F : List machine.Frame) (R : Output) (C : definition.Context) → Stands (top ++ F) R (p .depth) (p .rows) → step (around .rule) (tableOf w) (stateAt stage (p .block) (top ++ F) R (p .count) C) ≡ turn (next F R C))
       → ((C : definition.Context) → emitting stage (p .block) C ≡ C)
       → Planned next On top (p .depth) (p .rows) buffer plan buffer′ → PlannedTurn w around On p frame buffer plan buffer′
   turn-planned {plan = plan} stage top e h steps still m = record {
     out = m .out;
     held = m .held;
-    same = λ F R C. rw (e, h) (λ l _ o. steps F R C l ∙ m .same F R C l o ∙ ap (λ (D : definition.Context). applied plan (top ++ F) (R ++ m .out) D) (sym (still C)));
+    same = λ F R C. rw (e, h) (λ l _ o. steps F R C l ∙ m .same F R C l o ∙ ap (λ (D : definition.Context). applied plan (top ++ F) (R ⊕ m .out) D) (sym (still C)));
     fitting = λ z. rw (e, h) (m .fitting z);
   }
 
@@ -441,7 +442,7 @@ module _ (w : List ℕ) (p : Position) (frame : Frame) where
   ended-root {around} plan On buffer buffer′ rows e z on put q = rw q (record {
     out = blockRow (p .count) ∷ [];
     held = λ _ before h. rw (← (push-row-after (blockRow (p .count)) before)) (written-held put (stack.pushed before []) h);
-    same = λ F R C. rw (e, z) (λ l _ o. root F R C l o);
+    same = λ F R C. rw (e, z) (λ l _ o. root F R C (l .deep) o);
     fitting =
         λ _. rw (e, z) (record {
           change = tt;
@@ -453,9 +454,9 @@ module _ (w : List ℕ) (p : Position) (frame : Frame) where
         });
   })
     where
-      root : (F : List machine.Frame) (R : List Row) (C : definition.Context) → length F ≡ 0 → On C
-          → step (around .rule) (tableOf w) (ended F R (p .count) C) ≡ applied (accepting rows (p .visits)) F (R ++ (blockRow (p .count) ∷ [])) C
-      root [] R C l o = ap (λ (v : ℕ). halt (accepted (R ++ (blockRow (p .count) ∷ [])) v)) (on C o) ∙ sym (accept-applied rows (p .visits) [] (R ++ (blockRow (p .count) ∷ [])) C)
+      root : (F : List machine.Frame) (R : Output) (C : definition.Context) → length F ≡ 0 → On C
+          → step (around .rule) (tableOf w) (ended F R (p .count) C) ≡ applied (accepting rows (p .visits)) F (R ⊕ (blockRow (p .count) ∷ [])) C
+      root [] R C l o = ap (λ (v : ℕ). halt (accepted (R .rows ++ (blockRow (p .count) ∷ [])) (R .lines) v)) (on C o) ∙ sym (accept-applied rows (p .visits) [] (R ⊕ (blockRow (p .count) ∷ [])) C)
       root (f ∷ F) R C l o = absurd (omega arith)
 
   -- and a nested one
@@ -463,14 +464,14 @@ module _ (w : List ℕ) (p : Position) (frame : Frame) where
       → Planned (resumeStep w p frame) (Seen S H (p .visits)) (frameOf frame ∷ []) (p .depth) rows buffer₁ plan buffer′ → PlannedTurn w around (Seen S H (p .visits)) p frame buffer plan buffer′
   unfolding step
   ended-nested plan S H buffer buffer₁ buffer′ rows e deep put m =
-      turn-planned Ended (frameOf frame ∷ []) e (hand-ended (p .depth) frame deep) (λ F R C l. ap (λ (n : ℕ). turn (resumed n F R C)) (levels F l)) (λ C. refl)
+      turn-planned Ended (frameOf frame ∷ []) e (hand-ended (p .depth) frame deep) (λ F R C l. ap (λ (n : ℕ). turn (resumed n F R C)) (levels F (l .deep))) (λ C. refl)
       (planned-after (blockRow (p .count) ∷ []) (λ C. C)
       (λ before h. rw (← (push-row-after (blockRow (p .count)) before)) (written-held put (stack.pushed before []) h))
       (λ F R C on. refl) (λ C on. on) (λ F R C. refl) m)
     where
-      resumed : ℕ → List machine.Frame → List Row → definition.Context → Result State
+      resumed : ℕ → List machine.Frame → Output → definition.Context → Result State
       resumed n F R C =
-          resumeAt (tableOf w) (visitValueBlock (tableOf w) n) (terminalAt (tableOf w) (frame .block)) (blockAt (tableOf w) (frame .block)) (frameOf frame) F (R ++ (blockRow (p .count) ∷ [])) C
+          resumeAt (tableOf w) (visitValueBlock (tableOf w) n) (terminalAt (tableOf w) (frame .block)) (blockAt (tableOf w) (frame .block)) (frameOf frame) F (R ⊕ (blockRow (p .count) ∷ [])) C
 
       levels : (F : List machine.Frame) → suc (length F) ≡ p .depth → 127 - length F ≡ 128 - p .depth
       levels F l = omega arith

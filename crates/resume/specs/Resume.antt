@@ -3,12 +3,13 @@ use Prim.Native.Nat.{ℕ, _+_, _-_, _≤_, _<_}
 use mathlib.Core.Path.{_≡_}
 use mathlib.Core.Bool.{Bool, true, false}
 use mathlib.Core.List.{List, [], _∷_}
+use mathlib.Core.Option.{Option, none, some}
 use Rattle.table.specs.Words.{blockCount, caseCount, codeAt}
 use Rattle.table.specs.Promise.{Promise}
 use Rattle.table.specs.Table.{tableOf, terminalAt, blockAt, unlessNone}
 use Rattle.definition.specs.Context.{Flags}
 use Rattle.definition.specs.Context as definition
-use Rattle.definition.specs.Machine.{State, close, closingRow, resumeAt, chooseCase, switchColumns}
+use Rattle.definition.specs.Machine.{Output, enclosingBy, enclosingLabel, State, close, closingRow, resumeAt, chooseCase, switchColumns}
 use Rattle.definition.specs.Machine as machine
 use Rattle.definition.specs.Result.{Result, ok}
 use Rattle.definition.specs.Tree.{Row, row}
@@ -18,6 +19,8 @@ use Rattle.plan.specs.declared.Position.{Position}
 use Rattle.plan.specs.declared.Frame.{Frame}
 use Rattle.plan.specs.declared.Change.{Change}
 use Rattle.plan.specs.declared.Change.the-variants.{Nothing, Unschedule}
+use Rattle.plan.specs.declared.Line.{Line}
+use Rattle.plan.specs.declared.Line.the-variants as line
 use Rattle.plan.specs.declared.Plan.{Plan}
 use Rattle.resume.specs.declared.ClosingRow.{ClosingRow}
 use Rattle.plan.specs.Plans.{frameOf, second, withCounts, refusing, nesting}
@@ -39,6 +42,14 @@ rowOf r = row (r .op) (r .a) (r .b) (r .c) (r .d) 0
 
 abbrev pub closingRowAt : List ℕ → Frame → Row
 closingRowAt words frame = closingRow (tableOf words) (frame .block) (frame .second) (unlessNone (frame .label)) (frame .built)
+
+-- its line (M-101), if its row has a label
+abbrev pub lineAs : Option ℕ → (first : ℕ) → Line
+lineAs none first = line.Nothing
+lineAs (some label) first = line.Put label first
+
+abbrev pub lineAt : List ℕ → Frame → Line
+lineAt words frame = lineAs (enclosingLabel (enclosingBy (terminalAt (tableOf words) (frame .block)) (unlessNone (frame .label)))) (frame .first)
 
 -- ---- plans
 
@@ -81,20 +92,20 @@ pub record Choosing (words : List ℕ) (p : Position) (frame : Frame) : Type 0 w
   pub case : frame .left ≤ caseCount words - switchColumns (terminalAt (tableOf words) (frame .block)) .first
 
 -- a plan for the frame in hand
-abbrev pub PlannedFor : (step : List machine.Frame → List Row → definition.Context → Result State) → (On : definition.Context → Type 0) → Position → Frame → List ℕ → Plan → List ℕ → Type 0
+abbrev pub PlannedFor : (step : List machine.Frame → Output → definition.Context → Result State) → (On : definition.Context → Type 0) → Position → Frame → List ℕ → Plan → List ℕ → Type 0
 PlannedFor step On p frame = Planned step On (frameOf frame ∷ []) (p .depth) (p .rows)
 
 abbrev pub Begun : ℕ → definition.Context → Type 0
 Begun visits cx = cx .visits ≡ visits
 
-abbrev pub closeStep : List ℕ → Frame → List machine.Frame → List Row → definition.Context → Result State
+abbrev pub closeStep : List ℕ → Frame → List machine.Frame → Output → definition.Context → Result State
 closeStep words frame frames before cx = ok (close (tableOf words) (frameOf frame) frames before cx)
 
-abbrev pub resumeStep : List ℕ → Position → Frame → List machine.Frame → List Row → definition.Context → Result State
+abbrev pub resumeStep : List ℕ → Position → Frame → List machine.Frame → Output → definition.Context → Result State
 resumeStep words p frame frames before cx =
     resumeAt (tableOf words) (visitValueBlock (tableOf words) (128 - p .depth)) (terminalAt (tableOf words) (frame .block)) (blockAt (tableOf words) (frame .block)) (frameOf frame) frames before cx
 
-abbrev pub chooseStep : List ℕ → Frame → List machine.Frame → List Row → definition.Context → Result State
+abbrev pub chooseStep : List ℕ → Frame → List machine.Frame → Output → definition.Context → Result State
 chooseStep words frame frames before cx =
     chooseCase (tableOf words) (switchColumns (terminalAt (tableOf words) (frame .block)) .first)
     (switchColumns (terminalAt (tableOf words) (frame .block)) .fallthrough) (frame .left) (frameOf frame) frames before cx

@@ -2,6 +2,7 @@
 use control::ControlFlowTarget;
 use plan::Change;
 use plan::Frame;
+use plan::Line;
 use plan::NONE;
 use plan::Plan;
 use plan::Position;
@@ -17,6 +18,7 @@ use plan::refuse;
 use plan::second_part;
 use plan::traverse_block;
 use plan::with_counts;
+use plan::with_line;
 use rows::BLOCK;
 use rows::CASE;
 use rows::DOWHILE;
@@ -43,7 +45,7 @@ use table::terminals::scope_at;
 use table::terminals::switch_at;
 use table::terminals::try_at;
 use value::result::Tally;
-use value::walk::visit_value_block;
+use value_walk::walk::visit_value_block;
 ghost use mathlib.Core.Path.{_≡_};
 ghost use Prim.Native.Nat.{_+_, _<_};
 ghost use lib.Dec.{eqb};
@@ -57,7 +59,7 @@ ghost use Rattle.plan.specs.declared.Stage.the-variants.{Ended, Choose};
 ghost use Rattle.plan.specs.Planned.{Seen};
 ghost use Rattle.definition.specs.Around.{Around};
 ghost use Rattle.plan.specs.Turn.{Ready, PlannedTurn};
-ghost use Rattle.resume.specs.Resume.{rowOf, closingRowAt, unscheduleIf, alternating, Closing, Resuming, PlannedClose, PlannedOn, PlannedResume};
+ghost use Rattle.resume.specs.Resume.{rowOf, closingRowAt, lineAt, unscheduleIf, alternating, Closing, Resuming, PlannedClose, PlannedOn, PlannedResume};
 
 // The words of a statement's closing row; the last is 0.
 pub struct ClosingRow {
@@ -144,6 +146,25 @@ fn closing_row(words: &[u32], frame: Frame) -> ClosingRow
     }
 }
 
+// Its line (M-101), where the statement has a label: the row of a Scope or a PrunedScope has none.
+fn line_at(words: &[u32], frame: Frame) -> Line
+    requires { ⌜ Promise (now words) ⌝ }
+    requires { ⌜ frame .block < blockCount (now words) ⌝ }
+    ensures { λ r. ⌜ r ≡ lineAt (now (words .entry)) frame ⌝ }
+{
+    if frame.label == NONE {
+        return Line::Nothing;
+    }
+    let code = code_at(words, frame.block);
+    if code == 20 {
+        return Line::Nothing;
+    }
+    if code == 21 {
+        return Line::Nothing;
+    }
+    Line::Put(frame.label, frame.first)
+}
+
 fn unschedule_if(entries: u32) -> Change
     ensures { λ r. ⌜ r ≡ unscheduleIf (eqb entries 0) ⌝ }
 {
@@ -163,15 +184,17 @@ pub fn close_statement(words: &[u32], tree: &mut [u32], p: Position, frame: Fram
         return pop(rest, p.depth, p.rows, p.visits);
     }
     let last = closing_row(words, frame);
+    let line = line_at(words, frame);
     let rows = put(tree, p.rows, last.op, last.a, last.b, last.c, last.d, 0);
-    leave(
+    let left = leave(
         frame.label,
         p.depth - 1,
         frame.count + 1,
         rows,
         p.visits,
         unschedule_if(frame.entries),
-    )
+    );
+    with_line(left, line)
 }
 
 // A second part that must not be scheduled.

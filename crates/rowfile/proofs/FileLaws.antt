@@ -25,7 +25,7 @@ use Rattle.treerows.specs.declared.TreeChecked.{TreeChecked}
 use Rattle.treerows.specs.declared.TreeRead.{TreeRead}
 use Rattle.rowfile.specs.declared.Rows.{Rows}
 use Rattle.rowfile.specs.declared.scan.Scan.{Scan}
-use Rattle.rowfile.specs.Scan.{Scanned, stopped, words, follows, digitOf, nextColumn, refusedScan, firstDigit, inNumber, stepped, withWords, endedWord, scanned, startScan, alike, fileWords}
+use Rattle.rowfile.specs.Scan.{Scanned, stopped, words, follows, digitOf, nextColumn, refusedScan, firstDigit, inNumber, stepped, withWords, endedWord, scanned, startScan, alike, tableWords, fileWords}
 use Rattle.rowfile.specs.Prints.{scanChecked, fileChecked, checkNames, printedCheck, WrittenCheck}
 use Rattle.rowfile.specs.Read.{NamesEnd, Kept, rowsRefused, scanEnd, RowsRead, checkedAs}
 
@@ -82,34 +82,35 @@ pub with-more : (first second : List ℕ) (s : Scanned) → withWords first (wit
 with-more first second (stopped at) = refl
 with-more first second (words list) = ap (λ (l : List ℕ). words l) (sym (append-assoc first second list))
 
-next-low : (column : ℕ) → column ≤ 5 → nextColumn column ≤ 5
-next-low column h = by (eqb column 5) refl
+pub next-low : (last column : ℕ) → column ≤ last → nextColumn last column ≤ last
+next-low last column h = by (eqb column last) refl
   where
-    by : (y : Bool) → eqb column 5 ≡ y → cond y 0 (column + 1) ≤ 5
+    by : (y : Bool) → eqb column last ≡ y → cond y 0 (column + 1) ≤ last
     by true e = omega arith
-    by false e = omega (arith, eqb-false column 5 e)
+    by false e = omega (arith, eqb-false column last e)
 
 -- whichever side a test chooses
-either : (y : Bool) (a b : Scan) → a .column ≤ 5 → b .column ≤ 5 → cond y a b .column ≤ 5
-either true a b p q = p
-either false a b p q = q
+either : (last : ℕ) (y : Bool) (a b : Scan) → a .column ≤ last → b .column ≤ last → cond y a b .column ≤ last
+either last true a b p q = p
+either last false a b p q = q
 
-module _ (column value byte : ℕ) (h : column ≤ 5) where
-  first-low : firstDigit column byte .column ≤ 5
+module _ (last column value byte : ℕ) (h : column ≤ last) where
+  first-low : firstDigit column byte .column ≤ last
   unfolding firstDigit
-  first-low = either (eqb (digitOf byte) 10) refusedScan (record { refused = false; ended = false; begun = true; column = column; value = digitOf byte }) (omega arith) h
+  first-low = either last (eqb (digitOf byte) 10) refusedScan (record { refused = false; ended = false; begun = true; column = column; value = digitOf byte }) (omega arith) h
 
-  number-low : inNumber column value byte .column ≤ 5
+  number-low : inNumber last column value byte .column ≤ last
   unfolding inNumber
   number-low =
-      either (eqb byte (ending (eqb column 5))) (record { refused = false; ended = true; begun = false; column = nextColumn column; value = value })
-      (cond (follows value byte) (record { refused = false; ended = false; begun = true; column = column; value = value * 10 + (byte - 48) }) refusedScan) (next-low column h)
-      (either (follows value byte) (record { refused = false; ended = false; begun = true; column = column; value = value * 10 + (byte - 48) }) refusedScan h (omega arith))
+      either last (eqb byte (ending (eqb column last))) (record { refused = false; ended = true; begun = false; column = nextColumn last column; value = value })
+      (cond (follows value byte) (record { refused = false; ended = false; begun = true; column = column; value = value * 10 + (byte - 48) }) refusedScan) (next-low last column h)
+      (either last (follows value byte) (record { refused = false; ended = false; begun = true; column = column; value = value * 10 + (byte - 48) }) refusedScan h (omega arith))
 
-column-low : (scan : Scan) (byte : ℕ) → scan .column ≤ 5 → stepped scan byte .column ≤ 5
+pub column-low : (last : ℕ) (scan : Scan) (byte : ℕ) → scan .column ≤ last → stepped last scan byte .column ≤ last
 unfolding stepped
-column-low scan byte h =
-    either (scan .begun) (inNumber (scan .column) (scan .value) byte) (firstDigit (scan .column) byte) (number-low (scan .column) (scan .value) byte h) (first-low (scan .column) (scan .value) byte h)
+column-low last scan byte h =
+    either last (scan .begun) (inNumber last (scan .column) (scan .value) byte) (firstDigit (scan .column) byte)
+    (number-low last (scan .column) (scan .value) byte h) (first-low last (scan .column) (scan .value) byte h)
 
 -- ---- a word that has ended
 
@@ -121,35 +122,37 @@ kept-none lent count value e = rw e (record { holds = λ items h. rw (append-nil
 
 -- ---- the file
 
--- a file refused at a byte
-pub refused-read : {file lent : List ℕ} {at : ℕ} {r : Rows} → r ≡ rowsRefused at → at ≤ length file → fileWords file ≡ stopped at → RowsRead file lent r
-refused-read {file} {lent} {at} e h q = subst (RowsRead file lent) (sym e) (record { within = h; stop = λ _. q; read = λ z. absurd (true-false z) })
+module _ {names : List ℕ} {last : ℕ} where
+  -- a file refused at a byte
+  pub refused-read : {file lent : List ℕ} {at : ℕ} {r : Rows} → r ≡ rowsRefused at → at ≤ length file → tableWords names last file ≡ stopped at → RowsRead names last file lent r
+  refused-read {file} {lent} {at} e h q = subst (RowsRead names last file lent) (sym e) (record { within = h; few = omega arith; stop = λ _. q; read = λ z. absurd (true-false z) })
 
--- no line of names
-pub names-refused : {file lent : List ℕ} {start : ℕ} {r : Rows} → NamesEnd treeNames file start → (start ≡ 13 → ⊥) → r ≡ rowsRefused start → RowsRead file lent r
-names-refused {file} {lent} {start} n f e = refused-read e (n .within) told
-  where
-    told : fileWords file ≡ stopped start
-    told = unfold fileWords in rw (ne-eqb (alike treeNames file) 13 (λ z. f (n .is ∙ z)), fileWords, ← (n .is))
+  -- no line of names
+  pub names-refused : {file lent : List ℕ} {start : ℕ} {r : Rows} → NamesEnd names file start → (start ≡ length names → ⊥) → r ≡ rowsRefused start → RowsRead names last file lent r
+  names-refused {file} {lent} {start} n f e = refused-read e (n .within) told
+    where
+      told : tableWords names last file ≡ stopped start
+      told = unfold tableWords in rw (ne-eqb (alike names file) (length names) (λ z. f (n .is ∙ z)), tableWords, ← (n .is))
 
-module _ (file : List ℕ) where
+module _ (names : List ℕ) (last : ℕ) (file : List ℕ) where
   -- what is left of the bytes gives what the whole gives
   pub record Scanning (room : ℕ) (lent : List ℕ) (scan : Scan) (count at : ℕ) : Type 0 where
     pub long : length lent ≡ room
     pub items : List ℕ
-    pub rest : fileWords file ≡ withWords items (scanned scan at (drop at file))
+    pub rest : tableWords names last file ≡ withWords items (scanned last scan at (drop at file))
     pub holds : Holds lent count items
     pub within : at ≤ length file
     pub few : count ≤ at
-    pub columns : scan .column ≤ 5
+    pub columns : scan .column ≤ last
 
-  pub scanning-start : {lent : List ℕ} {scan : Scan} {start : ℕ} → NamesEnd treeNames file start → start ≡ 13 → scan ≡ startScan → Scanning (length lent) lent scan 0 start
+  pub scanning-start : {lent : List ℕ} {scan : Scan} {start : ℕ} → NamesEnd names file start → start ≡ length names → scan ≡ startScan → Scanning (length lent) lent scan 0 start
   scanning-start {lent} {scan} {start} n e s =
-      let told : fileWords file ≡ scanned startScan 13 (drop 13 file) = unfold fileWords in rw (eq-eqb (alike treeNames file) 13 (sym (n .is) ∙ e), fileWords) in
+      let told : tableWords names last file ≡ scanned last startScan (length names) (drop (length names) file) =
+      unfold tableWords in rw (eq-eqb (alike names file) (length names) (sym (n .is) ∙ e), tableWords) in
       rw (s, e) (record {
         long = refl;
         items = [];
-        rest = told ∙ sym (with-none (scanned startScan 13 (drop 13 file)));
+        rest = told ∙ sym (with-none (scanned last startScan (length names) (drop (length names) file)));
         holds = holds-none lent;
         within = omega (arith, n .within, e);
         few = omega arith;
@@ -157,49 +160,50 @@ module _ (file : List ℕ) where
       })
 
   module _ {room : ℕ} {lent : List ℕ} {scan : Scan} {count at : ℕ} (s : Scanning room lent scan count at) where
-    module _ (more : at < length file) {next : Scan} (is : next ≡ stepped scan (getD file at 0)) where
-      opened-scan : scanned scan at (drop at file)
-          ≡ elim (stepped scan (getD file at 0) .refused) [
+    module _ (more : at < length file) {next : Scan} (is : next ≡ stepped last scan (getD file at 0)) where
+      opened-scan : scanned last scan at (drop at file)
+          ≡ elim (stepped last scan (getD file at 0) .refused) [
             | true ↦ stopped at
-            | false ↦ withWords (endedWord (stepped scan (getD file at 0))) (scanned (stepped scan (getD file at 0)) (suc at) (drop (suc at) file))
+            | false ↦ withWords (endedWord (stepped last scan (getD file at 0))) (scanned last (stepped last scan (getD file at 0)) (suc at) (drop (suc at) file))
           ]
       opened-scan = unfold scanned in rw (drop-cons file at 0 more)
 
-      pub scan-refused : {lent′ : List ℕ} {r : Rows} → next .refused ≡ true → r ≡ rowsRefused at → RowsRead file lent′ r
+      pub scan-refused : {lent′ : List ℕ} {r : Rows} → next .refused ≡ true → r ≡ rowsRefused at → RowsRead names last file lent′ r
       scan-refused e q =
-          let z : stepped scan (getD file at 0) .refused ≡ true = ap (λ (n : Scan). n .refused) (sym is) ∙ e in
-          let told : scanned scan at (drop at file) ≡ stopped at = opened-scan ∙ rw z in
+          let z : stepped last scan (getD file at 0) .refused ≡ true = ap (λ (n : Scan). n .refused) (sym is) ∙ e in
+          let told : scanned last scan at (drop at file) ≡ stopped at = opened-scan ∙ rw z in
           refused-read q (s .within) (s .rest ∙ ap (withWords (s .items)) told)
 
       pub scan-on : {lent′ : List ℕ} {count′ : ℕ} → next .refused ≡ false → Kept lent count (next .ended) (next .value) lent′ count′ → Scanning room lent′ next count′ (at + 1)
       scan-on {lent′} {count′} e k =
-          let z : stepped scan (getD file at 0) .refused ≡ false = ap (λ (n : Scan). n .refused) (sym is) ∙ e in
-          let on : scanned scan at (drop at file) ≡ withWords (endedWord next) (scanned next (at + 1) (drop (at + 1) file)) = opened-scan ∙ rw (z, is, add-one at) in
+          let z : stepped last scan (getD file at 0) .refused ≡ false = ap (λ (n : Scan). n .refused) (sym is) ∙ e in
+          let on : scanned last scan at (drop at file) ≡ withWords (endedWord next) (scanned last next (at + 1) (drop (at + 1) file)) = opened-scan ∙ rw (z, is, add-one at) in
           record {
             long = k .long ∙ s .long;
             items = s .items ++ endedWord next;
-            rest = s .rest ∙ (ap (withWords (s .items)) on ∙ with-more (s .items) (endedWord next) (scanned next (at + 1) (drop (at + 1) file)));
+            rest = s .rest ∙ (ap (withWords (s .items)) on ∙ with-more (s .items) (endedWord next) (scanned last next (at + 1) (drop (at + 1) file)));
             holds = k .holds (s .items) (s .holds);
             within = omega arith;
             few = omega (arith, s .few, k .most);
-            columns = rw is (column-low scan (getD file at 0) (s .columns));
+            columns = rw is (column-low last scan (getD file at 0) (s .columns));
           }
 
-    pub scan-ends : length file ≤ at → {r : Rows} → r ≡ scanEnd scan at count → RowsRead file lent r
+    pub scan-ends : length file ≤ at → {r : Rows} → r ≡ scanEnd scan at count → RowsRead names last file lent r
     scan-ends h {r} e = by (scan .begun) refl (eqb (scan .column) 0) refl e
       where
-        end : scanned scan at (drop at file) ≡ elim (scan .begun || not (eqb (scan .column) 0)) [ true ↦ stopped at | false ↦ words [] ]
+        end : scanned last scan at (drop at file) ≡ elim (scan .begun || not (eqb (scan .column) 0)) [ true ↦ stopped at | false ↦ words [] ]
         end = unfold scanned in rw (drop-of-length-le file h)
 
-        all : fileWords file ≡ withWords (s .items) (elim (scan .begun || not (eqb (scan .column) 0)) [ true ↦ stopped at | false ↦ words [] ])
+        all : tableWords names last file ≡ withWords (s .items) (elim (scan .begun || not (eqb (scan .column) 0)) [ true ↦ stopped at | false ↦ words [] ])
         all = s .rest ∙ ap (withWords (s .items)) end
 
         by : (b : Bool) → scan .begun ≡ b → (y : Bool) → eqb (scan .column) 0 ≡ y
-            → r ≡ cond b (rowsRefused at) (cond y (record { refused = false; at = at; count = count }) (rowsRefused at)) → RowsRead file lent r
+            → r ≡ cond b (rowsRefused at) (cond y (record { refused = false; at = at; count = count }) (rowsRefused at)) → RowsRead names last file lent r
         by true p y q e = refused-read e (s .within) (all ∙ rw p)
         by false p false q e = refused-read e (s .within) (all ∙ rw (p, q))
-        by false p true q e = subst (RowsRead file lent) (sym e) (record {
+        by false p true q e = subst (RowsRead names last file lent) (sym e) (record {
           within = s .within;
+          few = omega (arith, s .few, s .within);
           stop = λ z. absurd (true-false (sym z));
           read = λ _. (s .items, all ∙ rw (p, q, append-nil (s .items)), s .holds);
         })
@@ -231,7 +235,7 @@ module _ (file : List ℕ) where
   unfolding fileChecked
   file-long h = rw (lt-leb (length file) 262144 h, fileChecked)
 
-  module _ (short : length file ≤ 262144) {lent : List ℕ} {rows : Rows} (read : RowsRead file lent rows) where
+  module _ (short : length file ≤ 262144) {lent : List ℕ} {rows : Rows} (read : RowsRead treeNames 5 file lent rows) where
     within-limit : fileChecked file ≡ scanChecked (fileWords file)
     unfolding fileChecked
     within-limit = rw (le-leb (length file) 262144 short, fileChecked)

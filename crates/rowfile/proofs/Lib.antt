@@ -1,3 +1,4 @@
 pub mod ScanLaws
 pub mod FileLaws
 pub mod ReadBack
+pub mod FirstByte

@@ -31,7 +31,7 @@ digit-is byte {value} d = by (leb 48 byte) refl (leb byte 57) refl
         none-is f = omega (arith, f, d .most)
 
 -- a digit that follows
-follows-true : (value byte : ℕ) → follows value byte ≡ true → Follows value byte (byte - 48)
+pub follows-true : (value byte : ℕ) → follows value byte ≡ true → Follows value byte (byte - 48)
 follows-true value byte e =
     let a : (leb 48 byte ≡ true) × (leb byte 57 && (ltb 0 value && ltb (value * 10 + (byte - 48)) (2 ^ 32)) ≡ true) = and-both (leb 48 byte) _ e in
     let b : (leb byte 57 ≡ true) × (ltb 0 value && ltb (value * 10 + (byte - 48)) (2 ^ 32) ≡ true) = and-both (leb byte 57) _ (a .1) in
@@ -76,20 +76,20 @@ module _ (column byte : ℕ) {digit : ℕ} (d : Digit byte digit) where
   unfolding firstDigit
   one-digit f q = q ∙ rw (ne-eqb (digitOf byte) 10 (λ e. f (digit-is byte d ∙ e)), ← (digit-is byte d))
 
-module _ (column value byte : ℕ) {end : ℕ} (is : end ≡ ending (eqb column 5)) where
-  pub number-ends : {next : ℕ} → byte ≡ end → next ≡ nextColumn column → record { refused = false; ended = true; begun = false; column = next; value = value } ≡ inNumber column value byte
+module _ (last column value byte : ℕ) {end : ℕ} (is : end ≡ ending (eqb column last)) where
+  pub number-ends : {next : ℕ} → byte ≡ end → next ≡ nextColumn last column → record { refused = false; ended = true; begun = false; column = next; value = value } ≡ inNumber last column value byte
   unfolding inNumber
-  number-ends e q = rw (eq-eqb byte (ending (eqb column 5)) (e ∙ is), q)
+  number-ends e q = rw (eq-eqb byte (ending (eqb column last)) (e ∙ is), q)
 
   module _ (f : byte ≡ end → ⊥) {more : ℕ} (h : Extended value byte more) where
-    not-ended : eqb byte (ending (eqb column 5)) ≡ false
-    not-ended = ne-eqb byte (ending (eqb column 5)) (λ e. f (e ∙ sym is))
+    not-ended : eqb byte (ending (eqb column last)) ≡ false
+    not-ended = ne-eqb byte (ending (eqb column last)) (λ e. f (e ∙ sym is))
 
-    pub number-refused : {r : Scan} → more ≡ 4294967296 → r ≡ refusedScan → r ≡ inNumber column value byte
+    pub number-refused : {r : Scan} → more ≡ 4294967296 → r ≡ refusedScan → r ≡ inNumber last column value byte
     unfolding inNumber
     number-refused e q = q ∙ rw (not-ended, extended-none value byte h e)
 
-    pub number-goes-on : {r : Scan} → (more ≡ 4294967296 → ⊥) → r ≡ record { refused = false; ended = false; begun = true; column = column; value = more } → r ≡ inNumber column value byte
+    pub number-goes-on : {r : Scan} → (more ≡ 4294967296 → ⊥) → r ≡ record { refused = false; ended = false; begun = true; column = column; value = more } → r ≡ inNumber last column value byte
     unfolding inNumber
     number-goes-on g q =
         let t : (follows value byte ≡ true) × (more ≡ value * 10 + (byte - 48)) = extended-more value byte h g in

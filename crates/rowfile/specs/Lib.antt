@@ -1,4 +1,5 @@
 pub mod Scan
 pub mod Prints
 pub mod Read
+pub mod Good
 pub mod Samples

@@ -10,7 +10,7 @@ use Rattle.reading.specs.Needs.{treeVerdict, codeOf, atOf}
 use Rattle.treerows.specs.declared.TreeChecked.{TreeChecked}
 use Rattle.rowfile.specs.declared.Rows.{Rows}
 use Rattle.rowfile.specs.declared.scan.Scan.{Scan}
-use Rattle.rowfile.specs.Scan.{stopped, words, alike, fileWords}
+use Rattle.rowfile.specs.Scan.{stopped, words, alike, tableWords}
 
 -- how many bytes of some names the file begins with
 pub record NamesEnd (names file : List ℕ) (r : ℕ) : Type 0 where
@@ -31,10 +31,11 @@ abbrev pub scanEnd : Scan → (at count : ℕ) → Rows
 scanEnd scan at count = cond (scan .begun) (rowsRefused at) (cond (eqb (scan .column) 0) (record { refused = false; at = at; count = count }) (rowsRefused at))
 
 -- what reading a file gives: its words are in the buffer, as far as there are places for them
-pub record RowsRead (file lent : List ℕ) (r : Rows) : Type 0 where
+pub record RowsRead (names : List ℕ) (last : ℕ) (file lent : List ℕ) (r : Rows) : Type 0 where
   pub within : r .at ≤ length file
-  pub stop : r .refused ≡ true → fileWords file ≡ stopped (r .at)
-  pub read : r .refused ≡ false → (list : List ℕ) × (fileWords file ≡ words list) × Holds lent (r .count) list
+  pub few : r .count ≤ length file
+  pub stop : r .refused ≡ true → tableWords names last file ≡ stopped (r .at)
+  pub read : r .refused ≡ false → (list : List ℕ) × (tableWords names last file ≡ words list) × Holds lent (r .count) list
 
 abbrev pub checkedAs : List ℕ → TreeChecked → Type 0
 checkedAs list r = r ≡ record { code = codeOf (treeVerdict list); at = atOf (treeVerdict list) }

@@ -2,7 +2,7 @@
 use mathlib.Core.Path.{_≡_, refl}
 use mathlib.Core.List.{[], _∷_}
 use Rattle.text.specs.Ascii.{ascii}
-use Rattle.rowfile.specs.Scan.{stopped, words, firstDigit, inNumber, stepped, scanned, alike, fileWords}
+use Rattle.rowfile.specs.Scan.{stopped, words, firstDigit, inNumber, stepped, scanned, alike, tableWords, fileWords}
 
 pub the-files :
     (fileWords (ascii "op a b c d e\n22 0 7 0 0 0\n9 1 0 0 0 0\n") ≡ words (22 ∷ 0 ∷ 7 ∷ 0 ∷ 0 ∷ 0 ∷ 9 ∷ 1 ∷ 0 ∷ 0 ∷ 0 ∷ 0 ∷ []))
@@ -16,5 +16,5 @@ pub the-files :
     × (fileWords (ascii "op a b c d e\n022") ≡ stopped 14)
     × (fileWords (ascii "op a b c d e\n4294967295 4294967296") ≡ stopped 33)
     × (fileWords (ascii "op a b c d e\n\n") ≡ stopped 13)
-unfolding fileWords alike scanned stepped inNumber firstDigit
+unfolding tableWords alike scanned stepped inNumber firstDigit
 the-files = (refl, refl, refl, refl, refl, refl, refl, refl, refl, refl, refl)

@@ -82,20 +82,20 @@ fn scan_end(scan: Scan, at: usize, count: usize) -> Rows
     }
 }
 
-// Reads a file's words into the lent ones.
-fn read_rows(file: &[u8], words: &mut [u32]) -> Rows
+// Reads the words of a table's file into the lent ones: its line of names, then lines of `last` + 1 numbers.
+pub fn read_table(file: &[u8], names: &[u8], last: u32, words: &mut [u32]) -> Rows
     requires { ⌜ length (now file) ≤ 262144 ⌝ }
-    ensures { λ r. ⌜ RowsRead (now (file .entry)) (now (words .exit)) r ⌝ }
+    ensures { λ r. ⌜ RowsRead (now (names .entry)) last (now (file .entry)) (now (words .exit)) r ⌝ }
 {
-    let start = names_end(file, b"op a b c d e\n");
-    if start != 13 {
+    let start = names_end(file, names);
+    if start != names.len() {
         return rows_refused(start);
     }
     let mut scan = start_scan();
     let mut count = 0;
     let mut at = start;
     while at < file.len() {
-        let next = step(scan, file[at]);
+        let next = step(last, scan, file[at]);
         if next.refused {
             return rows_refused(at);
         }
@@ -125,12 +125,10 @@ fn check_rows(file: &[u8]) -> TreeChecked
         return TreeChecked { code: 51, at: 0 };
     }
     let mut words = [0u32; 12288];
-    let rows = read_rows(file, &mut words);
+    let rows = read_table(file, b"op a b c d e\n", 5, &mut words);
     if rows.refused {
-        return TreeChecked {
-            code: 50,
-            at: rows.at as u32,
-        };
+        let at = rows.at as u32;
+        return TreeChecked { code: 50, at };
     }
     check_words(&words, rows.count)
 }

@@ -1,4 +1,4 @@
-// The bytes of a file of rows, one by one.
+// The bytes of a table's lines, one by one; `last` is the last column.
 use text::number::digit_value;
 use text::number::ending_byte;
 use text::number::extended;
@@ -40,11 +40,11 @@ fn refused_scan() -> Scan
     }
 }
 
-fn next_column(column: u32) -> u32
-    requires { ⌜ column ≤ 5 ⌝ }
-    ensures { λ r. ⌜ r ≡ nextColumn column ⌝ }
+fn next_column(last: u32, column: u32) -> u32
+    requires { ⌜ column ≤ last ⌝ }
+    ensures { λ r. ⌜ r ≡ nextColumn last column ⌝ }
 {
-    if column == 5 { 0 } else { column + 1 }
+    if column == last { 0 } else { column + 1 }
 }
 
 fn open_scan(column: u32, value: u32) -> Scan
@@ -69,16 +69,16 @@ fn first_digit(column: u32, byte: u8) -> Scan
     open_scan(column, digit)
 }
 
-fn in_number(column: u32, value: u32, byte: u8) -> Scan
-    requires { ⌜ column ≤ 5 ⌝ }
-    ensures { λ r. ⌜ r ≡ inNumber column value byte ⌝ }
+fn in_number(last: u32, column: u32, value: u32, byte: u8) -> Scan
+    requires { ⌜ column ≤ last ⌝ }
+    ensures { λ r. ⌜ r ≡ inNumber last column value byte ⌝ }
 {
-    if byte == ending_byte(column == 5) {
+    if byte == ending_byte(column == last) {
         return Scan {
             refused: false,
             ended: true,
             begun: false,
-            column: next_column(column),
+            column: next_column(last, column),
             value,
         };
     }
@@ -89,12 +89,12 @@ fn in_number(column: u32, value: u32, byte: u8) -> Scan
     open_scan(column, more as u32)
 }
 
-pub fn step(scan: Scan, byte: u8) -> Scan
-    requires { ⌜ scan .column ≤ 5 ⌝ }
-    ensures { λ r. ⌜ r ≡ stepped scan byte ⌝ }
+pub fn step(last: u32, scan: Scan, byte: u8) -> Scan
+    requires { ⌜ scan .column ≤ last ⌝ }
+    ensures { λ r. ⌜ r ≡ stepped last scan byte ⌝ }
 {
     if scan.begun {
-        return in_number(scan.column, scan.value, byte);
+        return in_number(last, scan.column, scan.value, byte);
     }
     first_digit(scan.column, byte)
 }

@@ -17,7 +17,7 @@ use Rattle.definition.specs.Tree.{Row, row, Statements}
 use Rattle.definition.specs.Tree as tree
 use Rattle.definition.specs.Reading.{WellFormed, ReadAs}
 use Rattle.definition.specs.Build.{wordsOf}
-use Rattle.definition.specs.Run.{Answers, Reason, returned, threw, no-answer-left, not-plain, no-target, end-of-tree}
+use Rattle.definition.specs.Run.{Answers, Reason, returned, threw, no-answer-left, not-plain, no-target, end-of-tree, no-such-case}
 use Rattle.definition.specs.TreeRun.{Completed, runStatements, reasonOf}
 use Rattle.reading.specs.Ranges.{rulesByOp, inRange, allInRange}
 use Rattle.reading.specs.Grammar.{mostRows, Answer, no-list, of-rows, RowsAnswer, one-tree, out-of-range, no-parts, remainder}
@@ -201,6 +201,7 @@ module _ (words : List ℕ) (t : Links) (number : ℕ) where
     told-refused n performed no-answer-left f = absurd (f refl)
     told-refused n performed (no-target at) f = refl
     told-refused n performed not-plain f = refl
+    told-refused n performed no-such-case f = refl
 
     pub outcome-refused : {r : Ran} → Ends words buffer r end → (r .code ≡ 0 → ⊥) → refusal (r .code) (r .at) (length buffer) ≡ outcome
     outcome-refused (filled l e) f = rw e (sym (over-outcome l))
@@ -215,6 +216,7 @@ module _ (words : List ℕ) (t : Links) (number : ℕ) where
     told-run n b′ no-answer-left z c q s = rw (q, c) refl
     told-run n b′ (no-target at) z c q s = absurd (omega (arith, z))
     told-run n b′ not-plain z c q s = absurd (omega (arith, z))
+    told-run n b′ no-such-case z c q s = absurd (omega (arith, z))
 
     told-number : (n : ℕ) (reason : Reason) → told n reason .code ≡ 0 → told n reason .number ≡ n
     told-number n (returned v i) z = refl
@@ -223,6 +225,7 @@ module _ (words : List ℕ) (t : Links) (number : ℕ) where
     told-number n no-answer-left z = refl
     told-number n (no-target at) z = absurd (omega (arith, z))
     told-number n not-plain z = absurd (omega (arith, z))
+    told-number n no-such-case z = absurd (omega (arith, z))
 
     pub number-fits : {r : Ran} → Ends words buffer r end → r .code ≡ 0 → r .number ≤ length buffer
     number-fits (filled l e) z = absurd (omega (arith, ap (λ (x : Ran). x .code) e, z))

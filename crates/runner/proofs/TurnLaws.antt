@@ -3,7 +3,7 @@ use mathlib.Core.Path.{_≡_, refl, sym, ap, _∙_}
 use Prim.Native.Nat.{ℕ, zero, suc, _+_, _-_, _<_, _≤_}
 use native.Mathlib.Omega.{arith}
 use native.Mathlib.Numerals.{add-one}
-use mathlib.Core.List.{List, [], _∷_, _++_}
+use mathlib.Core.List.{List, [], _∷_, _++_, append-nil}
 use mathlib.Core.Option.{Option, none, some}
 use mathlib.Core.Bool.{Bool, true, false}
 use lib.ListN.{getD, List·getD-eq-default}
@@ -21,15 +21,15 @@ use Rattle.running.specs.Layout.{Node, a-leaf}
 use Rattle.running.specs.Links.{Links, before, plains, plainsFrom, firstOf, kindOf, jumpAs, casesBack, ifNode, testEnd, forAgain, nodesByOp, nodeOf, isCase, caseBefore, unlessZero, nextOf, parentOf}
 use Rattle.running.specs.Machine as machine
 use Rattle.running.specs.Machine.{enter, leave, orLeave, onIfNormal, State, state, going, upFrom, leaving, step}
-use Rattle.running.specs.Acts.{Act, act, go, ask, pick, doAct, actDown, actUp, roundAgain}
+use Rattle.running.specs.Acts.{Act, act, go, ask, pick, doThen, doAct, actDown, actUp, roundAgain}
 use Rattle.running.proofs.ActLaws.{down-acts, up-acts}
 use Rattle.runner.specs.declared.completions.Completion.{Completion}
 use Rattle.runner.specs.declared.turns.Place.{Place}
 use Rattle.runner.specs.declared.turns.Next.{Next}
 use Rattle.runner.specs.declared.Ran.{Ran}
-use Rattle.runner.specs.Holds.{told}
+use Rattle.runner.specs.Holds.{told, After, stays, moves}
 use Rattle.runner.specs.Abstraction.{completionBy, completionOf, placeOf, linksOf, nodeAt, layoutAt, nextIn, haltedAt}
-use Rattle.runner.proofs.CompletionLaws.{none-is, some-is}
+use Rattle.runner.proofs.CompletionLaws.{none-is, some-is, normal-is}
 
 pub before-is : (n : ℕ) → (n ≡ 0 → ⊥) → n - 1 ≡ before n
 before-is zero f = absurd (f refl)
@@ -429,6 +429,46 @@ module _ (words : List ℕ) (t : Links) (rows : ℕ) (p : Place) where
           true-false : true ≡ false → ⊥
           true-false e = let z : _≡_ {A = ℕ} 0 1 = cc in omega arith
       by false z = up-step (p .kind) (ltb-false 2 (p .kind) z) (inner false refl (eq-suc ∙ (sym (out-halted p rows e false z) ∙ f))) P left
+
+-- ---- after an INSTR
+
+abbrev outOf : (row : ℕ) → Place
+outOf row = record { down = false; row = row; kind = 0; target = 0; jump = 0 }
+
+module _ (words : List ℕ) (t : Links) (rows row : ℕ) where
+  pub leaves-row : {c : Completion} {r : Place} → c ≡ record { kind = 0; target = 0; jump = 0 } → placeOf r ≡ leave row (completionOf c) → After (layoutAt words t rows) row r
+  leaves-row e q = stays (q ∙ ap (leave row) (normal-is e))
+
+  module _ (instr : wordAt words row 0 ≡ 4) (inside : row + 1 ≡ rows → ⊥) {block op : ℕ} (is : block ≡ t .parent row) (read : op ≡ wordAt words block 0) (nine : op ≡ 9) where
+    in-block : wordAt words (t .parent row) 0 ≡ 9
+    in-block = ap (λ (n : ℕ). wordAt words n 0) (sym is) ∙ (sym read ∙ nine)
+
+    has-parent : parentOf t rows row ≡ some (t .parent row)
+    has-parent = inner words t rows (outOf row) (eqb (suc row) rows) (ne-eqb (suc row) rows (λ z. inside (omega (arith, z)))) refl
+
+    block-moves : {place : machine.Place} → place ≡ orLeave (nextOf t row (rowAt words row)) (t .parent row) → (P left : List ℕ)
+        → step (layoutAt words t rows) (state (leave row normal) P left) ≡ going (state place P left)
+    unfolding doAct doThen
+    block-moves {place} q P left =
+        let up : act [] (go (orLeave (nextOf t row (rowAt words row)) (t .parent row))) ≡ actUp (nodeAt words t (t .parent row)) (t .parent row) (nextOf t row (rowAt words row)) normal
+        = up-block words t (t .parent row) (nextOf t row (rowAt words row)) normal in-block in
+        let same : state (orLeave (nextOf t row (rowAt words row)) (t .parent row)) (P ++ []) left ≡ state place P left =
+        rw (append-nil P, q) refl in
+        up-step words t rows (outOf row) 0 (omega arith) has-parent P left
+        ∙ (ap (λ (a : Act). going (doAct a P left)) (sym up) ∙ ap (λ (s : State). going s) same)
+
+    pub block-ends : {later : ℕ} {c : Completion} {r : Place} → later ≡ t .next row → later ≡ 0 → c ≡ record { kind = 0; target = 0; jump = 0 } → placeOf r ≡ leave block (completionOf c)
+        → After (layoutAt words t rows) row r
+    block-ends {later} {c} {r} n z e q =
+        let out : placeOf r ≡ leave (t .parent row) normal = q ∙ (ap (λ (k : ℕ). leave k (completionOf c)) is ∙ ap (leave (t .parent row)) (normal-is e)) in
+        let none-left : none ≡ nextOf t row (rowAt words row) = next-none words t row (sym instr) (λ w. omega (arith, w)) (sym n ∙ z) in
+        moves (block-moves (out ∙ ap (λ (o : Option ℕ). orLeave o (t .parent row)) none-left))
+
+    pub block-goes-on : {later : ℕ} {r : Place} → later ≡ t .next row → (later ≡ 0 → ⊥) → placeOf r ≡ enter later → After (layoutAt words t rows) row r
+    block-goes-on {later} {r} n f q =
+        let into : placeOf r ≡ enter (t .next row) = q ∙ ap enter n in
+        let one-left : some (t .next row) ≡ nextOf t row (rowAt words row) = next-statement words t row (sym instr) (λ w. omega (arith, w)) (λ z. f (n ∙ z)) in
+        moves (block-moves (into ∙ ap (λ (o : Option ℕ). orLeave o (t .parent row)) one-left))
 
 -- ---- what is told at the end
 

@@ -11,11 +11,11 @@ use lib.ListN.{length, getD, drop, length-append, List·getD-append}
 use lib.Dec.{eqb, ltb}
 use borrow.Author.Tests.{eqb-true, ltb-true, ltb-false}
 use Rattle.definition.specs.Run.{Answers}
-use Rattle.definition.specs.Completion.{stop}
+use Rattle.definition.specs.Completion.{normal, stop}
 use Rattle.definition.specs.TreeRun.{Completed, completed, reasonOf}
-use Rattle.treerows.specs.Found.{rowAt}
+use Rattle.treerows.specs.Found.{wordAt, rowAt}
 use Rattle.running.specs.Layout.{Layout}
-use Rattle.running.specs.Links.{Links, plains, parentOf}
+use Rattle.running.specs.Links.{Links, plains, plainsFrom, parentOf}
 use Rattle.running.specs.Machine as machine
 use Rattle.running.specs.Machine.{enter, leave, State, state, Turn, going, halt, upFrom, leaving, step, Gives, halts, goes, turnsLeft}
 use Rattle.running.specs.Acts.{Then, go, ask, pick, Act, act, doThen, doAct}
@@ -27,10 +27,10 @@ use Rattle.runner.specs.declared.turns.Turn as code
 use Rattle.runner.specs.declared.walk.Performed.{Performed}
 use Rattle.runner.specs.declared.Ran.{Ran}
 use Rattle.runner.specs.Abstraction.{completionBy, placeOf, layoutAt, thenBy, actOf, haltedAt}
-use Rattle.runner.specs.Holds.{Held, Took, took, filled, Walks, told, Ends, ended}
+use Rattle.runner.specs.Holds.{Held, Took, took, filled, Instructs, After, stays, moves, Walks, told, Ends, ended}
 use Rattle.runner.specs.Holds as holds
 use Rattle.runner.proofs.PerformLaws.{taken}
-use Rattle.runner.proofs.TurnLaws.{out-halted}
+use Rattle.runner.proofs.TurnLaws.{out-halted, decide-down, down-instr}
 
 true-false : true ≡ false → ⊥
 true-false e = let z : _≡_ {A = ℕ} 0 1 = cc in omega arith
@@ -131,6 +131,47 @@ module _ (words : List ℕ) (t : Links) (rows : ℕ) where
       held = record { count = refl; fits = omega arith; same = λ i h. absurd (omega arith) };
     }
 
+    -- from the end of an INSTR on
+    module _ {before buffer : List ℕ} {out : Place} {asked number : ℕ} (row : ℕ) (at : placeOf out ≡ leave row normal) (J : Walking before buffer out asked number) (place : Place) where
+      moved-on : ((P a : List ℕ) → step L (state (leave row normal) P a) ≡ going (state (placeOf place) P a))
+          → step L (state (placeOf out) (J .reached) (drop asked answers)) ≡ going (state (placeOf place) (J .reached) (drop asked answers))
+      moved-on m = ap (λ (p : machine.Place). step L (state p (J .reached) (drop asked answers))) at ∙ m (J .reached) (drop asked answers)
+
+      after-next : After L row place → Walking before buffer place asked number
+      after-next (stays e) = record {
+        long = J .long;
+        end = J .end;
+        started = J .started;
+        turns = J .turns;
+        few = J .few;
+        reached = J .reached;
+        gives = subst (λ (p : machine.Place). Gives L (J .turns) (state p (J .reached) (drop asked answers)) (J .end)) (at ∙ sym e) (J .gives);
+        held = J .held;
+      }
+      after-next (moves m) =
+          let g = gives-next L (J .turns) _ _ (J .end) (J .gives) (moved-on m) in
+          let e : suc (g .0) ≡ J .turns = g .1 in
+          record {
+            long = J .long;
+            end = J .end;
+            started = J .started;
+            turns = g .0;
+            few = omega (arith, e, J .few);
+            reached = J .reached;
+            gives = g .2;
+            held = J .held;
+          }
+
+      after-less : After L row place → left place asked ≤ left out asked
+      after-less (stays e) =
+          let z : left place asked ≡ left out asked = ap (λ (p : machine.Place). turnsLeft L fuel (state p [] (drop asked answers))) (e ∙ sym at) in
+          omega (arith, z)
+      after-less (moves m) =
+          let z : left place asked < left out asked =
+          rw (turns-alike L fuel (placeOf place) [] (J .reached) (drop asked answers), turns-alike L fuel (placeOf out) [] (J .reached) (drop asked answers))
+          (turns-fall L (J .turns) fuel _ _ (J .end) (J .gives) (J .few) (moved-on m)) in
+          omega (arith, z)
+
     module _ {before buffer : List ℕ} {place : Place} {asked number : ℕ} (I : Walking before buffer place asked number) where
       module _ {over : Bool} (is : over ≡ haltedAt place rows) where
         -- the walk goes on, by this turn
@@ -199,3 +240,42 @@ module _ (words : List ℕ) (t : Links) (rows : ℕ) where
             = gives-halt L (I .turns) _ (I .end) _ (I .gives) (halts-at place h (I .reached) (drop asked answers)) in
             subst (λ (e : Completed). Ends words buffer ran e) (sym z ∙ gives-one L (I .started) g)
             (ended number (I .held) (tells (is-out place h)))
+
+      -- an INSTR is entered: its rows are performed, and the walk goes on from its end
+      module _ {over : Bool} (is : over ≡ haltedAt place rows) (on : over ≡ false) (instr : Instructs words place) {first : ℕ} (begins : first ≡ t .begin (place .row))
+          {buffer′ : List ℕ} {p : Performed} (did : (P : List ℕ) → Held words buffer number P → Took words buffer′ p (P ++ plains (rowAt words) first (place .row))) where
+        abbrev out : Place
+        out = record { down = false; row = place .row; kind = 0; target = 0; jump = 0 }
+
+        abbrev turn : code.Turn
+        turn = record { from = 0; to = 0; more = t .begin (place .row); end = place .row; asks = 0; row = 0; yes = 0; no = 0; place = out }
+
+        decided : haltedAt place rows ≡ false → (P a : List ℕ) → step L (state (placeOf place) P a) ≡ going (doAct (actOf words t turn) P a)
+        unfolding actOf placeOf plainsFrom
+        decided f = decide-down words t rows place (act (plains (rowAt words) (t .begin (place .row)) (place .row)) (go (leave (place .row) normal))) (instr .0) (down-instr words t (place .row) (instr .1))
+
+        performed : (P : List ℕ) → Held words buffer number P → Took words buffer′ p (P ++ (plains (rowAt words) 0 0 ++ plains (rowAt words) (t .begin (place .row)) (place .row)))
+        unfolding plainsFrom
+        performed P h = subst (λ (f : ℕ). Took words buffer′ p (P ++ plains (rowAt words) f (place .row))) begins (did P h)
+
+        goes-out : (P : List ℕ) → state (placeOf out) P (drop asked answers) ≡ doThen (go (placeOf out)) P (drop asked answers)
+        unfolding doThen
+        goes-out P = refl
+
+        pub instr-full : {ran : Ran} → p .full ≡ true → ran ≡ record { code = 65; at = p .at; number = 0; reason = 0 } → (n : ℕ) (end : Completed) → Gives L n start end
+            → Ends words buffer′ ran end
+        instr-full f q n end g = walk-full is on turn decided performed f q n end g
+
+        module _ (f : p .full ≡ false) (l : length buffer′ ≡ length buffer) (place′ : Place) (after : After L (place .row) place′) where
+          left-row : placeOf out ≡ leave (place .row) normal
+          unfolding placeOf
+          left-row = refl
+
+          pub instr-next : Walking before buffer′ place′ asked (p .number)
+          instr-next = after-next (place .row) left-row (walk-next is on turn decided performed f out asked goes-out l) place′ after
+
+          pub instr-less : left place′ asked < left place asked
+          instr-less =
+              let down : left out asked < left place asked = walk-less is on turn decided performed f out asked goes-out in
+              let on-from : left place′ asked ≤ left out asked = after-less (place .row) left-row (walk-next is on turn decided performed f out asked goes-out l) place′ after in
+              omega (arith, down, on-from)

@@ -5,14 +5,17 @@ use mathlib.Core.List.{List, []}
 use mathlib.Core.Bool.{Bool, true, false}
 use lib.ListN.{length, getD}
 use Rattle.treerows.specs.Found.{wordAt}
-use Rattle.definition.specs.Run.{Answers, Reason, returned, threw, no-answer-left, not-plain, no-target, end-of-tree}
+use Rattle.definition.specs.Run.{Answers, Reason, returned, threw, no-answer-left, not-plain, no-target, end-of-tree, no-such-case}
+use Rattle.definition.specs.Completion.{normal}
 use Rattle.definition.specs.TreeRun.{Completed, reasonOf}
 use Rattle.running.specs.Links.{before}
 use Rattle.running.specs.Layout.{Layout}
-use Rattle.running.specs.Machine.{Gives, enter, state}
+use Rattle.running.specs.Machine.{Gives, enter, leave, state, going, step}
 use Rattle.running.specs.Ran.{Outcome, notRun}
 use Rattle.runner.specs.declared.Ran.{Ran}
 use Rattle.runner.specs.declared.walk.Performed.{Performed}
+use Rattle.runner.specs.declared.turns.Place.{Place}
+use Rattle.runner.specs.Abstraction.{placeOf}
 
 -- the first `number` words are the instructions of the rows reached
 pub record Held (words buffer : List ℕ) (number : ℕ) (reached : List ℕ) : Type 0 where
@@ -30,6 +33,15 @@ abbrev pub backBy : (begin : List ℕ) → (count m : ℕ) → ℕ
 backBy begin zero m = m
 backBy begin (suc count) m = backBy begin count (before (getD begin m 0))
 
+-- an INSTR is entered
+abbrev pub Instructs : (words : List ℕ) → Place → Type 0
+Instructs words place = (place .down ≡ true) × (wordAt words (place .row) 0 ≡ 4)
+
+-- after an INSTR, which completes normally: out of it, or one turn further
+pub data After (L : Layout) (row : ℕ) (place : Place) : Type 0 where
+  stays : placeOf place ≡ leave row normal → After L row place
+  moves : ((performed left : List ℕ) → step L (state (leave row normal) performed left) ≡ going (state (placeOf place) performed left)) → After L row place
+
 -- ---- the end of the walk
 
 -- the walk from the root's closing row comes to an end
@@ -45,6 +57,7 @@ told number end-of-tree = record { code = 0; at = 0; number = number; reason = 3
 told number no-answer-left = record { code = 0; at = 0; number = number; reason = 4 }
 told number (no-target at) = record { code = 63; at = at; number = 0; reason = 0 }
 told number not-plain = record { code = 64; at = 0; number = 0; reason = 0 }
+told number no-such-case = record { code = 64; at = 0; number = 0; reason = 0 }
 
 -- what the walk leaves and tells where it came to this end
 pub data Ends (words buffer : List ℕ) (ran : Ran) (end : Completed) : Type 0 where

@@ -77,7 +77,7 @@ fn first_not_run(tree: &[u32], rows: u32) -> u32
 }
 
 // "A refused run leaves zeros and gives the number 0."
-fn refuse(code: u32, at: u32, performed: &mut [u32]) -> Ran
+pub fn refuse(code: u32, at: u32, performed: &mut [u32]) -> Ran
     ensures { λ r. ⌜ outcomeOf r (now (performed .exit)) ≡ refusal code at (length (now (performed .entry))) ⌝ }
 {
     clear(performed, 0);

@@ -16,17 +16,17 @@ use crate::turns::leave;
 use crate::turns::up;
 ghost use mathlib.Core.Path.{_≡_};
 ghost use mathlib.Core.List.{List, [], _++_};
-ghost use mathlib.Core.Bool.{false};
+ghost use mathlib.Core.Bool.{true, false};
 ghost use Prim.Native.Nat.{ℕ, _-_, _≤_};
 ghost use lib.ListN.{drop};
 ghost use Rattle.definition.specs.TreeRun.{Completed, reasonOf};
-ghost use Rattle.treerows.specs.Found.{rowAt};
+ghost use Rattle.treerows.specs.Found.{wordAt, rowAt};
 ghost use Rattle.running.specs.Links.{Links, plains, plainsFrom};
 ghost use Rattle.running.specs.Machine as machine;
 ghost use Rattle.running.specs.Machine.{Gives, step, going, enter, state};
 ghost use Rattle.running.specs.Acts.{doThen, doAct};
 ghost use Rattle.runner.specs.Abstraction.{completionBy, placeOf, linksOf, layoutAt, thenBy, chosenBy, actOf, haltedAt};
-ghost use Rattle.runner.specs.Holds.{Held, Took, backBy, Ends, Walks, told};
+ghost use Rattle.runner.specs.Holds.{Held, Took, backBy, Instructs, After, Ends, Walks, told};
 
 // The buffer took all that was to be performed, so many rows by now; or it can't take the row `at`.
 pub struct Performed {
@@ -203,6 +203,35 @@ fn decide(
     )
 }
 
+// Most turns enter an INSTR and then leave it for the next statement of its BLOCK. They need no Turn, which goes through memory: walk does both at once.
+fn instructs(tree: &[u32], place: Place) -> bool
+    ensures { λ r. ⌜ (r ≡ true → Instructs (now (tree .entry)) place) ⌝ }
+{
+    if place.down {
+        return word(tree, place.row, 0) == 4;
+    }
+    false
+}
+
+// After an INSTR: on to the next statement of its BLOCK, or out of the BLOCK; elsewhere out of the INSTR alone.
+fn after_instruction(tree: &[u32], parent: &[u32], next: &[u32], rows: u32, row: u32) -> Place
+    requires { ⌜ wordAt (now tree) row 0 ≡ 4 ⌝ }
+    ensures { λ r. ⌜ ((begin child : List ℕ) → After (layoutAt (now (tree .entry)) (linksOf begin (now (parent .entry)) (now (next .entry)) child) rows) row r) ⌝ }
+{
+    if row as usize + 1 == rows as usize {
+        return leave(row, complete(NORMAL, 0, 0));
+    }
+    let block = link(parent, row);
+    if word(tree, block, 0) != 9 {
+        return leave(row, complete(NORMAL, 0, 0));
+    }
+    let later = link(next, row);
+    if later == 0 {
+        return leave(block, complete(NORMAL, 0, 0));
+    }
+    enter(later)
+}
+
 // What is told where the walk halted.
 fn ended(place: Place, number: usize) -> Ran
     ensures { λ r. ⌜ (place .down ≡ false → r ≡ told number (reasonOf (completionBy (place .kind) (place .target) (place .jump)))) ⌝ }
@@ -241,6 +270,17 @@ pub fn walk(
     let mut asked = 0usize;
     let mut number = 0usize;
     while !halted(place, rows) {
+        if instructs(tree, place) {
+            let row = place.row;
+            let did = perform(tree, link(begin, row), row, performed, number);
+            if did.full {
+                return refused(65, did.at);
+            }
+            let after = after_instruction(tree, parent, next, rows, row);
+            number = did.number;
+            place = after;
+            continue;
+        }
         let turn = decide(tree, begin, parent, next, child, rows, place);
         let took = perform_turn(tree, turn, performed, number);
         if took.full {

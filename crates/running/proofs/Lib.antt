@@ -8,4 +8,5 @@ pub mod Appends
 pub mod Linking
 pub mod ActLaws
 pub mod OneOutcome
+pub mod SwitchRuns
 pub mod Samples

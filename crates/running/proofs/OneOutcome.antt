@@ -17,7 +17,7 @@ use Rattle.running.specs.Given.{Gives, refused, runs}
 cons-nil : {x : ℕ} {xs : List ℕ} → x ∷ xs ≡ [] → ⊥
 cons-nil e = let z : _≡_ {A = ℕ} 0 1 = cc in omega arith
 
-words-inj : (l k : List Row) → wordsOf l ≡ wordsOf k → l ≡ k
+pub words-inj : (l k : List Row) → wordsOf l ≡ wordsOf k → l ≡ k
 unfolding wordsOf
 words-inj [] [] e = refl
 words-inj [] (row op a b c d f ∷ k) e = absurd (cons-nil (sym e))

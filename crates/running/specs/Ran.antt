@@ -6,7 +6,7 @@ use mathlib.Core.Bool.{Bool, true, false, _||_}
 use lib.ListN.{length, getD, replicate}
 use lib.Dec.{eqb, leb}
 use Rattle.definition.specs.Tree.{Row, row, Statements, rows}
-use Rattle.definition.specs.Run.{Answers, Reason, returned, threw, no-answer-left, not-plain, no-target, end-of-tree, Run, unfinished, stopped}
+use Rattle.definition.specs.Run.{Answers, Reason, returned, threw, no-answer-left, not-plain, no-target, end-of-tree, no-such-case, Run, unfinished, stopped}
 use Rattle.definition.specs.TreeRun.{treeRun}
 use Rattle.running.specs.Numbered.{numbered}
 
@@ -35,7 +35,7 @@ unfoldable pub performedAll : (performed : List ℕ) → (reason lent : ℕ) →
 performedAll performed reason lent =
     record { code = 0; at = 0; number = length performed; reason = reason; buffer = performed ++ replicate (lent - length performed) 0 }
 
--- "63 at a jump reached that has no target of its sort around it"
+-- "63 at a jump reached that has no target of its sort around it". No tree's run stops for `no-such-case`: "a place beyond the last runs no case"
 unfoldable pub ended : (performed : List ℕ) → (lent : ℕ) → (numberedReason : Reason) → Outcome
 ended performed lent (returned value id) = performedAll performed 1 lent
 ended performed lent (threw value id) = performedAll performed 2 lent
@@ -43,6 +43,7 @@ ended performed lent end-of-tree = performedAll performed 3 lent
 ended performed lent no-answer-left = performedAll performed 4 lent
 ended performed lent (no-target at) = refusal 63 at lent
 ended performed lent not-plain = refusal 64 0 lent
+ended performed lent no-such-case = refusal 64 0 lent
 
 -- "65 at the first PLAIN reached that the buffer can't take": the rows reached are those that the tree with row numbers performs
 unfoldable pub given : (lent : ℕ) → (run numberedRun : Run) → Outcome

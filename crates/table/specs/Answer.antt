@@ -1,4 +1,4 @@
--- What the code's own answers mean: the whole check's by paper 01's numbers, and those of the functions below it.
+-- What the check's own answer means, by paper 01's numbers; and the limit that a rule is.
 use Prim.Native.Nat.{ℕ, suc, _-_}
 use mathlib.Core.List.{List, [], _∷_}
 use mathlib.Core.Bool.{Bool, true, false, cond}
@@ -40,29 +40,6 @@ limit (row-or-none rows) word = cond (eqb word largest) (suc largest) rows
 limit (rows-from first rows) word = suc rows - first
 limit (end-of from) word = cond (leb from word) (suc largest) 0
 
--- the limits of the words from `column` on
-abbrev pub limitsFrom : (ℕ → ℕ) → ℕ → List Rule → List ℕ
-limitsFrom words column [] = []
-limitsFrom words column (rule ∷ rules) = limit rule (words column) ∷ limitsFrom words (suc column) rules
-
--- rules for five columns, and for two: those not listed are unused
+-- rules for five columns: those not listed are unused
 abbrev pub five : List Rule → List Rule
 five rules = getD rules 0 unused ∷ getD rules 1 unused ∷ getD rules 2 unused ∷ getD rules 3 unused ∷ getD rules 4 unused ∷ []
-
-abbrev pub two : List Rule → List Rule
-two rules = getD rules 0 unused ∷ getD rules 1 unused ∷ []
-
--- the first column, from `column` on, whose word does not fit its rule; the width of the row where all do
-unfoldable pub firstBad : (ℕ → ℕ) → ℕ → List Rule → ℕ
-firstBad words column [] = column
-firstBad words column (rule ∷ rules) = elim (fits rule (words column)) [ true ↦ firstBad words (suc column) rules | false ↦ column ]
-
--- the first head word, from `at` on, over its limit; the next word where none is
-unfoldable pub firstOver : List ℕ → ℕ → List ℕ → ℕ
-firstOver ws at [] = at
-firstOver ws at (limit ∷ limits) = elim (leb (word ws at) limit) [ true ↦ firstOver ws (suc at) limits | false ↦ at ]
-
--- the first column, from `column` on, whose word is not below its limit; the next column where all are
-unfoldable pub firstNotBelow : (ℕ → ℕ) → ℕ → List ℕ → ℕ
-firstNotBelow words column [] = column
-firstNotBelow words column (below ∷ limits) = elim (ltb (words column) below) [ true ↦ firstNotBelow words (suc column) limits | false ↦ column ]

@@ -78,7 +78,7 @@ pub fn identifiers_begin(words: &[u32]) -> u32
     places_begin(words) + place_count(words)
 }
 
-pub(crate) fn words_needed(words: &[u32]) -> u32
+pub fn words_needed(words: &[u32]) -> u32
     requires { ⌜ Limited (now words) ⌝ }
     ensures { λ r. ⌜ r ≡ wordsNeeded (now (words .entry)) ⌝ }
 {
@@ -95,7 +95,7 @@ pub fn block_word(words: &[u32], row: u32, column: u32) -> u32
     words[at]
 }
 
-pub(crate) fn instruction_word(words: &[u32], row: u32, column: u32) -> u32
+pub fn instruction_word(words: &[u32], row: u32, column: u32) -> u32
     requires { ⌜ Sized (now words) ⌝ }
     requires { ⌜ row < instructionCount (now words) ⌝ }
     requires { ⌜ column < 7 ⌝ }
@@ -105,7 +105,7 @@ pub(crate) fn instruction_word(words: &[u32], row: u32, column: u32) -> u32
     words[at]
 }
 
-pub(crate) fn case_word(words: &[u32], row: u32, column: u32) -> u32
+pub fn case_word(words: &[u32], row: u32, column: u32) -> u32
     requires { ⌜ Sized (now words) ⌝ }
     requires { ⌜ row < caseCount (now words) ⌝ }
     requires { ⌜ column < 2 ⌝ }

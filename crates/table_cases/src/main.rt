@@ -107,7 +107,7 @@ fn run(text: &[u8], words: &mut [u32]) -> Tally {
 fn differs(words: &[u32], code: u64, place: u64) -> u64
     ensures { λ r. ⌜ r ≤ 1 ⌝ }
 {
-    let checked = table::check(words);
+    let checked = table_check::check(words);
     if checked.code() as u64 != code {
         return 1;
     }

@@ -6,5 +6,7 @@ pub mod StepLaws
 pub mod FormLaws
 pub mod PartLaws
 pub mod AnswerLaws
+pub mod ReadingLaws
+pub mod ReadingSamples
 pub mod WriteLaws
 pub mod PrintsLaws

@@ -17,9 +17,9 @@ pub reached-none : {root : Form} (file : List ℕ) → Reached root file 0 [] ro
 reached-none file = record { sound = λ bytes more t. t; only = λ bytes all t. (all, refl, t) }
 
 -- the form takes the byte c, which completes these words, and goes on as `next`
-record Step (form : Form) (c : ℕ) (new : List ℕ) (next : Form) : Type 0 where
-  sound : (bytes more : List ℕ) → Text next bytes more → Text form (c ∷ bytes) (new ++ more)
-  only : (bytes all : List ℕ) → Text form (c ∷ bytes) all → (more : List ℕ) × (all ≡ new ++ more) × Text next bytes more
+pub record Step (form : Form) (c : ℕ) (new : List ℕ) (next : Form) : Type 0 where
+  pub sound : (bytes more : List ℕ) → Text next bytes more → Text form (c ∷ bytes) (new ++ more)
+  pub only : (bytes all : List ℕ) → Text form (c ∷ bytes) all → (more : List ℕ) × (all ≡ new ++ more) × Text next bytes more
 
 -- every form has a text: where a number is wanted, 0
 inhabited : (form : Form) → (bytes : List ℕ) × (words : List ℕ) × Text form bytes words
@@ -38,7 +38,7 @@ module _ {root : Form} (file : List ℕ) (at : ℕ) (words : List ℕ) (form : F
     front : (bytes : List ℕ) → take (at + 1) file ++ bytes ≡ take at file ++ (getD file at 0 ∷ bytes)
     front bytes = rw (add-one at, take-suc file at 0 inside) (append-snoc (take at file) (getD file at 0) bytes)
 
-    advance : (new : List ℕ) (next : Form) → Step form (getD file at 0) new next → Reached root file (at + 1) (words ++ new) next
+    pub advance : (new : List ℕ) (next : Form) → Step form (getD file at 0) new next → Reached root file (at + 1) (words ++ new) next
     advance new next s = record {
       sound = λ bytes more t. rw (front bytes, append-assoc words new more) (h .sound (getD file at 0 ∷ bytes) (new ++ more) (s .sound bytes more t));
       only = λ bytes all t.
@@ -52,7 +52,7 @@ module _ {root : Form} (file : List ℕ) (at : ℕ) (words : List ℕ) (form : F
     advance-in next s = rw (append-nil words) at (advance [] next s)
 
     -- the form does not take the byte
-    halt : ((bytes all : List ℕ) → Text form (getD file at 0 ∷ bytes) all → ⊥) → Stopped root file at
+    pub halt : ((bytes all : List ℕ) → Text form (getD file at 0 ∷ bytes) all → ⊥) → Stopped root file at
     halt never =
         let (bytes, more, t) = inhabited form in
         record {
@@ -65,7 +65,7 @@ module _ {root : Form} (file : List ℕ) (at : ℕ) (words : List ℕ) (form : F
         }
 
   -- the file is at its end, and the form is not
-  halt-short : at ≡ length file → ((all : List ℕ) → Text form [] all → ⊥) → Stopped root file at
+  pub halt-short : at ≡ length file → ((all : List ℕ) → Text form [] all → ⊥) → Stopped root file at
   halt-short end never =
       let (bytes, more, t) = inhabited form in
       let e : file ≡ take at file ++ [] = rw (end, take-length file, append-nil file) in

@@ -1,4 +1,5 @@
 pub mod Language
+pub mod Previews
 pub mod Requests
 pub mod Theorems
 pub mod WalkingOrder

@@ -24,9 +24,13 @@ use Rattle.definition.specs.Build as definition
 use Rattle.definition.specs.Machine.{State, begin, Gives, run}
 use Rattle.definition.specs.Run.{Answers, Reason, stopped}
 use Rattle.definition.specs.BlockRun.{blockRun}
-use Rattle.definition.specs.Plain.{Plain}
-use Rattle.definition.specs.Reading.{OneTree, JumpsWithin}
-use Rattle.definition.specs.RunLaw.{RunLaw}
+use Rattle.definition.specs.Plain.{paper-01, with-switch, Plain}
+use Rattle.definition.specs.Reading.{OneTree, TreeOf, JumpsWithin}
+use Rattle.definition.specs.Index.{lines}
+use Rattle.definition.proofs.Preview.{never-41}
+use Rattle.indexed.specs.Indexed.{OneLineEach, InOrder, FindsLabelled}
+use Rattle.indexed.proofs.Found.{one-line-each, lines-in-order, finds-labelled}
+use Rattle.definition.specs.RunLaw.{RunLaw, SwitchLaw, LawOfSwitches}
 use Rattle.definition.proofs.Outcomes.{ofInput, acceptance, outcome-code, refused-form, refused-rows, accepted-form}
 use Rattle.definition.proofs.Visits.{visits-most}
 use Rattle.definition.proofs.Never.{target-known, never-already-scheduled, never-unschedule-out-of-order, never-maybe-throw-in-value-terminal}
@@ -34,10 +38,10 @@ use Rattle.definition.proofs.Simulation.{machine-builds}
 use Rattle.definition.proofs.Invariant.{Reached, contextOf, framesOf, Small, sound-small, reached-going, stack-bound, machine-turns}
 use Rattle.definition.proofs.Enough.{blocks-enough}
 use Rattle.definition.proofs.PlainEnough.{PlainEnough}
-use Rattle.definition.proofs.Law.{run-law-enough, more-steps, one-tree}
+use Rattle.definition.proofs.Law.{run-law-enough, switch-law, more-steps, one-tree}
 use Rattle.definition.proofs.Crossed.{Found, break-found, continue-found}
 use Rattle.definition.proofs.JumpRows.{built-within}
-use Rattle.definition.proofs.Example.{W, loops, W-law, loops-law}
+use Rattle.definition.proofs.Example.{W, loops, picks, W-law, loops-law, picks-law, not-for-rust}
 use Rattle.definition.proofs.Samples.{Sample, samples, builtFor, the-samples}
 use Rattle.definition.specs.Tree.{Row}
 use Rattle.definition.specs.Reading.{ReadAs}
@@ -58,7 +62,7 @@ use Rattle.text.proofs.DecimalLaws.{steps}
 use Rattle.build.specs.declared.Outcome.{Outcome}
 use Rattle.build.specs.Entry.{outcome}
 use Rattle.build.proofs.CheckedLaws.{checked-table}
-use Rattle.build.proofs.Demand3.{entry-tree, entry-law}
+use Rattle.build.proofs.Demand3.{entry-tree, entry-law, language-law}
 use Rattle.build.proofs.build_reactive_function.Statement as entry-stated
 use Rattle.build.proofs.build_reactive_function.Met as entry-proved
 use Rattle.build.proofs.build_reactive_function.Reads as entry
@@ -75,7 +79,8 @@ use Rattle.survey.specs.declared.Rule as code
 use Rattle.survey.specs.Abstraction.{ruleOf}
 use Rattle.theorems.specs.Parted.{Parted}
 use Rattle.theorems.proofs.Language.{entries-part, first-never-29, LabelsThere, labels-there}
-use Rattle.treefile.specs.Prints.{Prints, FileBuilt}
+use Rattle.treefile.specs.Prints.{lentWords, lentIndex, Prints, FileBuilt}
+use Rattle.treefile.proofs.OutcomeLaws.{never-41 as file-never-41}
 use Rattle.text.proofs.PrintsLaws.{file-printed-one}
 use Rattle.treefile.proofs.Sample.{sample-prints}
 use Rattle.treefile.proofs.build_file.Statement as file-stated
@@ -97,108 +102,131 @@ the-language-entry-meets-its-contract = language-proved.met
 pub the-language-export-meets-its-contract : {M : Type 1} → language-export-stated.statement M
 the-language-export-meets-its-contract = language-export-proved.met
 
--- a call's references, before or after it: the words and the lent tree
+-- a call's references, before or after it: the words, the lent tree and the lent index
 abbrev pub Lent : Type 0
-Lent = RefT (List ℕ) × (RefT (List ℕ) × Unit {0})
+Lent = RefT (List ℕ) × (RefT (List ℕ) × (RefT (List ℕ) × Unit {0}))
 
-pub build-asks-nothing : (κs : Lfts 2) (before : Lent) → entry.Asked κs before
+pub build-asks-nothing : (κs : Lfts 3) (before : Lent) → entry.Asked κs before
 build-asks-nothing κs before = tt
 
--- what a caller learns from that contract: code, at, rows, visits and every lent word, refused or not
-pub build-gives-the-definition : (κs : Lfts 2) (before after : Lent) (answer : Outcome) → entry.Learnt κs before answer after
-    → outcome answer (now (after .1 .0)) ≡ built rust (now (before .0)) (length (now (before .1 .0)))
+-- what a caller learns from that contract: code, at, rows, visits, lines and every lent word of both buffers, refused or not
+pub build-gives-the-definition : (κs : Lfts 3) (before after : Lent) (answer : Outcome) → entry.Learnt κs before answer after
+    → outcome answer (now (after .1 .0)) (now (after .1 .1 .0)) ≡ built rust (now (before .0)) (length (now (before .1 .0))) (length (now (before .1 .1 .0)))
 build-gives-the-definition κs before after answer learnt = learnt
 
-pub the-language-entry-asks-nothing : (κs : Lfts 2) (before : Lent) → language-entry.Asked κs before
+pub the-language-entry-asks-nothing : (κs : Lfts 3) (before : Lent) → language-entry.Asked κs before
 the-language-entry-asks-nothing κs before = tt
 
-pub the-language-entry-gives-the-definition : (κs : Lfts 2) (before after : Lent) (answer : Outcome) → language-entry.Learnt κs before answer after
-    → outcome answer (now (after .1 .0)) ≡ built language (now (before .0)) (length (now (before .1 .0)))
+pub the-language-entry-gives-the-definition : (κs : Lfts 3) (before after : Lent) (answer : Outcome) → language-entry.Learnt κs before answer after
+    → outcome answer (now (after .1 .0)) (now (after .1 .1 .0)) ≡ built language (now (before .0)) (length (now (before .1 .0))) (length (now (before .1 .1 .0)))
 the-language-entry-gives-the-definition κs before after answer learnt = learnt
 
--- the export's references: the words, the lent tree, and the three words of its answer beside the code
+-- the export's references: the words, the lent tree and index, and the four words of its answer beside the code
 abbrev pub LentWithAnswer : Type 0
-LentWithAnswer = RefT (List ℕ) × (RefT (List ℕ) × (RefT ℕ × (RefT ℕ × (RefT ℕ × Unit {0}))))
+LentWithAnswer = RefT (List ℕ) × (RefT (List ℕ) × (RefT (List ℕ) × (RefT ℕ × (RefT ℕ × (RefT ℕ × (RefT ℕ × Unit {0}))))))
 
-pub export-asks-nothing : (κs : Lfts 5) (before : LentWithAnswer) → export.Asked κs before
+pub export-asks-nothing : (κs : Lfts 7) (before : LentWithAnswer) → export.Asked κs before
 export-asks-nothing κs before = tt
 
-pub export-gives-the-definition : (κs : Lfts 5) (before after : LentWithAnswer) (code : ℕ) → export.Learnt κs before code after
+pub export-gives-the-definition : (κs : Lfts 7) (before after : LentWithAnswer) (code : ℕ) → export.Learnt κs before code after
     → record {
       code = code;
-      at = now (after .1 .1 .0);
-      rows = now (after .1 .1 .1 .0);
-      visits = now (after .1 .1 .1 .1 .0);
+      at = now (after .1 .1 .1 .0);
+      rows = now (after .1 .1 .1 .1 .0);
+      visits = now (after .1 .1 .1 .1 .1 .0);
+      lines = now (after .1 .1 .1 .1 .1 .1 .0);
       buffer = now (after .1 .0);
-    } ≡ built rust (now (before .0)) (length (now (before .1 .0)))
+      index = now (after .1 .1 .0);
+    } ≡ built rust (now (before .0)) (length (now (before .1 .0))) (length (now (before .1 .1 .0)))
 export-gives-the-definition κs before after code learnt = learnt
 
-pub the-language-export-asks-nothing : (κs : Lfts 5) (before : LentWithAnswer) → language-export.Asked κs before
+pub the-language-export-asks-nothing : (κs : Lfts 7) (before : LentWithAnswer) → language-export.Asked κs before
 the-language-export-asks-nothing κs before = tt
 
-pub the-language-export-gives-the-definition : (κs : Lfts 5) (before after : LentWithAnswer) (code : ℕ) → language-export.Learnt κs before code after
+pub the-language-export-gives-the-definition : (κs : Lfts 7) (before after : LentWithAnswer) (code : ℕ) → language-export.Learnt κs before code after
     → record {
       code = code;
-      at = now (after .1 .1 .0);
-      rows = now (after .1 .1 .1 .0);
-      visits = now (after .1 .1 .1 .1 .0);
+      at = now (after .1 .1 .1 .0);
+      rows = now (after .1 .1 .1 .1 .0);
+      visits = now (after .1 .1 .1 .1 .1 .0);
+      lines = now (after .1 .1 .1 .1 .1 .1 .0);
       buffer = now (after .1 .0);
-    } ≡ built language (now (before .0)) (length (now (before .1 .0)))
+      index = now (after .1 .1 .0);
+    } ≡ built language (now (before .0)) (length (now (before .1 .0))) (length (now (before .1 .1 .0)))
 the-language-export-gives-the-definition κs before after code learnt = learnt
 
 -- ---- what every answer shows (demand 1)
 
 -- a call of either entry: `ensured` is what it learns, as `build-gives-the-definition` and `the-language-entry-gives-the-definition` have it
-module _ (rule : Rule) (words buffer buffer′ : List ℕ) (answer : Outcome) (ensured : outcome answer buffer′ ≡ built rule words (length buffer)) where
+module _ (rule : Rule) (words buffer index buffer′ index′ : List ℕ) (answer : Outcome)
+    (ensured : outcome answer buffer′ index′ ≡ built rule words (length buffer) (length index)) where
   -- what holds of the definition's outcome holds of the call's
-  carried : (P : definition.Outcome → Type 0) → P (built rule words (length buffer)) → P (outcome answer buffer′)
+  carried : (P : definition.Outcome → Type 0) → P (built rule words (length buffer) (length index)) → P (outcome answer buffer′ index′)
   carried P h = subst P (sym ensured) h
 
-  -- "Refused: all zeros."
+  -- "Refused: all zeros." M-101: "A refused build leaves zeros in both buffers", and no lines are told
   pub a-refused-call-leaves-zeros : (answer .code ≡ 0 → ⊥)
-      → outcome answer buffer′ ≡ refusal (answer .code) (answer .at) (answer .rows) (answer .visits) (length buffer)
+      → outcome answer buffer′ index′ ≡ refusal (answer .code) (answer .at) (answer .rows) (answer .visits) (length buffer) (length index)
   a-refused-call-leaves-zeros =
-      carried (λ o. (o .code ≡ 0 → ⊥) → o ≡ refusal (o .code) (o .at) (o .rows) (o .visits) (length buffer)) (refused-form rule words (length buffer))
+      carried (λ o. (o .code ≡ 0 → ⊥) → o ≡ refusal (o .code) (o .at) (o .rows) (o .visits) (length buffer) (length index)) (refused-form rule words (length buffer) (length index))
 
   -- "Rows is 0 except at 40"
   pub a-refused-call-has-no-rows : (answer .code ≡ 0 → ⊥) → (answer .code ≡ 40 → ⊥) → answer .rows ≡ 0
-  a-refused-call-has-no-rows = carried (λ o. (o .code ≡ 0 → ⊥) → (o .code ≡ 40 → ⊥) → o .rows ≡ 0) (refused-rows rule words (length buffer))
+  a-refused-call-has-no-rows = carried (λ o. (o .code ≡ 0 → ⊥) → (o .code ≡ 40 → ⊥) → o .rows ≡ 0) (refused-rows rule words (length buffer) (length index))
 
-  -- "Accepted: at 0, the buffer holds the rows, then zeros.": the rows of a tree
+  -- "Accepted: at 0, the buffer holds the rows, then zeros.": the rows of a tree, and the index its lines, then zeros
   pub an-accepted-call-leaves-rows-then-zeros : answer .code ≡ 0
-      → (root : Statements) × (length (rows root) * 6 ≤ length buffer) × (outcome answer buffer′ ≡ acceptance (length buffer) (rows root) (answer .visits))
+      → (root : Statements) × (length (rows root) * 6 ≤ length buffer) × (outcome answer buffer′ index′ ≡ acceptance (length buffer) (length index) (rows root) (lines root) (answer .visits))
   an-accepted-call-leaves-rows-then-zeros =
-      carried (λ o. o .code ≡ 0 → (root : Statements) × (length (rows root) * 6 ≤ length buffer) × (o ≡ acceptance (length buffer) (rows root) (o .visits)))
-      (accepted-form rule words (length buffer))
+      carried (λ o. o .code ≡ 0 → (root : Statements) × (length (rows root) * 6 ≤ length buffer) × (o ≡ acceptance (length buffer) (length index) (rows root) (lines root) (o .visits)))
+      (accepted-form rule words (length buffer) (length index))
 
-  -- 0; 1 to 4 or 10 to 31, which are the paper's for words and graphs; or 40
-  pub a-call-has-a-code-of-the-paper : T (eqb (answer .code) 0 || ofInput (answer .code) || eqb (answer .code) 40)
-  a-call-has-a-code-of-the-paper = carried (λ o. T (eqb (o .code) 0 || ofInput (o .code) || eqb (o .code) 40)) (outcome-code rule words (length buffer))
+  -- 0; 1 to 4 or 10 to 31, which are the paper's for words and graphs; 40; or 41
+  pub a-call-has-a-code-of-the-paper : T (eqb (answer .code) 0 || ofInput (answer .code) || eqb (answer .code) 40 || eqb (answer .code) 41)
+  a-call-has-a-code-of-the-paper = carried (λ o. T (eqb (o .code) 0 || ofInput (o .code) || eqb (o .code) 40 || eqb (o .code) 41)) (outcome-code rule words (length buffer) (length index))
 
   -- "Depth at most 128, visits at most 8,192."
   pub a-call-makes-at-most-8192-visits : answer .visits ≤ 8192
-  a-call-makes-at-most-8192-visits = carried (λ o. o .visits ≤ 8192) (visits-most rule words (length buffer))
+  a-call-makes-at-most-8192-visits = carried (λ o. o .visits ≤ 8192) (visits-most rule words (length buffer) (length index))
 
   -- ---- the runs agree (demand 3)
 
   -- the rows of any accepted table are read as one tree
-  pub accepted-rows-are-one-tree : answer .code ≡ 0 → OneTree (outcome answer buffer′)
-  accepted-rows-are-one-tree h = entry-tree rule words buffer buffer′ answer ensured h
+  pub accepted-rows-are-one-tree : answer .code ≡ 0 → OneTree (outcome answer buffer′ index′)
+  accepted-rows-are-one-tree h = entry-tree rule words buffer index buffer′ index′ answer ensured h
 
   -- on a plain table that is accepted the block run and that tree's run agree, over every finite list of answers
-  pub the-runs-of-a-plain-table-agree : answer .code ≡ 0 → Plain (tableOf words) → RunLaw words (outcome answer buffer′)
-  the-runs-of-a-plain-table-agree h plain = entry-law rule words buffer buffer′ answer ensured h plain
+  pub the-runs-of-a-plain-table-agree : answer .code ≡ 0 → Plain paper-01 (tableOf words) → RunLaw words (outcome answer buffer′ index′)
+  the-runs-of-a-plain-table-agree h plain = entry-law rule words buffer index buffer′ index′ answer ensured h plain
 
 -- the same from less than the paper's plainness: no use is made of "one While" naming each Branch block
-pub the-runs-agree-from-less : (rule : Rule) (words : List ℕ) (lent : ℕ) → built rule words lent .code ≡ 0 → PlainEnough (tableOf words) → RunLaw words (built rule words lent)
+pub the-runs-agree-from-less : (rule : Rule) (words : List ℕ) (lent lentIndex : ℕ) → built rule words lent lentIndex .code ≡ 0 → PlainEnough paper-01 (tableOf words)
+    → RunLaw words (built rule words lent lentIndex)
 the-runs-agree-from-less = run-law-enough
 
 -- it is not empty: W with instructions, and two loops of which the inner continues the outer
-pub the-runs-of-W-agree : (rule : Rule) → RunLaw W (built rule W 600)
+pub the-runs-of-W-agree : (rule : Rule) → RunLaw W (built rule W 600 300)
 the-runs-of-W-agree = W-law
 
-pub the-runs-of-two-loops-agree : (rule : Rule) → RunLaw loops (built rule loops 600)
+pub the-runs-of-two-loops-agree : (rule : Rule) → RunLaw loops (built rule loops 600 300)
 the-runs-of-two-loops-agree = loops-law
+
+-- M-113: the same of plain tables with switches, in the language entry, over every list whose answers name existing cases. The runner on them: Requests
+pub the-runs-with-switches-agree : LawOfSwitches
+the-runs-with-switches-agree = switch-law
+
+-- the same of what build_language gave and left in the lent buffer
+pub the-runs-with-switches-agree-for-a-caller : (words buffer index buffer′ index′ : List ℕ) (answer : Outcome)
+    → outcome answer buffer′ index′ ≡ built language words (length buffer) (length index)
+    → answer .code ≡ 0 → Plain with-switch (tableOf words) → SwitchLaw words (outcome answer buffer′ index′)
+the-runs-with-switches-agree-for-a-caller = language-law
+
+-- it is not empty: a loop with a switch of three cases, one of which leaves the loop; and it is not so for the first entry
+pub the-runs-of-a-switch-agree : SwitchLaw picks (built language picks 900 300)
+the-runs-of-a-switch-agree = picks-law
+
+pub the-first-entry-has-no-such-law : SwitchLaw picks (built rust picks 900 300) → ⊥
+the-first-entry-has-no-such-law = not-for-rust
 
 -- ---- "Four Rust messages never occur and are proved so": over any table, by either rule
 
@@ -239,8 +267,8 @@ pub a-continue-gives-the-loops-above-its-loop : (cx : Context) (block : ℕ) (fo
     → Found (λ target. continuesAt target block) (cx .stack) found
 a-continue-gives-the-loops-above-its-loop = continue-found
 
-pub no-row-has-more-than-128-loops : (rule : Rule) (words : List ℕ) (lent : ℕ) → (accepts : built rule words lent .code ≡ 0)
-    → JumpsWithin (rows (one-tree rule words lent accepts .tree))
+pub no-row-has-more-than-128-loops : (rule : Rule) (words : List ℕ) (lent lentIndex : ℕ) → (accepts : built rule words lent lentIndex .code ≡ 0)
+    → JumpsWithin (rows (one-tree rule words lent lentIndex accepts .tree))
 no-row-has-more-than-128-loops = built-within
 
 -- ---- M-100: read a tree back
@@ -267,25 +295,47 @@ pub a-list-has-one-reading : (list : List Row) (root root′ : Statements) → R
 a-list-has-one-reading = one-reading
 
 -- "every list that the build makes within that size is accepted", for both entries
-pub what-the-build-makes-is-accepted : (rule : Rule) (words : List ℕ) (lent : ℕ) → built rule words lent .code ≡ 0 → built rule words lent .rows ≤ 2048
-    → Answer (take (built rule words lent .rows * 6) (built rule words lent .buffer)) 0 0
+pub what-the-build-makes-is-accepted : (rule : Rule) (words : List ℕ) (lent lentIndex : ℕ) → built rule words lent lentIndex .code ≡ 0 → built rule words lent lentIndex .rows ≤ 2048
+    → Answer (take (built rule words lent lentIndex .rows * 6) (built rule words lent lentIndex .buffer)) 0 0
 what-the-build-makes-is-accepted = built-answered
 
 -- ---- M-102: the language entry
 
--- "which differs only as follows": for the same words and lent buffer it refuses alike, gives 29, or accepts after the same visits a tree that differs only in
--- BREAKs that are Labeled in place of Unlabeled
-pub the-entries-differ-only-so : (words : List ℕ) (lent : ℕ) → Parted lent (built rust words lent) (built language words lent)
+-- "index included, which differs only as follows": for the same words and lent buffers it refuses alike, gives 29, or accepts after the same visits a tree that differs only in
+-- BREAKs that are Labeled in place of Unlabeled, with the same lines
+pub the-entries-differ-only-so : (words : List ℕ) (lent lentIndex : ℕ) → Parted lent lentIndex (built rust words lent lentIndex) (built language words lent lentIndex)
 the-entries-differ-only-so = entries-part
 
 -- "29 in the new entry"
-pub the-first-entry-never-gives-29 : (words : List ℕ) (lent : ℕ) → built rust words lent .code ≡ 29 → ⊥
+pub the-first-entry-never-gives-29 : (words : List ℕ) (lent lentIndex : ℕ) → built rust words lent lentIndex .code ≡ 29 → ⊥
 the-first-entry-never-gives-29 = first-never-29
 
 -- in an accepted tree of the language entry each Labeled jump stands in a statement with its label, a continue in its own loop with it, and the nearest loop
 -- or SWITCH around an Unlabeled break is a loop (specs/Named)
-pub the-labels-are-there : (words : List ℕ) (lent : ℕ) → built language words lent .code ≡ 0 → LabelsThere language words lent
+pub the-labels-are-there : (words : List ℕ) (lent lentIndex : ℕ) → built language words lent lentIndex .code ≡ 0 → LabelsThere language words lent lentIndex
 the-labels-are-there = labels-there language
+
+-- ---- M-101: find a statement by its label
+
+-- "No two lines of one accepted tree bear the same label, and this is proved."
+pub no-two-lines-have-the-same-label : (rule : Rule) (words : List ℕ) (lent lentIndex : ℕ) → built rule words lent lentIndex .code ≡ 0 → OneLineEach (built rule words lent lentIndex)
+no-two-lines-have-the-same-label = one-line-each
+
+-- "in the order of closing rows"
+pub the-lines-stand-in-the-order-of-closing-rows : (rule : Rule) (words : List ℕ) (lent lentIndex : ℕ) → built rule words lent lentIndex .code ≡ 0 → InOrder (built rule words lent lentIndex)
+the-lines-stand-in-the-order-of-closing-rows = lines-in-order
+
+-- "A lookup gives back the statement's own rows": each labelled statement of the tree that the buffer holds is found by its label, with just its rows
+pub the-lookup-finds-each-labelled-statement : (rule : Rule) (words : List ℕ) (lent lentIndex : ℕ) → built rule words lent lentIndex .code ≡ 0
+    → (root : Statements) → TreeOf (built rule words lent lentIndex) root → FindsLabelled (built rule words lent lentIndex) root
+the-lookup-finds-each-labelled-statement = finds-labelled
+
+-- 3,069 words of index are enough for any table; and so are as many lines as rows, which treebuild lends: there 41 is not printed
+pub a-table-has-at-most-1023-lines : (rule : Rule) (words : List ℕ) (lent lentIndex : ℕ) → 3069 ≤ lentIndex → built rule words lent lentIndex .code ≡ 41 → ⊥
+a-table-has-at-most-1023-lines = never-41
+
+pub treebuild-never-gives-41 : (rule : Rule) (words : List ℕ) → built rule words lentWords lentIndex .code ≡ 41 → ⊥
+treebuild-never-gives-41 = file-never-41
 
 -- ---- samples
 
@@ -307,7 +357,7 @@ build-file-meets-its-contract = file-proved.met
 
 -- the rule, the file and the lent bytes
 abbrev pub Ruled : Type 0
-Ruled = code.Rule × Lent
+Ruled = code.Rule × (RefT (List ℕ) × (RefT (List ℕ) × Unit {0}))
 
 pub build-file-asks-nothing : (κs : Lfts 2) (before : Ruled) → build-file.Asked κs before
 build-file-asks-nothing κs before = tt

@@ -55,14 +55,15 @@ module _ (words : List ℕ) (ok : checked words ≡ accepted) where
       ≡ record { code = 0; at = 0; table = words }
   the-inverse-restores-the-first-table = round-trip words ok
 
-  -- "in either entry, with buffers of the same lengths, building the rearranged table gives the same rows, code and visits with every block number renamed, and `at` renamed where it is a block"
-  pub the-rearranged-table-builds-the-same : (rule : Rule) (lent : ℕ) → built rule (rearranged words) lent ≡ renamedOutcome (newNumber (walkingOrder (tableOf words))) (built rule words lent)
+  -- "in either entry, with buffers of the same lengths, building the rearranged table gives the same rows, code, visits and lines with every block number renamed, and `at` renamed where it is a block"
+  pub the-rearranged-table-builds-the-same : (rule : Rule) (lent lentIndex : ℕ)
+      → built rule (rearranged words) lent lentIndex ≡ renamedOutcome (newNumber (walkingOrder (tableOf words))) (built rule words lent lentIndex)
   the-rearranged-table-builds-the-same = rearranged-built words ok
 
   -- and so does any renumbering of the blocks
-  pub any-renumbering-builds-the-same : (new old : ℕ → ℕ) (rule : Rule) (lent : ℕ) → Renaming (blockCount words) new old
-      → built rule (renamed new old words) lent ≡ renamedOutcome new (built rule words lent)
-  any-renumbering-builds-the-same new old rule lent g = built-renamed new old rule words lent g ok
+  pub any-renumbering-builds-the-same : (new old : ℕ → ℕ) (rule : Rule) (lent lentIndex : ℕ) → Renaming (blockCount words) new old
+      → built rule (renamed new old words) lent lentIndex ≡ renamedOutcome new (built rule words lent lentIndex)
+  any-renumbering-builds-the-same new old rule lent lentIndex g = built-renamed new old rule words lent lentIndex g ok
 
   -- where the walk names every block, all renumberings of a table have one rearrangement
   pub all-renumberings-have-one-rearrangement : (new old : ℕ → ℕ) → Renaming (blockCount words) new old → AllNamed (tableOf words) → rearranged (renamed new old words) ≡ rearranged words

@@ -15,13 +15,17 @@ use Rattle.text.specs.Prints as text
 abbrev pub lentWords : ℕ
 lentWords = 12288
 
+-- M-101: it "lends 2,048 lines and prints as before"; lines have three words
+abbrev pub lentIndex : ℕ
+lentIndex = 6144
+
 -- the lines of an outcome: its rows, where it is accepted
 unfoldable pub printedOutcome : Outcome → List ℕ
 printedOutcome outcome = printed (outcome .code) (outcome .at) (outcome .rows) (outcome .visits) (take (outcome .rows * 6) (outcome .buffer))
 
 -- what a table's words print
 abbrev pub treeText : Rule → List ℕ → List ℕ
-treeText rule words = printedOutcome (built rule words lentWords)
+treeText rule words = printedOutcome (built rule words lentWords lentIndex)
 
 -- a file in the form prints what its table's words give; any other file prints its refusal
 abbrev pub Prints : Rule → (file text : List ℕ) → Type 0

@@ -22,6 +22,13 @@ fn lent_rows() -> [u32; 12288]
     [0; 12288]
 }
 
+// M-101: it "lends 2,048 lines".
+fn lent_lines() -> [u32; 6144]
+    ensures { λ r. ⌜ 6144 ≡ length r ⌝ }
+{
+    [0; 6144]
+}
+
 // Enough for the words of any good file.
 fn lent_words() -> [u32; 16384]
     ensures { λ r. ⌜ 16384 ≡ length r ⌝ }
@@ -36,12 +43,13 @@ fn write_result(out: &mut [u8], code: u32, at: u32, rows: u32, visits: u32, tree
     write(out, code, at, rows, visits, tree)
 }
 
-// Builds the table's tree, with 2,048 rows lent, and writes the result.
+// Builds the table's tree, with 2,048 rows and lines lent, and writes the result.
 fn build_words(rule: Rule, words: &[u32], out: &mut [u8]) -> Written
     ensures { λ r. ⌜ WrittenText 135245 (treeText (ruleOf rule) (now (words .entry))) (length (now (out .entry))) r (now (out .exit)) ⌝ }
 {
     let mut tree = lent_rows();
-    let built = build(rule, words, &mut tree);
+    let mut index = lent_lines();
+    let built = build(rule, words, &mut tree, &mut index);
     if built.code != 0 {
         return write_result(out, built.code, built.at, built.rows, built.visits, &tree);
     }

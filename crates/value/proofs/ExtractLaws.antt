@@ -1,6 +1,6 @@
 -- The value of a block's instructions: the last of them, with the others in a sequence before it.
 use mathlib.Core.Path.{_≡_, refl, sym, ap, _∙_}
-use mathlib.Core.Bool.{Bool, true, false}
+use mathlib.Core.Bool.{Bool, true, false, _&&_}
 use mathlib.Core.List.{List, [], _∷_}
 use mathlib.Core.Option.{none}
 use Prim.Native.Nat.{ℕ, zero, suc, _+_, _-_, _≤_, _<_}
@@ -8,16 +8,16 @@ use native.Mathlib.Omega.{arith}
 use lib.Dec.{eqb}
 use borrow.Author.Tests.{eqb-true, eqb-false}
 use Rattle.table.specs.declared.columns.Span.{Span}
-use Rattle.table.specs.Words.{instructionCount, placeCount, identifierCount, placeWord, identifierWord, operationCodeAt}
-use Rattle.table.specs.Table.{Table, Instruction, Operation, other, load-local, store-local, tableOf, instructionOf, operationOf, instructionAt, instructionRowsAt, rowsFrom}
+use Rattle.table.specs.Words.{blockCount, instructionCount, placeCount, identifierCount, placeWord, identifierWord, codeAt, operationCodeAt}
+use Rattle.table.specs.Table.{Table, Instruction, Operation, other, load-local, store-local, tableOf, instructionOf, operationOf, terminalAt, blockAt, instructionAt, instructionRowsAt, rowsFrom, isGoto}
 use Rattle.table.specs.Promise.{Promise, Heads, Instructs, Operates}
 use Rattle.table.proofs.ColumnLaws.{head-rows}
 use Rattle.table.proofs.TableLaws.{instruction-at, place-at, named-at}
 use Rattle.table.proofs.RangeLaws.{operation-known}
-use Rattle.table.proofs.BlockLaws.{no-number, low-number}
+use Rattle.table.proofs.BlockLaws.{code-at, no-number, low-number}
 use Rattle.definition.specs.Result.{Result, ok, refused}
 use Rattle.definition.specs.Tree.{PLAIN, LOAD}
-use Rattle.definition.specs.Value.{ValueBlockResult, wrapWithSequence, finalValue, finalPlace, storedToNamed, allButLast, last, extractValueBlockResult, extractOrRefuse, branchValue, loadedBy}
+use Rattle.definition.specs.Value.{ValueBlockResult, wrapWithSequence, finalValue, finalPlace, storedToNamed, allButLast, last, extractValueBlockResult, extractOrRefuse, branchValue, loadedBy, isEmpty, isEmptyGoto}
 use Rattle.value.specs.Met.{loads, Ends, unnamedStore, Loaded}
 use Rattle.value.proofs.MetLaws.{wrap}
 
@@ -158,3 +158,20 @@ module _ {ws : List ℕ} {block first count id : ℕ} {span : Span} (head : Head
 -- the value of a LOAD that the walk makes
 pub load-ends : {ws : List ℕ} {place : ℕ} → Promise ws → place < placeCount ws → Ends ws (LOAD place) (loads place)
 load-ends {place = place} p h = record { sequences = refl; instructions = refl; loaded = low-number place (omega (arith, p .sized .limited .places)); there = λ _. h }
+
+-- ---- an empty Goto block
+
+module _ {ws : List ℕ} {block first count id : ℕ} {span : Span} (head : Heads ws block first count id span) where
+  goto-by : (rows : List ℕ) → rowsFrom first count ≡ rows → isEmptyGoto (blockAt (tableOf ws) block) ≡ isEmpty rows && isGoto (terminalAt (tableOf ws) block)
+  unfolding isEmptyGoto
+  goto-by rows e = ap (λ (l : List ℕ). isEmpty l && isGoto (terminalAt (tableOf ws) block)) (head-rows head ∙ e)
+
+  pub goto-full : (count ≡ 0 → ⊥) → false ≡ isEmptyGoto (blockAt (tableOf ws) block)
+  goto-full f = by first count f ∙ sym (goto-by (rowsFrom first count) refl)
+    where
+      by : (first count : ℕ) → (count ≡ 0 → ⊥) → false ≡ isEmpty (rowsFrom first count) && isGoto (terminalAt (tableOf ws) block)
+      by first zero g = absurd (g refl)
+      by first (suc n) g = refl
+
+  pub goto-empty : {code : ℕ} → Promise ws → block < blockCount ws → count ≡ 0 → code ≡ codeAt ws block → eqb code 4 ≡ isEmptyGoto (blockAt (tableOf ws) block)
+  goto-empty p h e c = ap (λ (k : ℕ). eqb k 4) (c ∙ sym (code-at ws block p h)) ∙ sym (goto-by [] (ap (rowsFrom first) e))

@@ -1,4 +1,3 @@
 pub mod MetLaws
 pub mod ExtractLaws
-pub mod WalkLaws
 pub mod FlattenLaws

@@ -6,17 +6,16 @@ use Prim.Native.Nat.{ℕ, suc, _+_, _*_, _≤_, _<_}
 use lib.Dec.{eqb}
 use Rattle.table.specs.declared.columns.Span.{Span}
 use Rattle.table.specs.Words.{blockCount, placeCount, largest}
-use Rattle.table.specs.Table.{tableOf, blockAt, instructionAt, unlessNone, rowsFrom, noSpan}
+use Rattle.table.specs.Table.{tableOf, instructionAt, unlessNone, rowsFrom}
 use Rattle.table.specs.Promise.{Promise}
 use Rattle.definition.specs.Result.{Result, ok, refused}
 use Rattle.definition.specs.Tree.{Row, row, Value, PLAIN, LOAD, UNDEF, SEQ, LOGICAL, COND, OPTIONAL, countInstructions}
-use Rattle.definition.specs.Value.{ValueBlockResult, ValueTerminalResult, TestBlockResult, storedToNamed, innermostValue, loadedPlace, loadedBy, valueBlockResultToSequence}
+use Rattle.definition.specs.Value.{ValueBlockResult, ValueTerminalResult, storedToNamed, innermostValue, loadedPlace, loadedBy, valueBlockResultToSequence}
 use Rattle.rows.specs.Rows.{placed, Holds}
 use Rattle.rows.specs.Stack.{pushValue, pushInstructionRows}
 use Rattle.value.specs.declared.result.Tally.{Tally}
 use Rattle.value.specs.declared.result.Trailing.{Trailing}
 use Rattle.value.specs.declared.result.ValueResult.{ValueResult}
-use Rattle.value.specs.declared.walk.TestBlock.{TestBlock}
 
 -- ---- the code's results, and the definition's
 
@@ -30,12 +29,9 @@ refusal code at tally = record { code = code; at = at; block = 0; place = 0; id 
 abbrev pub finished : (block place id : ℕ) → Tally → Trailing → ValueResult
 finished block place id tally trailing = record { code = 0; at = 0; block = block; place = place; id = id; tally = tally; trailing = trailing }
 
--- of a value block, of a test block and of a value terminal: the definition's result with the code's numbers
+-- of a value block and of a value terminal: the definition's result with the code's numbers
 abbrev pub blockResult : ValueResult → Value → ValueBlockResult
 blockResult r value = record { block = r .block; place = r .place; value = value; id = r .id; visits = r .tally .visits }
-
-abbrev pub testResult : (consequent alternate : ℕ) → ValueResult → Value → TestBlockResult
-testResult consequent alternate r value = record { test = blockResult r value; ways = record { consequent = consequent; alternate = alternate } }
 
 abbrev pub terminalResult : ValueResult → Value → ValueTerminalResult
 terminalResult r value = record { value = value; place = r .place; fallthrough = r .block; id = r .id; visits = r .tally .visits }
@@ -104,17 +100,6 @@ pub record Met {A : Type 0} (words : List ℕ) (of : ValueResult → Value → A
   pub same : outcome ≡ answered of r value
   pub found : r .code ≡ 0 → Found words start value buffer r buffer′
   pub numbers : Numbers start unpaid r
-
--- a test block with no Branch at its end, or none that counts
-abbrev pub noBranch : ValueResult → TestBlock
-noBranch test = record { test = test; consequent = 0; alternate = 0; «branch_span» = noSpan }
-
--- a test, with its Branch's ways and span
-pub record TestMet (words : List ℕ) (outcome : Result TestBlockResult) (start : Tally) (buffer : List ℕ) (r : TestBlock) (buffer′ : List ℕ) : Type 0 where
-  pub met : Met words (testResult (r .consequent) (r .alternate)) outcome start 0 buffer (r .test) buffer′
-  pub consequent : r .test .code ≡ 0 → r .consequent < blockCount words
-  pub alternate : r .test .code ≡ 0 → r .alternate < blockCount words
-  pub span : r .test .code ≡ 0 → blockAt (tableOf words) (r .test .block) .span ≡ r .«branch_span»
 
 -- ---- the helpers
 

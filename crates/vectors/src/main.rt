@@ -128,11 +128,19 @@ fn within(count: u32, length: usize) -> usize
     }
 }
 
+// An index with room for the lines of any table (M-101): the Rust has none to compare.
+fn lent_lines() -> [u32; 3072]
+    ensures { λ r. ⌜ 3072 ≡ length r ⌝ }
+{
+    [7; 3072]
+}
+
 // Builds the table in the first so many words, with so many words lent.
 fn build_part(words: &[u32], count: u32, tree: &mut [u32], lent: u32) -> Outcome {
     let end = within(count, words.len());
     let room = within(lent, tree.len());
-    build_reactive_function(&words[..end], &mut tree[..room])
+    let mut index = lent_lines();
+    build_reactive_function(&words[..end], &mut tree[..room], &mut index)
 }
 
 // The words that the rows take: none, if refused.

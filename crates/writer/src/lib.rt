@@ -2,7 +2,7 @@
 pub mod tables;
 
 use crate::tables::write_tables;
-use table::check;
+use table_check::check;
 use text::placed::Placed;
 use text::placed::finish;
 use text::placed::refuse;

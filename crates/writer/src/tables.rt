@@ -1,4 +1,4 @@
-// A table's words as lines, table by table. Bounds for the sums: 11 bytes a number, 121 a line, 4,096 lines a table.
+// A table's words as lines, table by table. Bounds for the sums: 11 bytes a number, 121 a line, 65,536 lines a table.
 use table::words::block_count;
 use table::words::case_count;
 use table::words::cases_begin;
@@ -32,13 +32,13 @@ fn write_rows(
     stride: usize,
     columns: usize,
 ) -> usize
-    requires { ⌜ rows ≤ 4096 ⌝ }
+    requires { ⌜ rows ≤ 65536 ⌝ }
     requires { ⌜ columns ≤ stride ⌝ }
     requires { ⌜ stride ≤ 11 ⌝ }
     requires { ⌜ first + rows * stride ≤ length (now words) ⌝ }
-    requires { ⌜ start + 495616 < 2 ^ 64 ⌝ }
+    requires { ⌜ start + 7929856 < 2 ^ 64 ⌝ }
     ensures { λ r. ⌜ Wrote (now (text .entry)) start (lines (cut stride columns rows (drop first (now (words .entry))))) (now (text .exit)) r ⌝ }
-    ensures { λ r. ⌜ r ≤ start + 495616 ⌝ }
+    ensures { λ r. ⌜ r ≤ start + 7929856 ⌝ }
 {
     let mut at = start;
     let mut from = first;
@@ -53,7 +53,7 @@ fn write_rows(
 }
 
 // A line of names, then the rows' lines.
-fn write_part(
+pub fn write_part(
     text: &mut [u8],
     start: usize,
     names: &[u8],
@@ -64,13 +64,13 @@ fn write_part(
     columns: usize,
 ) -> usize
     requires { ⌜ length (now names) ≤ 64 ⌝ }
-    requires { ⌜ rows ≤ 4096 ⌝ }
+    requires { ⌜ rows ≤ 65536 ⌝ }
     requires { ⌜ columns ≤ stride ⌝ }
     requires { ⌜ stride ≤ 11 ⌝ }
     requires { ⌜ first + rows * stride ≤ length (now words) ⌝ }
-    requires { ⌜ start + 495680 < 2 ^ 64 ⌝ }
+    requires { ⌜ start + 7929920 < 2 ^ 64 ⌝ }
     ensures { λ r. ⌜ Wrote (now (text .entry)) start (now (names .entry) ++ lines (cut stride columns rows (drop first (now (words .entry))))) (now (text .exit)) r ⌝ }
-    ensures { λ r. ⌜ r ≤ start + 495680 ⌝ }
+    ensures { λ r. ⌜ r ≤ start + 7929920 ⌝ }
 {
     let at = write_names(text, start, names);
     write_rows(text, at, words, first, rows, stride, columns)
@@ -79,9 +79,9 @@ fn write_part(
 // The table of blocks in a form: the old one has no `to`.
 fn write_blocks(words: &[u32], version: Version, text: &mut [u8], start: usize) -> usize
     requires { ⌜ Sized (now words) ⌝ }
-    requires { ⌜ start + 495680 < 2 ^ 64 ⌝ }
+    requires { ⌜ start + 7929920 < 2 ^ 64 ⌝ }
     ensures { λ r. ⌜ Wrote (now (text .entry)) start (blockText version (now (words .entry))) (now (text .exit)) r ⌝ }
-    ensures { λ r. ⌜ r ≤ start + 495680 ⌝ }
+    ensures { λ r. ⌜ r ≤ start + 7929920 ⌝ }
 {
     let rows = block_count(words);
     match version {
@@ -111,9 +111,9 @@ fn write_blocks(words: &[u32], version: Version, text: &mut [u8], start: usize) 
 // The table of instructions in a form: the old one has no `to`.
 fn write_instructions(words: &[u32], version: Version, text: &mut [u8], start: usize) -> usize
     requires { ⌜ Sized (now words) ⌝ }
-    requires { ⌜ start + 495680 < 2 ^ 64 ⌝ }
+    requires { ⌜ start + 7929920 < 2 ^ 64 ⌝ }
     ensures { λ r. ⌜ Wrote (now (text .entry)) start (instructionText version (now (words .entry))) (now (text .exit)) r ⌝ }
-    ensures { λ r. ⌜ r ≤ start + 495680 ⌝ }
+    ensures { λ r. ⌜ r ≤ start + 7929920 ⌝ }
 {
     let first = instructions_begin(words) as usize;
     let rows = instruction_count(words);
@@ -145,7 +145,7 @@ fn write_instructions(words: &[u32], version: Version, text: &mut [u8], start: u
 fn write_head(words: &[u32], text: &mut [u8]) -> usize
     requires { ⌜ Sized (now words) ⌝ }
     ensures { λ r. ⌜ Wrote (now (text .entry)) 0 (headText (now (words .entry))) (now (text .exit)) r ⌝ }
-    ensures { λ r. ⌜ r ≤ 495680 ⌝ }
+    ensures { λ r. ⌜ r ≤ 7929920 ⌝ }
 {
     write_part(
         text,
@@ -162,7 +162,7 @@ fn write_head(words: &[u32], text: &mut [u8]) -> usize
 // The last three tables, which are the same in both forms.
 fn write_rest(words: &[u32], text: &mut [u8], start: usize) -> usize
     requires { ⌜ Sized (now words) ⌝ }
-    requires { ⌜ start + 1487040 < 2 ^ 64 ⌝ }
+    requires { ⌜ start + 23789760 < 2 ^ 64 ⌝ }
     ensures { λ r. ⌜ Wrote (now (text .entry)) start (restText (now (words .entry))) (now (text .exit)) r ⌝ }
 {
     let cases = cases_begin(words) as usize;

@@ -3,8 +3,7 @@
 use crate::Refusal;
 use std::ffi::c_uint;
 
-/// Words in a line of the index: label, first row of the statement, closing row.
-pub const LINE_WORDS: usize = 3;
+pub use crate::LINE_WORDS;
 
 /// Code (0 found), at, and the part of the tree: from the word `begin` to before the word `end`.
 #[derive(Clone, Copy, Debug, PartialEq, Eq)]

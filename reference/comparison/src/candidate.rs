@@ -3,7 +3,7 @@
 //! their answers against the reference or the model; with `candidate-dot`, `candidate-tree-check`, `candidate-lookup` and
 //! `candidate-texts` their own comparisons run the drawing, the check of trees, the lookup, the writer and the converters.
 //!
-//! The archives (`libbuild.a`, `libtable.a`, `libdot.a`, ..) are looked for in the folder that the variable CANDIDATE_DIR names.
+//! The archives (`libbuild.a`, `libtable_check.a`, `libdot.a`, ..) are looked for in the folder that the variable CANDIDATE_DIR names.
 //! All but the check are called through the safe wrappers of ffi/rust.
 
 use crate::model::Outcome;
@@ -12,7 +12,11 @@ use crate::model::dot::Drawn;
 use crate::model::order::Moved;
 use crate::model::tree_run::Ran;
 
-pub type Candidate = fn(&[u32], &mut [u32]) -> Outcome;
+/// Words; the tree buffer and the index lent.
+pub type Candidate = fn(&[u32], &mut [u32], &mut [u32]) -> Outcome;
+
+/// M-106: the words alone.
+pub type CandidatePreview = fn(&[u32]) -> Outcome;
 
 /// Code and place.
 pub type CandidateCheck = fn(&[u32]) -> (u32, u32);
@@ -51,21 +55,34 @@ pub const CANDIDATE_CHECK: Option<CandidateCheck> = None;
 pub const CANDIDATE_CHECK: Option<CandidateCheck> = Some(check);
 
 #[cfg(feature = "candidate")]
-fn build(words: &[u32], buffer: &mut [u32]) -> Outcome {
-    let reactive_build::Outcome { code, at, rows, visits } = reactive_build::build(words, buffer);
-    Outcome { code, at, rows, visits }
+fn build(words: &[u32], buffer: &mut [u32], index: &mut [u32]) -> Outcome {
+    outcome(reactive_build::build(words, buffer, index))
 }
 
 #[cfg(feature = "candidate")]
-fn build_language(words: &[u32], buffer: &mut [u32]) -> Outcome {
-    let reactive_build::Outcome { code, at, rows, visits } =
-        reactive_build::build_language(words, buffer);
-    Outcome { code, at, rows, visits }
+fn build_language(words: &[u32], buffer: &mut [u32], index: &mut [u32]) -> Outcome {
+    outcome(reactive_build::build_language(words, buffer, index))
 }
+
+#[cfg(any(feature = "candidate", feature = "candidate-preview"))]
+fn outcome(outcome: reactive_build::Outcome) -> Outcome {
+    let reactive_build::Outcome { code, at, rows, visits, lines } = outcome;
+    Outcome { code, at, rows, visits, lines }
+}
+
+/// The previews of both entries.
+#[cfg(not(feature = "candidate-preview"))]
+pub const CANDIDATE_PREVIEWS: Option<[CandidatePreview; 2]> = None;
+
+#[cfg(feature = "candidate-preview")]
+pub const CANDIDATE_PREVIEWS: Option<[CandidatePreview; 2]> = Some([
+    |words| outcome(reactive_build::preview::preview(words)),
+    |words| outcome(reactive_build::preview::preview_language(words)),
+]);
 
 #[cfg(feature = "candidate-check")]
 fn check(words: &[u32]) -> (u32, u32) {
-    #[link(name = "table", kind = "static")]
+    #[link(name = "table_check", kind = "static")]
     unsafe extern "C" {
         fn table_check(words: *const u32, word_count: usize, at: *mut u32) -> u32;
     }

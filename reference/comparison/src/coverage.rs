@@ -6,10 +6,10 @@ use crate::generate::FAMILIES;
 use crate::model::table::Table;
 use crate::model::{Outcome, ROW_WORDS};
 
-/// The refusals of paper 01 for a call, in order.
-pub const CODES: [u32; 27] = [
+/// The refusals of paper 01 for a call, in order, and M-101's.
+pub const CODES: [u32; 28] = [
     0, 1, 2, 3, 4, 10, 11, 12, 13, 14, 15, 16, 17, 18, 19, 20, 21, 22, 23, 24, 25, 26, 27, 28, 30,
-    31, 40,
+    31, 40, 41,
 ];
 
 const ENDS: [&str; 22] = [
@@ -43,6 +43,10 @@ const OPS: [&str; 26] = [
     "PRUNED", "RETURN", "THROW", "BREAK", "CONTINUE",
 ];
 
+/// An index buffer's words beside the lines of an accepted table that has some.
+pub const LENT_INDEXES: [&str; 8] =
+    ["none", "1", "2", "a line less", "a word less", "just the lines", "1 or 2 more", "lines more"];
+
 const KINDS: [&str; 3] = ["Implicit", "Labeled", "Unlabeled"];
 
 /// Greatest depth of a walk, by upper bound.
@@ -58,6 +62,11 @@ pub struct Coverage {
     /// Tables that the language entry refuses with 29, and those in which it labels a break.
     pub unnamed: u64,
     pub relabeled: u64,
+    /// Previews and lookups in built indexes by the proved library; index buffers of each length (M-101).
+    pub previews: u64,
+    pub lookups: u64,
+    pub lent_indexes: [u64; LENT_INDEXES.len()],
+    most_lines: u32,
     families: [u64; FAMILIES.len()],
     accepted: [u64; FAMILIES.len()],
     /// In the order of `CODES`.
@@ -80,7 +89,8 @@ impl Coverage {
         let code = CODES.iter().position(|code| *code == outcome.code).expect("a known code");
         self.codes[code] += 1;
         self.most_visits = self.most_visits.max(outcome.visits);
-        if matches!(outcome.code, 0 | 40) {
+        self.most_lines = self.most_lines.max(outcome.lines);
+        if matches!(outcome.code, 0 | 40 | 41) {
             self.accepted[family] += 1;
             self.most_rows = self.most_rows.max(outcome.rows);
         }
@@ -119,6 +129,10 @@ impl Coverage {
         self.differences += other.differences;
         self.unnamed += other.unnamed;
         self.relabeled += other.relabeled;
+        self.previews += other.previews;
+        self.lookups += other.lookups;
+        add(&mut self.lent_indexes, &other.lent_indexes);
+        self.most_lines = self.most_lines.max(other.most_lines);
         add(&mut self.families, &other.families);
         add(&mut self.accepted, &other.accepted);
         add(&mut self.codes, &other.codes);
@@ -156,6 +170,9 @@ impl Coverage {
         }
         need(self.unnamed, "code 29 of the language entry".to_string());
         need(self.relabeled, "a break that the language entry labels".to_string());
+        for (count, name) in self.lent_indexes.iter().zip(LENT_INDEXES) {
+            need(*count, format!("an index lent, {name}"));
+        }
         for (class, bound) in DEPTHS.iter().enumerate() {
             need(self.depths[class], format!("depth up to {bound}"));
         }
@@ -197,11 +214,16 @@ impl Coverage {
             "| greatest depth up to | walks |",
             depths.map(|(bound, count)| format!("| {bound} | {count} |")).collect(),
         );
+        let lent = LENT_INDEXES.iter().zip(self.lent_indexes);
+        table(
+            "| words of index lent | accepted tables with lines |",
+            lent.map(|(name, count)| format!("| {name} | {count} |")).collect(),
+        );
         out += &format!(
             "Language entry: {} tables refused with 29, {} with a break that it labels.\n\n",
             self.unnamed, self.relabeled
         );
-        out + &format!("Most visits {}, most rows {}.\n", self.most_visits, self.most_rows)
+        out + &format!("Most visits {}, most rows {}, most lines {}.\n", self.most_visits, self.most_rows, self.most_lines)
     }
 }
 

@@ -1,5 +1,6 @@
-//! Paper 01, "Plain tables": the block run and the tree run. On an accepted plain table both do the
-//! same with the same answers (demand 3); here that is tried on the reference's trees.
+//! Paper 01, "Plain tables", and paper 02, M-113: the block run and the tree run. On an accepted plain
+//! table both do the same with the same answers (demand 3), in the language entry also on one with
+//! switches (M-113).
 
 use crate::model::Row;
 use crate::model::table::{BlockRow, Table};
@@ -7,21 +8,55 @@ use crate::model::table::{BlockRow, Table};
 /// Why a run stopped.
 #[derive(Clone, Copy, Debug, PartialEq, Eq)]
 pub enum Stop {
-    Returned,
-    Threw,
+    /// With value and id, as `Threw`.
+    Returned(u32, u32),
+    Threw(u32, u32),
     /// An answer was asked for and none was left.
     OutOfAnswers,
+    /// An answer at a Switch is the place of no case: the block run of a list that M-113 does not speak of.
+    NoSuchCase,
+    /// The rest, to which no run comes of which the laws speak: a block that has no business in a
+    /// plain table, a tree that ends, a jump that leaves it.
+    NotPlain,
+    EndOfTree,
+    NoTarget,
 }
 
-/// The instruction rows performed, in order, and why the run stopped.
+impl Stop {
+    /// M-103's number of the reason, 0 where it has none.
+    pub fn reason(self) -> u32 {
+        match self {
+            Stop::Returned(..) => 1,
+            Stop::Threw(..) => 2,
+            Stop::EndOfTree => 3,
+            Stop::OutOfAnswers => 4,
+            Stop::NoSuchCase | Stop::NotPlain | Stop::NoTarget => 0,
+        }
+    }
+}
+
+/// The instruction rows performed, in order, how many answers were taken, and why the run stopped.
 #[derive(Debug, PartialEq, Eq)]
 pub struct Run {
     pub performed: Vec<u32>,
+    pub taken: usize,
     pub stop: Stop,
 }
 
+/// Plain tables as paper 01 has them, or widened by Switch (M-113).
+#[derive(Clone, Copy, Debug, PartialEq, Eq)]
+pub enum Width {
+    Paper01,
+    WithSwitch,
+}
+
+/// The case blocks of a Switch, in source order.
+fn case_blocks(table: &Table, row: &BlockRow) -> Vec<u32> {
+    (row[4]..row[4] + row[5]).map(|case| table.case(case)[1]).collect()
+}
+
 /// Whether a checked table is plain.
-pub fn is_plain(table: &Table) -> bool {
+pub fn is_plain(table: &Table, width: Width) -> bool {
     let [entry, blocks, ..] = *table.words else { unreachable!() };
     let present: Vec<(u32, &BlockRow)> = (0..blocks)
         .map(|number| (number, table.block(number)))
@@ -29,7 +64,7 @@ pub fn is_plain(table: &Table) -> bool {
         .collect();
     let whiles = || present.iter().filter(|(_, row)| row[2] == 9).map(|(_, row)| row);
     let fallthrough = |row: &BlockRow| match row[2] {
-        5 => Some(row[6]),
+        5 | 7 => Some(row[6]),
         9 => Some(row[5]),
         16 | 20 | 21 => Some(row[4]),
         _ => None,
@@ -39,6 +74,7 @@ pub fn is_plain(table: &Table) -> bool {
 
     let known_ends = present.iter().all(|(_, row)| match row[2] {
         4 => row[4] < 2,
+        7 => width == Width::WithSwitch,
         code => [2, 3, 5, 6, 9, 16, 20, 21].contains(&code),
     });
     let tests_are_branches = whiles().all(|row| code(row[3]) == 6);
@@ -50,6 +86,7 @@ pub fn is_plain(table: &Table) -> bool {
         let owners: Vec<_> = whiles().filter(|owner| owner[3] == *number).collect();
         let parts_of_others = present.iter().any(|(_, other)| match other[2] {
             5 => other[4..7].contains(number),
+            7 => other[6] == *number || case_blocks(table, other).contains(number),
             6 => other[4..6].contains(number),
             9 => other[4..6].contains(number),
             16 | 20 | 21 => other[3..5].contains(number),
@@ -61,38 +98,61 @@ pub fn is_plain(table: &Table) -> bool {
             && !stores_last
             && matches!(owners[..], [owner] if owner[4..6] == row[4..6])
     });
-    known_ends && tests_are_branches && ends_are_their_own && branches_are_tests
+    let taken = |block: u32| {
+        ends.contains(&block)
+            || whiles().any(|row| row[3..5].contains(&block))
+            || present.iter().any(|(_, row)| row[2] == 4 && row[3] == block)
+    };
+    let cases_are_their_own = present.iter().filter(|(_, row)| row[2] == 7).all(|(_, row)| {
+        let cases = case_blocks(table, row);
+        let once = |case: &u32| cases.iter().filter(|other| *other == case).count() == 1;
+        cases.iter().all(|case| once(case) && !taken(*case))
+    });
+    known_ends
+        && tests_are_branches
+        && ends_are_their_own
+        && branches_are_tests
+        && cases_are_their_own
 }
 
-/// The block run of a plain table.
-pub fn block_run(table: &Table, answers: &[bool]) -> Run {
+/// The block run of a plain table. An answer is no (0) or yes, at a Switch a place in its case list.
+pub fn block_run(table: &Table, answers: &[u32]) -> Run {
     let mut performed = Vec::new();
-    let mut answers = answers.iter();
+    let mut taken = 0;
     let mut block = table.entry();
-    loop {
-        let [first, count, code, a, b, c, ..] = *table.block(block);
+    let stop = loop {
+        let row = table.block(block);
+        let [first, count, code, a, b, c, _, _, id, ..] = *row;
         performed.extend(first..first + count);
         block = match code {
-            2 => return Run { performed, stop: Stop::Threw },
-            3 => return Run { performed, stop: Stop::Returned },
+            2 => break Stop::Threw(a, id),
+            3 => break Stop::Returned(a, id),
             4 | 9 | 16 | 20 | 21 => a,
-            _ => match answers.next() {
-                None => return Run { performed, stop: Stop::OutOfAnswers },
-                Some(true) => b,
-                Some(false) => c,
-            },
+            5..=7 => {
+                let Some(answer) = answers.get(taken) else { break Stop::OutOfAnswers };
+                let next = match code {
+                    7 => case_blocks(table, row).get(*answer as usize).copied(),
+                    _ => Some(if *answer == 0 { c } else { b }),
+                };
+                let Some(next) = next else { break Stop::NoSuchCase };
+                taken += 1;
+                next
+            }
+            _ => break Stop::NotPlain,
         };
-    }
+    };
+    Run { performed, taken, stop }
 }
 
 /// The tree run of a plain table's rows.
-pub fn tree_run(rows: &[Row], answers: &[bool]) -> Run {
-    let mut run = TreeRun { rows, sizes: sizes(rows), performed: Vec::new(), answers, used: 0 };
+pub fn tree_run(rows: &[Row], answers: &[u32]) -> Run {
+    let mut run = TreeRun { rows, sizes: sizes(rows), performed: Vec::new(), answers, taken: 0 };
     let stop = match run.node(rows.len() - 1) {
         Flow::Stop(stop) => stop,
-        flow => panic!("the run of a whole tree ends by a stop, not by {flow:?}"),
+        Flow::Normal => Stop::EndOfTree,
+        Flow::Break { .. } | Flow::Continue { .. } => Stop::NoTarget,
     };
-    Run { performed: run.performed, stop }
+    Run { performed: run.performed, taken: run.taken, stop }
 }
 
 /// How a part of the tree ends.
@@ -109,18 +169,19 @@ struct TreeRun<'r> {
     /// How many rows each closing row and its parts are.
     sizes: Vec<usize>,
     performed: Vec<u32>,
-    answers: &'r [bool],
-    used: usize,
+    answers: &'r [u32],
+    taken: usize,
 }
 
 /// How many parts a row closes.
 fn part_count(row: &Row) -> usize {
     match row[0] {
         1 | 2 | 22..=25 => 0,
-        4 | 18 | 20 | 21 => 1,
+        4 | 11 | 18 | 20 | 21 => 1,
         5 => row[1] as usize + 1,
         9 => row[1] as usize,
         10 => 1 + row[2] as usize,
+        12 => row[2] as usize,
         14 => 2,
         op => panic!("op {op} in the tree of a plain table"),
     }
@@ -152,10 +213,10 @@ impl TreeRun<'_> {
         parts
     }
 
-    fn answer(&mut self) -> Option<bool> {
-        let answer = self.answers.get(self.used).copied();
-        self.used += 1;
-        answer
+    fn answer(&mut self) -> Option<u32> {
+        let answer = self.answers.get(self.taken).copied()?;
+        self.taken += 1;
+        Some(answer)
     }
 
     fn in_order(&mut self, parts: &[usize]) -> Flow {
@@ -182,14 +243,21 @@ impl TreeRun<'_> {
             }
             10 => match self.answer() {
                 None => Flow::Stop(Stop::OutOfAnswers),
-                Some(true) => ends(d, self.node(parts[0])),
-                Some(false) if b == 1 => ends(d, self.node(parts[1])),
-                Some(false) => Flow::Normal,
+                Some(0) if b == 1 => ends(d, self.node(parts[1])),
+                Some(0) => Flow::Normal,
+                Some(_) => ends(d, self.node(parts[0])),
+            },
+            12 => match self.answer() {
+                None => Flow::Stop(Stop::OutOfAnswers),
+                Some(place) => match self.cases_from(place, parts) {
+                    Flow::Break { label: None } => Flow::Normal,
+                    flow => ends(d, flow),
+                },
             },
             14 => self.while_run(b, parts[0], parts[1]),
             18 => ends(b, self.node(parts[0])),
-            22 => Flow::Stop(Stop::Returned),
-            23 => Flow::Stop(Stop::Threw),
+            22 => Flow::Stop(Stop::Returned(a, b)),
+            23 => Flow::Stop(Stop::Threw(a, b)),
             24 | 25 if c == 0 => Flow::Normal,
             24 => Flow::Break { label: jump_label },
             25 => Flow::Continue { label: jump_label },
@@ -197,13 +265,19 @@ impl TreeRun<'_> {
         }
     }
 
+    /// The cases from this place on: the rows have the last one first.
+    fn cases_from(&mut self, place: u32, mut cases: Vec<usize>) -> Flow {
+        cases.reverse();
+        self.in_order(cases.get(place as usize..).unwrap_or_default())
+    }
+
     fn while_run(&mut self, label: u32, test: usize, body: usize) -> Flow {
         loop {
             self.node(test);
             match self.answer() {
                 None => return Flow::Stop(Stop::OutOfAnswers),
-                Some(false) => return Flow::Normal,
-                Some(true) => {}
+                Some(0) => return Flow::Normal,
+                Some(_) => {}
             }
             match self.node(body) {
                 Flow::Normal => {}

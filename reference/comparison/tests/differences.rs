@@ -24,7 +24,7 @@ const ENDLESS: [u32; 28] = [
 ];
 
 fn model(words: &[u32]) -> Outcome {
-    model::build(words, &mut [])
+    model::build(words, &mut [], &mut [])
 }
 
 fn within(words: &[u32], depth: usize, visits: u32) -> (Refusal, u32) {
@@ -37,19 +37,19 @@ fn within(words: &[u32], depth: usize, visits: u32) -> (Refusal, u32) {
 
 #[test]
 fn missing() {
-    assert_eq!(model(&MISSING), Outcome { code: 10, at: 0, rows: 0, visits: 1 });
+    assert_eq!(model(&MISSING), Outcome::refused(Refusal { code: 10, at: 0 }, 1));
     assert_eq!(within(&MISSING, 128, 8_192), (Refusal { code: 10, at: 0 }, 1));
 }
 
 #[test]
 fn no_instruction() {
-    assert_eq!(model(&NO_INSTRUCTION), Outcome { code: 28, at: 1, rows: 0, visits: 2 });
+    assert_eq!(model(&NO_INSTRUCTION), Outcome::refused(Refusal { code: 28, at: 1 }, 2));
     assert_eq!(within(&NO_INSTRUCTION, 128, 8_192), (Refusal { code: 28, at: 1 }, 2));
 }
 
 #[test]
 fn endless() {
-    assert_eq!(model(&ENDLESS), Outcome { code: 30, at: 0, rows: 0, visits: 128 });
+    assert_eq!(model(&ENDLESS), Outcome::refused(Refusal { code: 30, at: 0 }, 128));
     // Stopped at 20,000 levels, since the Rust does not stop by itself.
     assert_eq!(within(&ENDLESS, 20_000, 1 << 30), (Refusal { code: 30, at: 0 }, 20_000));
 }
@@ -101,7 +101,7 @@ fn nested_labels(labels: u32) -> Vec<u32> {
 fn depth_of_statements() {
     let accepted = model(&nested_labels(127));
     assert_eq!((accepted.code, accepted.visits), (40, 128));
-    assert_eq!(model(&nested_labels(128)), Outcome { code: 30, at: 128, rows: 0, visits: 128 });
+    assert_eq!(model(&nested_labels(128)), Outcome::refused(Refusal { code: 30, at: 128 }, 128));
     let walked = reference::on_large_stack(|| {
         let bounds = Bounds { depth: 1_024, visits: 1 << 30 };
         reference::walk_within(&check(&nested_labels(128)).unwrap(), bounds).0

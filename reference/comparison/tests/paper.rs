@@ -2,7 +2,7 @@
 //! on the model.
 
 use comparison::model::check::check;
-use comparison::model::{self, Outcome, text};
+use comparison::model::{self, Outcome, Refusal, text};
 use comparison::reference;
 
 /// Blocks without instructions or spans, over one place and one identifier.
@@ -22,20 +22,23 @@ fn both(words: &[u32], outcome: Outcome, rows: &[[u32; 6]]) {
     let mut expected = rows.as_flattened().to_vec();
     expected.resize(12_288, 0);
     let mut buffer = vec![7; 12_288];
-    assert_eq!(model::build(words, &mut buffer), outcome);
+    let mut index = vec![7; 6_144];
+    assert_eq!(model::build(words, &mut buffer, &mut index), outcome);
     assert_eq!(buffer, expected);
     let walked = reference::on_large_stack(|| reference::walk(&check(words).unwrap()).0);
     let mut buffer = vec![0; 12_288];
-    assert_eq!(model::finish(&walked, &mut buffer), outcome);
+    let mut index_too = vec![0; 6_144];
+    assert_eq!(model::finish(&walked, &mut buffer, &mut index_too), outcome);
+    assert_eq!(index, index_too);
     assert_eq!(buffer, expected);
 }
 
-fn accepted(rows: u32, visits: u32) -> Outcome {
-    Outcome { code: 0, at: 0, rows, visits }
+fn accepted(rows: u32, visits: u32, lines: u32) -> Outcome {
+    Outcome { code: 0, at: 0, rows, visits, lines }
 }
 
 fn refused(code: u32, at: u32, visits: u32) -> Outcome {
-    Outcome { code, at, rows: 0, visits }
+    Outcome::refused(Refusal { code, at }, visits)
 }
 
 const RETURN: (u32, &[u32], u32) = (3, &[0], 4);
@@ -53,11 +56,11 @@ fn w() {
         [22, 0, 4, 0, 0, 0],
         [9, 2, 0, 0, 0, 0],
     ];
-    both(&table(&w), accepted(6, 4), &rows);
+    both(&table(&w), accepted(6, 4, 1), &rows);
     let mut breaks = w;
     breaks[2] = (4, &[3, 0], 3);
     rows[1] = [24, 3, 3, 2, 0, 0];
-    both(&table(&breaks), accepted(6, 4), &rows);
+    both(&table(&breaks), accepted(6, 4, 1), &rows);
 }
 
 #[test]
@@ -71,7 +74,7 @@ fn refusals() {
 #[test]
 fn scope() {
     let rows = [[9, 0, 0, 0, 0, 0], [20, 5, 0, 0, 0, 0], [22, 0, 4, 0, 0, 0], [9, 2, 0, 0, 0, 0]];
-    both(&table(&[(20, &[1, 2, 5], 1), (4, &[2, 0], 2), RETURN]), accepted(4, 3), &rows);
+    both(&table(&[(20, &[1, 2, 5], 1), (4, &[2, 0], 2), RETURN]), accepted(4, 3, 0), &rows);
 }
 
 const FILE: &str = "entry blocks instructions cases places identifiers\n0 1 0 0 1 1\n\
@@ -85,8 +88,8 @@ fn the_file() {
     let words = text::parse(FILE.as_bytes()).unwrap();
     assert_eq!(text::write_file(&words), FILE);
     let mut buffer = [7; 11];
-    let outcome = model::build(&words, &mut buffer);
-    assert_eq!(outcome, Outcome { code: 40, at: 0, rows: 2, visits: 1 });
+    let outcome = model::build(&words, &mut buffer, &mut []);
+    assert_eq!(outcome, Outcome { code: 40, at: 0, rows: 2, visits: 1, lines: 0 });
     assert_eq!(buffer, [0; 11]);
 }
 
@@ -106,7 +109,7 @@ fn two_ends() {
         [[1, 0, 0, 0, 0, 0], [4, 5, 0, from, to, 0], [22, 0, 7, 0, 0, 0], [9, 2, 0, 0, 0, 0]]
     };
     for span in [[3, 9], [0, 5], [5, 5], [0, 0], [0, 65_535]] {
-        both(&spans(3, [0, 5], span), accepted(4, 1), &rows(span));
+        both(&spans(3, [0, 5], span), accepted(4, 1, 0), &rows(span));
     }
     let refused_at = |words: &[u32]| check(words).err().map(|refusal| (refusal.code, refusal.at));
     assert_eq!(refused_at(&spans(3, [5, 4], [3, 9])), Some((4, 16)));

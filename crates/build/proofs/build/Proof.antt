@@ -24,6 +24,9 @@ finish-requires c κs = search needs
 same-length : tie.Need-same-length
 same-length c = search needs
 
+same-length-2 : tie.Need-same-length-2
+same-length-2 c = search needs
+
 returns : tie.Need-returns
 returns c =
     let at-finish : tie.After-finish = search in
@@ -31,7 +34,7 @@ returns c =
     let at-if1 : tie.Then1 = search in
     let at-is-accepted : tie.After-is-accepted = search in
     let at-check : tie.After-check = search in
-    checked-built _ _ _ _ _ _ (at-check .check .ensures) (sym (at-is-accepted .is-accepted .ensures) ∙ at-if1 .if1 .taken) (at-walk .walk .kept .1 .1 .0)
+    checked-built _ _ _ _ _ _ _ _ (at-check .check .ensures) (sym (at-is-accepted .is-accepted .ensures) ∙ at-if1 .if1 .taken) (at-walk .walk .kept .1 .1 .0) (at-walk .walk .kept .1 .1 .1 .0)
     (at-finish .finish .ensures _ (at-walk .walk .ensures))
 
 code-requires : tie.Need-code-requires
@@ -43,8 +46,11 @@ place-requires c κs = search needs
 refuse-requires : tie.Need-refuse-requires
 refuse-requires c κs = search needs
 
-same-length-2 : tie.Need-same-length-2
-same-length-2 c = search needs
+same-length-3 : tie.Need-same-length-3
+same-length-3 c = search needs
+
+same-length-4 : tie.Need-same-length-4
+same-length-4 c = search needs
 
 returns-2 : tie.Need-returns-2
 returns-2 c =
@@ -54,7 +60,7 @@ returns-2 c =
     let at-if1 : tie.Else1 = search in
     let at-is-accepted : tie.After-is-accepted = search in
     let at-check : tie.After-check = search in
-    unchecked-built _ _ _ _ _ (at-check .check .ensures) (sym (at-is-accepted .is-accepted .ensures) ∙ at-if1 .if1 .left)
+    unchecked-built _ _ _ _ _ _ (at-check .check .ensures) (sym (at-is-accepted .is-accepted .ensures) ∙ at-if1 .if1 .left)
     (rw (at-place .place .ensures, at-code .code .ensures) at (at-refuse .refuse .ensures))
 
 pub build-spec : {M : Type 1} → statement M
@@ -66,9 +72,11 @@ build-spec =
     walk-requires
     finish-requires
     same-length
+    same-length-2
     returns
     code-requires
     place-requires
     refuse-requires
-    same-length-2
+    same-length-3
+    same-length-4
     returns-2)

@@ -3,7 +3,7 @@ use native.Mathlib.Omega.{arith}
 use mathlib.Core.Path.{sym}
 use lib.Seq.{length-take-le}
 use Rattle.text.proofs.PrintsLaws.{words-within}
-use Rattle.convert.specs.Convert.{oldOfNew}
+use Rattle.convert.specs.Convert.{oldOfNew, newToOld}
 use Rattle.convert.proofs.ConvertLaws.{of-words, of-refusal, never-short}
 use Rattle.convert.proofs.new_to_old.Statement.{statement}
 use Rattle.convert.proofs.new_to_old.Tie as tie
@@ -51,6 +51,7 @@ same-length : tie.Need-same-length
 same-length c = search needs
 
 returns : tie.Need-returns
+unfolding newToOld
 returns c =
     let converted : tie.After-convert-new = search in
     let answered : tie.After-answer = search in
@@ -61,6 +62,7 @@ same-length-2 : tie.Need-same-length-2
 same-length-2 c = search needs
 
 returns-2 : tie.Need-returns-2
+unfolding newToOld
 returns-2 c =
     let refused : tie.After-refuse = search in
     let answered : tie.After-answer2 = search in
@@ -71,6 +73,7 @@ same-length-3 : tie.Need-same-length-3
 same-length-3 c = search needs
 
 returns-3 : tie.Need-returns-3
+unfolding newToOld
 returns-3 c =
     let told : tie.After-enum-told = search in
     let was-read : tie.After-read-as = search in

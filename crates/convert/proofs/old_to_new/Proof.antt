@@ -5,7 +5,7 @@ use lib.Seq.{length-take-le}
 use Rattle.text.proofs.PrintsLaws.{words-within, words-read}
 use Rattle.text.specs.declared.version.Version.the-variants.{Old}
 use Rattle.writer.proofs.GoodLaws.{good-shaped}
-use Rattle.convert.specs.Convert.{newOfOld}
+use Rattle.convert.specs.Convert.{newOfOld, oldToNew}
 use Rattle.convert.proofs.ConvertLaws.{words-few, of-words, of-refusal, never-short}
 use Rattle.convert.proofs.old_to_new.Statement.{statement}
 use Rattle.convert.proofs.old_to_new.Tie as tie
@@ -57,6 +57,7 @@ same-length : tie.Need-same-length
 same-length c = search needs
 
 returns : tie.Need-returns
+unfolding oldToNew
 returns c =
     let converted : tie.After-convert-old = search in
     let answered : tie.After-answer = search in
@@ -67,6 +68,7 @@ same-length-2 : tie.Need-same-length-2
 same-length-2 c = search needs
 
 returns-2 : tie.Need-returns-2
+unfolding oldToNew
 returns-2 c =
     let refused : tie.After-refuse = search in
     let answered : tie.After-answer2 = search in
@@ -77,6 +79,7 @@ same-length-3 : tie.Need-same-length-3
 same-length-3 c = search needs
 
 returns-3 : tie.Need-returns-3
+unfolding oldToNew
 returns-3 c =
     let told : tie.After-enum-told = search in
     let was-read : tie.After-read-as = search in

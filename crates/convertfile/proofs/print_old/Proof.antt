@@ -1,5 +1,7 @@
 use borrow.Author.Needs.{needs}
 use Rattle.convert.proofs.CodeLaws.{old-fits, old-holding}
+use Rattle.convert.specs.Convert.{newToOld}
+use Rattle.convertfile.proofs.PrintLaws.{answer-printed}
 use Rattle.convertfile.proofs.print_old.Statement.{statement}
 use Rattle.convertfile.proofs.print_old.Tie as tie
 
@@ -9,7 +11,7 @@ new-to-old-requires c κs = search needs
 print-requires : tie.Need-print-requires
 print-requires c κs =
     let converted : tie.After-new-to-old = search in
-    rw (converted .new-to-old .kept .1 .0) (old-holding (converted .new-to-old .ensures))
+    rw (converted .new-to-old .kept .1 .0) (old-holding _ (converted .new-to-old .ensures))
 
 same-length : tie.Need-same-length
 same-length c = search needs
@@ -18,12 +20,7 @@ returns : tie.Need-returns
 returns c =
     let printed : tie.After-print = search in
     let converted : tie.After-new-to-old = search in
-    record {
-      answer = _;
-      converts = converted .new-to-old .ensures;
-      written = rw (converted .new-to-old .kept .1 .0) at (printed .print .ensures);
-      fits = λ p. old-fits _ _ _ p (converted .new-to-old .ensures);
-    }
+    answer-printed newToOld 32768 _ _ (converted .new-to-old .ensures) (old-fits _ _) (rw (converted .new-to-old .kept .1 .0) at (printed .print .ensures))
 
 pub print-old-spec : {M : Type 1} → statement M
 print-old-spec = tie.close (tie.spec new-to-old-requires print-requires same-length returns)

@@ -1,5 +1,6 @@
 use borrow.Author.Needs.{needs}
-use Rattle.dotfile.proofs.DrawingLaws.{drawing-refused, drawing-accepted}
+use Rattle.text.proofs.PlacedLaws.{refusal-printing}
+use Rattle.dotfile.proofs.DrawingLaws.{drawing-accepted}
 use Rattle.dotfile.proofs.draw_words.Statement.{statement}
 use Rattle.dotfile.proofs.draw_words.Tie as tie
 
@@ -17,7 +18,7 @@ returns c =
     let written : tie.After-write-refusal = search in
     let tested : tie.Then1 = search in
     let drew : tie.After-dot = search in
-    rw (← (drew .dot .ensures)) (drawing-refused _ (tested .if1 .taken) (rw (drew .dot .kept .1 .0) at (written .write-refusal .ensures)))
+    rw (← (drew .dot .ensures)) (refusal-printing _ (tested .if1 .taken) (rw (drew .dot .kept .1 .0) at (written .write-refusal .ensures)))
 
 same-length-2 : tie.Need-same-length-2
 same-length-2 c = search needs

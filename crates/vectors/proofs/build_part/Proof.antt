@@ -10,6 +10,9 @@ within-requires c κs = search needs
 within-requires-2 : tie.Need-within-requires-2
 within-requires-2 c κs = search needs
 
+lent-lines-requires : tie.Need-lent-lines-requires
+lent-lines-requires c κs = search needs
+
 slice-aggregate-build-reactive-function : tie.Need-slice-aggregate-build-reactive-function
 slice-aggregate-build-reactive-function c = sym (length-take-le _ _ (search needs))
 
@@ -18,6 +21,9 @@ slice-relend-prefix-build-reactive-function c = search needs
 
 slice-aggregate-build-reactive-function-2 : tie.Need-slice-aggregate-build-reactive-function-2
 slice-aggregate-build-reactive-function-2 c = sym (length-take-le _ _ (search needs))
+
+slice-aggregate-build-reactive-function-3 : tie.Need-slice-aggregate-build-reactive-function-3
+slice-aggregate-build-reactive-function-3 c = search needs
 
 build-reactive-function-requires : tie.Need-build-reactive-function-requires
 build-reactive-function-requires c κs = search needs
@@ -34,9 +40,11 @@ build-part-spec =
     (tie.spec
     within-requires
     within-requires-2
+    lent-lines-requires
     slice-aggregate-build-reactive-function
     slice-relend-prefix-build-reactive-function
     slice-aggregate-build-reactive-function-2
+    slice-aggregate-build-reactive-function-3
     build-reactive-function-requires
     same-length
     returns)

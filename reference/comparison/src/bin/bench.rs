@@ -8,6 +8,7 @@ use std::time::Instant;
 
 use comparison::candidate::{CANDIDATE, Candidate};
 use comparison::generate::{generate, long};
+use comparison::model::index::{LINE_WORDS, MOST_LINES};
 use comparison::model::{self, check::check};
 use comparison::reference;
 
@@ -44,9 +45,10 @@ fn line(name: &str, tables: &[Vec<u32>]) {
     let row_counts: Vec<usize> = tables.iter().map(rows).collect();
     let mean = row_counts.iter().sum::<usize>() / tables.len();
     let mut buffer = vec![0; 6 * row_counts.iter().max().unwrap()];
-    let by_build = |build: Candidate, buffer: &mut [u32]| {
+    let mut index = vec![0; LINE_WORDS * MOST_LINES];
+    let mut by_build = |build: Candidate, buffer: &mut [u32]| {
         time(tables, |words| {
-            black_box(build(black_box(words), buffer));
+            black_box(build(black_box(words), buffer, &mut index));
         })
     };
     let model = by_build(model::build, &mut buffer);

@@ -7,19 +7,22 @@ use std::sync::atomic::{AtomicU64, Ordering};
 use std::thread;
 use std::time::Instant;
 
-use comparison::candidate::{CANDIDATE, CANDIDATE_CHECK, CANDIDATE_LANGUAGE, Candidate};
+use comparison::candidate::{CANDIDATE, CANDIDATE_CHECK, CANDIDATE_LANGUAGE, CANDIDATE_LOOKUP, CANDIDATE_PREVIEWS, Candidate};
 use comparison::coverage::Coverage;
-use comparison::generate::{Generated, generate};
+use comparison::generate::{FAMILIES, Generated, generate, long};
 use comparison::language::read_off;
+use comparison::model::index::{LINE_WORDS, lines};
 use comparison::model::table::Table;
 use comparison::model::{self, Outcome, Rule, Walked};
 use comparison::reference;
 use comparison::rng::Rng;
-use comparison::runs::{block_run, is_plain, tree_run};
+use comparison::runs::{Width, block_run, is_plain, tree_run};
 
 /// A run this long meets everything.
 const LONG_ENOUGH: u64 = 100_000;
 const CHUNK: u64 = 500;
+/// The first tables of a run have long indexes, up to 1,023 lines.
+const MANY_LINES: u64 = 24;
 
 fn main() -> ExitCode {
     let mut arguments = std::env::args().skip(1).map(|word| word.parse::<u64>().expect("a number"));
@@ -40,7 +43,11 @@ fn main() -> ExitCode {
                     return coverage;
                 }
                 for number in first..(first + CHUNK).min(tables) {
-                    compare(seed, number, &mut coverage);
+                    let generated = match number {
+                        0..MANY_LINES => many_lines(number),
+                        _ => generate(seed, number),
+                    };
+                    compare(seed, number, generated, &mut coverage);
                 }
             }
         };
@@ -67,10 +74,12 @@ fn main() -> ExitCode {
         (Some(_), Some(_)) => "model, proved check and proved build",
     };
     println!(
-        "seed {seed}: {} tables, {} walked by the reference, {} runs of plain tables, {compared} with {} differences, {} not met, {seconds:.1} s, {:.0} tables/s",
+        "seed {seed}: {} tables, {} walked by the reference, {} runs of plain tables, {} lookups, {} previews, {compared} with {} differences, {} not met, {seconds:.1} s, {:.0} tables/s",
         total.tables,
         total.compared,
         total.runs,
+        total.lookups,
+        total.previews,
         total.differences,
         missing.len(),
         total.tables as f64 / seconds,
@@ -78,9 +87,33 @@ fn main() -> ExitCode {
     if total.differences == 0 && missing.is_empty() { ExitCode::SUCCESS } else { ExitCode::FAILURE }
 }
 
-/// Runs all on one table: code, at, rows, visits and every word of the buffer are compared.
-fn compare(seed: u64, number: u64, coverage: &mut Coverage) {
-    let Generated { family, words } = generate(seed, number);
+fn many_lines(number: u64) -> Generated {
+    let family = FAMILIES.iter().position(|name| *name == "limits").expect("a family");
+    Generated { family, words: long::run_of_switches(1_024 - number as u32 / 4) }
+}
+
+/// What a build gives: the numbers, and every word of the two buffers.
+struct Built {
+    outcome: Outcome,
+    tree: Vec<u32>,
+    index: Vec<u32>,
+}
+
+impl Built {
+    /// By the model, in buffers of these lengths.
+    fn by(build: Candidate, words: &[u32], [tree, index]: [usize; 2]) -> Self {
+        let (mut tree, mut index) = (vec![STALE; tree], vec![STALE; index]);
+        let outcome = build(words, &mut tree, &mut index);
+        Self { outcome, tree, index }
+    }
+
+    fn lent(&self) -> [usize; 2] {
+        [self.tree.len(), self.index.len()]
+    }
+}
+
+/// Runs all on one table: code, at, rows, visits, lines and every word of the buffers are compared.
+fn compare(seed: u64, number: u64, Generated { family, words }: Generated, coverage: &mut Coverage) {
     let mut lent = Rng::new(seed ^ number.rotate_left(32));
     let checked = model::check::check(&words);
     if let Some(check) = CANDIDATE_CHECK {
@@ -99,30 +132,69 @@ fn compare(seed: u64, number: u64, coverage: &mut Coverage) {
             coverage.walk(&words, &seen);
             compare_language(number, &table, &walked, coverage);
             if let Ok(rows) = &walked.result
-                && is_plain(&table)
+                && is_plain(&table, Width::Paper01)
             {
                 compare_runs(number, &table, rows, &mut lent, coverage);
             }
-            let rows = walked.result.as_ref().map_or(0, Vec::len);
-            let mut buffer = vec![0; buffer_length(rows, &mut lent)];
-            let expected = (model::finish(&walked, &mut buffer), buffer);
+            let (rows, line_count) = walked.result.as_ref().map_or((0, 0), |rows| (rows.len(), lines(rows).len()));
+            let mut tree = vec![0; buffer_length(rows, &mut lent)];
+            let mut index = vec![0; index_length(line_count, &mut lent, coverage)];
+            let outcome = model::finish(&walked, &mut tree, &mut index);
+            let expected = Built { outcome, tree, index };
             compare_with("model", model::build, number, &words, &expected, coverage);
             expected
         }
         // The reference takes no words that fail the check: there the model alone decides.
-        Err(_) => {
-            let mut buffer = vec![STALE; lent.below(40) as usize];
-            (model::build(&words, &mut buffer), buffer)
-        }
+        Err(_) => Built::by(model::build, &words, [lent.below(40) as usize, lent.below(12) as usize]),
     };
-    coverage.answer(family, expected.0, &expected.1);
+    coverage.answer(family, expected.outcome, &expected.tree);
+    let language = Built::by(model::build_language, &words, expected.lent());
     if let Some(candidate) = CANDIDATE {
         compare_with("candidate", candidate, number, &words, &expected, coverage);
     }
     if let Some(candidate) = CANDIDATE_LANGUAGE {
-        let mut buffer = vec![STALE; expected.1.len()];
-        let expected = (model::build_language(&words, &mut buffer), buffer);
-        compare_with("language candidate", candidate, number, &words, &expected, coverage);
+        compare_with("language candidate", candidate, number, &words, &language, coverage);
+    }
+    compare_lookups(number, &expected, &mut lent, coverage);
+    compare_previews(number, &words, [&expected, &language], coverage);
+}
+
+/// Some labels of an accepted table, in the index and the tree that were built: each finds its line's rows.
+fn compare_lookups(number: u64, built: &Built, rng: &mut Rng, coverage: &mut Coverage) {
+    let Some(lookup) = CANDIDATE_LOOKUP else { return };
+    let count = built.outcome.lines;
+    for _ in 0..count.min(4) {
+        let line = rng.below(count) as usize * LINE_WORDS;
+        let [label, first, closing] = built.index[line..line + LINE_WORDS] else { unreachable!() };
+        let own = &built.tree[6 * first as usize..6 * (closing as usize + 1)];
+        let looked = lookup(&built.index, count, label, &built.tree);
+        coverage.lookups += 1;
+        if looked.code != 0 || looked.part != own {
+            coverage.differences += 1;
+            println!("table {number} differs in the lookup of {label}: {:?}", built.index);
+            println!("  expected {own:?}, candidate {looked:?}");
+        }
+    }
+}
+
+/// M-106: the preview is the model's, and what the build gives where it does not lack places; else it
+/// tells what is lacking.
+fn compare_previews(number: u64, words: &[u32], built: [&Built; 2], coverage: &mut Coverage) {
+    let Some(previews) = CANDIDATE_PREVIEWS else { return };
+    let models = [model::preview, model::preview_language];
+    for ((preview, model), built) in previews.into_iter().zip(models).zip(built) {
+        let (told, expected) = (preview(words), model(words));
+        coverage.previews += 1;
+        let build = match (built.tree.len() / 6, built.index.len() / LINE_WORDS) {
+            (rows, _) if rows < told.rows as usize => Outcome { code: 40, lines: 0, ..told },
+            (_, lines) if lines < told.lines as usize => Outcome { code: 41, rows: 0, lines: 0, ..told },
+            _ => told,
+        };
+        if told != expected || build != built.outcome {
+            coverage.differences += 1;
+            println!("table {number} differs in its preview: {words:?}");
+            println!("  expected {expected:?}, candidate {told:?}, build {:?}", built.outcome);
+        }
     }
 }
 
@@ -159,7 +231,7 @@ fn compare_runs(
 ) {
     for _ in 0..4 {
         let yes = rng.pick(&[20, 50, 80]);
-        let answers: Vec<bool> = (0..rng.below(60)).map(|_| rng.percent(yes)).collect();
+        let answers: Vec<u32> = (0..rng.below(60)).map(|_| u32::from(rng.percent(yes))).collect();
         let (blocks, tree) = (block_run(table, &answers), tree_run(rows, &answers));
         coverage.runs += 1;
         if blocks != tree {
@@ -180,21 +252,39 @@ fn compare_with(
     build: Candidate,
     number: u64,
     words: &[u32],
-    expected: &(Outcome, Vec<u32>),
+    expected: &Built,
     coverage: &mut Coverage,
 ) {
-    let mut room = vec![STALE; expected.1.len() + 2 * AROUND];
-    let inside = AROUND..AROUND + expected.1.len();
-    let outcome = build(words, &mut room[inside.clone()]);
-    let outside = [&room[..inside.start], &room[inside.end..]];
-    let untouched = outside.iter().all(|part| part.iter().all(|word| *word == STALE));
-    if outcome == expected.0 && room[inside.clone()] == expected.1 && untouched {
+    let mut tree = Room::new(expected.tree.len());
+    let mut index = Room::new(expected.index.len());
+    let outcome = build(words, tree.lent(), index.lent());
+    let kept = tree.is_kept() && index.is_kept();
+    if outcome == expected.outcome && *tree.lent() == expected.tree && *index.lent() == expected.index && kept {
         return;
     }
     coverage.differences += 1;
     println!("table {number} differs: {words:?}");
-    println!("  expected {:?} {:?}", expected.0, expected.1);
-    println!("  {name} {outcome:?} {:?}, words around it kept: {untouched}", &room[inside]);
+    println!("  expected {:?} {:?} {:?}", expected.outcome, expected.tree, expected.index);
+    println!("  {name} {outcome:?} {:?} {:?}, words around them kept: {kept}", tree.lent(), index.lent());
+}
+
+/// A buffer to lend, with words around it that must stay.
+struct Room(Vec<u32>);
+
+impl Room {
+    fn new(length: usize) -> Self {
+        Self(vec![STALE; length + 2 * AROUND])
+    }
+
+    fn lent(&mut self) -> &mut [u32] {
+        let end = self.0.len() - AROUND;
+        &mut self.0[AROUND..end]
+    }
+
+    fn is_kept(&self) -> bool {
+        let end = self.0.len() - AROUND;
+        self.0[..AROUND].iter().chain(&self.0[end..]).all(|word| *word == STALE)
+    }
 }
 
 /// Exactly enough, just too little, or more.
@@ -208,4 +298,19 @@ fn buffer_length(rows: usize, rng: &mut Rng) -> usize {
         4..=9 => exact,
         _ => exact + rng.below(20) as usize,
     }
+}
+
+/// In words: each way of `LENT_INDEXES`; most often the lines fit.
+fn index_length(lines: usize, rng: &mut Rng, coverage: &mut Coverage) -> usize {
+    let exact = LINE_WORDS * lines;
+    let (way, length) = match rng.below(24) {
+        way @ 0..=2 => (way as usize, way as usize),
+        3 => (3, exact.saturating_sub(LINE_WORDS)),
+        4 => (4, exact.saturating_sub(1)),
+        5..=12 => (5, exact),
+        13..=17 => (6, exact + 1 + rng.below(2) as usize),
+        _ => (7, exact + LINE_WORDS + rng.below(20) as usize),
+    };
+    coverage.lent_indexes[way] += u64::from(lines > 0);
+    length
 }

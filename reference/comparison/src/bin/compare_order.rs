@@ -12,6 +12,7 @@ use comparison::generate::graphs::graph;
 use comparison::model;
 use comparison::model::check::check;
 use comparison::model::dot::named;
+use comparison::model::index::LINE_WORDS;
 use comparison::model::order::{Moved, places, rearrange, renamed, renamed_row, restore, walking_order};
 use comparison::model::table::Table;
 use comparison::model::{Outcome, ROW_WORDS};
@@ -26,13 +27,14 @@ const ANSWERS: [u32; 7] = [0, 1, 2, 3, 4, 45, 46];
 /// What a buffer holds before the call.
 const STALE: u32 = 7;
 
-type Entry = fn(&[u32], &mut [u32]) -> Outcome;
+type Entry = fn(&[u32], &mut [u32], &mut [u32]) -> Outcome;
 
 /// The entry that equals the Rust, and the language entry.
 const ENTRIES: [Entry; 2] = [model::build, model::build_language];
 
 /// Lent to each build.
 const TREE: usize = 4_096 * ROW_WORDS;
+const INDEX: usize = 1_023 * LINE_WORDS;
 
 #[derive(Default)]
 struct Met {
@@ -42,6 +44,7 @@ struct Met {
     built: u64,
     refused_at_a_block: u64,
     no_such_label: u64,
+    lines_lacking: u64,
     all_named: u64,
     some_unnamed: u64,
     moved: u64,
@@ -142,6 +145,7 @@ impl Met {
         let kinds = [
             ("a build refused at a block", self.refused_at_a_block),
             ("a jump that finds no label (29)", self.no_such_label),
+            ("a build that lacks places for lines (41)", self.lines_lacking),
             ("a table whose blocks are all named", self.all_named),
             ("a table with a block that is not named", self.some_unnamed),
             ("a table that is not in walking order", self.moved),
@@ -209,7 +213,8 @@ fn renumbered(candidate: CandidateOrder, table: &Table, rng: &mut Rng, met: &mut
         met.some_unnamed += 1;
     }
     let short = rng.below(60) as usize;
-    for lent in [TREE, short] {
+    let few = rng.below(12) as usize;
+    for lent in [(TREE, INDEX), (TREE, few), (short, INDEX)] {
         for entry in ENTRIES {
             built(entry, words, &other, &new, lent, met);
             built(entry, words, &first, &places(&order), lent, met);
@@ -217,17 +222,22 @@ fn renumbered(candidate: CandidateOrder, table: &Table, rng: &mut Rng, met: &mut
     }
 }
 
-/// The same rows, code and visits with every block renamed, and `at` where it is a block.
-fn built(entry: Entry, words: &[u32], other: &[u32], new: &[u32], lent: usize, met: &mut Met) {
-    let (mut tree, mut there) = (vec![STALE; lent], vec![STALE; lent]);
-    let before = entry(words, &mut tree);
-    let after = entry(other, &mut there);
+/// The same rows, code, visits and lines with every block renamed, and `at` where it is a block.
+fn built(entry: Entry, words: &[u32], other: &[u32], new: &[u32], lent: (usize, usize), met: &mut Met) {
+    let (mut tree, mut there) = (vec![STALE; lent.0], vec![STALE; lent.0]);
+    let (mut index, mut index_there) = (vec![STALE; lent.1], vec![STALE; lent.1]);
+    let before = entry(words, &mut tree, &mut index);
+    let after = entry(other, &mut there, &mut index_there);
     let at_a_block = (10..=31).contains(&before.code);
     let at = if at_a_block { new[before.at as usize] } else { before.at };
     let (rows, rest) = tree.as_chunks_mut::<ROW_WORDS>();
     rows.iter_mut().for_each(|row| *row = renamed_row(*row, new));
     met.hold(rest.iter().all(|word| *word == 0));
-    met.hold(after == Outcome { at, ..before } && tree == there);
+    // A line's label is a block; where the lines stay in their places, so do the zeros.
+    let lines = before.lines as usize * LINE_WORDS;
+    index[..lines].iter_mut().step_by(LINE_WORDS).for_each(|label| *label = new[*label as usize]);
+    met.hold(after == Outcome { at, ..before } && tree == there && index == index_there);
+    met.lines_lacking += u64::from(before.code == 41);
     met.built += 1;
     met.refused_at_a_block += u64::from(at_a_block);
     met.no_such_label += u64::from(before.code == 29);

@@ -13,7 +13,7 @@ use comparison::model::tree_check::MAX_ROWS;
 use comparison::model::tree_run::{Ran, run};
 use comparison::model::walk;
 use comparison::rng::Rng;
-use comparison::runs::{Stop, block_run, is_plain};
+use comparison::runs::{Width, block_run, is_plain};
 
 /// A run this long meets everything.
 const LONG_ENOUGH: u64 = 20_000;
@@ -112,16 +112,10 @@ impl Met {
         self.built += 1;
         let answers = answers(rng);
         let (ran, performed) = self.compare(candidate, rows.as_flattened(), &answers, rng);
-        if is_plain(&table) && ran.code == 0 {
+        if is_plain(&table, Width::Paper01) && ran.code == 0 {
             self.plain += 1;
-            let said: Vec<bool> = answers.iter().map(|answer| *answer != 0).collect();
-            let blocks = block_run(&table, &said);
-            let reason = match blocks.stop {
-                Stop::Returned => 1,
-                Stop::Threw => 2,
-                Stop::OutOfAnswers => 4,
-            };
-            if blocks.performed != performed[..ran.number] || reason != ran.reason {
+            let blocks = block_run(&table, &answers);
+            if blocks.performed != performed[..ran.number] || blocks.stop.reason() != ran.reason {
                 self.differences += 1;
                 println!("block run differs: table {number}, answers {answers:?}");
             }

@@ -1,5 +1,5 @@
-//! `files make FOLDER`: writes `00` and on, files for the program treebuild, and `printed`, what it prints of them, one after the other. Where
-//! the words pass the check the answer is the reference's, else that of the model of paper 01. `files check FOLDER`: makes them again and
+//! `files make FOLDER`: writes `00` and on, files for the programs treebuild and treesize, and `printed` and `sized`, what they print of them, one
+//! after the other. Where the words pass the check the answer is the reference's, else that of the model of paper 01. `files check FOLDER`: makes them again and
 //! compares.
 
 use std::fs;
@@ -10,7 +10,7 @@ use comparison::generate::files::{good_of_length, many_rows};
 use comparison::generate::generate;
 use comparison::model::text::{MAX_BYTES, write_file};
 use comparison::reference;
-use comparison::vector::printed;
+use comparison::vector::{printed, sized};
 
 const FILES: usize = 60;
 
@@ -31,14 +31,15 @@ fn main() {
     println!("{FILES} files");
 }
 
-/// Each file's name and bytes, then what is printed of all.
+/// Each file's name and bytes, then what the programs print of all.
 fn made() -> Vec<(String, Vec<u8>)> {
     let mut files = broken();
     files.extend(built(FILES - files.len()));
     assert_eq!(files.len(), FILES);
     let printed: String = files.iter().map(|file| printed(file)).collect();
+    let sized: String = files.iter().map(|file| sized(file)).collect();
     let named = files.into_iter().enumerate().map(|(number, file)| (format!("{number:02}"), file));
-    named.chain([("printed".to_string(), printed.into_bytes())]).collect()
+    named.chain([("printed", printed), ("sized", sized)].map(|(name, text)| (name.to_string(), text.into_bytes()))).collect()
 }
 
 /// Paper 01's sample, then files that are not in the form, or too long, or whose words are refused.

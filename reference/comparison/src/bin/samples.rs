@@ -7,15 +7,15 @@ use std::path::Path;
 use comparison::generate::corners::corners;
 use comparison::generate::files::files;
 use comparison::generate::words::word_lists;
-use comparison::model::{Outcome, check::check, text};
+use comparison::model::{Outcome, Refusal, check::check, index, text};
 use comparison::reference;
 use comparison::select::choose;
 use comparison::vector::Vector;
 
 const HEAD: &str = "\
 # Tables and their answers, by the model of paper 01; the Rust gave the same for each.
-# A line: words | length of the buffer in words | code at rows visits | words of the rows
-# The last field is empty unless the code is 0; then the buffer is these words, then zeros.
+# A line: words | lengths of the tree buffer and the index in words | code at rows visits lines | words of the rows | words of the lines
+# The last two fields are empty unless the code is 0; then the buffers are these words, then zeros.
 # A line that begins with '#' names the corner that the next line shows.
 ";
 
@@ -40,12 +40,12 @@ fn write(folder: &Path) {
     let mut first = String::from(HEAD);
     for (name, words) in corners() {
         writeln!(first, "# {name}").unwrap();
-        first += &line(words, |needed| needed);
+        first += &line(words, |needed| needed, |needed| needed);
     }
     let (_, file_sample) = corners().swap_remove(0);
     for length in [0, 5, 6, 11, 13, 17, 18, 30] {
         writeln!(first, "# the file sample with {length} words lent").unwrap();
-        first += &line(file_sample.clone(), |_| length);
+        first += &line(file_sample.clone(), |_| length, |needed| needed);
     }
     let chosen = choose();
     first += &lines(chosen.singles);
@@ -65,21 +65,35 @@ fn write(folder: &Path) {
 /// Just enough room, more, and now and then too little.
 fn lines(tables: Vec<Vec<u32>>) -> String {
     let lines = tables.into_iter().enumerate().map(|(turn, words)| {
-        line(words, |needed| match turn % 10 {
+        let lent = |needed: usize| match turn % 10 {
             3 => needed + 5,
             5 => needed.saturating_sub(1),
             7 => needed + 13,
             _ => needed,
-        })
+        };
+        let lent_index = |needed: usize| match turn % 9 {
+            2 => needed + 4,
+            4 => needed.saturating_sub(1),
+            6 => needed.saturating_sub(3),
+            8 => turn % 3,
+            _ => needed,
+        };
+        line(words, lent, lent_index)
     });
     lines.collect()
 }
 
-fn line(words: Vec<u32>, lent: impl Fn(usize) -> usize) -> String {
-    let Vector { words, length, outcome, rows } = Vector::answer(words, lent);
-    let Outcome { code, at, rows: count, visits } = outcome;
-    let (words, rows) = (numbers(&words), numbers(&rows));
-    format!("{words} | {length} | {code} {at} {count} {visits} | {rows}\n")
+fn line(words: Vec<u32>, lent: impl Fn(usize) -> usize, lent_index: impl Fn(usize) -> usize) -> String {
+    let Vector { words, length, mut outcome, mut rows } = Vector::answer(words, lent);
+    let mut index = index::lines(rows.as_chunks().0).as_flattened().to_vec();
+    let index_length = lent_index(index.len());
+    if outcome.lines as usize > index_length / index::LINE_WORDS {
+        outcome = Outcome::refused(Refusal { code: 41, at: 0 }, outcome.visits);
+        (rows, index) = (Vec::new(), Vec::new());
+    }
+    let Outcome { code, at, rows: count, visits, lines } = outcome;
+    let (words, rows, index) = (numbers(&words), numbers(&rows), numbers(&index));
+    format!("{words} | {length} {index_length} | {code} {at} {count} {visits} {lines} | {rows} | {index}\n")
 }
 
 fn check_samples() -> String {

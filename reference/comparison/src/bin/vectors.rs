@@ -10,6 +10,7 @@ use std::slice;
 use comparison::candidate::{CANDIDATE, Candidate};
 use comparison::generate::{corners, limits, samples, words};
 use comparison::model;
+use comparison::model::index::{LINE_WORDS, MOST_LINES, lines};
 use comparison::reference;
 use comparison::select::choose;
 use comparison::vector::{Vector, from_bytes, to_bytes};
@@ -80,8 +81,16 @@ fn replay(file: &str) -> bool {
 }
 
 fn replays_on(build: Candidate, vector: &Vector) -> bool {
-    let mut buffer = vec![7; vector.length];
-    let outcome = build(&vector.words, &mut buffer);
+    let lines = lines(vector.rows.as_chunks().0);
+    let needed = lines.len() * LINE_WORDS;
+    // Room for the lines; the vectors that are not accepted may have any.
+    let lent = if vector.outcome.code == 0 { needed } else { MOST_LINES * LINE_WORDS } + vector.length % 5;
+    let (mut buffer, mut index) = (vec![7; vector.length], vec![7; lent]);
+    let outcome = build(&vector.words, &mut buffer, &mut index);
     let (rows, after) = buffer.split_at(vector.rows.len());
-    outcome == vector.outcome && rows == vector.rows && after.iter().all(|word| *word == 0)
+    let (held, after_lines) = index.split_at(needed);
+    outcome == vector.outcome
+        && rows == vector.rows
+        && held == lines.as_flattened()
+        && after.iter().chain(after_lines).all(|word| *word == 0)
 }

@@ -39,6 +39,16 @@ pub fn run_of_fallthroughs(blocks: u32) -> Vec<u32> {
     long.0.words()
 }
 
+/// Switches without cases, one after the other: of 1,024 blocks the most lines that an index has (M-101).
+pub fn run_of_switches(blocks: u32) -> Vec<u32> {
+    let mut long = Long::new();
+    for block in 1..blocks {
+        long.add(7, &[0, 0, 0, block]);
+    }
+    long.add(3, &[0]);
+    long.0.words()
+}
+
 /// Nests of Ifs so deep, one after the other.
 pub fn nests(blocks: u32, depth: u32) -> Vec<u32> {
     let mut long = Long::new();

@@ -13,10 +13,12 @@ pub mod rows;
 pub mod samples;
 pub mod shared;
 pub mod small;
+pub mod small_plain;
 pub mod trees;
 pub mod words;
 
 use crate::rng::Rng;
+use crate::runs::Width;
 use draft::Draft;
 
 /// The families of tables, for the report.
@@ -63,7 +65,7 @@ pub fn generate(seed: u64, number: u64) -> Generated {
         2 => any_program(&mut rng, 40).words(),
         3 => mutated_program(&mut rng).words(),
         4 => any_program(&mut rng, 900).words(),
-        5 => plain::plain(&mut rng).words(),
+        5 => plain::plain(&mut rng, Width::Paper01).words(),
         6 => shared::shared_values(&mut rng).words(),
         _ => malformed(&mut rng),
     };

@@ -1,10 +1,13 @@
-//! Plain tables (paper 01, "Plain tables"): If, While, Label, scopes, jumps and ends only.
+//! Plain tables (paper 01, "Plain tables"): If, While, Label, scopes, jumps and ends only; and with
+//! Switch (M-113).
 
 use super::draft::Draft;
 use super::program::{BREAK, CONTINUE};
 use crate::rng::Rng;
+use crate::runs::Width;
 
 struct Plain<'r> {
+    width: Width,
     draft: Draft,
     rng: &'r mut Rng,
     budget: i32,
@@ -12,10 +15,10 @@ struct Plain<'r> {
     jumps: Vec<(u32, u32)>,
 }
 
-pub fn plain(rng: &mut Rng) -> Draft {
+pub fn plain(rng: &mut Rng, width: Width) -> Draft {
     let draft = Draft::with_places(rng);
     let budget = rng.from_to(1, 60) as i32;
-    let mut plain = Plain { draft, rng, budget, jumps: Vec::new() };
+    let mut plain = Plain { width, draft, rng, budget, jumps: Vec::new() };
     let entry = plain.fresh();
     plain.statements(entry, None);
     plain.draft
@@ -37,12 +40,14 @@ impl Plain<'_> {
         if self.budget <= 0 || self.rng.percent(10) {
             return self.leave(block, after);
         }
-        match self.rng.below(6) {
+        let kinds = if self.width == Width::WithSwitch { 8 } else { 6 };
+        match self.rng.below(kinds) {
             0 => self.if_statement(block, after),
             1 | 2 => self.while_statement(block, after),
             3 => self.body_statement(block, 16, after),
             4 => self.body_statement(block, 20, after),
-            _ => self.body_statement(block, 21, after),
+            5 => self.body_statement(block, 21, after),
+            _ => self.switch_statement(block, after),
         }
     }
 
@@ -78,6 +83,24 @@ impl Plain<'_> {
         self.body(consequent, out, &[out]);
         if alternate != fallthrough {
             self.body(alternate, out, &[out]);
+        }
+        self.statements(fallthrough, after);
+    }
+
+    /// The cases go on where the switch ends: no Goto names a case block.
+    fn switch_statement(&mut self, block: u32, after: Option<(u32, u32)>) {
+        let test = self.draft.any_place(self.rng);
+        let cases: Vec<u32> = (0..self.rng.below(5)).map(|_| self.fresh()).collect();
+        let fallthrough = self.fresh();
+        let first = self.draft.cases.len() as u32;
+        for case in &cases {
+            let test = self.draft.any_place_or_none(self.rng);
+            self.draft.cases.push([test, *case]);
+        }
+        self.end(block, 7, &[test, first, cases.len() as u32, fallthrough]);
+        let out = (fallthrough, BREAK);
+        for case in cases {
+            self.body(case, out, &[out]);
         }
         self.statements(fallthrough, after);
     }

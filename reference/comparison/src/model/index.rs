@@ -7,6 +7,9 @@ use super::{ROW_WORDS, Refusal, Row};
 
 pub const LINE_WORDS: usize = 3;
 
+/// A label is a block other than the entry, and no two lines have the same: of 1,024 blocks these are the most.
+pub const MOST_LINES: usize = 1_023;
+
 /// Label, first row of the statement, closing row.
 pub type Line = [u32; LINE_WORDS];
 

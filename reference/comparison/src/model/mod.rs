@@ -15,15 +15,24 @@ pub mod tree_check;
 pub mod tree_run;
 mod values;
 
+use index::{LINE_WORDS, lines};
 use table::{Span, Table};
 
-/// Code (0 accepted), at, rows and visits.
+/// Code (0 accepted), at, rows, visits, and M-101's number of lines.
 #[derive(Clone, Copy, Debug, PartialEq, Eq)]
 pub struct Outcome {
     pub code: u32,
     pub at: u32,
     pub rows: u32,
     pub visits: u32,
+    pub lines: u32,
+}
+
+impl Outcome {
+    /// At 40 alone a refusal tells rows, and none tells lines.
+    pub fn refused(Refusal { code, at }: Refusal, visits: u32) -> Self {
+        Self { code, at, rows: 0, visits, lines: 0 }
+    }
 }
 
 /// A refusal and its place.
@@ -53,37 +62,64 @@ pub enum Rule {
     Language,
 }
 
-/// The public call: words in, rows out.
-pub fn build(words: &[u32], buffer: &mut [u32]) -> Outcome {
-    build_by(Rule::Rust, words, buffer)
+/// The public call: words in, rows of the tree and lines of its index (M-101) out.
+pub fn build(words: &[u32], buffer: &mut [u32], index: &mut [u32]) -> Outcome {
+    build_by(Rule::Rust, words, buffer, index)
 }
 
-pub fn build_language(words: &[u32], buffer: &mut [u32]) -> Outcome {
-    build_by(Rule::Language, words, buffer)
+pub fn build_language(words: &[u32], buffer: &mut [u32], index: &mut [u32]) -> Outcome {
+    build_by(Rule::Language, words, buffer, index)
 }
 
-fn build_by(rule: Rule, words: &[u32], buffer: &mut [u32]) -> Outcome {
+fn build_by(rule: Rule, words: &[u32], buffer: &mut [u32], index: &mut [u32]) -> Outcome {
     buffer.fill(0);
-    let walked = match check::check(words) {
+    index.fill(0);
+    finish(&walked(rule, words), buffer, index)
+}
+
+/// M-106: what the build gives where both buffers are large enough, from the words alone.
+pub fn preview(words: &[u32]) -> Outcome {
+    previewed(&walked(Rule::Rust, words))
+}
+
+pub fn preview_language(words: &[u32]) -> Outcome {
+    previewed(&walked(Rule::Language, words))
+}
+
+pub fn previewed(walked: &Walked) -> Outcome {
+    match &walked.result {
+        Err(refusal) => Outcome::refused(*refusal, walked.visits),
+        Ok(rows) => accepted(rows.len(), lines(rows).len(), walked.visits),
+    }
+}
+
+fn walked(rule: Rule, words: &[u32]) -> Walked {
+    match check::check(words) {
         Ok(table) => walk_by(rule, &table),
         Err(refusal) => Walked { result: Err(refusal), visits: 0, deepest: 0 },
-    };
-    finish(&walked, buffer)
+    }
 }
 
-/// Puts the rows into a buffer of zeros, if they fit.
-pub fn finish(walked: &Walked, buffer: &mut [u32]) -> Outcome {
+fn accepted(rows: usize, lines: usize, visits: u32) -> Outcome {
+    Outcome { code: 0, at: 0, rows: rows as u32, visits, lines: lines as u32 }
+}
+
+/// Puts the rows and the lines into buffers of zeros, if both fit.
+pub fn finish(walked: &Walked, buffer: &mut [u32], index: &mut [u32]) -> Outcome {
     let visits = walked.visits;
     match &walked.result {
-        Err(Refusal { code, at }) => Outcome { code: *code, at: *at, rows: 0, visits },
+        Err(refusal) => Outcome::refused(*refusal, visits),
         Ok(rows) if rows.len() > buffer.len() / ROW_WORDS => {
-            Outcome { code: 40, at: 0, rows: rows.len() as u32, visits }
+            Outcome { rows: rows.len() as u32, ..Outcome::refused(Refusal { code: 40, at: 0 }, visits) }
         }
         Ok(rows) => {
-            for (place, row) in buffer.chunks_exact_mut(ROW_WORDS).zip(rows) {
-                place.copy_from_slice(row);
+            let lines = lines(rows);
+            if lines.len() > index.len() / LINE_WORDS {
+                return Outcome::refused(Refusal { code: 41, at: 0 }, visits);
             }
-            Outcome { code: 0, at: 0, rows: rows.len() as u32, visits }
+            buffer[..rows.len() * ROW_WORDS].copy_from_slice(rows.as_flattened());
+            index[..lines.len() * LINE_WORDS].copy_from_slice(lines.as_flattened());
+            accepted(rows.len(), lines.len(), visits)
         }
     }
 }

@@ -1,6 +1,7 @@
 //! The program `treebuild` (paper 01, "Samples"): the file form, refusals 50 and 51, the output.
 
 use super::convert::{Form, NEW};
+use super::index::LINE_WORDS;
 use super::{Outcome, ROW_WORDS, Refusal, build};
 
 pub const MAX_BYTES: usize = 32_768;
@@ -9,9 +10,11 @@ pub const LENT_ROWS: usize = 2_048;
 /// What the program prints for this input.
 pub fn treebuild(input: &[u8]) -> String {
     let mut buffer = vec![0; LENT_ROWS * ROW_WORDS];
+    // As many lines as rows: 41 is not given.
+    let mut index = vec![0; LENT_ROWS * LINE_WORDS];
     let outcome = match parse(input) {
-        Ok(words) => build(&words, &mut buffer),
-        Err(Refusal { code, at }) => Outcome { code, at, rows: 0, visits: 0 },
+        Ok(words) => build(&words, &mut buffer, &mut index),
+        Err(refusal) => Outcome::refused(refusal, 0),
     };
     print(outcome, &buffer)
 }
@@ -117,7 +120,7 @@ pub fn write_as(form: Form, words: &[u32]) -> String {
 
 /// The lines that the program prints: two for a refusal, the rows as well if accepted.
 pub fn print(outcome: Outcome, buffer: &[u32]) -> String {
-    let Outcome { code, at, rows, visits } = outcome;
+    let Outcome { code, at, rows, visits, .. } = outcome;
     let mut out = String::from("code at rows visits\n");
     push_line(&mut out, &[code, at, rows, visits]);
     if code == 0 {
@@ -126,6 +129,14 @@ pub fn print(outcome: Outcome, buffer: &[u32]) -> String {
             push_line(&mut out, row);
         }
     }
+    out
+}
+
+/// The same of treesize (M-106).
+pub fn print_size(told: Outcome) -> String {
+    let Outcome { code, at, rows, visits, lines } = told;
+    let mut out = String::from("code at rows visits lines\n");
+    push_line(&mut out, &[code, at, rows, visits, lines]);
     out
 }
 

@@ -25,7 +25,7 @@ use Rattle.build.proofs.ApplyLaws.{whole-marked, plan-applied, last-ent
 use Rattle.control.specs.declared.Context.{Context}
 use Rattle.plan.specs.declared.Position.{Position}
 use Rattle.plan.specs.declared.Frame.{Frame}
-use Rattle.build.proofs.DriverLaws.{Walking, turnsLeft, walking-start, frame-read, found-jump, found-below, ready, shallow, visit-below, beyond, frame-block, frame-at, AtTurn}
+use Rattle.build.proofs.DriverLaws.{Walking, turnsLeft, walking-start, frame-read, found-jump, found-below, ready, shallow, few-lines, visit-below, beyond, frame-block, frame-at, AtTurn}
 use Rattle.build.proofs.DriverLaws.{storedBy, stored-kept, stored-not, turn-ends, turn-applicable, turn-shallow, turn-blocked, turn-again, turn-lower}
 use denote.Ref.{now}
 use Rattle.build.proofs.AroundLaws.{Surveying, passed-most, survey-start, survey-known, survey-on, survey-done, aim-below}
@@ -34,30 +34,31 @@ use Rattle.build.proofs.SearchLaws.{Searching, search-start, search-on,
 use Rattle.build.proofs.driver.walk.Statement.{statement}
 use Rattle.build.proofs.driver.walk.Tie as tie
 
-record Inv (rule : Rule) (words buffer₀ buffer : List ℕ) (cx : Context) (frames : List Frame) (p : Position) : Type 0 where
-  walking : Walking rule words buffer cx frames p
-  long : length buffer ≡ length buffer₀
+record Inv (rule : Rule) (words tree₀ index₀ tree index : List ℕ) (cx : Context) (frames : List Frame) (p : Position) (lines : ℕ) : Type 0 where
+  walking : Walking rule words (record { tree = tree; index = index; lines = lines }) cx frames p
+  long : length tree ≡ length tree₀
+  wide : length index ≡ length index₀
 
 abbrev Inv-loop2 : tie.InvT-loop2
-Inv-loop2 rule words tree cx frames p frame jump at₀ loops₀ at loops =
+Inv-loop2 rule words tree index cx frames p lines frame jump at₀ loops₀ at loops =
     Searching jump cx at loops
 
 abbrev μ-loop2 : tie.MeasureT-loop2
-μ-loop2 rule words tree cx frames p frame jump at₀ loops₀ at loops =
+μ-loop2 rule words tree index cx frames p lines frame jump at₀ loops₀ at loops =
     at
 
 abbrev Inv-loop3 : tie.InvT-loop3
-Inv-loop3 rule words tree cx frames p frame jump at loops found target left₀ seen₀ left seen =
+Inv-loop3 rule words tree index cx frames p lines frame jump at loops found target left₀ seen₀ left seen =
     Surveying jump (ruleOf rule) words frames (p .depth) (resolvedOf found) left (surveyOf seen)
 
 abbrev μ-loop3 : tie.MeasureT-loop3
-μ-loop3 rule words tree cx frames p frame jump at loops found target left₀ seen₀ left seen = left
+μ-loop3 rule words tree index cx frames p lines frame jump at loops found target left₀ seen₀ left seen = left
 
 abbrev Inv-loop : tie.InvT-loop
-Inv-loop rule words tree₀ cx₀ frames₀ p₀ tree cx frames p = Inv (ruleOf rule) words tree₀ tree cx frames p
+Inv-loop rule words tree₀ index₀ cx₀ frames₀ p₀ lines₀ tree index cx frames p lines = Inv (ruleOf rule) words tree₀ index₀ tree index cx frames p lines
 
 abbrev μ-loop : tie.MeasureT-loop
-μ-loop rule words tree₀ cx₀ frames₀ p₀ tree cx frames p = turnsLeft p frames cx
+μ-loop rule words tree₀ index₀ cx₀ frames₀ p₀ lines₀ tree index cx frames p lines = turnsLeft p frames cx
 
 new-requires : tie.Need-new-requires Inv-loop2 μ-loop2 Inv-loop3 μ-loop3 Inv-loop μ-loop
 new-requires c κs = tt
@@ -72,7 +73,7 @@ loop-holds : tie.Need-loop-holds Inv-loop2 μ-loop2 Inv-loop3 μ-loop3 Inv-loop 
 loop-holds c =
     let at-new : tie.After-new Inv-loop2 μ-loop2 Inv-loop3 μ-loop3 Inv-loop μ-loop = search in
     let start : tie.Start Inv-loop2 μ-loop2 Inv-loop3 μ-loop3 Inv-loop μ-loop = search in
-    record { walking = walking-start _ _ (start .pre) (checked-table _ (start .pre)) _ _ _ _ (at-new .new .ensures) refl (c .start .ensures); long = refl }
+    record { walking = walking-start _ _ (start .pre) (checked-table _ (start .pre)) _ refl _ _ _ (at-new .new .ensures) refl (c .start .ensures); long = refl; wide = refl }
 
 innermost-requires : tie.Need-innermost-requires Inv-loop2 μ-loop2 Inv-loop3 μ-loop3 Inv-loop μ-loop
 innermost-requires c κs = tt
@@ -326,10 +327,14 @@ module _ (c : tie.After-aim-at Inv-loop2 μ-loop2 Inv-loop3 μ-loop3 Inv-loop μ
   aims-below = aim-below (asked-jump searched .jump-at .result) (ruleOf (started searched .args .rule))
       (surveyOf (surveyed .loop3 .seen)) (searched .if1 .found) (c .aim-at .result) (c .aim-at .ensures) (below searched)
 
--- where the turn is planned
-module _ (c : tie.After-plan-turn Inv-loop2 μ-loop2 Inv-loop3 μ-loop3 Inv-loop μ-loop) where
+-- where the turn is planned, and its line is written
+module _ (d : tie.After-put-line Inv-loop2 μ-loop2 Inv-loop3 μ-loop3 Inv-loop μ-loop) where
+  abbrev planning : tie.After-plan-turn Inv-loop2 μ-loop2 Inv-loop3 μ-loop3 Inv-loop μ-loop
+  planning = search
+
   abbrev at-aim : tie.After-aim-at Inv-loop2 μ-loop2 Inv-loop3 μ-loop3 Inv-loop μ-loop
   at-aim =
+      let after : tie.After-plan-turn Inv-loop2 μ-loop2 Inv-loop3 μ-loop3 Inv-loop μ-loop = planning in
       let at-cx2 : tie.After-cx2 Inv-loop2 μ-loop2 Inv-loop3 μ-loop3 Inv-loop μ-loop = search in
       search
 
@@ -345,7 +350,8 @@ module _ (c : tie.After-plan-turn Inv-loop2 μ-loop2 Inv-loop3 μ-loop3 Inv-loop
       search
 
   turn : AtTurn (ruleOf (begun .args .rule)) (now (begun .args .words))
-      (at-head .loop .tree) (at-head .loop .cx) (at-head .loop .frames) (at-head .loop .p) (c .plan-turn .last .1 .0) (c .plan-turn .result)
+      (record { tree = at-head .loop .tree; index = at-head .loop .index; lines = at-head .loop .lines }) (at-head .loop .cx) (at-head .loop .frames) (at-head .loop .p)
+      (record { tree = planning .plan-turn .last .1 .0; index = d .put-line .last .0; lines = d .put-line .result }) (planning .plan-turn .result)
   turn =
       record {
         promise = begun .pre;
@@ -353,7 +359,8 @@ module _ (c : tie.After-plan-turn Inv-loop2 μ-loop2 Inv-loop3 μ-loop3 Inv-loop
         frame = _;
         read = frame-read _ _ (begun .pre) (checked-table _ (begun .pre)) _ _ _ _ (at-head .loop .inv .walking) _ (innermost-at .innermost .ensures);
         aim = at-aim .aim-at .result;
-        planned = c .plan-turn .ensures;
+        planned = planning .plan-turn .ensures;
+        put = d .put-line .ensures;
         jump = found-jump _ _ _ _ (at-head .loop .p) _ (at-aim .aim-at .result) (at-head .loop .inv .walking .whole .settled) (asked-jump (searched at-aim) .jump-at .ensures) (aimed at-aim);
       }
 
@@ -369,6 +376,14 @@ plan-turn-requires c κs =
       aims-below at-aim,
     )
 
+put-line-requires : tie.Need-put-line-requires Inv-loop2 μ-loop2 Inv-loop3 μ-loop3 Inv-loop μ-loop
+put-line-requires c κs =
+    let planned-at : tie.After-plan-turn Inv-loop2 μ-loop2 Inv-loop3 μ-loop3 Inv-loop μ-loop = search in
+    let at-cx2 : tie.After-cx2 Inv-loop2 μ-loop2 Inv-loop3 μ-loop3 Inv-loop μ-loop = search in
+    let at-aim : tie.After-aim-at Inv-loop2 μ-loop2 Inv-loop3 μ-loop3 Inv-loop μ-loop = search in
+    let start = started (searched at-aim) in
+    few-lines _ _ (start .pre) (checked-table _ (start .pre)) _ _ _ _ (head (searched at-aim) .loop .inv .walking)
+
 ends-requires : tie.Need-ends-requires Inv-loop2 μ-loop2 Inv-loop3 μ-loop3 Inv-loop μ-loop
 ends-requires c κs = tt
 
@@ -377,14 +392,19 @@ answer-requires c κs = tt
 
 same-length : tie.Need-same-length Inv-loop2 μ-loop2 Inv-loop3 μ-loop3 Inv-loop μ-loop
 same-length c =
-    let at-plan-turn : tie.After-plan-turn Inv-loop2 μ-loop2 Inv-loop3 μ-loop3 Inv-loop μ-loop = search in
-    omega (arith, at-plan-turn .plan-turn .kept .1 .0, at-head at-plan-turn .loop .inv .long)
+    let at-plan-turn : tie.After-put-line Inv-loop2 μ-loop2 Inv-loop3 μ-loop3 Inv-loop μ-loop = search in
+    omega (arith, planning at-plan-turn .plan-turn .kept .1 .0, at-head at-plan-turn .loop .inv .long)
+
+same-length-2 : tie.Need-same-length-2 Inv-loop2 μ-loop2 Inv-loop3 μ-loop3 Inv-loop μ-loop
+same-length-2 c =
+    let at-plan-turn : tie.After-put-line Inv-loop2 μ-loop2 Inv-loop3 μ-loop3 Inv-loop μ-loop = search in
+    omega (arith, at-plan-turn .put-line .kept .0, at-head at-plan-turn .loop .inv .wide)
 
 returns : tie.Need-returns Inv-loop2 μ-loop2 Inv-loop3 μ-loop3 Inv-loop μ-loop
 returns c =
     let then3 : tie.Then5 Inv-loop2 μ-loop2 Inv-loop3 μ-loop3 Inv-loop μ-loop = search in
     let at-ends : tie.After-ends Inv-loop2 μ-loop2 Inv-loop3 μ-loop3 Inv-loop μ-loop = search in
-    let at-plan-turn : tie.After-plan-turn Inv-loop2 μ-loop2 Inv-loop3 μ-loop3 Inv-loop μ-loop = search in
+    let at-plan-turn : tie.After-put-line Inv-loop2 μ-loop2 Inv-loop3 μ-loop3 Inv-loop μ-loop = search in
     rw (c .answer .ensures) (turn-ends (turn (at-plan-turn)) (sym (at-ends .ends .ensures) ∙ then3 .if5 .taken))
 
 visited-block-requires : tie.Need-visited-block-requires Inv-loop2 μ-loop2 Inv-loop3 μ-loop3 Inv-loop μ-loop
@@ -394,21 +414,21 @@ mark-requires : tie.Need-mark-requires Inv-loop2 μ-loop2 Inv-loop3 μ-loop3 Inv
 mark-requires c κs =
     let else3 : tie.Else5 Inv-loop2 μ-loop2 Inv-loop3 μ-loop3 Inv-loop μ-loop = search in
     let at-ends : tie.After-ends Inv-loop2 μ-loop2 Inv-loop3 μ-loop3 Inv-loop μ-loop = search in
-    let at-plan-turn : tie.After-plan-turn Inv-loop2 μ-loop2 Inv-loop3 μ-loop3 Inv-loop μ-loop = search in
+    let at-plan-turn : tie.After-put-line Inv-loop2 μ-loop2 Inv-loop3 μ-loop3 Inv-loop μ-loop = search in
     rw (c .visited-block .ensures) (turn-applicable (turn (at-plan-turn)) (sym (at-ends .ends .ensures) ∙ else3 .if5 .left) .block)
 
 mark-requires-2 : tie.Need-mark-requires-2 Inv-loop2 μ-loop2 Inv-loop3 μ-loop3 Inv-loop μ-loop
 mark-requires-2 c κs =
     let else3 : tie.Else5 Inv-loop2 μ-loop2 Inv-loop3 μ-loop3 Inv-loop μ-loop = search in
     let at-ends : tie.After-ends Inv-loop2 μ-loop2 Inv-loop3 μ-loop3 Inv-loop μ-loop = search in
-    let at-plan-turn : tie.After-plan-turn Inv-loop2 μ-loop2 Inv-loop3 μ-loop3 Inv-loop μ-loop = search in
+    let at-plan-turn : tie.After-put-line Inv-loop2 μ-loop2 Inv-loop3 μ-loop3 Inv-loop μ-loop = search in
     turn-applicable (turn (at-plan-turn)) (sym (at-ends .ends .ensures) ∙ else3 .if5 .left) .handler
 
 mark-requires-3 : tie.Need-mark-requires-3 Inv-loop2 μ-loop2 Inv-loop3 μ-loop3 Inv-loop μ-loop
 mark-requires-3 c κs =
     let else3 : tie.Else5 Inv-loop2 μ-loop2 Inv-loop3 μ-loop3 Inv-loop μ-loop = search in
     let at-ends : tie.After-ends Inv-loop2 μ-loop2 Inv-loop3 μ-loop3 Inv-loop μ-loop = search in
-    let at-plan-turn : tie.After-plan-turn Inv-loop2 μ-loop2 Inv-loop3 μ-loop3 Inv-loop μ-loop = search in
+    let at-plan-turn : tie.After-put-line Inv-loop2 μ-loop2 Inv-loop3 μ-loop3 Inv-loop μ-loop = search in
     turn-applicable (turn (at-plan-turn)) (sym (at-ends .ends .ensures) ∙ else3 .if5 .left) .scope
 
 innermost-requires-2 : tie.Need-innermost-requires-2 Inv-loop2 μ-loop2 Inv-loop3 μ-loop3 Inv-loop μ-loop
@@ -442,19 +462,22 @@ module _ (c : tie.After-mark3 Inv-loop2 μ-loop2 Inv-loop3 μ-loop3 Inv-loop μ-
       let after : tie.Else5 Inv-loop2 μ-loop2 Inv-loop3 μ-loop3 Inv-loop μ-loop = left-at in
       search
 
-  abbrev planned : tie.After-plan-turn Inv-loop2 μ-loop2 Inv-loop3 μ-loop3 Inv-loop μ-loop
-  planned =
+  abbrev written : tie.After-put-line Inv-loop2 μ-loop2 Inv-loop3 μ-loop3 Inv-loop μ-loop
+  written =
       let after : tie.After-ends Inv-loop2 μ-loop2 Inv-loop3 μ-loop3 Inv-loop μ-loop = ended in
       search
+
+  abbrev planned : tie.After-plan-turn Inv-loop2 μ-loop2 Inv-loop3 μ-loop3 Inv-loop μ-loop
+  planned = planning written
 
   abbrev plan : Plan
   plan = planned .plan-turn .result
 
   abbrev p : Position
-  p = at-head planned .loop .p
+  p = at-head written .loop .p
 
   abbrev cx : Context
-  cx = at-head planned .loop .cx
+  cx = at-head written .loop .cx
 
   abbrev visited : ℕ
   visited = visitedBlock (p .stage) (p .block)
@@ -483,7 +506,7 @@ module _ (c : tie.After-mark3 Inv-loop2 μ-loop2 Inv-loop3 μ-loop3 Inv-loop μ-
       (marked2 .mark2 .ensures) (marked3 .mark3 .ensures)
 
   applicable : Applicable visited plan cx
-  applicable = turn-applicable (turn planned) goes-on
+  applicable = turn-applicable (turn written) goes-on
 
   whole : Whole with-marks
   whole = subst Whole (sym marks-made) (whole-marked visited (plan .handler) (plan .scope) cx (applicable .whole))
@@ -495,9 +518,9 @@ module _ (c : tie.After-mark3 Inv-loop2 μ-loop2 Inv-loop3 μ-loop3 Inv-loop μ-
         (changeable-marked change visited (plan .handler) (plan .scope) cx (subst (λ (z : Change). Changeable z cx) e (applicable .change)))
 
     blocks : {code at : ℕ} → Blocked change with-marks code at
-        → Reported (report (ruleOf (begun planned .args .rule)) (tableOf (now (begun planned .args .words)))) (blockedBy code at (plan .position)) (planned .plan-turn .last .1 .0)
+        → Reported (report (ruleOf (begun written .args .rule)) (tableOf (now (begun written .args .words)))) (blockedBy code at (plan .position)) (planned .plan-turn .last .1 .0) (written .put-line .last .0)
     blocks {code} {at} E =
-        turn-blocked (turn planned) goes-on (subst (λ (z : Change). Blocked z (withMarks visited (plan .handler) (plan .scope) cx) code at) (sym e)
+        turn-blocked (turn written) goes-on (subst (λ (z : Change). Blocked z (withMarks visited (plan .handler) (plan .scope) cx) code at) (sym e)
         (subst (λ (z : Context). Blocked change z code at) marks-made E))
 
     module _ (r : Context) (E : Changed change with-marks r) where
@@ -509,23 +532,25 @@ module _ (c : tie.Joined6 Inv-loop2 μ-loop2 Inv-loop3 μ-loop3 Inv-loop μ-loop
   abbrev marks-at : tie.After-mark3 Inv-loop2 μ-loop2 Inv-loop3 μ-loop3 Inv-loop μ-loop
   marks-at = search
 
-  stored : c .if6 .frames ≡ storedBy (plan marks-at .keep) (plan marks-at .position .depth) (plan marks-at .frame) (at-head (planned marks-at) .loop .frames)
+  stored : c .if6 .frames ≡ storedBy (plan marks-at .keep) (plan marks-at .position .depth) (plan marks-at .frame) (at-head (written marks-at) .loop .frames)
   stored =
       ⊎-elim
-      (λ w. stored-kept (plan marks-at .keep) _ (plan marks-at .position .depth) (plan marks-at .frame) (at-head (planned marks-at) .loop .frames) _ (w .0 .taken) (w .2 .ensures) (w .3))
-      (λ w. stored-not (plan marks-at .keep) (plan marks-at .position .depth) (plan marks-at .frame) (at-head (planned marks-at) .loop .frames) _ (w .0 .left) (w .1))
+      (λ w. stored-kept (plan marks-at .keep) _ (plan marks-at .position .depth) (plan marks-at .frame) (at-head (written marks-at) .loop .frames) _ (w .0 .taken) (w .2 .ensures) (w .3))
+      (λ w. stored-not (plan marks-at .keep) (plan marks-at .position .depth) (plan marks-at .frame) (at-head (written marks-at) .loop .frames) _ (w .0 .left) (w .1))
       (c .if6 .came)
 
   module _ (change : Change) (e : plan marks-at .change ≡ change) (r : Context) (E : Changed change (with-marks marks-at) r) where
-    next : Inv (ruleOf (begun (planned marks-at) .args .rule)) (now (begun (planned marks-at) .args .words))
-        (now (begun (planned marks-at) .args .tree)) (planned marks-at .plan-turn .last .1 .0) r (c .if6 .frames) (plan marks-at .position)
+    next : Inv (ruleOf (begun (written marks-at) .args .rule)) (now (begun (written marks-at) .args .words)) (now (begun (written marks-at) .args .tree))
+        (now (begun (written marks-at) .args .index)) (planned marks-at .plan-turn .last .1 .0) (written marks-at .put-line .last .0) r (c .if6 .frames) (plan marks-at .position)
+        (written marks-at .put-line .result)
     next = record {
-      walking = turn-again (turn (planned marks-at)) (goes-on marks-at) (changed marks-at change e r E) stored;
-      long = omega (arith, planned marks-at .plan-turn .kept .1 .0, at-head (planned marks-at) .loop .inv .long);
+      walking = turn-again (turn (written marks-at)) (goes-on marks-at) (changed marks-at change e r E) stored;
+      long = omega (arith, planned marks-at .plan-turn .kept .1 .0, at-head (written marks-at) .loop .inv .long);
+      wide = omega (arith, written marks-at .put-line .kept .0, at-head (written marks-at) .loop .inv .wide);
     }
 
-    lower : turnsLeft (plan marks-at .position) (c .if6 .frames) r < turnsLeft (p marks-at) (at-head (planned marks-at) .loop .frames) (cx marks-at)
-    lower = turn-lower (turn (planned marks-at)) (goes-on marks-at) (changed marks-at change e r E) stored
+    lower : turnsLeft (plan marks-at .position) (c .if6 .frames) r < turnsLeft (p marks-at) (at-head (written marks-at) .loop .frames) (cx marks-at)
+    lower = turn-lower (turn (written marks-at)) (goes-on marks-at) (changed marks-at change e r E) stored
 
 -- ---- what each change leaves
 
@@ -610,12 +635,12 @@ module _ (c : tie.After-remove-target2 Inv-loop2 μ-loop2 Inv-loop3 μ-loop3 Inv
 mul-frames : tie.Need-mul-frames Inv-loop2 μ-loop2 Inv-loop3 μ-loop3 Inv-loop μ-loop
 mul-frames c =
     let at-marks : tie.After-mark3 Inv-loop2 μ-loop2 Inv-loop3 μ-loop3 Inv-loop μ-loop = search in
-    omega (arith, c .innermost2 .ensures, turn-shallow (turn (planned at-marks)) (goes-on at-marks))
+    omega (arith, c .innermost2 .ensures, turn-shallow (turn (written at-marks)) (goes-on at-marks))
 
 array-set-from-frames : tie.Need-array-set-from-frames Inv-loop2 μ-loop2 Inv-loop3 μ-loop3 Inv-loop μ-loop
 array-set-from-frames c =
     let at-marks : tie.After-mark3 Inv-loop2 μ-loop2 Inv-loop3 μ-loop3 Inv-loop μ-loop = search in
-    omega (arith, c .innermost2 .ensures, turn-shallow (turn (planned at-marks)) (goes-on at-marks))
+    omega (arith, c .innermost2 .ensures, turn-shallow (turn (written at-marks)) (goes-on at-marks))
 
 enum-told : tie.Need-enum-told Inv-loop2 μ-loop2 Inv-loop3 μ-loop3 Inv-loop μ-loop
 enum-told c = search needs
@@ -647,10 +672,15 @@ is-blocked-requires c κs =
 blocked-requires : tie.Need-blocked-requires Inv-loop2 μ-loop2 Inv-loop3 μ-loop3 Inv-loop μ-loop
 blocked-requires c κs = tt
 
-same-length-2 : tie.Need-same-length-2 Inv-loop2 μ-loop2 Inv-loop3 μ-loop3 Inv-loop μ-loop
-same-length-2 c =
+same-length-3 : tie.Need-same-length-3 Inv-loop2 μ-loop2 Inv-loop3 μ-loop3 Inv-loop μ-loop
+same-length-3 c =
     let at-marks : tie.After-mark3 Inv-loop2 μ-loop2 Inv-loop3 μ-loop3 Inv-loop μ-loop = search in
-    omega (arith, planned at-marks .plan-turn .kept .1 .0, at-head (planned at-marks) .loop .inv .long)
+    omega (arith, planned at-marks .plan-turn .kept .1 .0, at-head (written at-marks) .loop .inv .long)
+
+same-length-4 : tie.Need-same-length-4 Inv-loop2 μ-loop2 Inv-loop3 μ-loop3 Inv-loop μ-loop
+same-length-4 c =
+    let at-marks : tie.After-mark3 Inv-loop2 μ-loop2 Inv-loop3 μ-loop3 Inv-loop μ-loop = search in
+    omega (arith, written at-marks .put-line .kept .0, at-head (written at-marks) .loop .inv .wide)
 
 returns-2 : tie.Need-returns-2 Inv-loop2 μ-loop2 Inv-loop3 μ-loop3 Inv-loop μ-loop
 returns-2 c =
@@ -710,10 +740,15 @@ is-blocked-requires-2 c κs =
 blocked-requires-2 : tie.Need-blocked-requires-2 Inv-loop2 μ-loop2 Inv-loop3 μ-loop3 Inv-loop μ-loop
 blocked-requires-2 c κs = tt
 
-same-length-3 : tie.Need-same-length-3 Inv-loop2 μ-loop2 Inv-loop3 μ-loop3 Inv-loop μ-loop
-same-length-3 c =
+same-length-5 : tie.Need-same-length-5 Inv-loop2 μ-loop2 Inv-loop3 μ-loop3 Inv-loop μ-loop
+same-length-5 c =
     let at-marks : tie.After-mark3 Inv-loop2 μ-loop2 Inv-loop3 μ-loop3 Inv-loop μ-loop = search in
-    omega (arith, planned at-marks .plan-turn .kept .1 .0, at-head (planned at-marks) .loop .inv .long)
+    omega (arith, planned at-marks .plan-turn .kept .1 .0, at-head (written at-marks) .loop .inv .long)
+
+same-length-6 : tie.Need-same-length-6 Inv-loop2 μ-loop2 Inv-loop3 μ-loop3 Inv-loop μ-loop
+same-length-6 c =
+    let at-marks : tie.After-mark3 Inv-loop2 μ-loop2 Inv-loop3 μ-loop3 Inv-loop μ-loop = search in
+    omega (arith, written at-marks .put-line .kept .0, at-head (written at-marks) .loop .inv .wide)
 
 returns-3 : tie.Need-returns-3 Inv-loop2 μ-loop2 Inv-loop3 μ-loop3 Inv-loop μ-loop
 returns-3 c =
@@ -858,9 +893,11 @@ walk-spec =
     loop3-again
     aim-at-requires
     plan-turn-requires
+    put-line-requires
     ends-requires
     answer-requires
     same-length
+    same-length-2
     returns
     visited-block-requires
     mark-requires
@@ -876,7 +913,8 @@ walk-spec =
     schedule-requires
     is-blocked-requires
     blocked-requires
-    same-length-2
+    same-length-3
+    same-length-4
     returns-2
     add-target-requires
     sub-entry
@@ -888,7 +926,8 @@ walk-spec =
     schedule-requires-2
     is-blocked-requires-2
     blocked-requires-2
-    same-length-3
+    same-length-5
+    same-length-6
     returns-3
     add-target-requires-2
     sub-entry-2

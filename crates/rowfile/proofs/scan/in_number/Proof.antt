@@ -14,7 +14,7 @@ returns : tie.Need-returns
 returns c =
     let ends : tie.Then1 = search in
     let end : tie.After-ending-byte = search in
-    number-ends _ _ _ (end .ending-byte .ensures) (ends .if1 .taken) (c .next-column .ensures)
+    number-ends _ _ _ _ (end .ending-byte .ensures) (ends .if1 .taken) (c .next-column .ensures)
 
 extended-requires : tie.Need-extended-requires
 extended-requires c κs = search needs
@@ -28,7 +28,7 @@ returns-2 c =
     let more : tie.After-extended = search in
     let other : tie.Else1 = search in
     let end : tie.After-ending-byte = search in
-    number-refused _ _ _ (end .ending-byte .ensures) (other .if1 .left) (more .extended .ensures) (none .if2 .taken) (c .refused-scan .ensures)
+    number-refused _ _ _ _ (end .ending-byte .ensures) (other .if1 .left) (more .extended .ensures) (none .if2 .taken) (c .refused-scan .ensures)
 
 cast-open-scan : tie.Need-cast-open-scan
 cast-open-scan c = search needs
@@ -42,7 +42,7 @@ returns-3 c =
     let more : tie.After-extended = search in
     let other : tie.Else1 = search in
     let end : tie.After-ending-byte = search in
-    number-goes-on _ _ _ (end .ending-byte .ensures) (other .if1 .left) (more .extended .ensures) (digit .if2 .left) (c .open-scan .ensures)
+    number-goes-on _ _ _ _ (end .ending-byte .ensures) (other .if1 .left) (more .extended .ensures) (digit .if2 .left) (c .open-scan .ensures)
 
 pub in-number-spec : {M : Type 1} → statement M
 in-number-spec =

@@ -10,12 +10,12 @@ add-result c = search needs
 returns : tie.Need-returns
 returns c =
     let last : tie.Then1 = search in
-    rw (eq-eqb _ 5 (last .if1 .taken))
+    rw (eq-eqb _ _ (last .if1 .taken))
 
 returns-2 : tie.Need-returns-2
 returns-2 c =
     let other : tie.Else1 = search in
-    rw (ne-eqb _ 5 (other .if1 .left))
+    rw (ne-eqb _ _ (other .if1 .left))
 
 pub next-column-spec : {M : Type 1} → statement M
 next-column-spec = tie.close (tie.spec add-result returns returns-2)

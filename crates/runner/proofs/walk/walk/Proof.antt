@@ -2,7 +2,7 @@ use native.Mathlib.Omega.{arith}
 use borrow.Author.Needs.{needs}
 use borrow.Author.Tests.{not-true, not-false}
 use Rattle.runner.specs.Abstraction.{linksOf}
-use Rattle.runner.proofs.WalkLaws.{Walking, left, walk-start, walk-full, walk-less, walk-next, walk-end}
+use Rattle.runner.proofs.WalkLaws.{Walking, left, walk-start, walk-full, walk-less, walk-next, walk-end, instr-full, instr-next, instr-less}
 use Rattle.runner.proofs.walk.walk.Statement.{statement}
 use Rattle.runner.proofs.walk.walk.Tie as tie
 
@@ -29,11 +29,14 @@ loop-holds c =
 halted-requires : tie.Need-halted-requires Inv-loop μ-loop
 halted-requires c κs = search needs
 
-decide-requires : tie.Need-decide-requires Inv-loop μ-loop
-decide-requires c κs = search needs
+instructs-requires : tie.Need-instructs-requires Inv-loop μ-loop
+instructs-requires c κs = search needs
 
-perform-turn-requires : tie.Need-perform-turn-requires Inv-loop μ-loop
-perform-turn-requires c κs = search needs
+link-requires : tie.Need-link-requires Inv-loop μ-loop
+link-requires c κs = search needs
+
+perform-requires : tie.Need-perform-requires Inv-loop μ-loop
+perform-requires c κs = search needs
 
 refused-requires : tie.Need-refused-requires Inv-loop μ-loop
 refused-requires c κs = search needs
@@ -43,58 +46,127 @@ same-length c = search needs
 
 returns : tie.Need-returns Inv-loop μ-loop
 returns c =
-    let did : tie.After-perform-turn Inv-loop μ-loop = search in
-    let full : tie.Then2 Inv-loop μ-loop = search in
-    let decided : tie.After-decide Inv-loop μ-loop = search in
+    let full : tie.Then3 Inv-loop μ-loop = search in
+    let did : tie.After-perform Inv-loop μ-loop = search in
+    let first : tie.After-link Inv-loop μ-loop = search in
+    let instr : tie.Then2 Inv-loop μ-loop = search in
+    let asks : tie.After-instructs Inv-loop μ-loop = search in
     let on : tie.Then1 Inv-loop μ-loop = search in
     let asked : tie.After-halted Inv-loop μ-loop = search in
     let at-loop : tie.At-loop Inv-loop μ-loop = search in
-    walk-full _ _ _ _ (at-loop .loop .inv) (asked .halted .ensures) (not-true _ (on .if1 .taken)) (decided .decide .result) (decided .decide .ensures)
-    (did .perform-turn .ensures) (full .if2 .taken) (c .refused .ensures)
+    instr-full _ _ _ _ (at-loop .loop .inv) (asked .halted .ensures) (not-true _ (on .if1 .taken)) (asks .instructs .ensures (instr .if2 .taken)) (first .link .ensures)
+    (did .perform .ensures) (full .if3 .taken) (c .refused .ensures)
 
-go-on-requires : tie.Need-go-on-requires Inv-loop μ-loop
-go-on-requires c κs = search needs
+after-instruction-requires : tie.Need-after-instruction-requires Inv-loop μ-loop
+after-instruction-requires c κs =
+    let instr : tie.Then2 Inv-loop μ-loop = search in
+    let asks : tie.After-instructs Inv-loop μ-loop = search in
+    asks .instructs .ensures (instr .if2 .taken) .1
 
 loop-less : tie.Need-loop-less Inv-loop μ-loop
 loop-less c =
-    let went : tie.After-go-on Inv-loop μ-loop = search in
-    let fits : tie.Else2 Inv-loop μ-loop = search in
-    let did : tie.After-perform-turn Inv-loop μ-loop = search in
-    let decided : tie.After-decide Inv-loop μ-loop = search in
-    let on : tie.Then1 Inv-loop μ-loop = search in
+    let did : tie.After-perform Inv-loop μ-loop = search in
+    let asks : tie.After-instructs Inv-loop μ-loop = search in
     let asked : tie.After-halted Inv-loop μ-loop = search in
     let at-loop : tie.At-loop Inv-loop μ-loop = search in
     let entered : tie.After-enter Inv-loop μ-loop = search in
     let known : tie.After-shared-slice-known3 Inv-loop μ-loop = search in
     let start : tie.Start Inv-loop μ-loop = search in
     let a = start .args in
-    walk-less _ _ _ _ (at-loop .loop .inv) (asked .halted .ensures) (not-true _ (on .if1 .taken)) (decided .decide .result) (decided .decide .ensures) (did .perform-turn .ensures) (fits .if2 .left)
-    (went .go-on .result .place) (went .go-on .result .asked) (went .go-on .ensures (a .parent .now) (a .next .now) (a .child .now))
+    let went : tie.After-after-instruction Inv-loop μ-loop = search in
+    let fits : tie.Else3 Inv-loop μ-loop = search in
+    let first : tie.After-link Inv-loop μ-loop = search in
+    let instr : tie.Then2 Inv-loop μ-loop = search in
+    let on : tie.Then1 Inv-loop μ-loop = search in
+    instr-less _ _ _ _ (at-loop .loop .inv) (asked .halted .ensures) (not-true _ (on .if1 .taken)) (asks .instructs .ensures (instr .if2 .taken)) (first .link .ensures)
+    (did .perform .ensures) (fits .if3 .left) (omega (arith, did .perform .kept .1 .1 .1 .0)) (went .after-instruction .result)
+    (went .after-instruction .ensures (a .begin .now) (a .child .now))
 
 loop-again : tie.Need-loop-again Inv-loop μ-loop
 loop-again c =
-    let went : tie.After-go-on Inv-loop μ-loop = search in
-    let fits : tie.Else2 Inv-loop μ-loop = search in
-    let did : tie.After-perform-turn Inv-loop μ-loop = search in
-    let decided : tie.After-decide Inv-loop μ-loop = search in
-    let on : tie.Then1 Inv-loop μ-loop = search in
+    let did : tie.After-perform Inv-loop μ-loop = search in
+    let asks : tie.After-instructs Inv-loop μ-loop = search in
     let asked : tie.After-halted Inv-loop μ-loop = search in
     let at-loop : tie.At-loop Inv-loop μ-loop = search in
     let entered : tie.After-enter Inv-loop μ-loop = search in
     let known : tie.After-shared-slice-known3 Inv-loop μ-loop = search in
     let start : tie.Start Inv-loop μ-loop = search in
     let a = start .args in
-    walk-next _ _ _ _ (at-loop .loop .inv) (asked .halted .ensures) (not-true _ (on .if1 .taken)) (decided .decide .result) (decided .decide .ensures) (did .perform-turn .ensures) (fits .if2 .left)
-    (went .go-on .result .place) (went .go-on .result .asked) (went .go-on .ensures (a .parent .now) (a .next .now) (a .child .now)) (omega (arith, did .perform-turn .kept .1 .1 .0))
+    let went : tie.After-after-instruction Inv-loop μ-loop = search in
+    let fits : tie.Else3 Inv-loop μ-loop = search in
+    let first : tie.After-link Inv-loop μ-loop = search in
+    let instr : tie.Then2 Inv-loop μ-loop = search in
+    let on : tie.Then1 Inv-loop μ-loop = search in
+    instr-next _ _ _ _ (at-loop .loop .inv) (asked .halted .ensures) (not-true _ (on .if1 .taken)) (asks .instructs .ensures (instr .if2 .taken)) (first .link .ensures)
+    (did .perform .ensures) (fits .if3 .left) (omega (arith, did .perform .kept .1 .1 .1 .0)) (went .after-instruction .result)
+    (went .after-instruction .ensures (a .begin .now) (a .child .now))
 
-ended-requires : tie.Need-ended-requires Inv-loop μ-loop
-ended-requires c κs = search needs
+decide-requires : tie.Need-decide-requires Inv-loop μ-loop
+decide-requires c κs = search needs
+
+perform-turn-requires : tie.Need-perform-turn-requires Inv-loop μ-loop
+perform-turn-requires c κs = search needs
+
+refused-requires-2 : tie.Need-refused-requires-2 Inv-loop μ-loop
+refused-requires-2 c κs = search needs
 
 same-length-2 : tie.Need-same-length-2 Inv-loop μ-loop
 same-length-2 c = search needs
 
 returns-2 : tie.Need-returns-2 Inv-loop μ-loop
 returns-2 c =
+    let did : tie.After-perform-turn Inv-loop μ-loop = search in
+    let full : tie.Then4 Inv-loop μ-loop = search in
+    let decided : tie.After-decide Inv-loop μ-loop = search in
+    let on : tie.Then1 Inv-loop μ-loop = search in
+    let asked : tie.After-halted Inv-loop μ-loop = search in
+    let at-loop : tie.At-loop Inv-loop μ-loop = search in
+    walk-full _ _ _ _ (at-loop .loop .inv) (asked .halted .ensures) (not-true _ (on .if1 .taken)) (decided .decide .result) (decided .decide .ensures)
+    (did .perform-turn .ensures) (full .if4 .taken) (c .refused2 .ensures)
+
+go-on-requires : tie.Need-go-on-requires Inv-loop μ-loop
+go-on-requires c κs = search needs
+
+loop-less-2 : tie.Need-loop-less-2 Inv-loop μ-loop
+loop-less-2 c =
+    let went : tie.After-go-on Inv-loop μ-loop = search in
+    let fits : tie.Else4 Inv-loop μ-loop = search in
+    let did : tie.After-perform-turn Inv-loop μ-loop = search in
+    let decided : tie.After-decide Inv-loop μ-loop = search in
+    let on : tie.Then1 Inv-loop μ-loop = search in
+    let asked : tie.After-halted Inv-loop μ-loop = search in
+    let at-loop : tie.At-loop Inv-loop μ-loop = search in
+    let entered : tie.After-enter Inv-loop μ-loop = search in
+    let known : tie.After-shared-slice-known3 Inv-loop μ-loop = search in
+    let start : tie.Start Inv-loop μ-loop = search in
+    let a = start .args in
+    walk-less _ _ _ _ (at-loop .loop .inv) (asked .halted .ensures) (not-true _ (on .if1 .taken)) (decided .decide .result) (decided .decide .ensures) (did .perform-turn .ensures) (fits .if4 .left)
+    (went .go-on .result .place) (went .go-on .result .asked) (went .go-on .ensures (a .parent .now) (a .next .now) (a .child .now))
+
+loop-again-2 : tie.Need-loop-again-2 Inv-loop μ-loop
+loop-again-2 c =
+    let went : tie.After-go-on Inv-loop μ-loop = search in
+    let fits : tie.Else4 Inv-loop μ-loop = search in
+    let did : tie.After-perform-turn Inv-loop μ-loop = search in
+    let decided : tie.After-decide Inv-loop μ-loop = search in
+    let on : tie.Then1 Inv-loop μ-loop = search in
+    let asked : tie.After-halted Inv-loop μ-loop = search in
+    let at-loop : tie.At-loop Inv-loop μ-loop = search in
+    let entered : tie.After-enter Inv-loop μ-loop = search in
+    let known : tie.After-shared-slice-known3 Inv-loop μ-loop = search in
+    let start : tie.Start Inv-loop μ-loop = search in
+    let a = start .args in
+    walk-next _ _ _ _ (at-loop .loop .inv) (asked .halted .ensures) (not-true _ (on .if1 .taken)) (decided .decide .result) (decided .decide .ensures) (did .perform-turn .ensures) (fits .if4 .left)
+    (went .go-on .result .place) (went .go-on .result .asked) (went .go-on .ensures (a .parent .now) (a .next .now) (a .child .now)) (omega (arith, did .perform-turn .kept .1 .1 .0))
+
+ended-requires : tie.Need-ended-requires Inv-loop μ-loop
+ended-requires c κs = search needs
+
+same-length-3 : tie.Need-same-length-3 Inv-loop μ-loop
+same-length-3 c = search needs
+
+returns-3 : tie.Need-returns-3 Inv-loop μ-loop
+returns-3 c =
     let halts : tie.Else1 Inv-loop μ-loop = search in
     let asked : tie.After-halted Inv-loop μ-loop = search in
     let at-loop : tie.At-loop Inv-loop μ-loop = search in
@@ -110,14 +182,23 @@ walk-spec =
     enter-requires
     loop-holds
     halted-requires
-    decide-requires
-    perform-turn-requires
+    instructs-requires
+    link-requires
+    perform-requires
     refused-requires
     same-length
     returns
-    go-on-requires
+    after-instruction-requires
     loop-less
     loop-again
-    ended-requires
+    decide-requires
+    perform-turn-requires
+    refused-requires-2
     same-length-2
-    returns-2)
+    returns-2
+    go-on-requires
+    loop-less-2
+    loop-again-2
+    ended-requires
+    same-length-3
+    returns-3)

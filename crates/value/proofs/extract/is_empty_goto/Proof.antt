@@ -1,4 +1,4 @@
-use Rattle.value.proofs.WalkLaws.{goto-full, goto-empty}
+use Rattle.value.proofs.ExtractLaws.{goto-full, goto-empty}
 use borrow.Author.Needs.{needs}
 use Rattle.value.proofs.extract.is_empty_goto.Statement.{statement}
 use Rattle.value.proofs.extract.is_empty_goto.Tie as tie

@@ -15,7 +15,7 @@ use Rattle.writer.proofs.tables.write_rows.Tie as tie
 -- the lines of all rows but the last `left` were written; the next begins at the word `from`
 record Run (text₀ : List ℕ) (start : ℕ) (words : List ℕ) (first rows stride columns : ℕ) (text : List ℕ) (at from left : ℕ) : Type 0 where
   long : length text ≡ length text₀
-  room : at + left * 121 ≤ start + 495616
+  room : at + left * 121 ≤ start + 7929856
   within : from + left * stride ≤ length words
   written : List ℕ
   rest : written ++ lines (cut stride columns left (drop from words)) ≡ lines (cut stride columns rows (drop first words))

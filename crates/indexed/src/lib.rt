@@ -1,0 +1,1 @@
+// Definitions and proofs only: the index of every accepted build, and lookups in it.

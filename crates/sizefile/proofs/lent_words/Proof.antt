@@ -1,0 +1,11 @@
+use Prim.Native.Nat.{ℕ}
+use mathlib.Core.Path.{sym}
+use lib.ListN.{length-replicate}
+use Rattle.sizefile.proofs.lent_words.Statement.{statement}
+use Rattle.sizefile.proofs.lent_words.Tie as tie
+
+returns : tie.Need-returns
+returns c = sym (length-replicate {A = ℕ} 16384 0)
+
+pub lent-words-spec : {M : Type 1} → statement M
+lent-words-spec = tie.close (tie.spec returns)
