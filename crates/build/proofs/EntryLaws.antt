@@ -22,9 +22,9 @@ use Rattle.rows.specs.Rows.{Holds}
 use Rattle.rows.specs.Stack.{pushed}
 use Rattle.rows.proofs.RowLaws.{words-held}
 use Rattle.rows.proofs.StackLaws.{length-pushed}
-use Rattle.build.specs.declared.driver.Walked.{Walked}
+use Rattle.driver.specs.declared.Walked.{Walked}
 use Rattle.build.specs.declared.Outcome.{Outcome}
-use Rattle.build.specs.Driver.{Reported}
+use Rattle.driver.specs.Driver.{Reported}
 use Rattle.build.specs.Entry.{outcome}
 
 -- all zeros, in both buffers

@@ -1,3 +1,1 @@
-pub mod Driver
 pub mod Entry
-pub mod Lined

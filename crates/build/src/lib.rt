@@ -1,6 +1,6 @@
 // build_reactive_function: words of a block table in, rows of the tree and lines of its index (M-101) out, or a refusal with its place.
-use crate::driver::Walked;
-use crate::driver::walk;
+use driver::Walked;
+use driver::walk;
 use rows::clear;
 use survey::Rule;
 use table_check::check;
@@ -9,12 +9,8 @@ ghost use lib.ListN.{length};
 ghost use Rattle.definition.specs.Around.{rust, language};
 ghost use Rattle.definition.specs.Build.{Report, refusal, outcomeOf, built};
 ghost use Rattle.survey.specs.Abstraction.{ruleOf};
-ghost use Rattle.build.specs.Driver.{Reported};
+ghost use Rattle.driver.specs.Driver.{Reported};
 ghost use Rattle.build.specs.Entry.{outcome};
-
-pub mod driver;
-mod index;
-mod search;
 
 // Paper 01, "Result and refusals": code (0 accepted), at, rows, visits; and M-101's number of lines.
 pub struct Outcome {

@@ -14,8 +14,8 @@ use Rattle.definition.specs.Around.{Rule}
 use Rattle.definition.specs.Build.{Report, accepted, rejected, report}
 use Rattle.definition.specs.Preview.{Preview, previewOf, previewAfter, previewed}
 use Rattle.rows.proofs.StackLaws.{length-pushed}
-use Rattle.build.specs.declared.driver.Walked.{Walked}
-use Rattle.build.specs.Driver.{Reported}
+use Rattle.driver.specs.declared.Walked.{Walked}
+use Rattle.driver.specs.Driver.{Reported}
 
 pub refused-told : (walked : Walked) → (walked .code ≡ 0 → ⊥) → (r : Report) (tree index : List ℕ) → Reported r walked tree index
     → record { code = walked .code; at = walked .at; rows = 0; visits = walked .visits; lines = 0 } ≡ previewOf r

@@ -1,8 +1,8 @@
 // M-106: what a build gives where both buffers are large enough, from the words alone: the same walk with no place lent, which counts rows
 // and lines on.
 use build::Outcome;
-use build::driver::Walked;
-use build::driver::walk;
+use driver::Walked;
+use driver::walk;
 use survey::Rule;
 use table_check::check;
 ghost use mathlib.Core.Path.{_≡_};
@@ -12,7 +12,7 @@ ghost use Rattle.definition.specs.Around.{rust, language};
 ghost use Rattle.definition.specs.Build.{Report};
 ghost use Rattle.definition.specs.Preview.{previewOf, previewed};
 ghost use Rattle.survey.specs.Abstraction.{ruleOf};
-ghost use Rattle.build.specs.Driver.{Reported};
+ghost use Rattle.driver.specs.Driver.{Reported};
 ghost use Rattle.preview.specs.Entry.{numbers};
 
 // A refusal tells no row and no line.

@@ -61,7 +61,7 @@ use Rattle.text.specs.declared.write.Written.{Written}
 use Rattle.text.proofs.DecimalLaws.{steps}
 use Rattle.build.specs.declared.Outcome.{Outcome}
 use Rattle.build.specs.Entry.{outcome}
-use Rattle.build.proofs.CheckedLaws.{checked-table}
+use Rattle.driver.proofs.CheckedLaws.{checked-table}
 use Rattle.build.proofs.Demand3.{entry-tree, entry-law, language-law}
 use Rattle.build.proofs.build_reactive_function.Statement as entry-stated
 use Rattle.build.proofs.build_reactive_function.Met as entry-proved

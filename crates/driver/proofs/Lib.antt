@@ -1,0 +1,4 @@
+pub mod LinedLaws
+pub mod ApplyLaws
+pub mod CheckedLaws
+pub mod DriverLaws

@@ -1,0 +1,59 @@
+-- The parts of a plan that the driver applies, and the whole walk.
+use Prim.Native.Nat.{ℕ}
+use mathlib.Core.Path.{_≡_}
+use mathlib.Core.Bool.{Bool, true, false}
+use mathlib.Core.List.{List, []}
+use mathlib.Core.Option.{Option, none, some}
+use lib.Dec.{eqb}
+use Rattle.definition.specs.Build.{Report, accepted, rejected}
+use Rattle.definition.specs.Context.{Flags, add}
+use Rattle.rows.specs.Rows.{Holds}
+use Rattle.rows.specs.Stack.{pushed}
+use Rattle.driver.specs.Lined.{HoldsLines}
+use Rattle.plan.specs.declared.Stage.{Stage}
+use Rattle.plan.specs.declared.Stage.the-variants.{Visit, Ended, Choose, Pop, Halt}
+use Rattle.plan.specs.declared.Position.{Position}
+use Rattle.plan.specs.declared.Plan.{Plan}
+use Rattle.driver.specs.declared.Walked.{Walked}
+
+-- ---- a plan
+
+-- the block that is visited, 65,535 where none is
+abbrev pub visitedBlock : Stage → (block : ℕ) → ℕ
+visitedBlock Visit block = block
+visitedBlock Ended block = 65535
+visitedBlock Choose block = 65535
+visitedBlock Pop block = 65535
+visitedBlock Halt block = 65535
+
+abbrev pub marked : Option ℕ → Flags → Flags
+marked none flags = flags
+marked (some block) flags = add flags block
+
+abbrev pub isHalt : Stage → Bool
+isHalt Visit = false
+isHalt Ended = false
+isHalt Choose = false
+isHalt Pop = false
+isHalt Halt = true
+
+-- refused, or accepted
+abbrev pub planEnds : Plan → Bool
+planEnds plan = elim (eqb (plan .code) 0) [ true ↦ isHalt (plan .position .stage) | false ↦ true ]
+
+-- ---- the whole walk
+
+abbrev pub startingAt : (entry : ℕ) → Position
+startingAt entry = record { block = entry; depth = 0; count = 0; rows = 0; visits = 0; stage = Visit }
+
+abbrev pub walkedBy : Plan → (lines : ℕ) → Walked
+walkedBy plan lines = record { code = plan .code; at = plan .at; rows = plan .position .rows; visits = plan .position .visits; lines = lines }
+
+-- what `schedule` itself refuses
+abbrev pub blockedBy : (code at : ℕ) → Position → Walked
+blockedBy code at p = record { code = code; at = at; rows = p .rows; visits = p .visits; lines = 0 }
+
+-- its answer is the table's report, and an accepted table's rows and lines are held
+abbrev pub Reported : Report → Walked → (buffer index : List ℕ) → Type 0
+Reported (accepted rows lines visits) r buffer index = (r .code ≡ 0) × (r .visits ≡ visits) × Holds buffer (r .rows) (pushed rows []) × HoldsLines index (r .lines) lines
+Reported (rejected code at visits) r buffer index = (r .code ≡ code) × (code ≡ 0 → ⊥) × (r .at ≡ at) × (r .visits ≡ visits)

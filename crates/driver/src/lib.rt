@@ -1,0 +1,308 @@
+// The loop over the Context by value and the frames: each turn is planned, and its plan applied.
+mod index;
+
+use crate::index::put_line;
+use control::Context;
+use control::ControlFlowTarget;
+use control::Entry;
+use control::Resolved;
+use control::SETTLED;
+use control::add_target;
+use control::count_loop;
+use control::insert;
+use control::is_blocked;
+use control::remove_target;
+use jumps::aim_at;
+use jumps::asks_around;
+use jumps::jump_at;
+use jumps::knows;
+use jumps::meets;
+use jumps::resolve;
+use jumps::search_from;
+use plan::Change;
+use plan::Frame;
+use plan::NONE;
+use plan::Plan;
+use plan::Position;
+use plan::Stage;
+use plan::fallthrough::narrow;
+use plan::no_frame;
+use planner::turn::plan_turn;
+use survey::Rule;
+use survey::pass;
+use survey::pass_from;
+use survey::target_of;
+use survey::unseen;
+use table::words::entry;
+ghost use mathlib.Core.Path.{_≡_};
+ghost use Prim.Native.Nat.{_-_, _<_};
+ghost use Rattle.table.specs.Words.{entryWord};
+ghost use Rattle.table.specs.Table.{tableOf, unlessNone};
+ghost use Rattle.table.specs.Promise.{Promise};
+ghost use Rattle.definition.specs.Build.{report};
+ghost use Rattle.definition.specs.Framed.{Below};
+ghost use Rattle.definition.specs.Context.{blockedCode, blockAsked};
+ghost use Rattle.control.specs.Abstraction.{targetOf};
+ghost use Rattle.survey.specs.Abstraction.{ruleOf};
+ghost use Rattle.driver.specs.Driver.{visitedBlock, marked, startingAt, planEnds, isHalt, walkedBy, blockedBy, Reported};
+
+// Where the walk ended: a refusal, or the rows and the lines that are out.
+pub struct Walked {
+    pub code: u32,
+    pub at: u32,
+    pub rows: u32,
+    pub visits: u32,
+    pub lines: u32,
+}
+
+fn start(words: &[u32]) -> Position
+    requires { ⌜ Promise (now words) ⌝ }
+    ensures { λ r. ⌜ r ≡ startingAt (entryWord (now (words .entry))) ⌝ }
+{
+    Position {
+        block: entry(words),
+        depth: 0,
+        count: 0,
+        rows: 0,
+        visits: 0,
+        stage: Stage::Visit,
+    }
+}
+
+fn visited_block(p: Position) -> u32
+    ensures { λ r. ⌜ r ≡ visitedBlock (p .stage) (p .block) ⌝ }
+{
+    let stage = p.stage;
+    match stage {
+        Stage::Visit => p.block,
+        Stage::Ended => NONE,
+        Stage::Choose => NONE,
+        Stage::Pop => NONE,
+        Stage::Halt => NONE,
+    }
+}
+
+fn mark(set: &mut [bool; 1024], block: u32)
+    requires { ⌜ Below 1024 (unlessNone block) ⌝ }
+    ensures { λ _. ⌜ now (set .exit) ≡ marked (unlessNone block) (now (set .entry)) ⌝ }
+{
+    if block == NONE {
+        return;
+    }
+    insert(set, narrow(block));
+}
+
+fn halted(stage: Stage) -> bool
+    ensures { λ r. ⌜ r ≡ isHalt stage ⌝ }
+{
+    match stage {
+        Stage::Visit => false,
+        Stage::Ended => false,
+        Stage::Choose => false,
+        Stage::Pop => false,
+        Stage::Halt => true,
+    }
+}
+
+// Whether the walk ends here: refused, or accepted.
+fn ends(plan: Plan) -> bool
+    ensures { λ r. ⌜ r ≡ planEnds plan ⌝ }
+{
+    if plan.code != 0 {
+        return true;
+    }
+    let position = plan.position;
+    let stage = position.stage;
+    halted(stage)
+}
+
+fn answer(plan: Plan, lines: u32) -> Walked
+    ensures { λ r. ⌜ r ≡ walkedBy plan lines ⌝ }
+{
+    let position = plan.position;
+    Walked {
+        code: plan.code,
+        at: plan.at,
+        rows: position.rows,
+        visits: position.visits,
+        lines: lines,
+    }
+}
+
+// What `schedule` itself refuses, at the block that it asks about.
+fn blocked(target: ControlFlowTarget, p: Position) -> Walked
+    ensures { λ r. ⌜ r ≡ blockedBy (blockedCode (targetOf target)) (blockAsked (targetOf target)) p ⌝ }
+{
+    let code = target.blocked_code();
+    let at = target.block_asked() as u32;
+    Walked {
+        code: code,
+        at: at,
+        rows: p.rows,
+        visits: p.visits,
+        lines: 0,
+    }
+}
+
+// The innermost frame; where there is none, any.
+fn innermost(depth: u32) -> usize
+    ensures { λ r. ⌜ r ≡ depth - 1 ⌝ }
+{
+    if depth == 0 {
+        return 0;
+    }
+    (depth - 1) as usize
+}
+
+// Where to look first for the statement of the entry that was found: there, if each statement around has one entry.
+fn likely_owner(at: usize, depth: usize) -> usize
+    requires { ⌜ 0 < depth ⌝ }
+    ensures { λ r. ⌜ r < depth ⌝ }
+{
+    if at < depth {
+        return at;
+    }
+    0
+}
+
+// The one function over 40 lines: a function that is handed the Context by value and indexes its entries copies it, 18 KB a turn (docs/PERFORMANCE.md).
+// So the search of the stack (the Rust's `get_break_target` and `get_continue_target`), the pass over the frames (M-102, in the language entry alone) and the
+// plan's change stand in the loop, each method called once.
+pub fn walk(rule: Rule, words: &[u32], tree: &mut [u32], index: &mut [u32]) -> Walked
+    requires { ⌜ Promise (now words) ⌝ }
+    ensures { λ r. ⌜ Reported (report (ruleOf rule) (tableOf (now (words .entry)))) r (now (tree .exit)) (now (index .exit)) ⌝ }
+{
+    let mut cx = Context::new();
+    let none = no_frame();
+    let mut frames = [none; 129];
+    let mut p = start(words);
+    let mut lines: u32 = 0;
+    loop {
+        let frame = frames[innermost(p.depth)];
+        let jump = jump_at(words, &cx.scheduled, &cx.catch_handlers, p);
+        let mut at = search_from(jump, cx.len);
+        let mut loops: u32 = 0;
+        let found = loop {
+            if at == 0 {
+                break Resolved::Nothing;
+            }
+            let top = at == cx.len;
+            at -= 1;
+            let entry = cx.stack[at];
+            let target = entry.target;
+            if meets(jump, target) {
+                break resolve(jump, entry, top, loops);
+            }
+            loops = count_loop(loops, target);
+        };
+        let target = target_of(found);
+        let mut left = pass_from(asks_around(rule, found), p.depth);
+        let mut seen = unseen(found);
+        if left > 0 {
+            let owner = frames[likely_owner(at, left)];
+            let looked = pass(words, target, owner.block, owner.label, seen);
+            if knows(jump, found, looked) {
+                left = 0;
+                seen = looked;
+            }
+        }
+        while left > 0 {
+            left -= 1;
+            let around = frames[left];
+            seen = pass(words, target, around.block, around.label, seen);
+        }
+        let aim = aim_at(rule, jump, found, seen);
+        let plan = plan_turn(
+            words,
+            tree,
+            &cx.emitted,
+            &cx.scheduled,
+            &cx.catch_handlers,
+            &cx.scope_fallthroughs,
+            p,
+            frame,
+            aim,
+        );
+        let next = plan.position;
+        let line = plan.line;
+        lines = put_line(index, lines, line, next.rows);
+        if ends(plan) {
+            return answer(plan, lines);
+        }
+        mark(&mut cx.emitted, visited_block(p));
+        mark(&mut cx.catch_handlers, plan.handler);
+        mark(&mut cx.scope_fallthroughs, plan.scope);
+        let stage = next.stage;
+        p = Position {
+            block: next.block,
+            depth: next.depth,
+            count: next.count,
+            rows: next.rows,
+            visits: next.visits,
+            stage: stage,
+        };
+        if plan.keep {
+            let kept = plan.frame;
+            frames[innermost(p.depth)] = Frame {
+                block: kept.block,
+                label: kept.label,
+                entries: kept.entries,
+                left: kept.left,
+                built: kept.built,
+                first: kept.first,
+                count: kept.count,
+                second: kept.second,
+            };
+        }
+        let change = plan.change;
+        match change {
+            Change::Nothing => {}
+            Change::Schedule(target) => {
+                cx = cx.schedule(target);
+                let pushed = cx.pushed;
+                let target = pushed.target;
+                let busy = is_blocked(&cx.scheduled, target); // catch handlers play no part
+                if busy {
+                    return blocked(target, p);
+                }
+                let owns_loop = add_target(&mut cx.scheduled, target); // its blocks go in
+                let entry = Entry {
+                    id: pushed.id,
+                    target: target,
+                    owns_loop: owns_loop,
+                };
+                cx.stack[cx.len - 1] = entry;
+                cx.pending = SETTLED; // the arrays have the entry and its blocks
+            }
+            Change::ScheduleBriefly(target) => {
+                cx = cx.schedule(target);
+                let pushed = cx.pushed;
+                let target = pushed.target;
+                let busy = is_blocked(&cx.scheduled, target);
+                if busy {
+                    return blocked(target, p);
+                }
+                let owns_loop = add_target(&mut cx.scheduled, target);
+                let entry = Entry {
+                    id: pushed.id,
+                    target: target,
+                    owns_loop: owns_loop,
+                };
+                cx.stack[cx.len - 1] = entry;
+                cx.pending = SETTLED;
+                cx = cx.unschedule();
+                let off = cx.stack[cx.len];
+                let target = off.target;
+                remove_target(&mut cx.scheduled, target, off.owns_loop);
+                cx.pending = SETTLED;
+            }
+            Change::Unschedule => {
+                cx = cx.unschedule();
+                let off = cx.stack[cx.len]; // just above the stack
+                let target = off.target;
+                remove_target(&mut cx.scheduled, target, off.owns_loop); // and its blocks come out
+                cx.pending = SETTLED;
+            }
+        }
+    }
+}
