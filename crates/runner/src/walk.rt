@@ -203,7 +203,7 @@ fn decide(
     )
 }
 
-// Most turns enter an INSTR and then leave it for the next statement of its BLOCK. They need no Turn, which goes through memory: walk does both at once.
+// Most turns enter an INSTR and then leave it for the next statement of its BLOCK: walk does both at once, with no Turn to decide and to take apart.
 fn instructs(tree: &[u32], place: Place) -> bool
     ensures { λ r. ⌜ (r ≡ true → Instructs (now (tree .entry)) place) ⌝ }
 {
