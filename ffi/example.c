@@ -2,20 +2,10 @@
  * index, each with the rows that its label finds; then with a tree buffer, and with an index, that is too short. */
 #include "reactive_build.h"
 #include "tree_lookup.h"
+#include "while_table.h"
 
 #include <inttypes.h>
 #include <stdio.h>
-
-static const uint32_t table[] = {
-    0, 4, 1, 0, 1, 1,                /* entry 0; 4 blocks, 1 instruction, no case, 1 place, 1 identifier */
-    0, 0, 9, 1, 2, 3, 0, 0, 1, 0, 0, /* 0 While: test 1, loop 2, fallthrough 3 */
-    0, 0, 6, 0, 2, 3, 0, 0, 2, 0, 0, /* 1 Branch on place 0: to 2 or 3 */
-    0, 0, 4, 1, 1, 0, 0, 0, 3, 0, 0, /* 2 Goto 1, Continue */
-    0, 1, 3, 0, 0, 0, 0, 0, 4, 0, 0, /* 3 instruction 0, then Return of place 0 */
-    5, 0, 0, 0, 0, 30, 42,           /* instruction 0, id 5, to place 0: characters 30 to 42 of the source */
-    0,                               /* place 0 is identifier 0 */
-    1,                               /* identifier 0 has a name */
-};
 
 static uint32_t tree[16 * REACTIVE_BUILD_ROW_WORDS];
 static uint32_t labels[4 * REACTIVE_BUILD_LINE_WORDS];
@@ -38,7 +28,7 @@ static void build(size_t rows_lent, size_t lines_lent) {
     uint32_t at, rows, visits, lines;
     size_t tree_words = rows_lent * REACTIVE_BUILD_ROW_WORDS, label_words = lines_lent * REACTIVE_BUILD_LINE_WORDS;
     uint32_t code =
-        reactive_build(table, sizeof table / sizeof *table, tree, tree_words, labels, label_words, &at, &rows, &visits, &lines);
+        reactive_build(table, TABLE_WORDS, tree, tree_words, labels, label_words, &at, &rows, &visits, &lines);
     printf("code %" PRIu32 " at %" PRIu32 " rows %" PRIu32 " visits %" PRIu32 " lines %" PRIu32 "\n", code, at, rows, visits, lines);
     if (code != 0) return;
     for (uint32_t row = 0; row < rows; row++) print_row(tree + row * REACTIVE_BUILD_ROW_WORDS);

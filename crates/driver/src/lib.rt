@@ -165,7 +165,7 @@ fn likely_owner(at: usize, depth: usize) -> usize
     0
 }
 
-// The one function over 40 lines: a function that is handed the Context by value and indexes its entries copies it, 18 KB a turn (docs/PERFORMANCE.md).
+// Long, since a function that is handed the Context by value and indexes its entries copies it, 18 KB a turn (docs/PERFORMANCE.md).
 // So the search of the stack (the Rust's `get_break_target` and `get_continue_target`), the pass over the frames (M-102, in the language entry alone) and the
 // plan's change stand in the loop, each method called once.
 pub fn walk(rule: Rule, words: &[u32], tree: &mut [u32], index: &mut [u32]) -> Walked
@@ -233,6 +233,7 @@ pub fn walk(rule: Rule, words: &[u32], tree: &mut [u32], index: &mut [u32]) -> W
         mark(&mut cx.catch_handlers, plan.handler);
         mark(&mut cx.scope_fallthroughs, plan.scope);
         let stage = next.stage;
+        // The position and a kept frame go by fields: whole, they are stored and waited for (docs/PERFORMANCE.md, "M-105").
         p = Position {
             block: next.block,
             depth: next.depth,

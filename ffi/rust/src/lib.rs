@@ -1,5 +1,16 @@
 //! `build_reactive_function`, proved, from Rust.
 
+/// Declares the exports of the two entries (the Rust's rule and the language's), which have one signature, and its type.
+macro_rules! entries {
+    ($entry:ident = $($name:ident),+: $arguments:tt) => {
+        type $entry = unsafe extern "C" fn $arguments -> c_uint;
+
+        unsafe extern "C" {
+            $(fn $name $arguments -> c_uint;)+
+        }
+    };
+}
+
 #[cfg(feature = "dot")]
 pub mod dot;
 #[cfg(feature = "table-text")]
@@ -69,7 +80,7 @@ pub struct Refusal {
     pub at: u32,
 }
 
-type Entry = unsafe extern "C" fn(
+entries! { Entry = reactive_build, reactive_build_language: (
     words: *const u32,
     word_count: usize,
     tree: *mut u32,
@@ -80,35 +91,7 @@ type Entry = unsafe extern "C" fn(
     rows: *mut u32,
     visits: *mut u32,
     lines: *mut u32,
-) -> c_uint;
-
-unsafe extern "C" {
-    fn reactive_build(
-        words: *const u32,
-        word_count: usize,
-        tree: *mut u32,
-        tree_length: usize,
-        index: *mut u32,
-        index_length: usize,
-        at: *mut u32,
-        rows: *mut u32,
-        visits: *mut u32,
-        lines: *mut u32,
-    ) -> c_uint;
-
-    fn reactive_build_language(
-        words: *const u32,
-        word_count: usize,
-        tree: *mut u32,
-        tree_length: usize,
-        index: *mut u32,
-        index_length: usize,
-        at: *mut u32,
-        rows: *mut u32,
-        visits: *mut u32,
-        lines: *mut u32,
-    ) -> c_uint;
-}
+) }
 
 /// Builds the tree of a table into a lent buffer, and the index of its labels into another, all of any
 /// content and length. The buffers then hold the rows and the lines, each with zeros after them; zeros

@@ -3,34 +3,14 @@
 use crate::{LINE_WORDS, Outcome, ROW_WORDS, Refusal, build, build_language};
 use std::ffi::c_uint;
 
-type Entry = unsafe extern "C" fn(
+entries! { Entry = reactive_preview, reactive_preview_language: (
     words: *const u32,
     word_count: usize,
     at: *mut u32,
     rows: *mut u32,
     visits: *mut u32,
     lines: *mut u32,
-) -> c_uint;
-
-unsafe extern "C" {
-    fn reactive_preview(
-        words: *const u32,
-        word_count: usize,
-        at: *mut u32,
-        rows: *mut u32,
-        visits: *mut u32,
-        lines: *mut u32,
-    ) -> c_uint;
-
-    fn reactive_preview_language(
-        words: *const u32,
-        word_count: usize,
-        at: *mut u32,
-        rows: *mut u32,
-        visits: *mut u32,
-        lines: *mut u32,
-    ) -> c_uint;
-}
+) }
 
 /// What `build` gives of these words where both buffers are large enough: never 40 or 41.
 pub fn preview(words: &[u32]) -> Outcome {

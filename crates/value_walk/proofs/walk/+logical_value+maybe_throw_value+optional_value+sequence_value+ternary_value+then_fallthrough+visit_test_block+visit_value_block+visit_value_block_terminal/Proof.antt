@@ -11,7 +11,8 @@ mod VisitValueBlock
 mod VisitValueBlockTerminal
 use Rattle.value_walk.proofs.walk.+logical_value+maybe_throw_value+optional_value+sequence_value+ternary_value+then_fallthrough+visit_test_block+visit_value_block+visit_value_block_terminal.{statement}
 use Rattle.value_walk.proofs.walk.+logical_value+maybe_throw_value+optional_value+sequence_value+ternary_value+then_fallthrough+visit_test_block+visit_value_block+visit_value_block_terminal.Tie.{close}
-use Rattle.value_walk.proofs.walk.+logical_value+maybe_throw_value+optional_value+sequence_value+ternary_value+then_fallthrough+visit_test_block+visit_value_block+visit_value_block_terminal.Proof.Base.{μ-logical-value, μ-maybe-throw-value, μ-optional-value, μ-sequence-value, μ-ternary-value, μ-then-fallthrough, μ-visit-test-block, μ-visit-value-block, μ-visit-value-block-terminal}
+use Rattle.value_walk.proofs.walk.+logical_value+maybe_throw_value+optional_value+sequence_value+ternary_value+then_fallthrough+visit_test_block+visit_value_block+visit_value_block_terminal.Proof.Base.{μ-logical-value, μ-maybe-throw-value, μ-optional-value, μ-sequence-value, μ-ternary-value}
+use Rattle.value_walk.proofs.walk.+logical_value+maybe_throw_value+optional_value+sequence_value+ternary_value+then_fallthrough+visit_test_block+visit_value_block+visit_value_block_terminal.Proof.Base.{μ-then-fallthrough, μ-visit-test-block, μ-visit-value-block, μ-visit-value-block-terminal}
 use Rattle.value_walk.proofs.walk.+logical_value+maybe_throw_value+optional_value+sequence_value+ternary_value+then_fallthrough+visit_test_block+visit_value_block+visit_value_block_terminal.Proof.LogicalValue as logical-value
 use Rattle.value_walk.proofs.walk.+logical_value+maybe_throw_value+optional_value+sequence_value+ternary_value+then_fallthrough+visit_test_block+visit_value_block+visit_value_block_terminal.Proof.MaybeThrowValue as maybe-throw-value
 use Rattle.value_walk.proofs.walk.+logical_value+maybe_throw_value+optional_value+sequence_value+ternary_value+then_fallthrough+visit_test_block+visit_value_block+visit_value_block_terminal.Proof.OptionalValue as optional-value
