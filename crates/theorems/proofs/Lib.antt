@@ -2,5 +2,6 @@ pub mod Language
 pub mod Parting
 pub mod Previews
 pub mod Requests
+pub mod Runs
 pub mod Theorems
 pub mod WalkingOrder
