@@ -6,6 +6,7 @@ use crate::spans::first_apart;
 use crate::spans::old_place;
 use crate::widen::widen;
 use table_check::check;
+use text::lent::lent_words;
 use text::placed::Placed;
 use text::placed::finish;
 use text::placed::refuse;
@@ -22,12 +23,6 @@ ghost use Rattle.text.specs.declared.version.Version.the-variants.{Old, New};
 ghost use Rattle.writer.specs.Cut.{Shaped};
 ghost use Rattle.convert.specs.Convert.{newOfOld, oldOfNew, oldToNew, newToOld};
 ghost use Rattle.convert.specs.Parts.{ofWide};
-
-fn lent_words() -> [u32; 16384]
-    ensures { λ r. ⌜ 16384 ≡ length r ⌝ }
-{
-    [0; 16384]
-}
 
 // 16,384 old words have at most 2,730 rows with a span.
 fn lent_wide() -> [u32; 19456]

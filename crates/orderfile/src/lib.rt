@@ -12,22 +12,14 @@ ghost use Rattle.orderfile.specs.Prints.{orderedText, FileOrdered};
 use order::rearrange;
 use table::words::block_count;
 use table_check::check;
+use text::lent::lent_words;
 use text::read::Answer;
 use text::read::read;
 use text::write::Written;
 use text::write::write;
 use writer::write_table;
 
-// Arrays by functions that tell their length alone: a proof that has the zeros in sight counts them.
-
-// Enough for the words of any good file.
-fn lent_words() -> [u32; 16384]
-    ensures { λ r. ⌜ 16384 ≡ length r ⌝ }
-{
-    [0; 16384]
-}
-
-// Enough for the numbers of any table's blocks.
+// Enough for the numbers of any table's blocks. By a function that tells the length alone: a proof that has the zeros in sight counts them.
 fn lent_numbers() -> [u32; 1024]
     ensures { λ r. ⌜ 1024 ≡ length r ⌝ }
 {

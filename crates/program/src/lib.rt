@@ -1,5 +1,6 @@
 // What a program does with its standard input and output. A failed read or write is told on standard error, since the kit has no exit status.
 ghost use Prim.Native.Nat.{_+_, _≤_};
+ghost use mathlib.Core.Path.{_≡_};
 ghost use lib.ListN.{length};
 ghost use Rattle.io.specs.Counts.{Counts};
 use libc::STDERR_FILENO;
@@ -10,6 +11,22 @@ use libc::STDOUT_FILENO;
 pub struct Input {
     pub count: usize,
     pub failed: bool,
+}
+
+// What a program reads into, by functions that tell the length alone: a proof that has the zeros in sight counts them.
+
+// One byte more than a table's file may have.
+pub fn table_bytes() -> [u8; 32769]
+    ensures { λ r. ⌜ 32769 ≡ length r ⌝ }
+{
+    [0; 32769]
+}
+
+// One byte more than a file of rows may have.
+pub fn rows_bytes() -> [u8; 262145]
+    ensures { λ r. ⌜ 262145 ≡ length r ⌝ }
+{
+    [0; 262145]
 }
 
 // One read into the bytes from `from` on; none at the input's end.

@@ -2,9 +2,9 @@
 use crate::scan::Scan;
 use crate::scan::start_scan;
 use crate::scan::step;
-use text::lent::clear_bytes;
 use text::lent::put_word;
 use text::write::Written;
+use text::write::finish_text;
 use text::write::write_line;
 use text::write::write_names;
 use treerows::TreeChecked;
@@ -139,12 +139,7 @@ fn write_check(out: &mut [u8], code: u32, at: u32) -> Written
     let names = write_names(out, 0, b"code at\n");
     let numbers = [code, at];
     let end = write_line(out, names, &numbers);
-    if out.len() < end {
-        clear_bytes(out, 0);
-        return Written::NoRoom;
-    }
-    clear_bytes(out, end);
-    Written::Bytes(end)
+    finish_text(out, end)
 }
 
 // Reads a file of rows, checks them and writes the answer; 30 bytes are enough.

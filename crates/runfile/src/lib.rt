@@ -3,8 +3,8 @@ use rowfile::read_table;
 use runner::Ran;
 use runner::refuse;
 use runner::run_tree;
-use text::lent::clear_bytes;
 use text::write::Written;
+use text::write::finish_text;
 use text::write::write_line;
 use text::write::write_names;
 use writer::tables::write_part;
@@ -136,12 +136,7 @@ fn write_run(
         (length (now (out .entry))) r (now (out .exit)) ⌝ }
 {
     let end = write_lines(out, code, at, number, reason, performed);
-    if out.len() < end {
-        clear_bytes(out, 0);
-        return Written::NoRoom;
-    }
-    clear_bytes(out, end);
-    Written::Bytes(end)
+    finish_text(out, end)
 }
 
 // Reads a file of rows and answers, runs the tree, with 65,536 rows lent, and writes what it gives.

@@ -1,24 +1,17 @@
 // The program treesize as a function: a file's bytes in, the bytes that are printed of it out.
-ghost use mathlib.Core.Path.{_≡_};
 ghost use lib.ListN.{length};
 ghost use Rattle.text.specs.Prints.{WrittenText};
 ghost use Rattle.definition.specs.Around.{rust};
 ghost use Rattle.definition.specs.Preview.{previewed};
 ghost use Rattle.sizefile.specs.Prints.{sizeText, FileSized};
 use preview::preview;
-use text::lent::clear_bytes;
+use text::lent::lent_words;
 use text::read::Answer;
 use text::read::read;
 use text::write::Written;
+use text::write::finish_text;
 use text::write::write_line;
 use text::write::write_names;
-
-// Enough for the words of any good file. By a function that tells the length alone: a proof that has the zeros in sight counts them.
-fn lent_words() -> [u32; 16384]
-    ensures { λ r. ⌜ 16384 ≡ length r ⌝ }
-{
-    [0; 16384]
-}
 
 // Two lines: 81 bytes are always enough.
 fn write_size(out: &mut [u8], code: u32, at: u32, rows: u32, visits: u32, lines: u32) -> Written
@@ -27,12 +20,7 @@ fn write_size(out: &mut [u8], code: u32, at: u32, rows: u32, visits: u32, lines:
     let names = write_names(out, 0, b"code at rows visits lines\n");
     let numbers = [code, at, rows, visits, lines];
     let end = write_line(out, names, &numbers);
-    if out.len() < end {
-        clear_bytes(out, 0);
-        return Written::NoRoom;
-    }
-    clear_bytes(out, end);
-    Written::Bytes(end)
+    finish_text(out, end)
 }
 
 // What a build of the table gives where both buffers are large enough.

@@ -7,8 +7,8 @@ use native.Mathlib.Omega.{arith}
 use native.Mathlib.Nat.{sub-zero}
 use native.Mathlib.Numerals.{add-one}
 use lib.Dec.{ltb}
-use lib.ListN.{length, take, set, replicate, length-append, length-set, replicate-append-replicate}
-use lib.Seq.{take-all, take-length, take-suc-set, take-append-le, set-out}
+use lib.ListN.{length, take, set, replicate, length-append, length-replicate, length-set, replicate-append-replicate}
+use lib.Seq.{length-take-le, take-all, take-length, take-suc-set, take-append-le, take-append-seam, take-take, set-out}
 use borrow.Author.Tests.{ltb-true, ltb-false}
 use Rattle.text.specs.Lent.{Holds, padded}
 
@@ -35,6 +35,22 @@ module _ (b : List ℕ) (n v : ℕ) (items : List ℕ) (h : Holds b n items) whe
   holds-put = record {
     counted = length-append items (v ∷ []) ∙ ap (λ (k : ℕ). k + 1) (h .counted);
     held = rw (add-one n) (put-by (ltb n (length b)) refl);
+  }
+
+module _ (b : List ℕ) (n : ℕ) where
+  some-by : (fits : Bool) → ltb n (length b) ≡ fits → take n b ≡ take (length b) (take n (b ++ replicate n 0))
+  some-by true e =
+      let p : n < length b = ltb-true n (length b) e in
+      rw (take-append-le n b (replicate n 0) (omega arith)) (sym (take-all (length b) (take n b) (omega (arith, length-take-le n b (omega arith)))))
+  some-by false e =
+      let p : length b ≤ n = ltb-false n (length b) e in
+      take-all n b p ∙ sym (take-take (length b) n (b ++ replicate n 0) p ∙ take-append-seam b (replicate n 0))
+
+  -- whatever the buffer and the count, there are items that it holds: what a contract says of all of these it says of some
+  pub holds-some : Holds b n (take n (b ++ replicate n 0))
+  holds-some = record {
+    counted = length-take-le n (b ++ replicate n 0) (omega (arith, length-append b (replicate n 0), length-replicate {A = ℕ} n 0));
+    held = some-by (ltb n (length b)) refl;
   }
 
 -- what is held, if it fits

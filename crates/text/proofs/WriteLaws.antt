@@ -18,7 +18,7 @@ use Rattle.text.specs.Printed.{resultNames, treeNames, rowsOf, treeLines
 use Rattle.text.specs.File.{Words}
 use Rattle.text.specs.declared.write.Written.{Written}
 use Rattle.text.specs.declared.write.Written.the-variants.{Bytes, NoRoom}
-use Rattle.text.proofs.LentLaws.{holds-put, cleared-zeros, cleared-padded}
+use Rattle.text.proofs.LentLaws.{holds-put, holds-some, cleared-zeros, cleared-padded}
 use Rattle.text.proofs.DecimalLaws.{decimal-ten}
 use Rattle.text.proofs.FormLaws.{after-ending}
 use Rattle.text.proofs.PartLaws.{last-number}
@@ -123,35 +123,41 @@ unfolding printed treeLines
 printed-accepted zero at rows visits tree e = refl
 printed-accepted (suc code) at rows visits tree e = absurd (omega arith)
 
-module _ (text b′ b″ : List ℕ) (end room : ℕ) (long : length b′ ≡ room) (h : Held text b′ end) where
-  -- all of it is there
-  all-held : end ≤ length b′ → Holds b′ end text
-  all-held p =
-      let e : text ≡ h .held = h .split ∙ rw (h .whole p) (append-nil (h .held)) in
-      rw e (h .holds)
+-- ---- the end of a text
 
-  pub fits-answer : end ≤ length b′ → Bytes end ≡ writtenOf room text
-  unfolding writtenOf
-  fits-answer p =
-      let l = all-held p .counted in
-      rw (le-leb (length text) room (omega arith)) (ap Bytes (sym l))
+-- there is such a text, whatever the buffer and the end
+pub held-some : (b : List ℕ) (end : ℕ) → Held (take end (b ++ replicate end 0)) b end
+held-some b end = record { held = take end (b ++ replicate end 0); rest = []; split = sym (append-nil (take end (b ++ replicate end 0))); holds = holds-some b end; whole = λ _. refl }
 
-  pub fits-lent : end ≤ length b′ → b″ ≡ take end b′ ++ replicate (length b′ - end) 0 → b″ ≡ lentOf room text
-  unfolding lentOf
-  fits-lent p e =
-      let l = all-held p .counted in
-      rw (le-leb (length text) room (omega arith)) (cleared-padded b′ b″ text end room long (all-held p) p e)
-
-  over : length b′ < end → room < length text
+module _ {text b : List ℕ} {end : ℕ} (h : Held text b end) where
+  over : length b < end → length b < length text
   over p = omega (arith, h .holds .counted, ap (λ (l : List ℕ). length l) (h .split) ∙ length-append (h .held) (h .rest))
 
-  pub over-answer : length b′ < end → NoRoom ≡ writtenOf room text
+  pub over-answer : length b < end → NoRoom ≡ writtenOf (length b) text
   unfolding writtenOf
-  over-answer p = rw (lt-leb (length text) room (over p))
+  over-answer p = rw (lt-leb (length text) (length b) (over p))
 
-  pub over-lent : length b′ < end → b″ ≡ take 0 b′ ++ replicate (length b′ - 0) 0 → b″ ≡ lentOf room text
+  pub over-lent : {b′ : List ℕ} → length b < end → b′ ≡ take 0 b ++ replicate (length b - 0) 0 → b′ ≡ lentOf (length b) text
   unfolding lentOf
-  over-lent p e = rw (lt-leb (length text) room (over p)) (cleared-zeros b′ b″ room long e)
+  over-lent {b′} p e = rw (lt-leb (length text) (length b) (over p)) (cleared-zeros b b′ (length b) refl e)
+
+  module _ (p : end ≤ length b) where
+    -- all of it is there
+    all-held : Holds b end text
+    all-held =
+        let e : text ≡ h .held = h .split ∙ rw (h .whole p) (append-nil (h .held)) in
+        rw e (h .holds)
+
+    within : leb (length text) (length b) ≡ true
+    within = le-leb (length text) (length b) (omega (arith, all-held .counted))
+
+    pub fits-answer : Bytes end ≡ writtenOf (length b) text
+    unfolding writtenOf
+    fits-answer = rw within (ap Bytes (sym (all-held .counted)))
+
+    pub fits-lent : {b′ : List ℕ} → b′ ≡ take end b ++ replicate (length b - end) 0 → b′ ≡ lentOf (length b) text
+    unfolding lentOf
+    fits-lent {b′} e = rw within (cleared-padded b b′ text end (length b) refl all-held p e)
 
 -- ---- room
 

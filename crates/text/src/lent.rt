@@ -5,6 +5,13 @@ ghost use Prim.Native.Nat.{_-_, _≤_};
 ghost use lib.ListN.{length, set, take, replicate};
 ghost use Rattle.text.specs.Lent.{Holds};
 
+// Enough for the words of any good file. By a function that tells the length alone: a proof that has the zeros in sight counts them.
+pub fn lent_words() -> [u32; 16384]
+    ensures { λ r. ⌜ 16384 ≡ length r ⌝ }
+{
+    [0; 16384]
+}
+
 // Stores a word, if there is a place for it.
 pub fn put_word(words: &mut [u32], at: usize, word: u32)
     ensures { λ _. ⌜ now (words .exit) ≡ set (now (words .entry)) at word ⌝ }
@@ -47,7 +54,7 @@ pub(crate) fn clear_words(words: &mut [u32], from: usize)
 }
 
 // Clears the bytes from an index on.
-pub fn clear_bytes(bytes: &mut [u8], from: usize)
+pub(crate) fn clear_bytes(bytes: &mut [u8], from: usize)
     requires { ⌜ from ≤ length (now bytes) ⌝ }
     ensures { λ _. ⌜ now (bytes .exit) ≡ take from (now (bytes .entry)) ++ replicate (length (now (bytes .entry)) - from) 0 ⌝ }
 {

@@ -1,9 +1,10 @@
 ghost use mathlib.Core.Path.{_≡_};
-ghost use Prim.Native.Nat.{_+_, _*_, _^_, _/_, _<_};
+ghost use mathlib.Core.List.{List};
+ghost use Prim.Native.Nat.{ℕ, _+_, _*_, _^_, _/_, _<_};
 ghost use lib.ListN.{length};
 ghost use Rattle.text.specs.Decimal.{decimal};
 ghost use Rattle.text.specs.Line.{line, lines};
-ghost use Rattle.text.specs.Printed.{printed, rowsOf, writtenOf, lentOf, Wrote, WroteSome};
+ghost use Rattle.text.specs.Printed.{printed, rowsOf, writtenOf, lentOf, Wrote, Held, WroteSome};
 use crate::lent::clear_bytes;
 use crate::lent::put_byte;
 use crate::number::ending_byte;
@@ -92,6 +93,19 @@ fn write_result(out: &mut [u8], code: u32, at: u32, rows: u32, visits: u32, tree
     write_rows(out, tree_names, tree)
 }
 
+// The text up to `end`, then zeros; zeros alone, if it does not fit.
+pub fn finish_text(out: &mut [u8], end: usize) -> Written
+    ensures { λ r. ⌜ ((text : List ℕ) → Held text (now (out .entry)) end → r ≡ writtenOf (length (now (out .entry))) text) ⌝ }
+    ensures { λ _. ⌜ ((text : List ℕ) → Held text (now (out .entry)) end → now (out .exit) ≡ lentOf (length (now (out .entry))) text) ⌝ }
+{
+    if out.len() < end {
+        clear_bytes(out, 0);
+        return Written::NoRoom;
+    }
+    clear_bytes(out, end);
+    Written::Bytes(end)
+}
+
 // Writes a result: its numbers, and if the code says accepted a line for each whole row of six words of the tree. The lent bytes hold the
 // lines and then zeros; zeros alone, if the lines do not fit.
 pub fn write(out: &mut [u8], code: u32, at: u32, rows: u32, visits: u32, tree: &[u32]) -> Written
@@ -99,10 +113,5 @@ pub fn write(out: &mut [u8], code: u32, at: u32, rows: u32, visits: u32, tree: &
     ensures { λ _. ⌜ now (out .exit) ≡ lentOf (length (now (out .entry))) (printed code at rows visits (now (tree .entry))) ⌝ }
 {
     let end = write_result(out, code, at, rows, visits, tree);
-    if out.len() < end {
-        clear_bytes(out, 0);
-        return Written::NoRoom;
-    }
-    clear_bytes(out, end);
-    Written::Bytes(end)
+    finish_text(out, end)
 }

@@ -1,12 +1,12 @@
 // Reads rows of a tree from standard input, checks them and prints the answer to standard output.
 use program::read_all;
+use program::rows_bytes;
 use program::write_all;
 use rowfile::check_file;
 use text::write::Written;
 
 fn main() {
-    // One byte more than a file may have.
-    let mut file = [0u8; 262145];
+    let mut file = rows_bytes();
     let input = read_all(b"treecheck", &mut file);
     if input.failed {
         return;

@@ -8,6 +8,7 @@ ghost use Rattle.survey.specs.Abstraction.{ruleOf};
 ghost use Rattle.treefile.specs.Prints.{treeText, FileBuilt};
 use build::build;
 use survey::Rule;
+use text::lent::lent_words;
 use text::read::Answer;
 use text::read::read;
 use text::write::Written;
@@ -27,13 +28,6 @@ fn lent_lines() -> [u32; 6144]
     ensures { λ r. ⌜ 6144 ≡ length r ⌝ }
 {
     [0; 6144]
-}
-
-// Enough for the words of any good file.
-fn lent_words() -> [u32; 16384]
-    ensures { λ r. ⌜ 16384 ≡ length r ⌝ }
-{
-    [0; 16384]
 }
 
 // Writes a result: 77 bytes, and 66 for each row, are always enough.

@@ -2,21 +2,13 @@
 ghost use mathlib.Core.Path.{_≡_};
 ghost use lib.ListN.{length};
 use program::read_all;
+use program::table_bytes;
 use program::write_all;
 use survey::Rule;
 use text::write::Written;
 use treefile::build_file;
 
-// Arrays by functions that tell their length alone: a proof that has the zeros in sight counts them.
-
-// One byte more than a file may have.
-fn file_bytes() -> [u8; 32769]
-    ensures { λ r. ⌜ 32769 ≡ length r ⌝ }
-{
-    [0; 32769]
-}
-
-// Room for 2,048 rows of the longest numbers.
+// Room for 2,048 rows of the longest numbers. By a function that tells the length alone: a proof that has the zeros in sight counts them.
 fn printed_bytes() -> [u8; 135245]
     ensures { λ r. ⌜ 135245 ≡ length r ⌝ }
 {
@@ -24,7 +16,7 @@ fn printed_bytes() -> [u8; 135245]
 }
 
 pub fn build_input(program: &[u8], rule: Rule) {
-    let mut file = file_bytes();
+    let mut file = table_bytes();
     let input = read_all(program, &mut file);
     if input.failed {
         return;

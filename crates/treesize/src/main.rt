@@ -1,12 +1,12 @@
 // Reads a table from standard input and prints what its build needs, or why it is refused, to standard output.
 use program::read_all;
+use program::table_bytes;
 use program::write_all;
 use sizefile::size_file;
 use text::write::Written;
 
 fn main() {
-    // One byte more than a file may have.
-    let mut file = [0u8; 32769];
+    let mut file = table_bytes();
     let input = read_all(b"treesize", &mut file);
     if input.failed {
         return;

@@ -1,16 +1,9 @@
 //! Finds the while loop of W of paper 01 by its label; then a label that no line has, and the loop in a tree that lacks its closing row.
 
-use reactive_build::tree_lookup::{Found, find, lookup};
+mod while_tree;
 
-#[rustfmt::skip]
-const TREE: [u32; 36] = [
-    2, 0, 0, 0, 0, 0,  // LOAD place 0
-    25, 3, 3, 0, 0, 0, // CONTINUE 3 Implicit
-    9, 1, 0, 0, 0, 0,  // BLOCK of one statement
-    14, 1, 3, 0, 0, 0, // WHILE, label 3
-    22, 0, 4, 0, 0, 0, // RETURN of place 0
-    9, 2, 0, 0, 0, 0,  // BLOCK of two statements: the root
-];
+use reactive_build::tree_lookup::{Found, find, lookup};
+use while_tree::TREE;
 
 // label, first row, closing row; then zeros
 const LABELS: [u32; 6] = [3, 0, 3, 0, 0, 0];

@@ -19,6 +19,8 @@ pub mod table_text;
 pub mod order;
 #[cfg(feature = "preview")]
 pub mod preview;
+#[cfg(any(feature = "dot", feature = "table-text"))]
+mod text;
 #[cfg(feature = "tree-check")]
 pub mod tree_check;
 #[cfg(feature = "tree-lookup")]

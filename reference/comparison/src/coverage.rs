@@ -3,6 +3,7 @@
 use walk_observer::{Seen, Walk};
 
 use crate::generate::FAMILIES;
+use crate::harness::Verdict;
 use crate::model::table::Table;
 use crate::model::{Outcome, ROW_WORDS};
 
@@ -146,14 +147,10 @@ impl Coverage {
         self.most_rows = self.most_rows.max(other.most_rows);
     }
 
-    /// What was never met and should have been: codes, ends, ops, kinds of jump, depths.
-    pub fn missing(&self) -> Vec<String> {
-        let mut missing = Vec::new();
-        let mut need = |count: u64, what: String| {
-            if count == 0 {
-                missing.push(what);
-            }
-        };
+    /// Of a long run: every code, end, op, kind of jump and depth is met.
+    pub fn verdict(&self, is_long: bool) -> Verdict {
+        let mut verdict = Verdict::of(self.differences, is_long);
+        let mut need = |count: u64, what: String| verdict.need(what, count);
         for (code, count) in CODES.iter().zip(self.codes) {
             need(count, format!("code {code}"));
         }
@@ -176,7 +173,7 @@ impl Coverage {
         for (class, bound) in DEPTHS.iter().enumerate() {
             need(self.depths[class], format!("depth up to {bound}"));
         }
-        missing
+        verdict
     }
 
     /// The coverage as tables of Markdown.

@@ -3,6 +3,7 @@
 
 use crate::model::Row;
 use crate::model::columns::NONE;
+use crate::parts::Parts;
 
 const LABELED: u32 = 1;
 const UNLABELED: u32 = 2;
@@ -12,14 +13,14 @@ type Around = (u32, u32);
 
 /// The rows of the language entry, or nothing where it gives 29.
 pub fn read_off(rows: &[Row]) -> Option<Vec<Row>> {
-    let mut reader = Reader { rows: rows.to_vec(), sizes: sizes(rows), named: true };
+    let mut reader = Reader { rows: rows.to_vec(), parts: Parts::of(rows), named: true };
     reader.node(rows.len() - 1, &mut Vec::new());
     reader.named.then_some(reader.rows)
 }
 
 struct Reader {
     rows: Vec<Row>,
-    sizes: Vec<usize>,
+    parts: Parts,
     named: bool,
 }
 
@@ -43,11 +44,8 @@ impl Reader {
             _ => {
                 let own = label_of(&self.rows[at]).map(|label| (op, label));
                 around.extend(own);
-                let mut part = at;
-                for _ in 0..part_count(&self.rows[at]) {
-                    let last = part - 1;
-                    part -= self.sizes[last];
-                    self.node(last, around);
+                for part in self.parts.at(at) {
+                    self.node(part, around);
                 }
                 if own.is_some() {
                     around.pop();
@@ -69,31 +67,4 @@ fn label_of(row: &Row) -> Option<u32> {
         20 | 21 => Some(NONE),
         _ => None,
     }
-}
-
-fn part_count(row: &Row) -> usize {
-    match row[0] {
-        1..=3 | 22..=25 => 0,
-        4 | 8 | 11 | 18 | 20 | 21 => 1,
-        5 => row[1] as usize + 1,
-        9 => row[1] as usize,
-        10 => 1 + row[2] as usize,
-        12 => row[2] as usize,
-        6 | 13 | 14 | 17 | 19 => 2,
-        7 | 16 => 3,
-        15 => 3 + row[3] as usize,
-        op => panic!("op {op}"),
-    }
-}
-
-fn sizes(rows: &[Row]) -> Vec<usize> {
-    let mut sizes = Vec::with_capacity(rows.len());
-    for (at, row) in rows.iter().enumerate() {
-        let mut size = 1;
-        for _ in 0..part_count(row) {
-            size += sizes[at - size];
-        }
-        sizes.push(size);
-    }
-    sizes
 }

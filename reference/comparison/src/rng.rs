@@ -7,6 +7,11 @@ impl Rng {
         Self(seed)
     }
 
+    /// What a comparison draws for table `number` of the run with this seed.
+    pub fn of_table(seed: u64, number: u64) -> Self {
+        Self(seed ^ number.rotate_left(32))
+    }
+
     pub fn word(&mut self) -> u64 {
         self.0 = self.0.wrapping_add(0x9E37_79B9_7F4A_7C15);
         let mut mixed = self.0;

@@ -4,6 +4,7 @@
 
 use crate::model::Row;
 use crate::model::table::{BlockRow, Table};
+use crate::parts::Parts;
 
 /// Why a run stopped.
 #[derive(Clone, Copy, Debug, PartialEq, Eq)]
@@ -146,7 +147,12 @@ pub fn block_run(table: &Table, answers: &[u32]) -> Run {
 
 /// The tree run of a plain table's rows.
 pub fn tree_run(rows: &[Row], answers: &[u32]) -> Run {
-    let mut run = TreeRun { rows, sizes: sizes(rows), performed: Vec::new(), answers, taken: 0 };
+    for [op, ..] in rows {
+        let is_plain = matches!(op, 1 | 2 | 4 | 5 | 9..=12 | 14 | 18 | 20..=25);
+        assert!(is_plain, "op {op} in the tree of a plain table");
+    }
+    let parts = Parts::of(rows);
+    let mut run = TreeRun { rows, parts, performed: Vec::new(), answers, taken: 0 };
     let stop = match run.node(rows.len() - 1) {
         Flow::Stop(stop) => stop,
         Flow::Normal => Stop::EndOfTree,
@@ -166,53 +172,13 @@ enum Flow {
 
 struct TreeRun<'r> {
     rows: &'r [Row],
-    /// How many rows each closing row and its parts are.
-    sizes: Vec<usize>,
+    parts: Parts,
     performed: Vec<u32>,
     answers: &'r [u32],
     taken: usize,
 }
 
-/// How many parts a row closes.
-fn part_count(row: &Row) -> usize {
-    match row[0] {
-        1 | 2 | 22..=25 => 0,
-        4 | 11 | 18 | 20 | 21 => 1,
-        5 => row[1] as usize + 1,
-        9 => row[1] as usize,
-        10 => 1 + row[2] as usize,
-        12 => row[2] as usize,
-        14 => 2,
-        op => panic!("op {op} in the tree of a plain table"),
-    }
-}
-
-fn sizes(rows: &[Row]) -> Vec<usize> {
-    let mut sizes = Vec::with_capacity(rows.len());
-    for (at, row) in rows.iter().enumerate() {
-        let mut size = 1;
-        for _ in 0..part_count(row) {
-            size += sizes[at - size];
-        }
-        sizes.push(size);
-    }
-    sizes
-}
-
 impl TreeRun<'_> {
-    /// The closing rows of the parts, first to last.
-    fn parts(&self, at: usize) -> Vec<usize> {
-        let mut parts = Vec::new();
-        let mut part = at;
-        for _ in 0..part_count(&self.rows[at]) {
-            let last = part - 1;
-            parts.push(last);
-            part -= self.sizes[last];
-        }
-        parts.reverse();
-        parts
-    }
-
     fn answer(&mut self) -> Option<u32> {
         let answer = self.answers.get(self.taken).copied()?;
         self.taken += 1;
@@ -231,7 +197,7 @@ impl TreeRun<'_> {
 
     fn node(&mut self, at: usize) -> Flow {
         let [op, a, b, c, d, _] = self.rows[at];
-        let parts = self.parts(at);
+        let parts = self.parts.at(at);
         let jump_label = match c {
             1 => Some(a),
             _ => None,

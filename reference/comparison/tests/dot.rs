@@ -1,21 +1,9 @@
 //! The corners of M-110, on the model.
 
-use comparison::model::dot::{Drawn, draw};
-use comparison::model::table::BLOCK_WORDS;
+mod table;
 
-/// Blocks by code and columns, with no instruction, over one place and one identifier.
-fn table(blocks: &[(u32, &[u32])], cases: &[[u32; 2]]) -> Vec<u32> {
-    let mut words = vec![0, blocks.len() as u32, 0, cases.len() as u32, 1, 1];
-    for (code, operands) in blocks {
-        let mut row = [0; BLOCK_WORDS];
-        row[2] = *code;
-        row[3..3 + operands.len()].copy_from_slice(operands);
-        words.extend(row);
-    }
-    words.extend(cases.as_flattened());
-    words.extend([0, 1]);
-    words
-}
+use comparison::model::dot::{Drawn, draw};
+use table::{ABSENT, RETURN, table};
 
 /// The table has these lines, and its text is the first `n` bytes that it needs.
 fn draws(words: &[u32], lines: &[(u32, u32)]) {
@@ -35,31 +23,28 @@ fn draws(words: &[u32], lines: &[(u32, u32)]) {
     }
 }
 
-const RETURN: (u32, &[u32]) = (3, &[0]);
-const ABSENT: (u32, &[u32]) = (0, &[]);
-
 #[test]
 fn while_loop() {
-    let w = table(&[(9, &[1, 2, 3]), (6, &[0, 2, 3]), (4, &[1, 1]), RETURN], &[]);
+    let w = table(0, &[(9, &[1, 2, 3]), (6, &[0, 2, 3]), (4, &[1, 1]), RETURN], &[]);
     draws(&w, &[(0, 1), (0, 2), (0, 3), (1, 2), (1, 3), (2, 1)]);
     assert_eq!(draw(&w, &mut [7; 100]).length, 74);
 }
 
 #[test]
 fn no_line() {
-    draws(&table(&[RETURN], &[]), &[]);
+    draws(&table(0, &[RETURN], &[]), &[]);
 }
 
 #[test]
 fn switch() {
-    let words = table(&[(7, &[0, 1, 1, 1]), RETURN, ABSENT], &[[0, 0], [0, 2], [0, 1]]);
+    let words = table(0, &[(7, &[0, 1, 1, 1]), RETURN, ABSENT], &[[0, 0], [0, 2], [0, 1]]);
     draws(&words, &[(0, 2), (0, 1)]);
 }
 
 #[test]
 fn no_update() {
     let blocks = [(10, &[4, 5, 65_535, 2, 1][..]), RETURN, RETURN, RETURN, RETURN, RETURN];
-    draws(&table(&blocks, &[]), &[(0, 4), (0, 5), (0, 2), (0, 1)]);
+    draws(&table(0, &blocks, &[]), &[(0, 4), (0, 5), (0, 2), (0, 1)]);
 }
 
 #[test]

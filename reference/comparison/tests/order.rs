@@ -1,24 +1,9 @@
 //! The corners of M-111, on the model.
 
+mod table;
+
 use comparison::model::order::{Moved, rearrange, restore};
-use comparison::model::table::BLOCK_WORDS;
-
-/// Blocks by code and columns, with no instruction, over one place and one identifier.
-fn table(entry: u32, blocks: &[(u32, &[u32])], cases: &[[u32; 2]]) -> Vec<u32> {
-    let mut words = vec![entry, blocks.len() as u32, 0, cases.len() as u32, 1, 1];
-    for (code, operands) in blocks {
-        let mut row = [0; BLOCK_WORDS];
-        row[2] = *code;
-        row[3..3 + operands.len()].copy_from_slice(operands);
-        words.extend(row);
-    }
-    words.extend(cases.as_flattened());
-    words.extend([0, 1]);
-    words
-}
-
-const RETURN: (u32, &[u32]) = (3, &[0]);
-const ABSENT: (u32, &[u32]) = (0, &[]);
+use table::{ABSENT, RETURN, table};
 
 /// The list, the new table; and back.
 fn orders(words: &[u32], list: &[u32], expected: &[u32]) {

@@ -6,6 +6,9 @@ use borrow.Author.Needs.{needs}
 use Rattle.oldtonew.proofs.main.Statement.{statement}
 use Rattle.oldtonew.proofs.main.Tie as tie
 
+table-bytes-requires : tie.Need-table-bytes-requires
+table-bytes-requires c κs = search needs
+
 slice-aggregate-read-all : tie.Need-slice-aggregate-read-all
 slice-aggregate-read-all c = search needs
 
@@ -17,6 +20,9 @@ read-all-requires c κs = search needs
 
 returns : tie.Need-returns
 returns c = search needs
+
+printed-bytes-requires : tie.Need-printed-bytes-requires
+printed-bytes-requires c κs = search needs
 
 array-share-prefix-file : tie.Need-array-share-prefix-file
 array-share-prefix-file c = search needs
@@ -64,10 +70,12 @@ pub main-spec : {M : Type 1} → statement M
 main-spec =
     tie.close
     (tie.spec
+    table-bytes-requires
     slice-aggregate-read-all
     slice-aggregate-read-all-2
     read-all-requires
     returns
+    printed-bytes-requires
     array-share-prefix-file
     slice-aggregate-print-new
     slice-aggregate-print-new-2

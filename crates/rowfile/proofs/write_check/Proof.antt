@@ -1,7 +1,7 @@
 -- `rowfile::write_check` meets its contract.
 use mathlib.Core.List.{[]}
 use Rattle.text.proofs.LentLaws.{holds-none}
-use Rattle.text.proofs.WriteLaws.{wrote-then, wrote-all, fits-answer, fits-lent, over-answer, over-lent}
+use Rattle.text.proofs.WriteLaws.{wrote-then, wrote-all}
 use Rattle.rowfile.specs.Prints.{printedCheck}
 use Rattle.rowfile.proofs.FileLaws.{check-written}
 use borrow.Author.Needs.{needs}
@@ -20,8 +20,8 @@ slice-aggregate-write-line c = search needs
 write-line-requires : tie.Need-write-line-requires
 write-line-requires c κs = search needs
 
-clear-bytes-requires : tie.Need-clear-bytes-requires
-clear-bytes-requires c κs = search needs
+finish-text-requires : tie.Need-finish-text-requires
+finish-text-requires c κs = search needs
 
 same-length : tie.Need-same-length
 same-length c = search needs
@@ -29,34 +29,14 @@ same-length c = search needs
 returns : tie.Need-returns
 unfolding printedCheck
 returns c =
-    let cleared : tie.After-clear-bytes = search in
-    let over : tie.Then1 = search in
+    let finished : tie.After-finish-text = search in
     let line : tie.After-write-line = search in
     let names : tie.After-write-names = search in
     let start : tie.Start = search in
     let held = wrote-all (wrote-then (names .write-names .ensures) (line .write-line .ensures)) [] (holds-none _) in
-    check-written (start .args .code) (start .args .at) (start .fits .code .fits) (start .fits .at .fits)
-    (over-answer _ _ (line .write-line .last .0) _ _ (search needs) held (over .if1 .taken))
-    (over-lent _ _ _ _ _ (search needs) held (over .if1 .taken) (cleared .clear-bytes .ensures))
-
-clear-bytes-requires-2 : tie.Need-clear-bytes-requires-2
-clear-bytes-requires-2 c κs = search needs
-
-same-length-2 : tie.Need-same-length-2
-same-length-2 c = search needs
-
-returns-2 : tie.Need-returns-2
-unfolding printedCheck
-returns-2 c =
-    let cleared : tie.After-clear-bytes2 = search in
-    let fits : tie.Else1 = search in
-    let line : tie.After-write-line = search in
-    let names : tie.After-write-names = search in
-    let start : tie.Start = search in
-    let held = wrote-all (wrote-then (names .write-names .ensures) (line .write-line .ensures)) [] (holds-none _) in
-    check-written (start .args .code) (start .args .at) (start .fits .code .fits) (start .fits .at .fits)
-    (fits-answer _ _ (line .write-line .last .0) _ _ (search needs) held (fits .if1 .left))
-    (fits-lent _ _ _ _ _ (search needs) held (fits .if1 .left) (cleared .clear-bytes2 .ensures))
+    rw (← (names .write-names .kept .0), ← (line .write-line .kept .0))
+    (check-written (start .args .code) (start .args .at) (start .fits .code .fits) (start .fits .at .fits)
+    (finished .finish-text .ensures .0 _ held) (finished .finish-text .ensures .1 _ held))
 
 pub write-check-spec : {M : Type 1} → statement M
 write-check-spec =
@@ -66,9 +46,6 @@ write-check-spec =
     write-names-requires
     slice-aggregate-write-line
     write-line-requires
-    clear-bytes-requires
+    finish-text-requires
     same-length
-    returns
-    clear-bytes-requires-2
-    same-length-2
-    returns-2)
+    returns)

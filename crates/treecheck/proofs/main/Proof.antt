@@ -7,6 +7,9 @@ use borrow.Author.Needs.{needs}
 use Rattle.treecheck.proofs.main.Statement.{statement}
 use Rattle.treecheck.proofs.main.Tie as tie
 
+rows-bytes-requires : tie.Need-rows-bytes-requires
+rows-bytes-requires c κs = search needs
+
 slice-aggregate-read-all : tie.Need-slice-aggregate-read-all
 slice-aggregate-read-all c = search needs
 
@@ -65,6 +68,7 @@ pub main-spec : {M : Type 1} → statement M
 main-spec =
     tie.close
     (tie.spec
+    rows-bytes-requires
     slice-aggregate-read-all
     slice-aggregate-read-all-2
     read-all-requires

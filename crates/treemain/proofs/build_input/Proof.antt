@@ -6,8 +6,8 @@ use borrow.Author.Needs.{needs}
 use Rattle.treemain.proofs.build_input.Statement.{statement}
 use Rattle.treemain.proofs.build_input.Tie as tie
 
-file-bytes-requires : tie.Need-file-bytes-requires
-file-bytes-requires c κs = search needs
+table-bytes-requires : tie.Need-table-bytes-requires
+table-bytes-requires c κs = search needs
 
 slice-aggregate-read-all : tie.Need-slice-aggregate-read-all
 slice-aggregate-read-all c = search needs
@@ -64,7 +64,7 @@ pub build-input-spec : {M : Type 1} → statement M
 build-input-spec =
     tie.close
     (tie.spec
-    file-bytes-requires
+    table-bytes-requires
     slice-aggregate-read-all
     read-all-requires
     returns

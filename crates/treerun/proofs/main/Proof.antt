@@ -7,6 +7,9 @@ use borrow.Author.Needs.{needs}
 use Rattle.treerun.proofs.main.Statement.{statement}
 use Rattle.treerun.proofs.main.Tie as tie
 
+rows-bytes-requires : tie.Need-rows-bytes-requires
+rows-bytes-requires c κs = search needs
+
 slice-aggregate-read-all : tie.Need-slice-aggregate-read-all
 slice-aggregate-read-all c = search needs
 
@@ -22,8 +25,8 @@ returns c = search needs
 array-share-prefix-file : tie.Need-array-share-prefix-file
 array-share-prefix-file c = search needs
 
-lent-bytes-requires : tie.Need-lent-bytes-requires
-lent-bytes-requires c κs = search needs
+printed-bytes-requires : tie.Need-printed-bytes-requires
+printed-bytes-requires c κs = search needs
 
 slice-aggregate-run-file : tie.Need-slice-aggregate-run-file
 slice-aggregate-run-file c = search needs
@@ -68,11 +71,12 @@ pub main-spec : {M : Type 1} → statement M
 main-spec =
     tie.close
     (tie.spec
+    rows-bytes-requires
     slice-aggregate-read-all
     slice-aggregate-read-all-2
     read-all-requires
     returns
-    lent-bytes-requires
+    printed-bytes-requires
     array-share-prefix-file
     slice-aggregate-run-file
     slice-aggregate-run-file-2

@@ -6,6 +6,9 @@ use borrow.Author.Needs.{needs}
 use Rattle.treesize.proofs.main.Statement.{statement}
 use Rattle.treesize.proofs.main.Tie as tie
 
+table-bytes-requires : tie.Need-table-bytes-requires
+table-bytes-requires c κs = search needs
+
 slice-aggregate-read-all : tie.Need-slice-aggregate-read-all
 slice-aggregate-read-all c = search needs
 
@@ -64,6 +67,7 @@ pub main-spec : {M : Type 1} → statement M
 main-spec =
     tie.close
     (tie.spec
+    table-bytes-requires
     slice-aggregate-read-all
     slice-aggregate-read-all-2
     read-all-requires

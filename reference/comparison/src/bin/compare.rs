@@ -10,6 +10,7 @@ use std::time::Instant;
 use comparison::candidate::{CANDIDATE, CANDIDATE_CHECK, CANDIDATE_LANGUAGE, CANDIDATE_LOOKUP, CANDIDATE_PREVIEWS, Candidate};
 use comparison::coverage::Coverage;
 use comparison::generate::{FAMILIES, Generated, generate, long};
+use comparison::harness::{Room, arguments, stale};
 use comparison::language::read_off;
 use comparison::model::index::{LINE_WORDS, lines};
 use comparison::model::table::Table;
@@ -25,9 +26,7 @@ const CHUNK: u64 = 500;
 const MANY_LINES: u64 = 24;
 
 fn main() -> ExitCode {
-    let mut arguments = std::env::args().skip(1).map(|word| word.parse::<u64>().expect("a number"));
-    let tables = arguments.next().unwrap_or(LONG_ENOUGH);
-    let seed = arguments.next().unwrap_or(1);
+    let (tables, seed, _) = arguments();
     let workers = thread::available_parallelism().map_or(1, |number| number.get());
     reference::install_panic_hook();
 
@@ -63,10 +62,7 @@ fn main() -> ExitCode {
     let seconds = start.elapsed().as_secs_f64();
 
     print!("{}", total.report());
-    let missing = if tables >= LONG_ENOUGH { total.missing() } else { Vec::new() };
-    for what in &missing {
-        println!("never met: {what}");
-    }
+    let verdict = total.verdict(tables >= LONG_ENOUGH);
     let compared = match (CANDIDATE, CANDIDATE_CHECK) {
         (None, None) => "model",
         (None, Some(_)) => "model and proved check",
@@ -74,17 +70,15 @@ fn main() -> ExitCode {
         (Some(_), Some(_)) => "model, proved check and proved build",
     };
     println!(
-        "seed {seed}: {} tables, {} walked by the reference, {} runs of plain tables, {} lookups, {} previews, {compared} with {} differences, {} not met, {seconds:.1} s, {:.0} tables/s",
+        "seed {seed}: {} tables, {} walked by the reference, {} runs of plain tables, {} lookups, {} previews, {compared} with {verdict}, {seconds:.1} s, {:.0} tables/s",
         total.tables,
         total.compared,
         total.runs,
         total.lookups,
         total.previews,
-        total.differences,
-        missing.len(),
         total.tables as f64 / seconds,
     );
-    if total.differences == 0 && missing.is_empty() { ExitCode::SUCCESS } else { ExitCode::FAILURE }
+    verdict.status()
 }
 
 fn many_lines(number: u64) -> Generated {
@@ -102,7 +96,7 @@ struct Built {
 impl Built {
     /// By the model, in buffers of these lengths.
     fn by(build: Candidate, words: &[u32], [tree, index]: [usize; 2]) -> Self {
-        let (mut tree, mut index) = (vec![STALE; tree], vec![STALE; index]);
+        let (mut tree, mut index) = (stale(tree), stale(index));
         let outcome = build(words, &mut tree, &mut index);
         Self { outcome, tree, index }
     }
@@ -114,7 +108,7 @@ impl Built {
 
 /// Runs all on one table: code, at, rows, visits, lines and every word of the buffers are compared.
 fn compare(seed: u64, number: u64, Generated { family, words }: Generated, coverage: &mut Coverage) {
-    let mut lent = Rng::new(seed ^ number.rotate_left(32));
+    let mut lent = Rng::of_table(seed, number);
     let checked = model::check::check(&words);
     if let Some(check) = CANDIDATE_CHECK {
         let expected =
@@ -243,10 +237,6 @@ fn compare_runs(
     }
 }
 
-/// What a buffer holds before the call, and the words around it after it.
-const STALE: u32 = 7;
-const AROUND: usize = 16;
-
 fn compare_with(
     name: &str,
     build: Candidate,
@@ -266,25 +256,6 @@ fn compare_with(
     println!("table {number} differs: {words:?}");
     println!("  expected {:?} {:?} {:?}", expected.outcome, expected.tree, expected.index);
     println!("  {name} {outcome:?} {:?} {:?}, words around them kept: {kept}", tree.lent(), index.lent());
-}
-
-/// A buffer to lend, with words around it that must stay.
-struct Room(Vec<u32>);
-
-impl Room {
-    fn new(length: usize) -> Self {
-        Self(vec![STALE; length + 2 * AROUND])
-    }
-
-    fn lent(&mut self) -> &mut [u32] {
-        let end = self.0.len() - AROUND;
-        &mut self.0[AROUND..end]
-    }
-
-    fn is_kept(&self) -> bool {
-        let end = self.0.len() - AROUND;
-        self.0[..AROUND].iter().chain(&self.0[end..]).all(|word| *word == STALE)
-    }
 }
 
 /// Exactly enough, just too little, or more.

@@ -6,23 +6,16 @@
 use std::process::ExitCode;
 
 use comparison::candidate::{CANDIDATE_DOT, CandidateDot};
-use comparison::generate::generate;
-use comparison::generate::graphs::graph;
+use comparison::generate::graphs::graph_or_table;
+use comparison::harness::{LONG_ENOUGH, Room, Verdict, count_and_tell, stale, with_library};
 use comparison::model::check::check;
 use comparison::model::columns::NONE;
-use comparison::model::dot::{Drawn, draw, text};
+use comparison::model::dot::{draw, text};
 use comparison::model::table::Table;
 use comparison::rng::Rng;
 
-/// A run this long meets everything.
-const LONG_ENOUGH: u64 = 20_000;
-
 /// Accepted, and every refusal.
 const ANSWERS: [u32; 6] = [0, 1, 2, 3, 4, 44];
-
-/// What a buffer holds before the call, and the bytes around it after it.
-const STALE: u8 = 7;
-const AROUND: usize = 16;
 
 /// What tables show: each code, and what a line can come from.
 #[derive(Default)]
@@ -41,21 +34,14 @@ struct Met {
 }
 
 fn main() -> ExitCode {
-    let mut arguments = std::env::args().skip(1).map(|word| word.parse::<u64>().expect("a number"));
-    let tables = arguments.next().unwrap_or(100_000);
-    let seed = arguments.next().unwrap_or(1);
-    let Some(candidate) = CANDIDATE_DOT else {
-        println!("dot: FAILED: the proved library is not linked (feature candidate-dot)");
-        return ExitCode::FAILURE;
-    };
+    with_library("dot", CANDIDATE_DOT, compare_tables)
+}
 
+fn compare_tables(candidate: CandidateDot, tables: u64, seed: u64) -> Verdict {
     let mut met = Met::default();
     for number in 0..tables {
-        let mut rng = Rng::new(seed ^ number.rotate_left(32));
-        let words = match number % 2 {
-            0 => graph(&mut rng).words(),
-            _ => generate(seed, number / 2).words,
-        };
+        let mut rng = Rng::of_table(seed, number);
+        let words = graph_or_table(seed, number, &mut rng);
         let longer = rng.below(40) as usize;
         let exact = match check(&words) {
             Ok(table) => {
@@ -70,42 +56,33 @@ fn main() -> ExitCode {
         }
     }
 
-    let missing = if tables >= LONG_ENOUGH { met.missing() } else { Vec::new() };
-    for what in &missing {
-        println!("never met: {what}");
-    }
+    let verdict = met.verdict(tables);
     println!(
-        "seed {seed}: {tables} tables, {} drawings into lent buffers, model and proved drawing with {} differences, {} not met, longest text {} bytes",
-        met.calls,
-        met.differences,
-        missing.len(),
-        met.longest,
+        "seed {seed}: {tables} tables, {} drawings into lent buffers, model and proved drawing with {verdict}, longest text {} bytes",
+        met.calls, met.longest,
     );
-    if met.differences == 0 && missing.is_empty() { ExitCode::SUCCESS } else { ExitCode::FAILURE }
+    verdict
 }
 
 /// Code, at, length and every byte of the buffer are compared, and the bytes around it.
 fn compare(candidate: CandidateDot, number: u64, words: &[u32], lent: usize, met: &mut Met) {
-    let mut expected_text = vec![STALE; lent];
+    let mut expected_text = stale(lent);
     let expected = draw(words, &mut expected_text);
     met.calls += 1;
     let answer = ANSWERS.iter().position(|code| *code == expected.code).expect("a known code");
     met.answers[answer] += 1;
     met.longest = met.longest.max(expected.length);
 
-    let mut room = vec![STALE; lent + 2 * AROUND];
-    let inside = AROUND..AROUND + lent;
-    let drawn: Drawn = candidate(words, &mut room[inside.clone()]);
-    let outside = [&room[..inside.start], &room[inside.end..]];
-    let untouched = outside.iter().all(|part| part.iter().all(|byte| *byte == STALE));
-    if drawn == expected && room[inside.clone()] == expected_text && untouched {
+    let mut room = Room::new(lent);
+    let drawn = candidate(words, room.lent());
+    let untouched = room.is_kept();
+    if drawn == expected && *room.lent() == expected_text && untouched {
         return;
     }
-    met.differences += 1;
-    if met.differences <= 10 {
+    if count_and_tell(&mut met.differences) {
         println!("table {number} differs, {lent} bytes lent: {words:?}");
         println!("  expected {expected:?} {:?}", String::from_utf8_lossy(&expected_text));
-        println!("  candidate {drawn:?} {:?}", String::from_utf8_lossy(&room[inside]));
+        println!("  candidate {drawn:?} {:?}", String::from_utf8_lossy(room.lent()));
         println!("  bytes around it kept: {untouched}");
     }
 }
@@ -128,19 +105,19 @@ impl Met {
         self.unlisted_case += u64::from(listed.contains(&0));
     }
 
-    fn missing(&self) -> Vec<String> {
-        let codes = self.codes.iter().enumerate().filter(|(_, times)| **times == 0);
-        let codes = codes.map(|(code, _)| format!("code {code}"));
-        let answers = ANSWERS.iter().zip(self.answers).filter(|(_, times)| *times == 0);
-        let answers = answers.map(|(code, _)| format!("answer {code}"));
-        let kinds = [
-            ("a For with no update", self.no_update),
-            ("an If that names a block twice", self.twice),
-            ("a case row of two Switches", self.shared_case),
-            ("a case row of no Switch", self.unlisted_case),
-            ("a number of four digits", self.four_digits),
-        ];
-        let kinds = kinds.into_iter().filter(|(_, times)| *times == 0);
-        codes.chain(answers).chain(kinds.map(|(what, _)| what.to_string())).collect()
+    fn verdict(&self, tables: u64) -> Verdict {
+        let mut verdict = Verdict::of(self.differences, tables >= LONG_ENOUGH);
+        for (code, times) in self.codes.iter().enumerate() {
+            verdict.need(format_args!("code {code}"), *times);
+        }
+        for (code, times) in ANSWERS.iter().zip(self.answers) {
+            verdict.need(format_args!("answer {code}"), times);
+        }
+        verdict.need("a For with no update", self.no_update);
+        verdict.need("an If that names a block twice", self.twice);
+        verdict.need("a case row of two Switches", self.shared_case);
+        verdict.need("a case row of no Switch", self.unlisted_case);
+        verdict.need("a number of four digits", self.four_digits);
+        verdict
     }
 }

@@ -7,15 +7,11 @@
 use std::process::ExitCode;
 
 use comparison::candidate::{CANDIDATE_LOOKUP, CandidateLookup, Looked};
-use comparison::generate::generate;
+use comparison::generate::trees::built;
+use comparison::harness::{LONG_ENOUGH, Verdict, count_and_tell, with_library};
 use comparison::model::Row;
-use comparison::model::check::check as check_table;
 use comparison::model::index::{LINE_WORDS, Line, lines, lookup};
-use comparison::model::walk;
 use comparison::rng::Rng;
-
-/// A run this long meets everything.
-const LONG_ENOUGH: u64 = 20_000;
 
 #[derive(Default)]
 struct Met {
@@ -40,14 +36,10 @@ struct Met {
 const WORDS: [u32; 16] = [0, 0, 1, 1, 2, 2, 3, 3, 4, 5, 6, 65_535, 65_536, 715_827_882, 1 << 31, u32::MAX];
 
 fn main() -> ExitCode {
-    let mut arguments = std::env::args().skip(1).map(|word| word.parse::<u64>().expect("a number"));
-    let lookups = arguments.next().unwrap_or(100_000);
-    let seed = arguments.next().unwrap_or(1);
-    let Some(candidate) = CANDIDATE_LOOKUP else {
-        println!("lookup: FAILED: the proved library is not linked (feature candidate-lookup)");
-        return ExitCode::FAILURE;
-    };
+    with_library("lookup", CANDIDATE_LOOKUP, compare_lookups)
+}
 
+fn compare_lookups(candidate: CandidateLookup, lookups: u64, seed: u64) -> Verdict {
     let mut met = Met::default();
     let mut rng = Rng::new(seed);
     for _ in 0..lookups {
@@ -55,21 +47,19 @@ fn main() -> ExitCode {
     }
     let mut number = 0;
     while met.labels < lookups {
-        let words = generate(seed, number).words;
+        let rows = built(seed, number);
         number += 1;
-        let Some(rows) = check_table(&words).ok().and_then(|table| walk(&table).result.ok()) else { continue };
-        met.built(candidate, &rows, number, &mut rng);
+        if let Some(rows) = rows {
+            met.built(candidate, &rows, number, &mut rng);
+        }
     }
 
-    let missing = if lookups >= LONG_ENOUGH { met.missing() } else { Vec::new() };
-    for what in &missing {
-        println!("never met: {what}");
-    }
+    let verdict = met.verdict(lookups);
     println!(
-        "seed {seed}: {} lookups, {} of labels of {} built trees among them, {} found, model and proved lookup with {} differences, {} not met",
-        met.lookups, met.labels, met.trees, met.found, met.differences, missing.len(),
+        "seed {seed}: {} lookups, {} of labels of {} built trees among them, {} found, model and proved lookup with {verdict}",
+        met.lookups, met.labels, met.trees, met.found,
     );
-    if met.differences == 0 && missing.is_empty() { ExitCode::SUCCESS } else { ExitCode::FAILURE }
+    verdict
 }
 
 impl Met {
@@ -123,8 +113,7 @@ impl Met {
     }
 
     fn differs(&mut self, what: &str) {
-        self.differences += 1;
-        if self.differences <= 10 {
+        if count_and_tell(&mut self.differences) {
             println!("differs: {what}");
         }
     }
@@ -145,17 +134,16 @@ impl Met {
         }
     }
 
-    fn missing(&self) -> Vec<&'static str> {
-        let counts = [
-            ("found", self.found),
-            ("42, no line has the label", self.no_label),
-            ("42, no line is read", self.no_line),
-            ("43, first row after the closing row", self.first_after),
-            ("43, closing row beyond the tree", self.closing_beyond),
-            ("two lines with the label", self.twice),
-            ("more lines told than there are", self.too_many),
-            ("a label in a line that is not whole", self.cut),
-        ];
-        counts.into_iter().filter(|(_, times)| *times == 0).map(|(what, _)| what).collect()
+    fn verdict(&self, lookups: u64) -> Verdict {
+        let mut verdict = Verdict::of(self.differences, lookups >= LONG_ENOUGH);
+        verdict.need("found", self.found);
+        verdict.need("42, no line has the label", self.no_label);
+        verdict.need("42, no line is read", self.no_line);
+        verdict.need("43, first row after the closing row", self.first_after);
+        verdict.need("43, closing row beyond the tree", self.closing_beyond);
+        verdict.need("two lines with the label", self.twice);
+        verdict.need("more lines told than there are", self.too_many);
+        verdict.need("a label in a line that is not whole", self.cut);
+        verdict
     }
 }

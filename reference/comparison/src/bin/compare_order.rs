@@ -7,8 +7,8 @@
 use std::process::ExitCode;
 
 use comparison::candidate::{CANDIDATE_ORDER, CandidateOrder};
-use comparison::generate::generate;
-use comparison::generate::graphs::graph;
+use comparison::generate::graphs::graph_or_table;
+use comparison::harness::{LONG_ENOUGH, Verdict, stale, with_library};
 use comparison::model;
 use comparison::model::check::check;
 use comparison::model::dot::named;
@@ -18,14 +18,8 @@ use comparison::model::table::Table;
 use comparison::model::{Outcome, ROW_WORDS};
 use comparison::rng::Rng;
 
-/// A run this long meets everything.
-const LONG_ENOUGH: u64 = 20_000;
-
 /// Accepted, and every refusal.
 const ANSWERS: [u32; 7] = [0, 1, 2, 3, 4, 45, 46];
-
-/// What a buffer holds before the call.
-const STALE: u32 = 7;
 
 type Entry = fn(&[u32], &mut [u32], &mut [u32]) -> Outcome;
 
@@ -52,21 +46,14 @@ struct Met {
 }
 
 fn main() -> ExitCode {
-    let mut arguments = std::env::args().skip(1).map(|word| word.parse::<u64>().expect("a number"));
-    let tables = arguments.next().unwrap_or(100_000);
-    let seed = arguments.next().unwrap_or(1);
-    let Some(candidate) = CANDIDATE_ORDER else {
-        println!("order: FAILED: the proved library is not linked (feature candidate-order)");
-        return ExitCode::FAILURE;
-    };
+    with_library("order", CANDIDATE_ORDER, compare_tables)
+}
 
+fn compare_tables(candidate: CandidateOrder, tables: u64, seed: u64) -> Verdict {
     let mut met = Met::default();
     for number in 0..tables {
-        let mut rng = Rng::new(seed ^ number.rotate_left(32));
-        let words = match number % 2 {
-            0 => graph(&mut rng).words(),
-            _ => generate(seed, number / 2).words,
-        };
+        let mut rng = Rng::of_table(seed, number);
+        let words = graph_or_table(seed, number, &mut rng);
         let before = met.differences;
         lent(candidate, &words, &mut rng, &mut met);
         if let Ok(table) = check(&words) {
@@ -78,18 +65,12 @@ fn main() -> ExitCode {
         }
     }
 
-    let missing = if tables >= LONG_ENOUGH { met.missing() } else { Vec::new() };
-    for what in &missing {
-        println!("never met: {what}");
-    }
+    let verdict = met.verdict(tables);
     println!(
-        "seed {seed}: {tables} tables rearranged, {} calls, model and proved library with {} differences, {} not met; {} builds of tables renumbered at random",
-        met.calls,
-        met.differences,
-        missing.len(),
-        met.built,
+        "seed {seed}: {tables} tables rearranged, {} calls, model and proved library with {verdict}; {} builds of tables renumbered at random",
+        met.calls, met.built,
     );
-    if met.differences == 0 && missing.is_empty() { ExitCode::SUCCESS } else { ExitCode::FAILURE }
+    verdict
 }
 
 /// A random order of the numbers below n.
@@ -114,9 +95,9 @@ impl Met {
 
     /// Both buffers of the lengths given; every word is compared.
     fn rearranged(&mut self, candidate: CandidateOrder, words: &[u32], table: usize, list: usize) -> (Vec<u32>, Vec<u32>) {
-        let (mut new_words, mut old_numbers) = (vec![STALE; table], vec![STALE; list]);
+        let (mut new_words, mut old_numbers) = (stale(table), stale(list));
         let expected = rearrange(words, &mut new_words, &mut old_numbers);
-        let (mut table, mut list) = (vec![STALE; table], vec![STALE; list]);
+        let (mut table, mut list) = (stale(table), stale(list));
         let moved = candidate.0(words, &mut table, &mut list);
         self.answered(0, expected);
         self.hold(moved == expected && table == new_words && list == old_numbers);
@@ -124,34 +105,31 @@ impl Met {
     }
 
     fn restored(&mut self, candidate: CandidateOrder, words: &[u32], list: &[u32], table: usize) -> Vec<u32> {
-        let mut first_words = vec![STALE; table];
+        let mut first_words = stale(table);
         let expected = restore(words, list, &mut first_words);
-        let mut table = vec![STALE; table];
+        let mut table = stale(table);
         let moved = candidate.1(words, list, &mut table);
         self.answered(1, expected);
         self.hold(moved == expected && table == first_words);
         table
     }
 
-    fn missing(&self) -> Vec<String> {
-        let mut missing = Vec::new();
+    fn verdict(&self, tables: u64) -> Verdict {
+        let mut verdict = Verdict::of(self.differences, tables >= LONG_ENOUGH);
         for (which, entry) in ["rearrangement", "inverse"].iter().enumerate() {
             for (code, times) in ANSWERS.iter().zip(self.answers[which]) {
-                if times == 0 && (which, *code) != (0, 46) {
-                    missing.push(format!("{entry}: answer {code}"));
+                if (which, *code) != (0, 46) {
+                    verdict.need(format_args!("{entry}: answer {code}"), times);
                 }
             }
         }
-        let kinds = [
-            ("a build refused at a block", self.refused_at_a_block),
-            ("a jump that finds no label (29)", self.no_such_label),
-            ("a build that lacks places for lines (41)", self.lines_lacking),
-            ("a table whose blocks are all named", self.all_named),
-            ("a table with a block that is not named", self.some_unnamed),
-            ("a table that is not in walking order", self.moved),
-        ];
-        missing.extend(kinds.iter().filter(|(_, times)| *times == 0).map(|(what, _)| what.to_string()));
-        missing
+        verdict.need("a build refused at a block", self.refused_at_a_block);
+        verdict.need("a jump that finds no label (29)", self.no_such_label);
+        verdict.need("a build that lacks places for lines (41)", self.lines_lacking);
+        verdict.need("a table whose blocks are all named", self.all_named);
+        verdict.need("a table with a block that is not named", self.some_unnamed);
+        verdict.need("a table that is not in walking order", self.moved);
+        verdict
     }
 }
 
@@ -224,8 +202,8 @@ fn renumbered(candidate: CandidateOrder, table: &Table, rng: &mut Rng, met: &mut
 
 /// The same rows, code, visits and lines with every block renamed, and `at` where it is a block.
 fn built(entry: Entry, words: &[u32], other: &[u32], new: &[u32], lent: (usize, usize), met: &mut Met) {
-    let (mut tree, mut there) = (vec![STALE; lent.0], vec![STALE; lent.0]);
-    let (mut index, mut index_there) = (vec![STALE; lent.1], vec![STALE; lent.1]);
+    let (mut tree, mut there) = (stale(lent.0), stale(lent.0));
+    let (mut index, mut index_there) = (stale(lent.1), stale(lent.1));
     let before = entry(words, &mut tree, &mut index);
     let after = entry(other, &mut there, &mut index_there);
     let at_a_block = (10..=31).contains(&before.code);

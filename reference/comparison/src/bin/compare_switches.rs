@@ -11,6 +11,7 @@ use comparison::generate::draft::Draft;
 use comparison::generate::mutate::{mutate, shuffle};
 use comparison::generate::plain::plain;
 use comparison::generate::small_plain::{Bound, each};
+use comparison::harness::{Verdict, arguments, count_and_tell};
 use comparison::model::check::check;
 use comparison::model::index::{LINE_WORDS, MOST_LINES};
 use comparison::model::table::Table;
@@ -42,10 +43,8 @@ struct Built<'t> {
 }
 
 fn main() -> ExitCode {
-    let mut arguments = std::env::args().skip(1).map(|word| word.parse::<u64>().expect("a number"));
-    let tables = arguments.next().unwrap_or(100_000);
-    let seed = arguments.next().unwrap_or(1);
-    let bound = Bound { blocks: arguments.next().unwrap_or(6) as u32, cases: CASES, reused: false };
+    let (tables, seed, mut more) = arguments();
+    let bound = Bound { blocks: more.next().unwrap_or(6) as u32, cases: CASES, reused: false };
 
     let mut small = Met::default();
     let counted = each(bound, |draft| {
@@ -80,15 +79,14 @@ fn main() -> ExitCode {
     }
     let (all, differences) = (small.runs + larger.runs, small.differences + larger.differences);
     let met = |met: &Met| met.unspoken > 0 && met.first_entry > 0 && [1, 2, 4].iter().all(|reason| met.reasons[*reason] > 0);
-    let missing = counted.with_switch == 0 || !met(&small) || tables >= 10_000 && !met(&larger);
-    if missing {
-        println!("never met: a Switch, a reason, a list not spoken of or a run of the first entry that differs");
-    }
+    let all_met = counted.with_switch > 0 && met(&small) && (tables < 10_000 || met(&larger));
+    let mut verdict = Verdict::of(differences, true);
+    verdict.need("a Switch, a reason, a list not spoken of or a run of the first entry that differs", u64::from(all_met));
     println!(
         "seed {seed}: {all} runs of {} small and {accepted} larger tables with a Switch (up to {most} blocks; {refused} refused; {}), blocks, tree and runner with {differences} differences",
         counted.with_switch, larger.summary(),
     );
-    if differences == 0 && !missing { ExitCode::SUCCESS } else { ExitCode::FAILURE }
+    verdict.status()
 }
 
 /// The same with no instruction in a Branch block.
@@ -207,11 +205,8 @@ impl Met {
     }
 
     fn hold(&mut self, same: bool, table: &Table, what: impl std::fmt::Display) {
-        if !same {
-            self.differences += 1;
-            if self.differences <= 10 {
-                println!("differs in {what}: {:?}", table.words);
-            }
+        if !same && count_and_tell(&mut self.differences) {
+            println!("differs in {what}: {:?}", table.words);
         }
     }
 }

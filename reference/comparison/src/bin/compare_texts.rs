@@ -9,6 +9,7 @@ use std::process::ExitCode;
 use comparison::candidate::{CANDIDATE_TEXTS, CandidateTexts};
 use comparison::generate::files::good_of_length;
 use comparison::generate::generate;
+use comparison::harness::{LONG_ENOUGH, Room, Verdict, count_and_tell, stale, with_library};
 use comparison::model::check::check;
 use comparison::model::convert::{
     NEW, OLD, Placed, narrow, new_text, new_to_old, old_text, old_to_new, widen, write_table,
@@ -18,14 +19,8 @@ use comparison::model::text::{MAX_BYTES, parse, write_as};
 use comparison::rng::Rng;
 use comparison::vector::from_bytes;
 
-/// A run this long meets everything.
-const LONG_ENOUGH: u64 = 20_000;
-
 /// Accepted, and every refusal that a file can have.
 const ANSWERS: [u32; 8] = [0, 2, 3, 4, 50, 51, 52, 53];
-
-const STALE: u8 = 7;
-const AROUND: usize = 16;
 
 type Convert = fn(&[u8], &mut [u8]) -> Placed;
 
@@ -43,17 +38,13 @@ struct Met {
 }
 
 fn main() -> ExitCode {
-    let mut arguments = std::env::args().skip(1).map(|word| word.parse::<u64>().expect("a number"));
-    let files = arguments.next().unwrap_or(100_000);
-    let seed = arguments.next().unwrap_or(1);
-    let Some(candidate) = CANDIDATE_TEXTS else {
-        println!("texts: FAILED: the proved library is not linked (feature candidate-texts)");
-        return ExitCode::FAILURE;
-    };
+    with_library("texts", CANDIDATE_TEXTS, compare_texts)
+}
 
+fn compare_texts(candidate: CandidateTexts, files: u64, seed: u64) -> Verdict {
     let mut met = Met::default();
     for number in 0..files {
-        let mut rng = Rng::new(seed ^ number.rotate_left(32));
+        let mut rng = Rng::of_table(seed, number);
         let words = generate(seed, number).words;
         met.table(candidate, &mut rng, &words);
         met.files(candidate, &mut rng, &words);
@@ -65,22 +56,17 @@ fn main() -> ExitCode {
         met.files(candidate, &mut rng, &vector.words);
     }
 
-    let missing = if files >= LONG_ENOUGH { met.missing() } else { Vec::new() };
-    for what in &missing {
-        println!("never met: {what}");
-    }
+    let verdict = met.verdict(files);
     println!(
-        "seed {seed}: {files} tables and {} stored vectors, {} texts into lent buffers, round trips: {} from old, {} from new, {} too long to be read back; {} differences, {} not met, longest text {} bytes",
+        "seed {seed}: {files} tables and {} stored vectors, {} texts into lent buffers, round trips: {} from old, {} from new, {} too long to be read back; {verdict}, longest text {} bytes",
         stored.len(),
         met.calls,
         met.old_trips,
         met.new_trips,
         met.too_long,
-        met.differences,
-        missing.len(),
         met.longest,
     );
-    if met.differences == 0 && missing.is_empty() { ExitCode::SUCCESS } else { ExitCode::FAILURE }
+    verdict
 }
 
 /// Whether the words have a head and as many rows as it says, and not too many.
@@ -92,7 +78,7 @@ impl Met {
     fn table(&mut self, candidate: CandidateTexts, rng: &mut Rng, words: &[u32]) {
         let exact = check(words).map_or(20, |_| write_as(NEW, words).len());
         for lent in lengths(exact, rng) {
-            let mut expected_text = vec![STALE; lent];
+            let mut expected_text = stale(lent);
             let expected = write_table(words, &mut expected_text);
             self.compare(0, lent, expected, &expected_text, |text| (candidate.write)(words, text), &words);
             // What was written reads as these words.
@@ -161,7 +147,7 @@ impl Met {
 
     fn convert(&mut self, which: usize, candidate: Convert, model: Convert, text: Option<String>, rng: &mut Rng, file: &[u8]) {
         for lent in lengths(text.map_or(20, |text| text.len()), rng) {
-            let mut expected_text = vec![STALE; lent];
+            let mut expected_text = stale(lent);
             let expected = model(file, &mut expected_text);
             let shown = String::from_utf8_lossy(file);
             self.compare(which, lent, expected, &expected_text, |text| candidate(file, text), &shown);
@@ -176,41 +162,36 @@ impl Met {
             Some(answer) => self.answers[which][answer] += 1,
             None => assert!(which == 0 && expected.code == 1, "a known code"),
         }
-        let mut room = vec![STALE; lent + 2 * AROUND];
-        let inside = AROUND..AROUND + lent;
-        let placed = run(&mut room[inside.clone()]);
-        let outside = [&room[..inside.start], &room[inside.end..]];
-        let untouched = outside.iter().all(|part| part.iter().all(|byte| *byte == STALE));
-        if placed != expected || room[inside] != *expected_text || !untouched {
+        let mut room = Room::new(lent);
+        let placed = run(room.lent());
+        let untouched = room.is_kept();
+        if placed != expected || room.lent() != expected_text || !untouched {
             self.differs(&format!("call {which}, {lent} bytes lent: {placed:?} for {expected:?}, bytes around it kept: {untouched}"), input);
         }
     }
 
     fn differs(&mut self, what: &str, input: &dyn std::fmt::Debug) {
-        self.differences += 1;
-        if self.differences <= 10 {
+        if count_and_tell(&mut self.differences) {
             println!("differs: {what}: {input:?}");
         }
     }
 
-    fn missing(&self) -> Vec<String> {
+    fn verdict(&self, files: u64) -> Verdict {
+        let mut verdict = Verdict::of(self.differences, files >= LONG_ENOUGH);
         let possible = |which: usize, code: u32| match which {
             0 => !(50..=52).contains(&code),
             1 => code != 52,
             _ => true,
         };
-        let mut missing = Vec::new();
         for (which, answers) in self.answers.iter().enumerate() {
             for (code, times) in ANSWERS.iter().zip(answers) {
-                if *times == 0 && possible(which, *code) {
-                    missing.push(format!("answer {code} of call {which}"));
+                if possible(which, *code) {
+                    verdict.need(format_args!("answer {code} of call {which}"), *times);
                 }
             }
         }
-        if self.too_long == 0 {
-            missing.push("a new text that is too long".to_string());
-        }
-        missing
+        verdict.need("a new text that is too long", self.too_long);
+        verdict
     }
 }
 
@@ -235,7 +216,7 @@ fn spoilt(rng: &mut Rng, mut file: Vec<u8>) -> Vec<u8> {
 
 /// The text that a converter gives with room enough; none if it refuses.
 fn through(convert: Convert, file: &[u8]) -> Option<Vec<u8>> {
-    let mut text = vec![STALE; 2 * MAX_BYTES + 6];
+    let mut text = stale(2 * MAX_BYTES + 6);
     let placed = convert(file, &mut text);
     text.truncate(placed.length);
     (placed.code == 0).then_some(text)

@@ -7,15 +7,11 @@
 use std::process::ExitCode;
 
 use comparison::candidate::{CANDIDATE_TREE_CHECK, CandidateCheck};
-use comparison::generate::generate;
 use comparison::generate::rows::{ALPHABET, limits, short_list, spoil};
-use comparison::model::check::check as check_table;
+use comparison::generate::trees::built;
+use comparison::harness::{LONG_ENOUGH, Verdict, count_and_tell, with_library};
 use comparison::model::tree_check::{MAX_ROWS, check};
-use comparison::model::walk;
 use comparison::rng::Rng;
-
-/// A run this long meets everything.
-const LONG_ENOUGH: u64 = 20_000;
 
 /// A run this long goes through the lists of six rows as well.
 const LONG: u64 = 1_000_000;
@@ -35,14 +31,10 @@ struct Met {
 }
 
 fn main() -> ExitCode {
-    let mut arguments = std::env::args().skip(1).map(|word| word.parse::<u64>().expect("a number"));
-    let trees = arguments.next().unwrap_or(100_000);
-    let seed = arguments.next().unwrap_or(1);
-    let Some(candidate) = CANDIDATE_TREE_CHECK else {
-        println!("tree check: FAILED: the proved library is not linked (feature candidate-tree-check)");
-        return ExitCode::FAILURE;
-    };
+    with_library("tree-check", CANDIDATE_TREE_CHECK, compare_lists)
+}
 
+fn compare_lists(candidate: CandidateCheck, trees: u64, seed: u64) -> Verdict {
     let mut met = Met::default();
     for words in limits() {
         met.compare(candidate, &words);
@@ -54,13 +46,9 @@ fn main() -> ExitCode {
     }
     let mut number = 0;
     while met.spoilt < trees {
-        let words = generate(seed, number).words;
-        let mut rng = Rng::new(seed ^ number.rotate_left(32));
+        let (rows, mut rng) = (built(seed, number), Rng::of_table(seed, number));
         number += 1;
-        let Some(rows) = check_table(&words).ok().and_then(|table| walk(&table).result.ok()) else { continue };
-        if rows.len() > MAX_ROWS {
-            continue;
-        }
+        let Some(rows) = rows.filter(|rows| rows.len() <= MAX_ROWS) else { continue };
         met.built += 1;
         let tree = rows.as_flattened().to_vec();
         if met.compare(candidate, &tree) != (0, 0) {
@@ -77,15 +65,12 @@ fn main() -> ExitCode {
         }
     }
 
-    let missing = if trees >= LONG_ENOUGH { met.missing() } else { Vec::new() };
-    for what in &missing {
-        println!("never met: {what}");
-    }
+    let verdict = met.verdict(trees);
     println!(
-        "seed {seed}: {} lists of rows, {} built trees and {} spoilt ones among them, {} accepted, model and proved check of trees with {} differences, {} not met",
-        met.lists, met.built, met.spoilt, met.accepted, met.differences, missing.len(),
+        "seed {seed}: {} lists of rows, {} built trees and {} spoilt ones among them, {} accepted, model and proved check of trees with {verdict}",
+        met.lists, met.built, met.spoilt, met.accepted,
     );
-    if met.differences == 0 && missing.is_empty() { ExitCode::SUCCESS } else { ExitCode::FAILURE }
+    verdict
 }
 
 impl Met {
@@ -95,12 +80,9 @@ impl Met {
         self.lists += 1;
         self.note(words, expected);
         let found = candidate(words);
-        if found != expected {
-            self.differences += 1;
-            if self.differences <= 10 {
-                println!("list differs: {words:?}");
-                println!("  expected {expected:?}, candidate {found:?}");
-            }
+        if found != expected && count_and_tell(&mut self.differences) {
+            println!("list differs: {words:?}");
+            println!("  expected {expected:?}, candidate {found:?}");
         }
         expected
     }
@@ -119,26 +101,21 @@ impl Met {
         }
     }
 
-    fn missing(&self) -> Vec<String> {
+    fn verdict(&self, trees: u64) -> Verdict {
+        let mut verdict = Verdict::of(self.differences, trees >= LONG_ENOUGH);
         let takes = |op: usize| !matches!(op, 1..=3 | 22..=25);
-        let mut missing = Vec::new();
         for (op, [accepted, out, alone]) in self.ops.iter().enumerate() {
             let known = (1..=25).contains(&op);
-            if known && *accepted == 0 {
-                missing.push(format!("op {op}, accepted"));
+            if known {
+                verdict.need(format_args!("op {op}, accepted"), *accepted);
             }
-            if *out == 0 {
-                missing.push(format!("op {op}, refused 60"));
-            }
-            if known && takes(op) && *alone == 0 {
-                missing.push(format!("op {op}, refused 61"));
+            verdict.need(format_args!("op {op}, refused 60"), *out);
+            if known && takes(op) {
+                verdict.need(format_args!("op {op}, refused 61"), *alone);
             }
         }
-        for (what, times) in [("62, length", self.lengths), ("62, remainder", self.remainders)] {
-            if times == 0 {
-                missing.push(what.to_string());
-            }
-        }
-        missing
+        verdict.need("62, length", self.lengths);
+        verdict.need("62, remainder", self.remainders);
+        verdict
     }
 }

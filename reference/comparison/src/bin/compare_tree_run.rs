@@ -8,15 +8,13 @@ use comparison::candidate::{CANDIDATE_TREE_RUN, CandidateRun};
 use comparison::generate::generate;
 use comparison::generate::rows::spoil;
 use comparison::generate::trees::{deep, tree};
+use comparison::harness::{LONG_ENOUGH, Verdict, count_and_tell, with_library};
 use comparison::model::check::check as check_table;
 use comparison::model::tree_check::MAX_ROWS;
 use comparison::model::tree_run::{Ran, run};
 use comparison::model::walk;
 use comparison::rng::Rng;
 use comparison::runs::{Width, block_run, is_plain};
-
-/// A run this long meets everything.
-const LONG_ENOUGH: u64 = 20_000;
 
 #[derive(Default)]
 struct Met {
@@ -30,14 +28,10 @@ struct Met {
 }
 
 fn main() -> ExitCode {
-    let mut arguments = std::env::args().skip(1).map(|word| word.parse::<u64>().expect("a number"));
-    let runs = arguments.next().unwrap_or(100_000);
-    let seed = arguments.next().unwrap_or(1);
-    let Some(candidate) = CANDIDATE_TREE_RUN else {
-        println!("tree run: FAILED: the proved library is not linked (feature candidate-tree-run)");
-        return ExitCode::FAILURE;
-    };
+    with_library("tree-run", CANDIDATE_TREE_RUN, compare_runs)
+}
 
+fn compare_runs(candidate: CandidateRun, runs: u64, seed: u64) -> Verdict {
     let mut met = Met::default();
     let mut number = 0;
     while met.runs < runs {
@@ -61,15 +55,12 @@ fn main() -> ExitCode {
         number += 1;
     }
 
-    let missing = if runs >= LONG_ENOUGH { met.missing() } else { Vec::new() };
-    for what in &missing {
-        println!("never met: {what}");
-    }
+    let verdict = met.verdict(runs);
     println!(
-        "seed {seed}: {} runs of trees, {} of built ones and {} of plain tables among them, by reason {:?}, refused 60 to 65 {:?}, model and proved runner with {} differences, {} not met",
-        met.runs, met.built, met.plain, &met.reasons[1..], met.codes, met.differences, missing.len(),
+        "seed {seed}: {} runs of trees, {} of built ones and {} of plain tables among them, by reason {:?}, refused 60 to 65 {:?}, model and proved runner with {verdict}",
+        met.runs, met.built, met.plain, &met.reasons[1..], met.codes,
     );
-    if met.differences == 0 && missing.is_empty() { ExitCode::SUCCESS } else { ExitCode::FAILURE }
+    verdict
 }
 
 /// A few answers, mostly 0 to 3, as places of cases are; now and then large.
@@ -90,13 +81,10 @@ impl Met {
         } else {
             self.codes[expected.code as usize - 60] += 1;
         }
-        if (expected, &expected_words) != (found, &found_words) {
-            self.differences += 1;
-            if self.differences <= 10 {
-                println!("run differs: {words:?}");
-                println!("  answers {answers:?}, lent {lent}");
-                println!("  expected {expected:?} {expected_words:?}, candidate {found:?} {found_words:?}");
-            }
+        if (expected, &expected_words) != (found, &found_words) && count_and_tell(&mut self.differences) {
+            println!("run differs: {words:?}");
+            println!("  answers {answers:?}, lent {lent}");
+            println!("  expected {expected:?} {expected_words:?}, candidate {found:?} {found_words:?}");
         }
         (expected, expected_words)
     }
@@ -122,21 +110,15 @@ impl Met {
         }
     }
 
-    fn missing(&self) -> Vec<String> {
-        let mut missing = Vec::new();
+    fn verdict(&self, runs: u64) -> Verdict {
+        let mut verdict = Verdict::of(self.differences, runs >= LONG_ENOUGH);
         for (reason, times) in self.reasons.iter().enumerate().skip(1) {
-            if *times == 0 {
-                missing.push(format!("reason {reason}"));
-            }
+            verdict.need(format_args!("reason {reason}"), *times);
         }
         for (code, times) in self.codes.iter().enumerate() {
-            if *times == 0 {
-                missing.push(format!("code {}", code + 60));
-            }
+            verdict.need(format_args!("code {}", code + 60), *times);
         }
-        if self.plain == 0 {
-            missing.push("plain table".to_string());
-        }
-        missing
+        verdict.need("plain table", self.plain);
+        verdict
     }
 }

@@ -2,7 +2,16 @@
 //! shared or in no Switch. No walk is meant to get through.
 
 use super::draft::Draft;
+use super::generate;
 use crate::rng::Rng;
+
+/// Table `number` of a run in which every other one is a graph.
+pub fn graph_or_table(seed: u64, number: u64, rng: &mut Rng) -> Vec<u32> {
+    match number % 2 {
+        0 => graph(rng).words(),
+        _ => generate(seed, number / 2).words,
+    }
+}
 
 pub fn graph(rng: &mut Rng) -> Draft {
     let mut draft = Draft::with_places(rng);

@@ -1,8 +1,16 @@
-//! Trees for the runner of M-103: rows that the check accepts, with every statement that is run, few labels, and jumps of every sort.
+//! Trees: those of tables, and for the runner of M-103 rows that the check accepts, with every statement that is run, few labels, and jumps of every sort.
 
-use crate::model::Row;
+use super::generate;
+use crate::model::check::check;
 use crate::model::tree_check::NONE;
+use crate::model::{Row, walk};
 use crate::rng::Rng;
+
+/// The rows of table `number` of the run with this seed, if the model builds it.
+pub fn built(seed: u64, number: u64) -> Option<Vec<Row>> {
+    let words = generate(seed, number).words;
+    walk(&check(&words).ok()?).result.ok()
+}
 
 /// Labels are few, so that jumps meet them; some statements have none.
 fn label(rng: &mut Rng) -> u32 {
