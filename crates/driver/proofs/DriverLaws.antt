@@ -33,7 +33,6 @@ use Rattle.survey.specs.declared.Aim.{Aim}
 use Rattle.survey.specs.Abstraction.{aimOf, FoundBelow}
 use Rattle.control.specs.declared.Entry.{Entry}
 use Rattle.control.specs.declared.Resolved.the-variants as resolved
-use Rattle.control.specs.Abstraction as control
 use Rattle.control.specs.Abstraction.{contextOf, resolvedOf, resolutionOf, targetOf, stackOf, noEntry}
 use Rattle.control.specs.Contract.{Named, Room, Created}
 use Rattle.definition.proofs.Flags.{length-none}
@@ -246,14 +245,9 @@ entry-at : (w : List ℕ) → tableOf w .entry ≡ entryWord w
 unfolding tableOf
 entry-at w = refl
 
--- with nothing pending the scheduled set is the array's
-as-stored : (visits : ℕ) (cx : Context) → cx .pending ≡ 0 → contextOf visits cx .scheduled ≡ cx .scheduled
-unfolding contextOf
-as-stored visits cx e = rw e refl
-
-scheduled-start : (cx : Context) → cx .pending ≡ 0 → contextOf 0 cx ≡ definition.start → length (cx .scheduled) ≡ 1024
-unfolding definition.start
-scheduled-start cx s e = sym (ap length (as-stored 0 cx s)) ∙ ap (λ (C : definition.Context). length (C .scheduled)) e ∙ length-none
+scheduled-start : (cx : Context) → contextOf 0 cx ≡ definition.start → length (cx .scheduled) ≡ 1024
+unfolding contextOf definition.start
+scheduled-start cx e = ap (λ (C : definition.Context). length (C .scheduled)) e ∙ length-none
 
 -- what a read past the array's end would give
 abbrev pub beyond : Frame
@@ -261,13 +255,13 @@ beyond = record { block = 0; label = 0; entries = 0; left = 0; built = 0; first 
 
 -- where the jump goes
 pub found-jump : (rule : Rule) (w : List ℕ) (cx : Context) (A : List Frame) (p : Position) (jump : Jump) (aim : Aim)
-    → cx .pending ≡ 0 → (p .stage ≡ Visit → Searches w (cx .scheduled) (cx .«catch_handlers») (p .block) jump)
+    → (p .stage ≡ Visit → Searches w (cx .scheduled) (cx .«catch_handlers») (p .block) jump)
     → ((visits : ℕ) → aimOf aim ≡ goalBy jump (aroundOf rule (tableOf w) (framesOf A (p .depth))) (foundBy jump (contextOf visits cx)))
     → p .stage ≡ Visit → Resolves (terminalAt (tableOf w) (p .block)) (aroundOf rule (tableOf w) (framesOf A (p .depth))) (contextOf (p .visits) cx) (aimOf aim)
 unfolding contextOf
-found-jump rule w cx A p jump aim settled S R e =
+found-jump rule w cx A p jump aim S R e =
     subst (λ (z : Option Goal). Resolves (terminalAt (tableOf w) (p .block)) (aroundOf rule (tableOf w) (framesOf A (p .depth))) (contextOf (p .visits) cx) z)
-    (sym (R (p .visits))) (S e .resolves (aroundOf rule (tableOf w) (framesOf A (p .depth))) (contextOf (p .visits) cx) (as-stored (p .visits) cx settled) refl)
+    (sym (R (p .visits))) (S e .resolves (aroundOf rule (tableOf w) (framesOf A (p .depth))) (contextOf (p .visits) cx) refl refl)
 
 -- its target is one of the 1,024 blocks, as every entry's is
 break-below : (entries : List Entry) (n b : ℕ) (top : Bool) (above : ℕ) → ((k : ℕ) → k < n → Named (getD entries k noEntry .target))
@@ -321,8 +315,8 @@ pub found-below : (cx : Context) (jump : Jump) (found : Resolved) → Whole cx �
 unfolding contextOf definition.getBreakTarget definition.getContinueTarget
 found-below cx jump resolved.Nothing h e = tt
 found-below cx search.Nothing (resolved.Found r) h e = absurd (none-some (sym (e 0)))
-found-below cx (search.Break b) (resolved.Found r) h e = break-below (cx .stack) (cx .len) b true 0 (h .bounded .named) (resolutionOf r) (sym (rw (h .settled) at (e 0)))
-found-below cx (search.Continue b) (resolved.Found r) h e = continue-below (cx .stack) (cx .len) b true 0 (h .bounded .named) (resolutionOf r) (sym (rw (h .settled) at (e 0)))
+found-below cx (search.Break b) (resolved.Found r) h e = break-below (cx .stack) (cx .len) b true 0 (h .bounded .named) (resolutionOf r) (sym (e 0))
+found-below cx (search.Continue b) (resolved.Found r) h e = continue-below (cx .stack) (cx .len) b true 0 (h .bounded .named) (resolutionOf r) (sym (e 0))
 
 module _ (rule : Rule) (w : List ℕ) (pr : Promise w) (ck : Checked (tableOf w)) where
   -- where the loop begins
@@ -336,7 +330,7 @@ module _ (rule : Rule) (w : List ℕ) (pr : Promise w) (ck : Checked (tableOf w)
     held = record { count = refl; rows = tt };
     indexed = rw none-out (no-lines (buffer .index));
     live = tt;
-    whole = record { settled = new .settled; bounded = new .bounded; wide = flags; tall = ap length (new .stack) ∙ length-replicate 1152 noEntry };
+    whole = record { bounded = new .bounded; wide = flags; tall = ap length (new .stack) ∙ length-replicate 1152 noEntry };
     frames = l;
   })
     where
@@ -344,7 +338,7 @@ module _ (rule : Rule) (w : List ℕ) (pr : Promise w) (ck : Checked (tableOf w)
       entry-word = entry-at w
 
       flags : length (cx .scheduled) ≡ 1024
-      flags = scheduled-start cx (new .settled) (new .context)
+      flags = scheduled-start cx (new .context)
 
   frame-fits : (chosen over n rows : ℕ) (A : List Frame) (F : List machine.Frame) (R : Output) (m : ℕ) (C : definition.Context) (f : Frame) → f ≡ getD A (suc n - 1) noFrame → length (R .rows) ≡ rows
       → Framed (tableOf w) chosen (frameOf (getD A n noFrame)) → invariant.Holds over (frameOf (getD A n noFrame) ∷ F) R m C → FrameFits w chosen rows f
@@ -431,7 +425,7 @@ module _ (rule : Rule) (w : List ℕ) (pr : Promise w) (ck : Checked (tableOf w)
         (J : p .stage ≡ Visit → Resolves (terminalAt (tableOf w) (p .block)) inside C (aimOf aim)) where
       shown : Shown w (cx .emitted) (cx .scheduled) (cx .«catch_handlers») (cx .«scope_fallthroughs») p aim inside C
       unfolding contextOf
-      shown = record { emitted = refl; scheduled = as-stored (p .visits) cx (I .whole .settled); handlers = refl; scopes = refl; visits = refl; wide = I .whole .wide; jump = J }
+      shown = record { emitted = refl; scheduled = refl; handlers = refl; scopes = refl; visits = refl; wide = I .whole .wide; jump = J }
 
       together : inHand (p .stage) (p .depth) f ++ restOf A (p .stage) (p .depth) ≡ framesOf A (p .depth)
       together = in-hand A (p .stage) (p .depth) f read
@@ -549,15 +543,15 @@ module _ (rule : Rule) (w : List ℕ) (pr : Promise w) (ck : Checked (tableOf w)
           unfolding contextOf
           changeable = at (plan .change) (fit .change)
             where
-              len : length (control.entriesOf (cx .pending) (cx .pushed) (cx .scheduled) (cx .stack) (cx .len)) ≡ cx .len
-              len = rw (I .whole .settled) (stack-length (cx .stack) (cx .len))
+              len : length (stackOf (cx .stack) (cx .len)) ≡ cx .len
+              len = stack-length (cx .stack) (cx .len)
 
               room : Room cx
-              room = record { len = omega (arith, len, numbered .stack); id = omega (arith, numbered .ids); settled = I .whole .settled }
+              room = record { len = omega (arith, len, numbered .stack); id = omega (arith, numbered .ids) }
 
               filled : entriesOnTop (inHand (p .stage) (p .depth) f) ≤ cx .len
               filled =
-                  let z : length (control.entriesOf (cx .pending) (cx .pushed) (cx .scheduled) (cx .stack) (cx .len)) ≡ entriesOf
+                  let z : length (stackOf (cx .stack) (cx .len)) ≡ entriesOf
                   (inHand (p .stage) (p .depth) f ++ restOf A (p .stage) (p .depth)) = numbered .entries ∙ ap entriesOf (sym together) in
                   omega (arith, entries-top (p .stage) (p .depth) f (restOf A (p .stage) (p .depth)), len, z)
 

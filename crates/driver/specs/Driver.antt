@@ -49,7 +49,7 @@ startingAt entry = record { block = entry; depth = 0; count = 0; rows = 0; visit
 abbrev pub walkedBy : Plan → (lines : ℕ) → Walked
 walkedBy plan lines = record { code = plan .code; at = plan .at; rows = plan .position .rows; visits = plan .position .visits; lines = lines }
 
--- what `schedule` itself refuses
+-- what `schedule` refused
 abbrev pub blockedBy : (code at : ℕ) → Position → Walked
 blockedBy code at p = record { code = code; at = at; rows = p .rows; visits = p .visits; lines = 0 }
 

@@ -4,14 +4,9 @@ mod index;
 use crate::index::put_line;
 use control::Context;
 use control::ControlFlowTarget;
-use control::Entry;
 use control::Resolved;
-use control::SETTLED;
-use control::add_target;
 use control::count_loop;
 use control::insert;
-use control::is_blocked;
-use control::remove_target;
 use jumps::aim_at;
 use jumps::asks_around;
 use jumps::jump_at;
@@ -41,7 +36,7 @@ ghost use Rattle.table.specs.Table.{tableOf, unlessNone};
 ghost use Rattle.table.specs.Promise.{Promise};
 ghost use Rattle.definition.specs.Build.{report};
 ghost use Rattle.definition.specs.Framed.{Below};
-ghost use Rattle.definition.specs.Context.{blockedCode, blockAsked};
+ghost use Rattle.definition.specs.Context.{blockAsked};
 ghost use Rattle.control.specs.Abstraction.{targetOf};
 ghost use Rattle.survey.specs.Abstraction.{ruleOf};
 ghost use Rattle.driver.specs.Driver.{visitedBlock, marked, startingAt, planEnds, isHalt, walkedBy, blockedBy, Reported};
@@ -129,14 +124,13 @@ fn answer(plan: Plan, lines: u32) -> Walked
     }
 }
 
-// What `schedule` itself refuses, at the block that it asks about.
-fn blocked(target: ControlFlowTarget, p: Position) -> Walked
-    ensures { λ r. ⌜ r ≡ blockedBy (blockedCode (targetOf target)) (blockAsked (targetOf target)) p ⌝ }
+// What `schedule` refused, at the block that it asks about.
+fn blocked(code: u16, target: ControlFlowTarget, p: Position) -> Walked
+    ensures { λ r. ⌜ r ≡ blockedBy code (blockAsked (targetOf target)) p ⌝ }
 {
-    let code = target.blocked_code();
     let at = target.block_asked() as u32;
     Walked {
-        code: code,
+        code: code as u32,
         at: at,
         rows: p.rows,
         visits: p.visits,
@@ -260,49 +254,24 @@ pub fn walk(rule: Rule, words: &[u32], tree: &mut [u32], index: &mut [u32]) -> W
             Change::Nothing => {}
             Change::Schedule(target) => {
                 cx = cx.schedule(target);
-                let pushed = cx.pushed;
-                let target = pushed.target;
-                let busy = is_blocked(&cx.scheduled, target); // catch handlers play no part
-                if busy {
-                    return blocked(target, p);
+                if cx.refused != 0 {
+                    return blocked(cx.refused, target, p);
                 }
-                let owns_loop = add_target(&mut cx.scheduled, target); // its blocks go in
-                let entry = Entry {
-                    id: pushed.id,
-                    target: target,
-                    owns_loop: owns_loop,
-                };
-                cx.stack[cx.len - 1] = entry;
-                cx.pending = SETTLED; // the arrays have the entry and its blocks
+                let entry = cx.pushed;
+                cx.stack[cx.len - 1] = entry; // the stack's last, in its place
             }
             Change::ScheduleBriefly(target) => {
                 cx = cx.schedule(target);
-                let pushed = cx.pushed;
-                let target = pushed.target;
-                let busy = is_blocked(&cx.scheduled, target);
-                if busy {
-                    return blocked(target, p);
+                if cx.refused != 0 {
+                    return blocked(cx.refused, target, p);
                 }
-                let owns_loop = add_target(&mut cx.scheduled, target);
-                let entry = Entry {
-                    id: pushed.id,
-                    target: target,
-                    owns_loop: owns_loop,
-                };
+                let entry = cx.pushed;
                 cx.stack[cx.len - 1] = entry;
-                cx.pending = SETTLED;
-                cx = cx.unschedule();
-                let off = cx.stack[cx.len];
-                let target = off.target;
-                remove_target(&mut cx.scheduled, target, off.owns_loop);
-                cx.pending = SETTLED;
+                cx = cx.unschedule(entry);
             }
             Change::Unschedule => {
-                cx = cx.unschedule();
-                let off = cx.stack[cx.len]; // just above the stack
-                let target = off.target;
-                remove_target(&mut cx.scheduled, target, off.owns_loop); // and its blocks come out
-                cx.pending = SETTLED;
+                let last = cx.stack[cx.len - 1];
+                cx = cx.unschedule(last);
             }
         }
     }

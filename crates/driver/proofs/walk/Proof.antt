@@ -21,8 +21,9 @@ use Rattle.jumps.specs.Search.{foundBy, goalBy}
 use Rattle.driver.specs.Driver.{visitedBlock, planEnds, blockedBy, Reported}
 use Rattle.driver.proofs.ApplyLaws.{marks-as, withMarks, Whole, Changeable, Changed, Blocked, Applicable, Applied, nothing-changed, schedule-changed}
 use Rattle.driver.proofs.ApplyLaws.{schedule-blocked, unschedule-changed, briefly-changed, briefly-blocked, changeable-marked}
-use Rattle.driver.proofs.ApplyLaws.{settledBy, releasedBy, settled-by, released-by, named-entered, named-left}
-use Rattle.driver.proofs.ApplyLaws.{whole-marked, plan-applied, last-entry}
+use Rattle.driver.proofs.ApplyLaws.{last-stored, whole-marked, plan-applied, last-entry}
+use Rattle.control.specs.Abstraction as control
+use Rattle.control.specs.Contract.{Last, Unscheduled}
 use Rattle.control.specs.declared.Context.{Context}
 use Rattle.plan.specs.declared.Position.{Position}
 use Rattle.plan.specs.declared.Frame.{Frame}
@@ -103,7 +104,7 @@ search-from-requires c κs = tt
 loop2-holds : tie.Need-loop2-holds Inv-loop2 μ-loop2 Inv-loop3 μ-loop3 Inv-loop μ-loop
 loop2-holds c =
     let at-loop : tie.At-loop Inv-loop2 μ-loop2 Inv-loop3 μ-loop3 Inv-loop μ-loop = search in
-    search-start _ _ _ (at-loop .loop .inv .walking .whole .settled) (c .search-from .ensures)
+    search-start _ _ _ (c .search-from .ensures)
 
 sub-at : tie.Need-sub-at Inv-loop2 μ-loop2 Inv-loop3 μ-loop3 Inv-loop μ-loop
 sub-at c = search needs
@@ -362,7 +363,7 @@ module _ (d : tie.After-put-line Inv-loop2 μ-loop2 Inv-loop3 μ-loop3 Inv-loop 
         aim = at-aim .aim-at .result;
         planned = planning .plan-turn .ensures;
         put = d .put-line .ensures;
-        jump = found-jump _ _ _ _ (at-head .loop .p) _ (at-aim .aim-at .result) (at-head .loop .inv .walking .whole .settled) (asked-jump (searched at-aim) .jump-at .ensures) (aimed at-aim);
+        jump = found-jump _ _ _ _ (at-head .loop .p) _ (at-aim .aim-at .result) (asked-jump (searched at-aim) .jump-at .ensures) (aimed at-aim);
       }
 
 plan-turn-requires : tie.Need-plan-turn-requires Inv-loop2 μ-loop2 Inv-loop3 μ-loop3 Inv-loop μ-loop
@@ -493,7 +494,7 @@ module _ (c : tie.After-mark3 Inv-loop2 μ-loop2 Inv-loop3 μ-loop3 Inv-loop μ-
             cx .len;
         scheduled = cx .scheduled;
         pushed = cx .pushed;
-        pending = cx .pending;
+        refused = cx .refused;
         «next_schedule_id» = cx .«next_schedule_id»;
         stack = cx .stack;
       }
@@ -565,20 +566,13 @@ module _ (c : tie.After-schedule Inv-loop2 μ-loop2 Inv-loop3 μ-loop3 Inv-loop 
   schedulable : Changeable (Schedule (asked .change .given .0 .0)) (with-marks slotted)
   schedulable = changeable slotted _ (asked .change .given .1)
 
-module _ (c : tie.After-add-target Inv-loop2 μ-loop2 Inv-loop3 μ-loop3 Inv-loop μ-loop) where
+module _ (c : tie.Else7 Inv-loop2 μ-loop2 Inv-loop3 μ-loop3 Inv-loop μ-loop) where
   abbrev begun-by : tie.After-schedule Inv-loop2 μ-loop2 Inv-loop3 μ-loop3 Inv-loop μ-loop
   begun-by = search
 
-  abbrev else4 : tie.Else7 Inv-loop2 μ-loop2 Inv-loop3 μ-loop3 Inv-loop μ-loop
-  else4 = search
-
-  abbrev asked-blocked : tie.After-is-blocked Inv-loop2 μ-loop2 Inv-loop3 μ-loop3 Inv-loop μ-loop
-  asked-blocked = search
-
-  by-schedule : Changed (Schedule (asked begun-by .change .given .0 .0)) (with-marks (slotted begun-by)) (settledBy (c .add-target .last .0) (c .add-target .result) (begun-by .schedule .result))
+  by-schedule : Changed (Schedule (asked begun-by .change .given .0 .0)) (with-marks (slotted begun-by)) (control.stored (begun-by .schedule .result))
   by-schedule =
-      schedule-changed _ _ _ (begun-by .schedule .ensures) (schedulable begun-by .0) (whole (slotted begun-by)) _ (sym (asked-blocked .is-blocked .ensures) ∙ else4 .if7 .left)
-      (settled-by _ _ _ (c .add-target .ensures .0) (c .add-target .ensures .1)) (schedulable begun-by .1 .len)
+      schedule-changed _ _ _ (begun-by .schedule .ensures) (whole (slotted begun-by)) (c .if7 .left) (schedulable begun-by .1 .len)
 
 module _ (c : tie.After-schedule2 Inv-loop2 μ-loop2 Inv-loop3 μ-loop3 Inv-loop μ-loop) where
   abbrev slotted2 : tie.After-mark3 Inv-loop2 μ-loop2 Inv-loop3 μ-loop3 Inv-loop μ-loop
@@ -590,48 +584,39 @@ module _ (c : tie.After-schedule2 Inv-loop2 μ-loop2 Inv-loop3 μ-loop3 Inv-loop
   briefly : Changeable (ScheduleBriefly (asked2 .change2 .given .0 .0)) (with-marks slotted2)
   briefly = changeable slotted2 _ (asked2 .change2 .given .1)
 
-module _ (c : tie.After-add-target2 Inv-loop2 μ-loop2 Inv-loop3 μ-loop3 Inv-loop μ-loop) where
+module _ (c : tie.Else8 Inv-loop2 μ-loop2 Inv-loop3 μ-loop3 Inv-loop μ-loop) where
   abbrev scheduled2 : tie.After-schedule2 Inv-loop2 μ-loop2 Inv-loop3 μ-loop3 Inv-loop μ-loop
   scheduled2 = search
 
+  pushed-first : Changed (Schedule (asked2 scheduled2 .change2 .given .0 .0)) (with-marks (slotted2 scheduled2)) (control.stored (scheduled2 .schedule2 .result))
+  pushed-first =
+      schedule-changed _ _ _ (scheduled2 .schedule2 .ensures) (whole (slotted2 scheduled2)) (c .if8 .left) (briefly scheduled2 .1 .len)
+
+  last-pushed : Last (control.stored (scheduled2 .schedule2 .result)) (scheduled2 .schedule2 .result .pushed)
+  last-pushed = last-stored _ _ _ (scheduled2 .schedule2 .ensures) (whole (slotted2 scheduled2)) (briefly scheduled2 .0) (briefly scheduled2 .1 .len)
+
+module _ (c : tie.After-unschedule Inv-loop2 μ-loop2 Inv-loop3 μ-loop3 Inv-loop μ-loop) where
   abbrev else5 : tie.Else8 Inv-loop2 μ-loop2 Inv-loop3 μ-loop3 Inv-loop μ-loop
   else5 = search
 
-  abbrev asked-blocked2 : tie.After-is-blocked2 Inv-loop2 μ-loop2 Inv-loop3 μ-loop3 Inv-loop μ-loop
-  asked-blocked2 = search
+  by-briefly : Changed (ScheduleBriefly (asked2 (scheduled2 else5) .change2 .given .0 .0)) (with-marks (slotted2 (scheduled2 else5))) (c .unschedule .result)
+  by-briefly =
+      let off : Unscheduled (scheduled2 else5 .schedule2 .result .pushed) (control.stored (scheduled2 else5 .schedule2 .result)) (c .unschedule .result) = unfold control.stored in c .unschedule .ensures in
+      briefly-changed _ _ _ _ _ (pushed-first else5) off
 
-  pushed-first : Changed (Schedule (asked2 scheduled2 .change2 .given .0 .0)) (with-marks (slotted2 scheduled2))
-      (settledBy (c .add-target2 .last .0) (c .add-target2 .result) (scheduled2 .schedule2 .result))
-  pushed-first =
-      schedule-changed _ _ _ (scheduled2 .schedule2 .ensures) (briefly scheduled2 .0) (whole (slotted2 scheduled2)) _ (sym (asked-blocked2 .is-blocked2 .ensures) ∙ else5 .if8 .left)
-      (settled-by _ _ _ (c .add-target2 .ensures .0) (c .add-target2 .ensures .1)) (briefly scheduled2 .1 .len)
-
-module _ (c : tie.After-remove-target Inv-loop2 μ-loop2 Inv-loop3 μ-loop3 Inv-loop μ-loop) where
-  abbrev added2 : tie.After-add-target2 Inv-loop2 μ-loop2 Inv-loop3 μ-loop3 Inv-loop μ-loop
-  added2 = search
-
-  abbrev popped-at : tie.After-unschedule Inv-loop2 μ-loop2 Inv-loop3 μ-loop3 Inv-loop μ-loop
-  popped-at = search
-
-  by-briefly : Changed (ScheduleBriefly (asked2 (scheduled2 added2) .change2 .given .0 .0)) (with-marks (slotted2 (scheduled2 added2))) (releasedBy (c .remove-target .last .0) (popped-at .unschedule .result))
-  by-briefly = briefly-changed _ _ _ _ _ (pushed-first added2) (popped-at .unschedule .ensures) (released-by _ _ (c .remove-target .ensures))
-
-module _ (c : tie.After-unschedule2 Inv-loop2 μ-loop2 Inv-loop3 μ-loop3 Inv-loop μ-loop) where
+module _ (c : tie.After-enum-told2 Inv-loop2 μ-loop2 Inv-loop3 μ-loop3 Inv-loop μ-loop) where
   abbrev slotted3 : tie.After-mark3 Inv-loop2 μ-loop2 Inv-loop3 μ-loop3 Inv-loop μ-loop
   slotted3 = search
 
+  some-entry : 0 < with-marks slotted3 .len
+  some-entry = changeable slotted3 _ (c .enum-told2 .given .1)
+
+module _ (c : tie.After-unschedule2 Inv-loop2 μ-loop2 Inv-loop3 μ-loop3 Inv-loop μ-loop) where
   abbrev told : tie.After-enum-told2 Inv-loop2 μ-loop2 Inv-loop3 μ-loop3 Inv-loop μ-loop
   told = search
 
-  some-entry : 0 < with-marks slotted3 .len
-  some-entry = changeable slotted3 _ (told .enum-told2 .given .1)
-
-module _ (c : tie.After-remove-target2 Inv-loop2 μ-loop2 Inv-loop3 μ-loop3 Inv-loop μ-loop) where
-  abbrev popped2 : tie.After-unschedule2 Inv-loop2 μ-loop2 Inv-loop3 μ-loop3 Inv-loop μ-loop
-  popped2 = search
-
-  by-unschedule : Changed Unschedule (with-marks (slotted3 popped2)) (releasedBy (c .remove-target2 .last .0) (popped2 .unschedule2 .result))
-  by-unschedule = unschedule-changed _ _ _ (popped2 .unschedule2 .ensures) (released-by _ _ (c .remove-target2 .ensures)) (whole (slotted3 popped2))
+  by-unschedule : Changed Unschedule (with-marks (slotted3 told)) (c .unschedule2 .result)
+  by-unschedule = unschedule-changed _ _ _ (c .unschedule2 .ensures) (whole (slotted3 told))
 
 mul-frames : tie.Need-mul-frames Inv-loop2 μ-loop2 Inv-loop3 μ-loop3 Inv-loop μ-loop
 mul-frames c =
@@ -665,11 +650,6 @@ schedule-requires c κs =
     let at-marks : tie.After-mark3 Inv-loop2 μ-loop2 Inv-loop3 μ-loop3 Inv-loop μ-loop = search in
     changeable at-marks _ (at-change .change .given .1)
 
-is-blocked-requires : tie.Need-is-blocked-requires Inv-loop2 μ-loop2 Inv-loop3 μ-loop3 Inv-loop μ-loop
-is-blocked-requires c κs =
-    let at-schedule : tie.After-schedule Inv-loop2 μ-loop2 Inv-loop3 μ-loop3 Inv-loop μ-loop = search in
-    named-entered _ _ _ (at-schedule .schedule .ensures) (schedulable at-schedule .0)
-
 blocked-requires : tie.Need-blocked-requires Inv-loop2 μ-loop2 Inv-loop3 μ-loop3 Inv-loop μ-loop
 blocked-requires c κs = tt
 
@@ -686,11 +666,10 @@ same-length-4 c =
 returns-2 : tie.Need-returns-2 Inv-loop2 μ-loop2 Inv-loop3 μ-loop3 Inv-loop μ-loop
 returns-2 c =
     let then4 : tie.Then7 Inv-loop2 μ-loop2 Inv-loop3 μ-loop3 Inv-loop μ-loop = search in
-    let at-blocked : tie.After-is-blocked Inv-loop2 μ-loop2 Inv-loop3 μ-loop3 Inv-loop μ-loop = search in
     let at-schedule : tie.After-schedule Inv-loop2 μ-loop2 Inv-loop3 μ-loop3 Inv-loop μ-loop = search in
     let at-change : tie.After-change Inv-loop2 μ-loop2 Inv-loop3 μ-loop3 Inv-loop μ-loop = search in
     let at-marks : tie.After-mark3 Inv-loop2 μ-loop2 Inv-loop3 μ-loop3 Inv-loop μ-loop = search in
-    rw (c .blocked .ensures) (blocks at-marks _ (at-change .change .given .1) (schedule-blocked _ _ _ (at-schedule .schedule .ensures) (schedulable at-schedule .0) (whole (slotted at-schedule)) (sym (at-blocked .is-blocked .ensures) ∙ then4 .if7 .taken)))
+    rw (c .blocked .ensures) (blocks at-marks _ (at-change .change .given .1) (schedule-blocked _ _ _ (at-schedule .schedule .ensures) (whole (slotted at-schedule)) (then4 .if7 .taken)))
 
 sub-entry : tie.Need-sub-entry Inv-loop2 μ-loop2 Inv-loop3 μ-loop3 Inv-loop μ-loop
 sub-entry c =
@@ -707,22 +686,17 @@ element-set-from-entry c =
     let at-schedule : tie.After-schedule Inv-loop2 μ-loop2 Inv-loop3 μ-loop3 Inv-loop μ-loop = search in
     omega (arith, at-schedule .schedule .ensures .len, schedulable at-schedule .1 .len)
 
-add-target-requires : tie.Need-add-target-requires Inv-loop2 μ-loop2 Inv-loop3 μ-loop3 Inv-loop μ-loop
-add-target-requires c κs =
-    let at-schedule : tie.After-schedule Inv-loop2 μ-loop2 Inv-loop3 μ-loop3 Inv-loop μ-loop = search in
-    named-entered _ _ _ (at-schedule .schedule .ensures) (schedulable at-schedule .0)
-
 loop-less-2 : tie.Need-loop-less-2 Inv-loop2 μ-loop2 Inv-loop3 μ-loop3 Inv-loop μ-loop
 loop-less-2 c =
     let at-kept : tie.Joined6 Inv-loop2 μ-loop2 Inv-loop3 μ-loop3 Inv-loop μ-loop = search in
-    let at-added : tie.After-add-target Inv-loop2 μ-loop2 Inv-loop3 μ-loop3 Inv-loop μ-loop = search in
-    lower at-kept _ (asked (begun-by at-added) .change .given .1) _ (by-schedule at-added)
+    let free : tie.Else7 Inv-loop2 μ-loop2 Inv-loop3 μ-loop3 Inv-loop μ-loop = search in
+    unfold control.stored in lower at-kept _ (asked (begun-by free) .change .given .1) _ (by-schedule free)
 
 loop-again-2 : tie.Need-loop-again-2 Inv-loop2 μ-loop2 Inv-loop3 μ-loop3 Inv-loop μ-loop
 loop-again-2 c =
     let at-kept : tie.Joined6 Inv-loop2 μ-loop2 Inv-loop3 μ-loop3 Inv-loop μ-loop = search in
-    let at-added : tie.After-add-target Inv-loop2 μ-loop2 Inv-loop3 μ-loop3 Inv-loop μ-loop = search in
-    next at-kept _ (asked (begun-by at-added) .change .given .1) _ (by-schedule at-added)
+    let free : tie.Else7 Inv-loop2 μ-loop2 Inv-loop3 μ-loop3 Inv-loop μ-loop = search in
+    unfold control.stored in next at-kept _ (asked (begun-by free) .change .given .1) _ (by-schedule free)
 
 enum-known-change-2 : tie.Need-enum-known-change-2 Inv-loop2 μ-loop2 Inv-loop3 μ-loop3 Inv-loop μ-loop
 enum-known-change-2 c = search needs
@@ -732,11 +706,6 @@ schedule-requires-2 c κs =
     let at-change2 : tie.After-change2 Inv-loop2 μ-loop2 Inv-loop3 μ-loop3 Inv-loop μ-loop = search in
     let at-marks : tie.After-mark3 Inv-loop2 μ-loop2 Inv-loop3 μ-loop3 Inv-loop μ-loop = search in
     changeable at-marks _ (at-change2 .change2 .given .1)
-
-is-blocked-requires-2 : tie.Need-is-blocked-requires-2 Inv-loop2 μ-loop2 Inv-loop3 μ-loop3 Inv-loop μ-loop
-is-blocked-requires-2 c κs =
-    let at-schedule2 : tie.After-schedule2 Inv-loop2 μ-loop2 Inv-loop3 μ-loop3 Inv-loop μ-loop = search in
-    named-entered _ _ _ (at-schedule2 .schedule2 .ensures) (briefly at-schedule2 .0)
 
 blocked-requires-2 : tie.Need-blocked-requires-2 Inv-loop2 μ-loop2 Inv-loop3 μ-loop3 Inv-loop μ-loop
 blocked-requires-2 c κs = tt
@@ -754,11 +723,10 @@ same-length-6 c =
 returns-3 : tie.Need-returns-3 Inv-loop2 μ-loop2 Inv-loop3 μ-loop3 Inv-loop μ-loop
 returns-3 c =
     let then5 : tie.Then8 Inv-loop2 μ-loop2 Inv-loop3 μ-loop3 Inv-loop μ-loop = search in
-    let at-blocked : tie.After-is-blocked2 Inv-loop2 μ-loop2 Inv-loop3 μ-loop3 Inv-loop μ-loop = search in
     let at-schedule2 : tie.After-schedule2 Inv-loop2 μ-loop2 Inv-loop3 μ-loop3 Inv-loop μ-loop = search in
     let at-change2 : tie.After-change2 Inv-loop2 μ-loop2 Inv-loop3 μ-loop3 Inv-loop μ-loop = search in
     let at-marks : tie.After-mark3 Inv-loop2 μ-loop2 Inv-loop3 μ-loop3 Inv-loop μ-loop = search in
-    rw (c .blocked2 .ensures) (blocks at-marks _ (at-change2 .change2 .given .1) (briefly-blocked _ _ _ (at-schedule2 .schedule2 .ensures) (briefly at-schedule2 .0) (whole (slotted2 at-schedule2)) (sym (at-blocked .is-blocked2 .ensures) ∙ then5 .if8 .taken)))
+    rw (c .blocked2 .ensures) (blocks at-marks _ (at-change2 .change2 .given .1) (briefly-blocked _ _ _ (at-schedule2 .schedule2 .ensures) (whole (slotted2 at-schedule2)) (then5 .if8 .taken)))
 
 sub-entry-2 : tie.Need-sub-entry-2 Inv-loop2 μ-loop2 Inv-loop3 μ-loop3 Inv-loop μ-loop
 sub-entry-2 c =
@@ -775,78 +743,47 @@ element-set-from-entry-2 c =
     let at-schedule2 : tie.After-schedule2 Inv-loop2 μ-loop2 Inv-loop3 μ-loop3 Inv-loop μ-loop = search in
     omega (arith, at-schedule2 .schedule2 .ensures .len, briefly at-schedule2 .1 .len)
 
-add-target-requires-2 : tie.Need-add-target-requires-2 Inv-loop2 μ-loop2 Inv-loop3 μ-loop3 Inv-loop μ-loop
-add-target-requires-2 c κs =
-    let at-schedule2 : tie.After-schedule2 Inv-loop2 μ-loop2 Inv-loop3 μ-loop3 Inv-loop μ-loop = search in
-    named-entered _ _ _ (at-schedule2 .schedule2 .ensures) (briefly at-schedule2 .0)
-
 unschedule-requires : tie.Need-unschedule-requires Inv-loop2 μ-loop2 Inv-loop3 μ-loop3 Inv-loop μ-loop
 unschedule-requires c κs =
-    let at-schedule2 : tie.After-schedule2 Inv-loop2 μ-loop2 Inv-loop3 μ-loop3 Inv-loop μ-loop = search in
-    record { nonempty = omega (arith, at-schedule2 .schedule2 .ensures .len); settled = refl }
-
-mul-off : tie.Need-mul-off Inv-loop2 μ-loop2 Inv-loop3 μ-loop3 Inv-loop μ-loop
-mul-off c =
-    let at-schedule2 : tie.After-schedule2 Inv-loop2 μ-loop2 Inv-loop3 μ-loop3 Inv-loop μ-loop = search in
-    let at-unschedule : tie.After-unschedule Inv-loop2 μ-loop2 Inv-loop3 μ-loop3 Inv-loop μ-loop = search in
-    omega (arith, at-unschedule .unschedule .ensures .len, at-schedule2 .schedule2 .ensures .len, briefly at-schedule2 .1 .len)
-
-element-copy-out-off : tie.Need-element-copy-out-off Inv-loop2 μ-loop2 Inv-loop3 μ-loop3 Inv-loop μ-loop
-element-copy-out-off c =
-    let at-schedule2 : tie.After-schedule2 Inv-loop2 μ-loop2 Inv-loop3 μ-loop3 Inv-loop μ-loop = search in
-    let at-unschedule : tie.After-unschedule Inv-loop2 μ-loop2 Inv-loop3 μ-loop3 Inv-loop μ-loop = search in
-    omega (arith, at-unschedule .unschedule .ensures .len, at-schedule2 .schedule2 .ensures .len, briefly at-schedule2 .1 .len)
-
-remove-target-requires : tie.Need-remove-target-requires Inv-loop2 μ-loop2 Inv-loop3 μ-loop3 Inv-loop μ-loop
-remove-target-requires c κs =
-    let at-unschedule : tie.After-unschedule Inv-loop2 μ-loop2 Inv-loop3 μ-loop3 Inv-loop μ-loop = search in
-    let at-added2 : tie.After-add-target2 Inv-loop2 μ-loop2 Inv-loop3 μ-loop3 Inv-loop μ-loop = search in
-    let at-schedule2 : tie.After-schedule2 Inv-loop2 μ-loop2 Inv-loop3 μ-loop3 Inv-loop μ-loop = search in
-    named-left _ _ (at-unschedule .unschedule .ensures) (omega (arith, at-schedule2 .schedule2 .ensures .len)) (pushed-first at-added2 .whole)
+    let free : tie.Else8 Inv-loop2 μ-loop2 Inv-loop3 μ-loop3 Inv-loop μ-loop = search in
+    unfold control.stored in last-pushed free
 
 loop-less-3 : tie.Need-loop-less-3 Inv-loop2 μ-loop2 Inv-loop3 μ-loop3 Inv-loop μ-loop
 loop-less-3 c =
     let at-kept : tie.Joined6 Inv-loop2 μ-loop2 Inv-loop3 μ-loop3 Inv-loop μ-loop = search in
-    lower at-kept _ (asked2 (scheduled2 (added2 c)) .change2 .given .1) _ (by-briefly c)
+    lower at-kept _ (asked2 (scheduled2 (else5 c)) .change2 .given .1) _ (by-briefly c)
 
 loop-again-3 : tie.Need-loop-again-3 Inv-loop2 μ-loop2 Inv-loop3 μ-loop3 Inv-loop μ-loop
 loop-again-3 c =
     let at-kept : tie.Joined6 Inv-loop2 μ-loop2 Inv-loop3 μ-loop3 Inv-loop μ-loop = search in
-    next at-kept _ (asked2 (scheduled2 (added2 c)) .change2 .given .1) _ (by-briefly c)
+    next at-kept _ (asked2 (scheduled2 (else5 c)) .change2 .given .1) _ (by-briefly c)
 
 enum-told-2 : tie.Need-enum-told-2 Inv-loop2 μ-loop2 Inv-loop3 μ-loop3 Inv-loop μ-loop
 enum-told-2 c = search needs
 
+sub-last : tie.Need-sub-last Inv-loop2 μ-loop2 Inv-loop3 μ-loop3 Inv-loop μ-loop
+sub-last c = some-entry c
+
+mul-last : tie.Need-mul-last Inv-loop2 μ-loop2 Inv-loop3 μ-loop3 Inv-loop μ-loop
+mul-last c = omega (arith, whole (slotted3 c) .bounded .most)
+
+element-copy-out-last : tie.Need-element-copy-out-last Inv-loop2 μ-loop2 Inv-loop3 μ-loop3 Inv-loop μ-loop
+element-copy-out-last c = omega (arith, some-entry c, whole (slotted3 c) .bounded .most)
+
 unschedule-requires-2 : tie.Need-unschedule-requires-2 Inv-loop2 μ-loop2 Inv-loop3 μ-loop3 Inv-loop μ-loop
 unschedule-requires-2 c κs =
-    let at-enum-told2 : tie.After-enum-told2 Inv-loop2 μ-loop2 Inv-loop3 μ-loop3 Inv-loop μ-loop = search in
-    let at-marks : tie.After-mark3 Inv-loop2 μ-loop2 Inv-loop3 μ-loop3 Inv-loop μ-loop = search in
-    last-entry _ (changeable at-marks _ (at-enum-told2 .enum-told2 .given .1)) (whole at-marks)
-
-mul-off-2 : tie.Need-mul-off-2 Inv-loop2 μ-loop2 Inv-loop3 μ-loop3 Inv-loop μ-loop
-mul-off-2 c =
-    let at-unschedule2 : tie.After-unschedule2 Inv-loop2 μ-loop2 Inv-loop3 μ-loop3 Inv-loop μ-loop = search in
-    omega (arith, at-unschedule2 .unschedule2 .ensures .len, whole (slotted3 at-unschedule2) .bounded .most)
-
-element-copy-out-off-2 : tie.Need-element-copy-out-off-2 Inv-loop2 μ-loop2 Inv-loop3 μ-loop3 Inv-loop μ-loop
-element-copy-out-off-2 c =
-    let at-unschedule2 : tie.After-unschedule2 Inv-loop2 μ-loop2 Inv-loop3 μ-loop3 Inv-loop μ-loop = search in
-    omega (arith, at-unschedule2 .unschedule2 .ensures .len, some-entry at-unschedule2, whole (slotted3 at-unschedule2) .bounded .most)
-
-remove-target-requires-2 : tie.Need-remove-target-requires-2 Inv-loop2 μ-loop2 Inv-loop3 μ-loop3 Inv-loop μ-loop
-remove-target-requires-2 c κs =
-    let at-unschedule2 : tie.After-unschedule2 Inv-loop2 μ-loop2 Inv-loop3 μ-loop3 Inv-loop μ-loop = search in
-    named-left _ _ (at-unschedule2 .unschedule2 .ensures) (some-entry at-unschedule2) (whole (slotted3 at-unschedule2))
+    let told : tie.After-enum-told2 Inv-loop2 μ-loop2 Inv-loop3 μ-loop3 Inv-loop μ-loop = search in
+    last-entry _ _ (some-entry told) refl (whole (slotted3 told))
 
 loop-less-4 : tie.Need-loop-less-4 Inv-loop2 μ-loop2 Inv-loop3 μ-loop3 Inv-loop μ-loop
 loop-less-4 c =
     let at-kept : tie.Joined6 Inv-loop2 μ-loop2 Inv-loop3 μ-loop3 Inv-loop μ-loop = search in
-    lower at-kept _ (told (popped2 c) .enum-told2 .given .1) _ (by-unschedule c)
+    lower at-kept _ (told c .enum-told2 .given .1) _ (by-unschedule c)
 
 loop-again-4 : tie.Need-loop-again-4 Inv-loop2 μ-loop2 Inv-loop3 μ-loop3 Inv-loop μ-loop
 loop-again-4 c =
     let at-kept : tie.Joined6 Inv-loop2 μ-loop2 Inv-loop3 μ-loop3 Inv-loop μ-loop = search in
-    next at-kept _ (told (popped2 c) .enum-told2 .given .1) _ (by-unschedule c)
+    next at-kept _ (told c .enum-told2 .given .1) _ (by-unschedule c)
 
 pub walk-spec : {M : Type 1} → statement M
 walk-spec =
@@ -912,12 +849,10 @@ walk-spec =
     loop-again
     enum-known-change
     schedule-requires
-    is-blocked-requires
     blocked-requires
     same-length-3
     same-length-4
     returns-2
-    add-target-requires
     sub-entry
     mul-entry-2
     element-set-from-entry
@@ -925,25 +860,20 @@ walk-spec =
     loop-again-2
     enum-known-change-2
     schedule-requires-2
-    is-blocked-requires-2
     blocked-requires-2
     same-length-5
     same-length-6
     returns-3
-    add-target-requires-2
     sub-entry-2
     mul-entry-3
     element-set-from-entry-2
     unschedule-requires
-    mul-off
-    element-copy-out-off
-    remove-target-requires
     loop-less-3
     loop-again-3
     enum-told-2
+    sub-last
+    mul-last
+    element-copy-out-last
     unschedule-requires-2
-    mul-off-2
-    element-copy-out-off-2
-    remove-target-requires-2
     loop-less-4
     loop-again-4)
