@@ -10,7 +10,6 @@ use mathlib.Core.Logic.{⊎-elim}
 use lib.ListN.{getD, set, length, replicate}
 use lib.Seq.{getD-set-same, getD-set-other}
 use lib.Dec.{eqb}
-use native.Mathlib.Decide.{ℕ-discrete}
 use borrow.Author.Tests.{eq-eqb, ne-eqb}
 use Rattle.definition.specs.Result.{ok, refused, _>>=_, refuseIf}
 use Rattle.definition.specs.Context as definition
@@ -23,7 +22,7 @@ use Rattle.control.specs.declared.ControlFlowTarget.the-variants.{If, Sw
 use Rattle.control.specs.declared.Entry.{Entry}
 use Rattle.control.specs.declared.Context.{Context}
 use Rattle.control.specs.Abstraction.{targetOf, entryOf, noEntry, stackOf, contextOf, enteredOf, stored}
-use Rattle.control.specs.Contract.{continueScheduled, blockedIn, refusalIf, Named, Bounded, Room, Last, withEntry, withoutLast, Created, Scheduled, Unscheduled}
+use Rattle.control.specs.Contract.{refusalIf, Named, Bounded, Room, Last, withEntry, withoutLast, Created, Scheduled, Unscheduled}
 
 -- ---- targets
 
@@ -32,21 +31,6 @@ named-block (If block) h = h
 named-block (Switch block) h = h
 named-block (Case block) h = h
 named-block (Loop block continueBlock loopBlock) h = h .0
-
--- the continue block, tested once the fallthrough is inserted
-pub continue-scheduled : (flags : Flags) (fallthrough continueBlock : ℕ) → fallthrough < length flags → continueScheduled flags fallthrough continueBlock ≡ has (add flags fallthrough) continueBlock
-unfolding has add
-continue-scheduled flags fallthrough continueBlock h = at (ℕ-discrete continueBlock fallthrough)
-  where
-    at : Dec (continueBlock ≡ fallthrough) → eqb continueBlock fallthrough || getD flags continueBlock false ≡ getD (set flags fallthrough true) continueBlock false
-    at (yes e) = rw (e, eq-eqb fallthrough fallthrough refl, getD-set-same flags fallthrough true false h)
-    at (no e) = rw (ne-eqb continueBlock fallthrough e, getD-set-other flags fallthrough continueBlock true false e)
-
-pub blocked-asked : (target : ControlFlowTarget) (flags : Flags) → Named target → 1024 ≤ length flags → blockedIn (targetOf target) flags ≡ isBlocked (targetOf target) flags
-blocked-asked (If block) flags named wide = refl
-blocked-asked (Switch block) flags named wide = refl
-blocked-asked (Case block) flags named wide = refl
-blocked-asked (Loop block continueBlock loopBlock) flags named wide = continue-scheduled flags block continueBlock (omega (arith, named .0, wide))
 
 -- ---- the stack
 

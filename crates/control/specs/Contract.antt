@@ -1,14 +1,13 @@
 -- What the methods promise of the Context that they hand back.
 use Prim.Native.Nat.{ℕ, _+_, _-_, _≤_, _<_}
 use mathlib.Core.Path.{_≡_}
-use mathlib.Core.Bool.{Bool, true, false, _||_}
-use lib.Dec.{eqb}
+use mathlib.Core.Bool.{Bool, true, false}
 use mathlib.Core.List.{List}
 use lib.ListN.{getD, set, replicate}
 use Rattle.definition.specs.Result.{ok}
 use Rattle.definition.specs.Context as definition
 use Rattle.definition.specs.Machine as machine
-use Rattle.definition.specs.Context.{Flags, has, target-if, target-switch, target-case, target-loop, targetBlock, isLoop, isBlocked, blockedCode, scheduledBy, owns, unscheduledBy, breakKind, continueKind, start, schedule, unschedule}
+use Rattle.definition.specs.Context.{targetBlock, isLoop, isBlocked, blockedCode, scheduledBy, owns, unscheduledBy, breakKind, continueKind, start, schedule, unschedule}
 use Rattle.control.specs.declared.ControlFlowTarget.{ControlFlowTarget}
 use Rattle.control.specs.declared.ControlFlowTarget.the-variants.{If, Switch, Case, Loop}
 use Rattle.control.specs.declared.Entry.{Entry}
@@ -36,17 +35,6 @@ pub record Last (cx : Context) (entry : Entry) : Type 0 where
   pub nonempty : 0 < cx .len
   pub read : entry ≡ getD (cx .stack) (cx .len - 1) noEntry
   pub named : Named (entry .target)
-
--- whether the continue block is scheduled once the fallthrough is inserted
-abbrev pub continueScheduled : Flags → (fallthrough continueBlock : ℕ) → Bool
-continueScheduled scheduled fallthrough continueBlock = eqb continueBlock fallthrough || has scheduled continueBlock
-
--- the definition's `isBlocked`, asked with nothing inserted. (They are equal for a set of 1,024 flags: proofs/ContextLaws, `blocked-asked`.)
-abbrev pub blockedIn : definition.ControlFlowTarget → Flags → Bool
-blockedIn (target-if block) scheduled = has scheduled block
-blockedIn (target-switch block) scheduled = has scheduled block
-blockedIn (target-case block) scheduled = has scheduled block
-blockedIn (target-loop block continueBlock loopBlock) scheduled = continueScheduled scheduled block continueBlock
 
 -- the number of a refusal, 0 where there is none
 abbrev pub refusalIf : (blocked : Bool) → (code : ℕ) → ℕ

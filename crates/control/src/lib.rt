@@ -11,7 +11,7 @@ ghost use mathlib.Core.Bool.{_||_};
 ghost use Rattle.definition.specs.Context.{add, has, targetBlock, isLoop, loopsOf, continuesAt, blockAsked, breakKind, continueKind};
 ghost use Rattle.definition.specs.Tree.{kindNumber};
 ghost use Rattle.control.specs.Abstraction.{targetOf, kindOf, foundBlock, resolutionOf};
-ghost use Rattle.control.specs.Contract.{Named, Room, Last, blockedIn, refusalIf, Created, Scheduled, Unscheduled, breakTo, continueTo};
+ghost use Rattle.control.specs.Contract.{Named, Room, Last, refusalIf, Created, Scheduled, Unscheduled, breakTo, continueTo};
 
 // What an entry of the control stack stands for. A loop's `block` is its fallthrough.
 pub enum ControlFlowTarget {
@@ -171,28 +171,6 @@ pub fn is_scheduled<'a>(
         return true;
     }
     catch_handlers[at]
-}
-
-// Whether `schedule` would refuse a target, for a loop's planner, which asks before its values are made.
-pub fn is_blocked(scheduled: &[bool; 1024], target: ControlFlowTarget) -> bool
-    requires { ⌜ Named target ⌝ }
-    ensures { λ r. ⌜ r ≡ blockedIn (targetOf target) (now (scheduled .entry)) ⌝ }
-{
-    match target {
-        ControlFlowTarget::If { block } => scheduled[block as usize],
-        ControlFlowTarget::Switch { block } => scheduled[block as usize],
-        ControlFlowTarget::Case { block } => scheduled[block as usize],
-        ControlFlowTarget::Loop {
-            block,
-            continue_block,
-            loop_block: _,
-        } => {
-            if continue_block == block {
-                return true; // it goes in before the test
-            }
-            scheduled[continue_block as usize]
-        }
-    }
 }
 
 // The number of a refusal, 0 where there is none.

@@ -19,7 +19,7 @@ use Rattle.definition.proofs.Steps.{true-false}
 use Rattle.definition.specs.Build.{Report, accepted, rejected, report}
 use Rattle.definition.specs.Context.{emit, withVisits}
 use Rattle.definition.specs.Context as definition
-use Rattle.definition.specs.Machine.{Output, noOutput, _⊕_, enclosings, aroundOf, State, visiting, ended, choosing, popping, going, halt, step}
+use Rattle.definition.specs.Machine.{Output, noOutput, _⊕_, enclosings, aroundOf, State, visiting, ended, choosing, popping, looping, going, halt, step}
 use Rattle.definition.specs.Around.{Rule, Around}
 use Rattle.definition.specs.Goal.{Goal}
 use Rattle.definition.specs.Machine as machine
@@ -41,7 +41,7 @@ use Rattle.rows.specs.Rows.{Holds}
 use Rattle.rows.specs.Stack.{pushed}
 use Rattle.rows.proofs.StackLaws.{length-pushed}
 use Rattle.plan.specs.declared.Stage.{Stage}
-use Rattle.plan.specs.declared.Stage.the-variants.{Visit, Ended, Choose, Pop, Halt}
+use Rattle.plan.specs.declared.Stage.the-variants.{Visit, Ended, Choose, Pop, Values, Halt}
 use Rattle.plan.specs.declared.Position.{Position}
 use Rattle.plan.specs.declared.Frame.{Frame}
 use Rattle.plan.specs.declared.Change.{Change}
@@ -143,6 +143,8 @@ restOf A Choose zero = []
 restOf A Choose (suc n) = framesOf A n
 restOf A Pop zero = []
 restOf A Pop (suc n) = framesOf A n
+restOf A Values zero = []
+restOf A Values (suc n) = framesOf A n
 restOf A Halt n = framesOf A n
 
 in-hand : (A : List Frame) (s : Stage) (n : ℕ) (f : Frame) → f ≡ getD A (n - 1) noFrame → inHand s n f ++ restOf A s n ≡ framesOf A n
@@ -154,6 +156,8 @@ in-hand A Choose zero f e = refl
 in-hand A Choose (suc n) f e = let q : suc n - 1 ≡ n = omega arith in ap {B = List machine.Frame} (λ (z : Frame). frameOf z ∷ framesOf A n) (rw q at e)
 in-hand A Pop zero f e = refl
 in-hand A Pop (suc n) f e = let q : suc n - 1 ≡ n = omega arith in ap {B = List machine.Frame} (λ (z : Frame). frameOf z ∷ framesOf A n) (rw q at e)
+in-hand A Values zero f e = refl
+in-hand A Values (suc n) f e = let q : suc n - 1 ≡ n = omega arith in ap {B = List machine.Frame} (λ (z : Frame). frameOf z ∷ framesOf A n) (rw q at e)
 in-hand A Halt n f e = refl
 
 entries-top : (s : Stage) (n : ℕ) (f : Frame) (F : List machine.Frame) → entriesOnTop (inHand s n f) ≤ entriesOf (inHand s n f ++ F)
@@ -164,16 +168,19 @@ entries-top Choose zero f F = omega arith
 entries-top Choose (suc n) f F = omega arith
 entries-top Pop zero f F = omega arith
 entries-top Pop (suc n) f F = omega arith
+entries-top Values zero f F = omega arith
+entries-top Values (suc n) f F = omega arith
 entries-top Halt n f F = omega arith
 
 -- ---- states
 
--- a Switch that takes its next case, and a statement whose entries come off, have a frame; and the walk has not come to its end
+-- a Switch that takes its next case, a statement whose entries come off, and a loop that makes its values, have a frame; and the walk has not come to its end
 abbrev pub Live : Stage → (depth : ℕ) → Type 0
 Live Visit depth = Unit {0}
 Live Ended depth = Unit {0}
 Live Choose depth = 1 ≤ depth
 Live Pop depth = 1 ≤ depth
+Live Values depth = 1 ≤ depth
 Live Halt depth = ⊥
 
 abbrev pub stateOf : Position → List Frame → Output → Context → State
@@ -204,6 +211,10 @@ numbers t Pop b [] R m C l h = absurd (omega arith)
 numbers t Pop b (f ∷ F) R m C l h =
     let z : invariant.Small (popping f F R C) = invariant.sound-small t (popping f F R C) h in record
     { visits = z .visits; frames = z .frames; stack = z .stack; ids = z .ids; rows = z .rows; lines = z .lines; entries = h .2 .stack }
+numbers t Values b [] R m C l h = absurd (omega arith)
+numbers t Values b (f ∷ F) R m C l h =
+    let z : invariant.Small (looping (unlessNone b) f F R C) = invariant.sound-small t (looping (unlessNone b) f F R C) h in record
+    { visits = z .visits; frames = z .frames; stack = z .stack; ids = z .ids; rows = z .rows; lines = z .lines; entries = h .3 .stack }
 numbers t Halt b F R m C l h = absurd l
 
 -- the potential does not look at the rows
@@ -214,6 +225,8 @@ no-rows Choose b [] R m C = refl
 no-rows Choose b (f ∷ F) R m C = refl
 no-rows Pop b [] R m C = refl
 no-rows Pop b (f ∷ F) R m C = refl
+no-rows Values b [] R m C = refl
+no-rows Values b (f ∷ F) R m C = refl
 no-rows Halt b F R m C = refl
 
 -- ---- what holds at each turn of the loop
@@ -361,6 +374,8 @@ module _ (rule : Rule) (w : List ℕ) (pr : Promise w) (ck : Checked (tableOf w)
       (omega arith, rw z (h .0), frame-fits 1 0 n rows A (framesOf A n) R 0 C f e l (h .1) (h .3))
   fits-at A R C f Pop b zero m rows u e l v h = absurd (omega arith)
   fits-at A R C f Pop b (suc n) m rows u e l v h = (omega arith, frame-fits 1 0 n rows A (framesOf A n) R 0 C f e l (h .0) (h .2))
+  fits-at A R C f Values b zero m rows u e l v h = absurd (omega arith)
+  fits-at A R C f Values b (suc n) m rows u e l v h = (omega arith, frame-fits 0 0 n rows A (framesOf A n) R 0 C f e l (h .1) (h .3))
   fits-at A R C f Halt b n m rows u e l v h = absurd v
 
   -- ---- a turn
@@ -410,6 +425,8 @@ module _ (rule : Rule) (w : List ℕ) (pr : Promise w) (ck : Checked (tableOf w)
         at Choose (suc n) h v l = frame-or (tableOf w) A k n (h .1 .block) (λ l. frames-each (tableOf w) A k n (h .2) l) l
         at Pop zero h v l = absurd (omega arith)
         at Pop (suc n) h v l = frame-or (tableOf w) A k n (h .0 .block) (λ l. frames-each (tableOf w) A k n (h .1) l) l
+        at Values zero h v l = absurd (omega arith)
+        at Values (suc n) h v l = frame-or (tableOf w) A k n (h .1 .block) (λ l. frames-each (tableOf w) A k n (h .2) l) l
         at Halt n h v l = absurd v
 
     -- one of them, as the code reads it
@@ -480,6 +497,7 @@ module _ (rule : Rule) (w : List ℕ) (pr : Promise w) (ck : Checked (tableOf w)
             at Ended e = absurd (true-false (sym e))
             at Choose e = absurd (true-false (sym e))
             at Pop e = absurd (true-false (sym e))
+            at Values e = absurd (true-false (sym e))
             at Halt e = refl
 
         accepted-reported : isHalt (plan .position .stage) ≡ true → Reported (report rule (tableOf w)) (walkedBy plan (buffer′ .lines)) (buffer′ .tree) (buffer′ .index)
@@ -502,6 +520,7 @@ module _ (rule : Rule) (w : List ℕ) (pr : Promise w) (ck : Checked (tableOf w)
               at Ended e n = tt
               at Choose e n = fit .deep n
               at Pop e n = fit .deep n
+              at Values e n = fit .deep n
               at Halt e n = absurd (true-false e)
 
           -- ---- the Context
@@ -535,6 +554,7 @@ module _ (rule : Rule) (w : List ℕ) (pr : Promise w) (ck : Checked (tableOf w)
               at Ended h = none-at (unlessNone 65535) no-number
               at Choose h = none-at (unlessNone 65535) no-number
               at Pop h = none-at (unlessNone 65535) no-number
+              at Values h = none-at (unlessNone 65535) no-number
               at Halt h = none-at (unlessNone 65535) no-number
 
           -- ---- what applying the plan asks
@@ -571,6 +591,7 @@ module _ (rule : Rule) (w : List ℕ) (pr : Promise w) (ck : Checked (tableOf w)
               at Ended h = subst (λ (o : Option ℕ). Below 1024 o) (sym no-number) tt
               at Choose h = subst (λ (o : Option ℕ). Below 1024 o) (sym no-number) tt
               at Pop h = subst (λ (o : Option ℕ). Below 1024 o) (sym no-number) tt
+              at Values h = subst (λ (o : Option ℕ). Below 1024 o) (sym no-number) tt
               at Halt h = subst (λ (o : Option ℕ). Below 1024 o) (sym no-number) tt
 
           pub depth-below : plan .position .depth ≤ 129
@@ -592,6 +613,7 @@ module _ (rule : Rule) (w : List ℕ) (pr : Promise w) (ck : Checked (tableOf w)
                 ends Ended e = refl
                 ends Choose e = refl
                 ends Pop e = refl
+                ends Values e = refl
                 ends Halt e = absurd (true-false e)
 
             pub blocked-reported : Reported (report rule (tableOf w)) (blockedBy code at (plan .position)) (buffer′ .tree) (buffer′ .index)
@@ -623,12 +645,17 @@ module _ (rule : Rule) (w : List ℕ) (pr : Promise w) (ck : Checked (tableOf w)
                 pop-same [] h = absurd (omega arith)
                 pop-same (g ∷ F) h = refl
 
+                values-same : (F : List machine.Frame) → 1 ≤ length F → stateAt Values (plan .position .block) F after 0 D ≡ stateAt Values (plan .position .block) F after (plan .position .count) D
+                values-same [] h = absurd (omega arith)
+                values-same (g ∷ F) h = refl
+
                 at : (s : Stage) → isHalt s ≡ false → Live s (plan .position .depth)
                     → onward s plan (framesOf A (p .depth)) after (ok D) ≡ going (stateAt s (plan .position .block) K after (plan .position .count) D)
                 at Visit e l = refl
                 at Ended e l = refl
                 at Choose e l = ap going (choose-same K (omega (arith, kept-deep)))
                 at Pop e l = ap going (pop-same K (omega (arith, kept-deep)))
+                at Values e l = ap going (values-same K (omega (arith, kept-deep)))
                 at Halt e l = absurd (true-false e)
 
             next-going : Going rule (tableOf w) next

@@ -73,6 +73,7 @@ fn visited_block(p: Position) -> u32
         Stage::Ended => NONE,
         Stage::Choose => NONE,
         Stage::Pop => NONE,
+        Stage::Values => NONE,
         Stage::Halt => NONE,
     }
 }
@@ -95,6 +96,7 @@ fn halted(stage: Stage) -> bool
         Stage::Ended => false,
         Stage::Choose => false,
         Stage::Pop => false,
+        Stage::Values => false,
         Stage::Halt => true,
     }
 }

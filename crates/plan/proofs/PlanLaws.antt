@@ -12,7 +12,7 @@ use Rattle.table.specs.Table.{unlessNone}
 use Rattle.definition.specs.Build.{accepted, rejected}
 use Rattle.definition.specs.Context.{Flags, has, target-if, target-switch, withVisits}
 use Rattle.definition.specs.Context as definition
-use Rattle.definition.specs.Machine.{Output, visiting, choosing, popping, going, halt, leave, opens, scheduledIf, scheduledSwitch, unscheduled, unscheduledIf}
+use Rattle.definition.specs.Machine.{Output, visiting, choosing, popping, looping, going, halt, leave, opens, scheduledIf, scheduledSwitch, unscheduled, unscheduledIf}
 use Rattle.definition.specs.Machine as machine
 use Rattle.definition.specs.Result.{Result, ok, _>>=_}
 use Rattle.definition.proofs.Never.{schedule-free}
@@ -24,7 +24,7 @@ use Rattle.plan.specs.declared.Line.{Line}
 use Rattle.plan.specs.declared.Line.the-variants.{Nothing}
 use Rattle.plan.specs.declared.Stage.the-variants.{Visit}
 use Rattle.plan.specs.Plans.{frameOf, within, changed, handled, scoped, contextAfter, unlessRefused, onward, lined, applied, withLine, refusing, stageAfter, leaving}
-use Rattle.plan.specs.Plans.{nesting, choosingNext, poppingNext, accepting, unlessTaken, entriesIf, scheduleIf, scheduleSwitch, brieflyIf}
+use Rattle.plan.specs.Plans.{nesting, choosingNext, poppingNext, loopingNext, accepting, unlessTaken, entriesIf, scheduleIf, scheduleSwitch, brieflyIf}
 use Rattle.plan.specs.Planned.{Nested}
 
 -- ---- frames
@@ -98,6 +98,12 @@ pub pop-applied : (frame : Frame) (depth rows visits : ℕ) (F : List machine.Fr
     → applied (poppingNext frame depth rows visits) F R C ≡ going (popping (frameOf frame) (within (depth - 1) F) R (unscheduled (withVisits visits C)))
 unfolding applied unlessNone
 pop-applied frame depth rows visits F R C = refl
+
+-- 15 is `schedule`'s
+pub values-asked : (body : ℕ) (frame : Frame) (depth rows visits : ℕ) (change : Change) (F : List machine.Frame) (R : Output) (C : definition.Context)
+    → applied (loopingNext body frame depth rows visits change) F R C ≡ unlessRefused (changed change (withVisits visits C)) (looping (unlessNone body) (frameOf frame) (within (depth - 1) F) R)
+unfolding applied unlessNone
+values-asked body frame depth rows visits change F R C = refl
 
 pub accept-applied : (rows visits : ℕ) (F : List machine.Frame) (R : Output) (C : definition.Context) → applied (accepting rows visits) F R C ≡ halt (accepted (R .rows) (R .lines) visits)
 unfolding applied

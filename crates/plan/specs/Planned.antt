@@ -20,7 +20,7 @@ use Rattle.control.specs.Contract.{Named}
 use Rattle.rows.specs.Rows.{Holds}
 use Rattle.rows.specs.Stack.{pushed}
 use Rattle.plan.specs.declared.Stage.{Stage}
-use Rattle.plan.specs.declared.Stage.the-variants.{Visit, Ended, Choose, Pop, Halt}
+use Rattle.plan.specs.declared.Stage.the-variants.{Visit, Ended, Choose, Pop, Values, Halt}
 use Rattle.plan.specs.declared.Position.{Position}
 use Rattle.plan.specs.declared.Change.{Change}
 use Rattle.plan.specs.declared.Change.the-variants.{Nothing, Schedule, ScheduleBriefly, Unschedule}
@@ -50,12 +50,13 @@ abbrev pub deepest : (keep : Bool) → ℕ → ℕ
 deepest true depth = suc depth
 deepest false depth = depth
 
--- a Switch that takes its next case, and a statement whose entries come off, are kept
+-- a Switch that takes its next case, a statement whose entries come off, and a loop that makes its values, are kept
 abbrev pub Nested : Stage → (keep : Bool) → Type 0
 Nested Visit keep = Unit {0}
 Nested Ended keep = Unit {0}
 Nested Choose keep = keep ≡ true
 Nested Pop keep = keep ≡ true
+Nested Values keep = keep ≡ true
 Nested Halt keep = Unit {0}
 
 -- what the driver needs to apply a plan. `top` is the frame in hand, if any

@@ -9,14 +9,14 @@ use Rattle.table.specs.Table.{unlessNone}
 use Rattle.definition.specs.Build.{accepted, rejected}
 use Rattle.definition.specs.Context.{schedule, scheduleCatchHandler, markScopeFallthrough, withVisits}
 use Rattle.definition.specs.Context as definition
-use Rattle.definition.specs.Machine.{Output, State, visiting, ended, choosing, popping, Turn, going, halt, unscheduled}
+use Rattle.definition.specs.Machine.{Output, State, visiting, ended, choosing, popping, looping, Turn, going, halt, unscheduled}
 use Rattle.definition.specs.Machine as machine
 use Rattle.definition.specs.Result.{Result, ok, refused, _>>=_}
 use Rattle.definition.specs.Index as index
 use Rattle.control.specs.declared.ControlFlowTarget.the-variants.{If, Switch}
 use Rattle.control.specs.Abstraction.{targetOf}
 use Rattle.plan.specs.declared.Stage.{Stage}
-use Rattle.plan.specs.declared.Stage.the-variants.{Visit, Ended, Choose, Pop, Halt}
+use Rattle.plan.specs.declared.Stage.the-variants.{Visit, Ended, Choose, Pop, Values, Halt}
 use Rattle.plan.specs.declared.Position.{Position}
 use Rattle.plan.specs.declared.Frame.{Frame}
 use Rattle.plan.specs.declared.Change.{Change}
@@ -38,7 +38,7 @@ unfoldable pub framesOf : List Frame → ℕ → List machine.Frame
 framesOf frames zero = []
 framesOf frames (suc n) = frameOf (getD frames n noFrame) ∷ framesOf frames n
 
--- the state at a stage. (With no frame, Choose and Pop do not occur; nor does Halt.)
+-- the state at a stage. (With no frame, Choose, Pop and Values do not occur; nor does Halt.)
 abbrev pub stateAt : Stage → (block : ℕ) → List machine.Frame → Output → (count : ℕ) → definition.Context → State
 stateAt Visit block frames out count cx = visiting block frames out count cx
 stateAt Ended block frames out count cx = ended frames out count cx
@@ -46,6 +46,8 @@ stateAt Choose block [] out count cx = ended [] out count cx
 stateAt Choose block (frame ∷ frames) out count cx = choosing frame frames out cx
 stateAt Pop block [] out count cx = ended [] out count cx
 stateAt Pop block (frame ∷ frames) out count cx = popping frame frames out cx
+stateAt Values block [] out count cx = ended [] out count cx
+stateAt Values block (frame ∷ frames) out count cx = looping (unlessNone block) frame frames out cx
 stateAt Halt block frames out count cx = ended frames out count cx
 
 -- ---- what the driver does with a plan
@@ -86,6 +88,7 @@ onward Visit plan frames out after = unlessRefused after (visiting (plan .positi
 onward Ended plan frames out after = unlessRefused after (ended (kept (plan .keep) (plan .frame) (plan .position .depth) frames) out (plan .position .count))
 onward Choose plan frames out after = unlessRefused after (stateAt Choose 0 (kept (plan .keep) (plan .frame) (plan .position .depth) frames) out 0)
 onward Pop plan frames out after = unlessRefused after (stateAt Pop 0 (kept (plan .keep) (plan .frame) (plan .position .depth) frames) out 0)
+onward Values plan frames out after = unlessRefused after (stateAt Values (plan .position .block) (kept (plan .keep) (plan .frame) (plan .position .depth) frames) out 0)
 onward Halt plan frames out after = halt (accepted (out .rows) (out .lines) (plan .position .visits))
 
 -- the line of a statement (M-101) whose closing row is the last of the rows that are out
@@ -175,6 +178,19 @@ poppingNext frame depth rows visits = record {
   handler = 65535;
   scope = 65535;
   change = Unschedule;
+  line = line.Nothing;
+}
+
+abbrev pub loopingNext : (body : ℕ) → Frame → (depth rows visits : ℕ) → Change → Plan
+loopingNext body frame depth rows visits change = record {
+  code = 0;
+  at = 0;
+  position = record { block = body; depth = depth; count = 0; rows = rows; visits = visits; stage = Values };
+  frame = frame;
+  keep = true;
+  handler = 65535;
+  scope = 65535;
+  change = change;
   line = line.Nothing;
 }
 

@@ -4,21 +4,24 @@ pub mod fallthrough;
 use control::ControlFlowTarget;
 ghost use mathlib.Core.Path.{_≡_};
 ghost use lib.Dec.{eqb};
-ghost use Rattle.plan.specs.Plans.{advanced, noFrame, openFrame, second, withCounts, refusing, stageAfter, leaving, nesting, choosingNext, poppingNext, accepting, withHandler, withScope, withLine};
+ghost use Rattle.plan.specs.Plans.{advanced, noFrame, openFrame, second, withCounts, refusing, stageAfter, leaving, nesting, choosingNext, poppingNext, loopingNext, accepting, withHandler, withScope, withLine};
 
 // No block: paper 01's 65,535.
 pub const NONE: u32 = 65535;
 
-// What the next turn does: visit a block, resume the statement whose list has ended, take a Switch's next case, or take an entry off the stack.
+// What the next turn does: visit a block, resume the statement whose list has ended, take a Switch's next case, take an entry off the stack, or make the
+// values of a loop that is scheduled.
 pub enum Stage {
     Visit,
     Ended,
     Choose,
     Pop,
+    Values,
     Halt,
 }
 
-// Where the walk stands: under `depth` frames, with `count` statements of the list in hand and `rows` rows out.
+// Where the walk stands: under `depth` frames, with `count` statements of the list in hand and `rows` rows out. `block` is the one to be visited, or the
+// body of the loop whose values are made, NONE where that is taken.
 pub struct Position {
     pub block: u32,
     pub depth: u32,
@@ -273,6 +276,38 @@ pub fn pop(frame: Frame, depth: u32, rows: u32, visits: u32) -> Plan
         handler: NONE,
         scope: NONE,
         change: Change::Unschedule,
+        line: Line::Nothing,
+    }
+}
+
+// A loop is scheduled: its values are made next, and then comes its body, of the frame, which is the innermost at that depth.
+pub fn make_values(
+    body: u32,
+    frame: Frame,
+    depth: u32,
+    rows: u32,
+    visits: u32,
+    change: Change,
+) -> Plan
+    ensures { λ r. ⌜ r ≡ loopingNext body frame depth rows visits change ⌝ }
+{
+    let position = Position {
+        block: body,
+        depth: depth,
+        count: 0,
+        rows: rows,
+        visits: visits,
+        stage: Stage::Values,
+    };
+    Plan {
+        code: 0,
+        at: 0,
+        position: position,
+        frame: frame,
+        keep: true,
+        handler: NONE,
+        scope: NONE,
+        change: change,
         line: Line::Nothing,
     }
 }

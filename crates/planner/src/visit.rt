@@ -64,10 +64,10 @@ fn visit_terminal<'a>(
         6 => visit_branch(words, tree, scheduled, catch_handlers, scopes, p, aim),
         7 => visit_switch(words, scheduled, catch_handlers, p),
         8 => visit_do_while(words, scheduled, catch_handlers, p),
-        9 => visit_while(words, tree, scheduled, catch_handlers, p),
-        10 => visit_for(words, tree, scheduled, catch_handlers, p),
-        11 => visit_for_of(words, tree, scheduled, catch_handlers, p),
-        12 => visit_for_in(words, tree, scheduled, catch_handlers, p),
+        9 => visit_while(words, scheduled, catch_handlers, p),
+        10 => visit_for(words, scheduled, catch_handlers, p),
+        11 => visit_for_of(words, scheduled, catch_handlers, p),
+        12 => visit_for_in(words, scheduled, catch_handlers, p),
         13 => {
             let terminal = logical_at(words, p.block);
             visit_value(

@@ -179,52 +179,36 @@ returns-9 c around =
     let start : tie.Start = search in
     elsewhere around (start .pre .0) (at-code-at .code-at .ensures) (at-match .match .keys9) refl (λ C o. o .seen) (c .visit-do-while .ensures _)
 
-same-length-5 : tie.Need-same-length-5
-same-length-5 c = search needs
-
 returns-10 : tie.Need-returns-10
 returns-10 c around =
-    let at-visit-while : tie.After-visit-while = search in
     let at-match : tie.At-match-keys10 = search in
     let at-code-at : tie.After-code-at = search in
     let start : tie.Start = search in
-    elsewhere around (start .pre .0) (at-code-at .code-at .ensures) (at-match .match .keys10) refl (λ C o. o .seen) (at-visit-while .visit-while .ensures)
-
-same-length-6 : tie.Need-same-length-6
-same-length-6 c = search needs
+    elsewhere around (start .pre .0) (at-code-at .code-at .ensures) (at-match .match .keys10) refl (λ C o. o .seen) (c .visit-while .ensures _)
 
 returns-11 : tie.Need-returns-11
 returns-11 c around =
-    let at-visit-for : tie.After-visit-for = search in
     let at-match : tie.At-match-keys11 = search in
     let at-code-at : tie.After-code-at = search in
     let start : tie.Start = search in
-    elsewhere around (start .pre .0) (at-code-at .code-at .ensures) (at-match .match .keys11) refl (λ C o. o .seen) (at-visit-for .visit-for .ensures)
-
-same-length-7 : tie.Need-same-length-7
-same-length-7 c = search needs
+    elsewhere around (start .pre .0) (at-code-at .code-at .ensures) (at-match .match .keys11) refl (λ C o. o .seen) (c .visit-for .ensures _)
 
 returns-12 : tie.Need-returns-12
 returns-12 c around =
-    let at-visit-for-of : tie.After-visit-for-of = search in
     let at-match : tie.At-match-keys12 = search in
     let at-code-at : tie.After-code-at = search in
     let start : tie.Start = search in
-    elsewhere around (start .pre .0) (at-code-at .code-at .ensures) (at-match .match .keys12) refl (λ C o. o .seen) (at-visit-for-of .visit-for-of .ensures)
-
-same-length-8 : tie.Need-same-length-8
-same-length-8 c = search needs
+    elsewhere around (start .pre .0) (at-code-at .code-at .ensures) (at-match .match .keys12) refl (λ C o. o .seen) (c .visit-for-of .ensures _)
 
 returns-13 : tie.Need-returns-13
 returns-13 c around =
-    let at-visit-for-in : tie.After-visit-for-in = search in
     let at-match : tie.At-match-keys13 = search in
     let at-code-at : tie.After-code-at = search in
     let start : tie.Start = search in
-    elsewhere around (start .pre .0) (at-code-at .code-at .ensures) (at-match .match .keys13) refl (λ C o. o .seen) (at-visit-for-in .visit-for-in .ensures)
+    elsewhere around (start .pre .0) (at-code-at .code-at .ensures) (at-match .match .keys13) refl (λ C o. o .seen) (c .visit-for-in .ensures _)
 
-same-length-9 : tie.Need-same-length-9
-same-length-9 c = search needs
+same-length-5 : tie.Need-same-length-5
+same-length-5 c = search needs
 
 returns-14 : tie.Need-returns-14
 returns-14 c around =
@@ -234,8 +218,8 @@ returns-14 c around =
     let start : tie.Start = search in
     elsewhere around (start .pre .0) (at-code-at .code-at .ensures) (at-match .match .keys14) refl (λ C o. o .seen) (at-visit-value .visit-value .ensures)
 
-same-length-10 : tie.Need-same-length-10
-same-length-10 c = search needs
+same-length-6 : tie.Need-same-length-6
+same-length-6 c = search needs
 
 returns-15 : tie.Need-returns-15
 returns-15 c around =
@@ -245,8 +229,8 @@ returns-15 c around =
     let start : tie.Start = search in
     elsewhere around (start .pre .0) (at-code-at .code-at .ensures) (at-match .match .keys15) refl (λ C o. o .seen) (at-visit-value2 .visit-value2 .ensures)
 
-same-length-11 : tie.Need-same-length-11
-same-length-11 c = search needs
+same-length-7 : tie.Need-same-length-7
+same-length-7 c = search needs
 
 returns-16 : tie.Need-returns-16
 returns-16 c around =
@@ -263,8 +247,8 @@ returns-17 c around =
     let start : tie.Start = search in
     elsewhere around (start .pre .0) (at-code-at .code-at .ensures) (at-match .match .keys17) refl (λ C o. o .seen) (c .visit-label .ensures _)
 
-same-length-12 : tie.Need-same-length-12
-same-length-12 c = search needs
+same-length-8 : tie.Need-same-length-8
+same-length-8 c = search needs
 
 returns-18 : tie.Need-returns-18
 returns-18 c around =
@@ -354,22 +338,18 @@ visit-terminal-spec =
     returns-7
     returns-8
     returns-9
-    same-length-5
     returns-10
-    same-length-6
     returns-11
-    same-length-7
     returns-12
-    same-length-8
     returns-13
-    same-length-9
+    same-length-5
     returns-14
-    same-length-10
+    same-length-6
     returns-15
-    same-length-11
+    same-length-7
     returns-16
     returns-17
-    same-length-12
+    same-length-8
     returns-18
     returns-19
     returns-20
