@@ -6,15 +6,13 @@ use mathlib.Core.Bool.{Bool, true, false}
 use mathlib.Core.Option.{Option, none, some}
 use lib.ListN.{length, getD, set, length-set}
 use lib.Dec.{eqb}
-use lib.Seq.{getD-set-same}
 use borrow.Author.Tests.{eq-eqb, ne-eqb}
 use Rattle.table.specs.Table.{unlessNone}
 use Rattle.table.proofs.BlockLaws.{no-number, some-number}
 use Rattle.definition.specs.Context.{Flags, add, emit, remove, blockAsked, scheduledBy, scheduleCatchHandler, markScopeFallthrough, unscheduledBy}
 use Rattle.definition.specs.Context.{ControlFlowTarget, target-if, target-switch, target-case, target-loop}
 use Rattle.definition.specs.Context as definition
-use Rattle.definition.specs.Machine.{unscheduled}
-use Rattle.definition.specs.Result.{Result, ok, refused, _>>=_}
+use Rattle.definition.specs.Result.{Result, ok, refused}
 use Rattle.control.specs.declared.ControlFlowTarget as code
 use Rattle.control.specs.declared.Context.{Context}
 use Rattle.control.specs.declared.Entry.{Entry}
@@ -23,7 +21,7 @@ use Rattle.control.specs.Contract.{Named, Room, Bounded, Last, Scheduled, Unsch
 use Rattle.control.proofs.ContextLaws.{stores}
 use Rattle.definition.specs.Framed.{Below}
 use Rattle.plan.specs.declared.Change.{Change}
-use Rattle.plan.specs.declared.Change.the-variants.{Nothing, Schedule, ScheduleBriefly, Unschedule}
+use Rattle.plan.specs.declared.Change.the-variants.{Nothing, Schedule, Unschedule}
 use Rattle.plan.specs.declared.Plan.{Plan}
 use Rattle.plan.specs.Plans.{changed, handled, scoped}
 use Rattle.driver.specs.Driver.{marked}
@@ -68,7 +66,6 @@ marks-as visited handler fallthrough asked cx emitted handlers scopes v e h f = 
 abbrev pub Changeable : Change → Context → Type 0
 Changeable Nothing cx = Unit {0}
 Changeable (Schedule target) cx = Named target × Room cx
-Changeable (ScheduleBriefly target) cx = Named target × Room cx
 Changeable Unschedule cx = 0 < cx .len
 
 -- what the driver carries along: the stack's bound, the blocks of its entries, and the arrays' lengths
@@ -124,11 +121,6 @@ module _ (target : code.ControlFlowTarget) (cx r : Context) (h : Scheduled targe
     refuses = b;
   }
 
-  pub briefly-blocked : (r .refused ≡ 0 → ⊥) → Blocked (ScheduleBriefly target) cx (r .refused) (blockAsked (targetOf target))
-  unfolding _>>=_
-  briefly-blocked b =
-      record { context = λ visits. ap (λ (m : Result definition.Context). m >>= λ inside. ok (unscheduled inside)) (schedule-blocked b .context visits); refuses = b }
-
   long : length (r .stack) ≡ 1152
   long = ap (λ (z : Context). length (z .stack)) (h .state) ∙ w .tall
 
@@ -140,15 +132,6 @@ module _ (target : code.ControlFlowTarget) (cx r : Context) (h : Scheduled targe
       wide = ap (λ (z : Context). length (z .scheduled)) (h .state) ∙ length-scheduled (targetOf target) (cx .scheduled) ∙ w .wide;
       tall = length-set (r .stack) (r .len - 1) (r .pushed) ∙ long;
     };
-  }
-
-  -- the entry that was stored is the stack's last
-  pub last-stored : Named target → cx .len < 1152 → Last (stored r) (r .pushed)
-  unfolding stored
-  last-stored named small = record {
-    nonempty = omega (arith, h .len);
-    read = sym (getD-set-same (r .stack) (r .len - 1) (r .pushed) noEntry (omega (arith, h .len, long)));
-    named = subst (λ (z : Context). Named (z .pushed .target)) (sym (h .state)) named;
   }
 
 length-removed : (target : ControlFlowTarget) (owner : Bool) (flags : Flags) → length (unscheduledBy target owner flags) ≡ length flags
@@ -168,12 +151,6 @@ unschedule-changed last cx r h w = record {
     tall = ap (λ (z : Context). length (z .stack)) (h .state) ∙ w .tall;
   };
 }
-
-pub briefly-changed : (target : code.ControlFlowTarget) (last : Entry) (cx s r : Context) → Changed (Schedule target) cx s → Unscheduled last s r → Changed (ScheduleBriefly target) cx r
-unfolding _>>=_
-briefly-changed target last cx s r h u =
-    let off : Changed Unschedule s r = unschedule-changed last s r u (h .whole) in
-    record { context = λ visits. ap (λ (m : Result definition.Context). m >>= λ inside. ok (unscheduled inside)) (h .context visits) ∙ off .context visits; whole = off .whole }
 
 -- ---- the sets
 
@@ -205,7 +182,6 @@ marks visited handler fallthrough cx visits = marks-by (unlessNone visited) (unl
 pub changeable-marked : (change : Change) (visited handler fallthrough : ℕ) (cx : Context) → Changeable change cx → Changeable change (withMarks visited handler fallthrough cx)
 changeable-marked Nothing visited handler fallthrough cx h = tt
 changeable-marked (Schedule target) visited handler fallthrough cx (n, r) = (n, record { len = r .len; id = r .id })
-changeable-marked (ScheduleBriefly target) visited handler fallthrough cx (n, r) = (n, record { len = r .len; id = r .id })
 changeable-marked Unschedule visited handler fallthrough cx h = h
 
 pub plan-applied : (visited : ℕ) (plan : Plan) (cx m r : Context) → m ≡ withMarks visited (plan .handler) (plan .scope) cx → Changed (plan .change) m r → Applied visited plan cx r

@@ -19,7 +19,7 @@ use Rattle.definition.proofs.Steps.{true-false}
 use Rattle.definition.specs.Build.{Report, accepted, rejected, report}
 use Rattle.definition.specs.Context.{emit, withVisits}
 use Rattle.definition.specs.Context as definition
-use Rattle.definition.specs.Machine.{Output, noOutput, _⊕_, enclosings, aroundOf, State, visiting, ended, choosing, popping, looping, going, halt, step}
+use Rattle.definition.specs.Machine.{Output, noOutput, _⊕_, enclosings, aroundOf, State, visiting, ended, choosing, popping, making, going, halt, step}
 use Rattle.definition.specs.Around.{Rule, Around}
 use Rattle.definition.specs.Goal.{Goal}
 use Rattle.definition.specs.Machine as machine
@@ -45,7 +45,7 @@ use Rattle.plan.specs.declared.Stage.the-variants.{Visit, Ended, Choose, Pop, V
 use Rattle.plan.specs.declared.Position.{Position}
 use Rattle.plan.specs.declared.Frame.{Frame}
 use Rattle.plan.specs.declared.Change.{Change}
-use Rattle.plan.specs.declared.Change.the-variants.{Nothing, Schedule, ScheduleBriefly, Unschedule}
+use Rattle.plan.specs.declared.Change.the-variants.{Nothing, Schedule, Unschedule}
 use Rattle.plan.specs.declared.Plan.{Plan}
 use Rattle.jumps.specs.declared.Jump.{Jump}
 use Rattle.jumps.specs.declared.Jump.the-variants as search
@@ -213,7 +213,7 @@ numbers t Pop b (f ∷ F) R m C l h =
     { visits = z .visits; frames = z .frames; stack = z .stack; ids = z .ids; rows = z .rows; lines = z .lines; entries = h .2 .stack }
 numbers t Values b [] R m C l h = absurd (omega arith)
 numbers t Values b (f ∷ F) R m C l h =
-    let z : invariant.Small (looping (unlessNone b) f F R C) = invariant.sound-small t (looping (unlessNone b) f F R C) h in record
+    let z : invariant.Small (making (unlessNone b) f F R C) = invariant.sound-small t (making (unlessNone b) f F R C) h in record
     { visits = z .visits; frames = z .frames; stack = z .stack; ids = z .ids; rows = z .rows; lines = z .lines; entries = h .3 .stack }
 numbers t Halt b F R m C l h = absurd l
 
@@ -578,7 +578,6 @@ module _ (rule : Rule) (w : List ℕ) (pr : Promise w) (ck : Checked (tableOf w)
               at : (ch : Change) → NamedChange (entriesOnTop (inHand (p .stage) (p .depth) f)) ch → Changeable ch cx
               at Nothing n = tt
               at (Schedule target) n = (n, room)
-              at (ScheduleBriefly target) n = (n, room)
               at Unschedule n = omega (arith, n, filled)
 
           pub applicable : Applicable visited plan cx

@@ -262,15 +262,6 @@ pub fn walk(rule: Rule, words: &[u32], tree: &mut [u32], index: &mut [u32]) -> W
                 let entry = cx.pushed;
                 cx.stack[cx.len - 1] = entry; // the stack's last, in its place
             }
-            Change::ScheduleBriefly(target) => {
-                cx = cx.schedule(target);
-                if cx.refused != 0 {
-                    return blocked(cx.refused, target, p);
-                }
-                let entry = cx.pushed;
-                cx.stack[cx.len - 1] = entry;
-                cx = cx.unschedule(entry);
-            }
             Change::Unschedule => {
                 let last = cx.stack[cx.len - 1];
                 cx = cx.unschedule(last);

@@ -16,12 +16,12 @@ use Rattle.table.specs.Table.{Table, Block, Terminal, absent, unreachable, thro
 use Rattle.table.specs.Table.{logical, ternary, optional, label, sequence, maybe-throw, try, scope, codeOf, tableOf, terminalAt, blockAt, unlessNone}
 use Rattle.table.proofs.RangeLaws.{in-range}
 use Rattle.table.proofs.BlockLaws.{no-number, some-number, code-at}
-use Rattle.definition.proofs.Never.{or-false}
+use Rattle.definition.proofs.Steps.{true-false}
 use Rattle.definition.proofs.Simulation.{bind-assoc}
 use Rattle.definition.proofs.Lines.{out-nil, out-assoc}
 use Rattle.definition.specs.Context.{Flags, has, pushed, target-loop, withVisits, schedule}
 use Rattle.definition.specs.Context as definition
-use Rattle.definition.specs.Machine.{Output, _⊕_, State, looping, turn, leave, bodyUnless, intoBody, loopAt, scheduleLoop, scheduledIf, unscheduledIf, valueOut, updateOut, valueTurn, terminalTurn}
+use Rattle.definition.specs.Machine.{Output, _⊕_, State, making, turn, leave, bodyUnless, intoBody, makeAt, scheduleLoop, unscheduledOf, valueOut, updateOut, valueAt, scheduleValue, terminalTurn}
 use Rattle.definition.specs.Machine as machine
 use Rattle.definition.specs.Result.{Result, ok, refused, _>>=_}
 use Rattle.definition.specs.Statement.{unlessScheduled, unlessUnreachable, loopIsTaken, continueBlockOf, visitUpdate}
@@ -43,12 +43,12 @@ use Rattle.plan.specs.declared.Plan.{Plan}
 use Rattle.loops.specs.declared.Values.{Values}
 use Rattle.loops.specs.declared.Loop as loops
 use Rattle.control.specs.declared.ControlFlowTarget.the-variants.{Loop}
-use Rattle.plan.specs.Plans.{frameOf, changed, applied, openFrame, refusing, leaving, unlessTaken, brieflyIf}
+use Rattle.plan.specs.Plans.{frameOf, applied, openFrame, refusing, leaving, unlessTaken, entriesIf, scheduleIf, unscheduleIf}
 use Rattle.plan.specs.Planned.{Seen, Stands, NamedChange, Fitting, PlannedBare, Entered, nowhere, terminalStep}
-use Rattle.loops.specs.Loops.{PlannedRows, Made, plainMade, flatMade, testedValues, forValues, forOfValues, noneMade, valueMade, plainForm, flatForm}
+use Rattle.loops.specs.Loops.{Made, plainMade, flatMade, testedValues, forValues, forOfValues, noneMade, valueMade, plainForm, flatForm}
 use Rattle.loops.specs.Loops.{updateMade, testedMade, forMade, forOfMade, madeBy, valuesAt, valuesPosition, Making, valuesStep, PlannedValues, noValues, valuesOf, Makes, Spent, MakesMore, MakesTested}
-use Rattle.loops.specs.Loops.{afterValues, afterValue, schedulingLoop, enteringBody, loopTaken, continuesAt, valueFallthrough}
-use Rattle.plan.proofs.PlanLaws.{within-all, within-rest, visits-same, refuse-applied, leave-applied, leave-nested, nest-applied, values-asked, Label, label-taken, label-below, label-briefly}
+use Rattle.loops.specs.Loops.{afterValues, schedulingLoop, schedulingValue, enteringBody, loopTaken, continuesAt, valueCode, valueFallthrough}
+use Rattle.plan.proofs.PlanLaws.{within-all, within-rest, visits-same, refuse-applied, leave-applied, leave-nested, nest-applied, values-asked, off-changed, Label, label-taken, label-below, label-entries, label-if}
 use Rattle.plan.proofs.StepLaws.{label-scheduled, seen-scheduled, turn-refused, turn-ok, turn-asked}
 use Rattle.plan.proofs.PlannedLaws.{bare-planned, step-by, few-blocks, ranges, reach-same, reached-missing, Takes}
 
@@ -151,10 +151,6 @@ or-swap true false = refl
 or-swap false true = refl
 or-swap false false = refl
 
-seen-visits : {S H : Flags} {v : ℕ} {C : definition.Context} (after : ℕ) → Seen S H v C → Seen S H after (withVisits after C)
-unfolding withVisits
-seen-visits after seen = record { scheduled = seen .scheduled; handlers = seen .handlers; visits = refl; wide = seen .wide }
-
 loop-taken : (S H : Flags) (v : ℕ) (C : definition.Context) → Seen S H v C → (f l : ℕ) → loopIsTaken C l f ≡ loopTaken S H l f
 unfolding loopIsTaken
 loop-taken S H v C seen f l = ap (λ (z : Bool). z || eqb l f) (seen-scheduled S H v C seen l) ∙ or-swap (has S l || has H l) (eqb l f)
@@ -170,7 +166,7 @@ schedules : (S H : Flags) (p : Position) (f c l n : ℕ) (F : List machine.Frame
     → turn (scheduleLoop (p .block) f c l (unlessNone n) F R (p .count) C) ≡ applied (schedulingLoop (loopTaken S H l f) p (blocksOf f n c l)) F R C
 unfolding scheduleLoop
 schedules S H p f c l n F R C seen d h =
-    turn-asked (schedule (target-loop f c l) C) (looping (bodyUnless (loopIsTaken C l f) l) (machine.frameOf (p .block) (unlessNone n) 1 R (p .count)) F R)
+    turn-asked (schedule (target-loop f c l) C) (making (bodyUnless (loopIsTaken C l f) l) (machine.frameOf (p .block) (unlessNone n) 1 R (p .count)) F R)
     ∙ rw (loop-taken S H (p .visits) C seen f l, body-is (loopTaken S H l f) l h)
     (sym (values-asked (unlessTaken (loopTaken S H l f) l) (openFrame p n 1) (p .depth + 1) (p .rows) (p .visits) (Schedule (Loop f c l)) F R C
     ∙ rw (visits-same (p .visits) C (seen .visits), d .many, within-all (p .depth + 1 - 1) F (omega (arith, d .deep)))))
@@ -343,19 +339,19 @@ module _ (t : Table) (visit : VisitValueBlock) (block : Block) (body : Option �
   unfolding _>>=_
   nothing-made = rw (out-nil R)
 
-  pub values-made : (e : Terminal) → loopAt t visit e block body fr F R C ≡ madeBy t visit e (block .span) (noneMade (C .visits)) >>= k
-  unfolding loopAt
-  values-made absent = nothing-made
-  values-made unreachable = nothing-made
-  values-made (throw value) = nothing-made
-  values-made (return value) = nothing-made
-  values-made (goto target variant) = nothing-made
-  values-made (if test consequent alternate fallthrough) = nothing-made
-  values-made (branch test consequent alternate) = nothing-made
-  values-made (switch test first number fallthrough) = nothing-made
-  values-made (do-while loop test fallthrough) = nothing-made
-  values-made (while test loop fallthrough) = sym (value-then visit plainForm test (block .span) (noneMade (C .visits)) k)
-  values-made (for init test update loop fallthrough) =
+  pub values-made : (e : Terminal) → valueCode (codeOf e) ≡ false → makeAt t visit e block body fr F R C ≡ madeBy t visit e (block .span) (noneMade (C .visits)) >>= k
+  unfolding makeAt
+  values-made absent z = nothing-made
+  values-made unreachable z = nothing-made
+  values-made (throw value) z = nothing-made
+  values-made (return value) z = nothing-made
+  values-made (goto target variant) z = nothing-made
+  values-made (if test consequent alternate fallthrough) z = nothing-made
+  values-made (branch test consequent alternate) z = nothing-made
+  values-made (switch test first number fallthrough) z = nothing-made
+  values-made (do-while loop test fallthrough) z = nothing-made
+  values-made (while test loop fallthrough) z = sym (value-then visit plainForm test (block .span) (noneMade (C .visits)) k)
+  values-made (for init test update loop fallthrough) z =
       let flat : ValueBlockResult → Value = flatForm t (block .span) in
       let start : Result Made = valueMade visit flat init (block .span) (noneMade (C .visits)) in
       sym (bind-assoc (start >>= valueMade visit plainForm test (block .span)) (updateMade visit update (block .span)) k
@@ -367,22 +363,48 @@ module _ (t : Table) (visit : VisitValueBlock) (block : Block) (body : Option �
       update-then visit update (block .span) (record { out = valueOut (flat first) ++ valueOut (tested .value); visits = tested .visits }) k
       ∙ then-same (visitUpdate visit update (block .span) (tested .visits)) _ _ (λ updated.
       rw (append-assoc (R .rows) (valueOut (flat first)) (valueOut (tested .value)), append-assoc (R .rows) (valueOut (flat first) ++ valueOut (tested .value)) (updateOut (updated .value)))))))
-  values-made (for-of init test loop fallthrough) =
+  values-made (for-of init test loop fallthrough) z =
       let flat : ValueBlockResult → Value = flatForm t (block .span) in
       sym (bind-assoc (valueMade visit flat init (block .span) (noneMade (C .visits))) (valueMade visit flat test (block .span)) k
       ∙ value-then visit flat init (block .span) (noneMade (C .visits)) (λ made. valueMade visit flat test (block .span) made >>= k)
       ∙ then-same (visit init none (block .span) (C .visits)) _ _ (λ first.
       value-then visit flat test (block .span) (record { out = valueOut (flat first); visits = first .visits }) k
       ∙ then-same (visit test none (block .span) (first .visits)) _ _ (λ tested. rw (out-assoc R (valueOut (flat first)) (valueOut (flat tested))))))
-  values-made (for-in init loop fallthrough) = sym (value-then visit (flatForm t (block .span)) init (block .span) (noneMade (C .visits)) k)
-  values-made (logical operator test fallthrough) = nothing-made
-  values-made (ternary test fallthrough) = nothing-made
-  values-made (optional chain test fallthrough) = nothing-made
-  values-made (label inner fallthrough) = nothing-made
-  values-made (sequence inner fallthrough) = nothing-made
-  values-made (maybe-throw continuation) = nothing-made
-  values-made (try inner handler fallthrough binding) = nothing-made
-  values-made (scope pruned inner fallthrough number) = nothing-made
+  values-made (for-in init loop fallthrough) z = sym (value-then visit (flatForm t (block .span)) init (block .span) (noneMade (C .visits)) k)
+  values-made (logical operator test fallthrough) z = absurd (true-false z)
+  values-made (ternary test fallthrough) z = absurd (true-false z)
+  values-made (optional chain test fallthrough) z = absurd (true-false z)
+  values-made (label inner fallthrough) z = nothing-made
+  values-made (sequence inner fallthrough) z = absurd (true-false z)
+  values-made (maybe-throw continuation) z = nothing-made
+  values-made (try inner handler fallthrough binding) z = nothing-made
+  values-made (scope pruned inner fallthrough number) z = nothing-made
+
+  -- a value statement's turn is that of its value
+  pub statement-made : (e : Terminal) → valueCode (codeOf e) ≡ true → makeAt t visit e block body fr F R C ≡ valueAt t visit e block fr F R C
+  unfolding makeAt
+  statement-made absent z = absurd (true-false (sym z))
+  statement-made unreachable z = absurd (true-false (sym z))
+  statement-made (throw value) z = absurd (true-false (sym z))
+  statement-made (return value) z = absurd (true-false (sym z))
+  statement-made (goto target variant) z = absurd (true-false (sym z))
+  statement-made (if test consequent alternate fallthrough) z = absurd (true-false (sym z))
+  statement-made (branch test consequent alternate) z = absurd (true-false (sym z))
+  statement-made (switch test first number fallthrough) z = absurd (true-false (sym z))
+  statement-made (do-while loop test fallthrough) z = absurd (true-false (sym z))
+  statement-made (while test loop fallthrough) z = absurd (true-false (sym z))
+  statement-made (for init test update loop fallthrough) z = absurd (true-false (sym z))
+  statement-made (for-of init test loop fallthrough) z = absurd (true-false (sym z))
+  statement-made (for-in init loop fallthrough) z = absurd (true-false (sym z))
+  statement-made (logical operator test fallthrough) z = refl
+  statement-made (ternary test fallthrough) z = refl
+  statement-made (optional chain test fallthrough) z = refl
+  statement-made (label inner fallthrough) z = absurd (true-false (sym z))
+  statement-made (sequence inner fallthrough) z = refl
+  statement-made (maybe-throw continuation) z = absurd (true-false (sym z))
+  statement-made (try inner handler fallthrough binding) z = absurd (true-false (sym z))
+  statement-made (scope true inner fallthrough number) z = absurd (true-false (sym z))
+  statement-made (scope false inner fallthrough number) z = absurd (true-false (sym z))
 
 -- none of these codes: no value comes before the body
 abbrev pub NoValues : ℕ → Type 0
@@ -441,7 +463,10 @@ module _ (w : List ℕ) (p : Position) (frame : Frame) (ma : Making w p frame) w
   pub values-entered : Entered w (valuesPosition p frame)
   values-entered = record { promise = ma .promise; block = ma .block; depth = omega (arith, ma .depth, ma .deep); visits = ma .visits; rows = ma .rows; count = omega arith }
 
-  module _ {b b′ : List ℕ} (r : Values) (m : Makes (valuesPosition p frame) (valuesAt w (valuesPosition p frame)) b r b′) where
+  coded : (y : Bool) → valueCode (codeAt w (frame .block)) ≡ y → valueCode (codeOf (terminalAt (tableOf w) (frame .block))) ≡ y
+  coded y e = ap valueCode (code-at w (frame .block) (ma .promise) (ma .block)) ∙ e
+
+  module _ {b b′ : List ℕ} (looped : valueCode (codeAt w (frame .block)) ≡ false) (r : Values) (m : Makes (valuesPosition p frame) (valuesAt w (valuesPosition p frame)) b r b′) where
     abbrev E : Bool → Bool → Plan
     E y z = enteringBody y z p r frame
 
@@ -452,7 +477,7 @@ module _ (w : List ℕ) (p : Position) (frame : Frame) (ma : Making w p frame) w
     unfolding on
     step-is F R C v =
         let e : 128 - p .depth ≡ 127 - (p .depth - 1) = omega (arith, ma .depth, ma .deep) in
-        values-made (tableOf w) (visitValueBlock (tableOf w) (128 - p .depth)) (blockAt (tableOf w) (frame .block)) (unlessNone (p .block)) (frameOf frame) F R C (terminalAt (tableOf w) (frame .block))
+        values-made (tableOf w) (visitValueBlock (tableOf w) (128 - p .depth)) (blockAt (tableOf w) (frame .block)) (unlessNone (p .block)) (frameOf frame) F R C (terminalAt (tableOf w) (frame .block)) (coded false looped)
         ∙ rw (e, v)
 
     body-same : (F : List machine.Frame) (out : Output) (C : definition.Context) → suc (length F) ≡ p .depth
@@ -495,17 +520,10 @@ module _ (w : List ℕ) (p : Position) (frame : Frame) (ma : Making w p frame) w
 
 -- ---- value statements
 
-value-moved : (n after : ℕ) (C : definition.Context) → withVisits after (scheduledIf (unlessNone n) C) ≡ scheduledIf (unlessNone n) (withVisits after C)
-value-moved n after C = at (unlessNone n)
-  where
-    at : (o : Option ℕ) → withVisits after (scheduledIf o C) ≡ scheduledIf o (withVisits after C)
-    at none = refl
-    at (some f) = unfold withVisits pushed in refl
-
 -- a terminal with such a fallthrough: its turn, and the fallthrough's range
 pub record ValueTerminal (e : Terminal) (f : ℕ) : Type 0 where
   pub turns : (t : Table) (visit : VisitValueBlock) (at : ℕ) (block : Block) (F : List machine.Frame) (R : Output) (count : ℕ) (C : definition.Context)
-      → terminalTurn nowhere t visit e at block F R count C ≡ valueTurn t visit e at block f F R count C
+      → terminalTurn nowhere t visit e at block F R count C ≡ scheduleValue at f F R count C
   pub below : (blocks places cases : ℕ) → InRange blocks places cases e → f < blocks
 
 value-terminal : (e : Terminal) (f : ℕ) → valueFallthrough e ≡ some f → ValueTerminal e f
@@ -525,64 +543,98 @@ value-terminal (for-of init test loop fallthrough) f q = absurd (no-some q)
 value-terminal (for-in init loop fallthrough) f q = absurd (no-some q)
 value-terminal (logical operator test fallthrough) f q =
     record {
-      turns = λ t visit at block F R count C. ap (λ (z : ℕ). valueTurn t visit (logical operator test fallthrough) at block z F R count C) (some-same q);
+      turns = λ t visit at block F R count C. ap (λ (z : ℕ). scheduleValue at z F R count C) (some-same q);
       below = λ blocks places cases r. omega (arith, some-same q, r .2);
     }
 value-terminal (ternary test fallthrough) f q =
     record {
-      turns = λ t visit at block F R count C. ap (λ (z : ℕ). valueTurn t visit (ternary test fallthrough) at block z F R count C) (some-same q);
+      turns = λ t visit at block F R count C. ap (λ (z : ℕ). scheduleValue at z F R count C) (some-same q);
       below = λ blocks places cases r. omega (arith, some-same q, r .1);
     }
 value-terminal (optional chain test fallthrough) f q =
     record {
-      turns = λ t visit at block F R count C. ap (λ (z : ℕ). valueTurn t visit (optional chain test fallthrough) at block z F R count C) (some-same q);
+      turns = λ t visit at block F R count C. ap (λ (z : ℕ). scheduleValue at z F R count C) (some-same q);
       below = λ blocks places cases r. omega (arith, some-same q, r .2);
     }
 value-terminal (label body fallthrough) f q = absurd (no-some q)
 value-terminal (sequence body fallthrough) f q =
     record {
-      turns = λ t visit at block F R count C. ap (λ (z : ℕ). valueTurn t visit (sequence body fallthrough) at block z F R count C) (some-same q);
+      turns = λ t visit at block F R count C. ap (λ (z : ℕ). scheduleValue at z F R count C) (some-same q);
       below = λ blocks places cases r. omega (arith, some-same q, r .1);
     }
 value-terminal (maybe-throw continuation) f q = absurd (no-some q)
 value-terminal (try body handler fallthrough binding) f q = absurd (no-some q)
 value-terminal (scope pruned body fallthrough number) f q = absurd (no-some q)
 
-module _ (w : List ℕ) (S H : Flags) (p : Position) (en : Entered w p) (f : ℕ) (q : valueFallthrough (terminalAt (tableOf w) (p .block)) ≡ some f) where
-  pub fallthrough-below : f < blockCount w
-  fallthrough-below = value-terminal (terminalAt (tableOf w) (p .block)) f q .below (blockCount w) (placeCount w) (caseCount w) (in-range w (en .promise) (p .block) (en .block))
+module _ {w : List ℕ} {p : Position} (en : Entered w p) {f : ℕ} (q : valueFallthrough (terminalAt (tableOf w) (p .block)) ≡ some f) where
+  pub fallthrough-few : f < 1024
+  fallthrough-few =
+      few-blocks w (en .promise) f
+      (value-terminal (terminalAt (tableOf w) (p .block)) f q .below (blockCount w) (placeCount w) (caseCount w) (in-range w (en .promise) (p .block) (en .block)))
 
+  pub value-scheduled : {S H : Flags} {plan : Plan} → plan ≡ schedulingValue p (unlessTaken (has S f || has H f) f) → PlannedBare w S H p plan
+  value-scheduled {S} {H} {plan} e = subst (λ (z : Plan). PlannedBare w S H p z) (sym e)
+      (bare-planned w S H p (schedulingValue p n) (λ _. refl) same (λ _. record {
+        change = named (eqb n 65535) refl;
+        handler = rw no-number tt;
+        scope = rw no-number tt;
+        deep = λ _. omega arith;
+        next = omega arith;
+        nested = refl;
+      }))
+    where
+      n : ℕ
+      n = unlessTaken (has S f || has H f) f
+
+      free : Label S n
+      free = label-taken S H false f fallthrough-few
+
+      named : (y : Bool) → eqb n 65535 ≡ y → NamedChange 0 (scheduleIf y n)
+      named true g = tt
+      named false g = label-below free g
+
+      same : (F : List machine.Frame) (R : Output) (C : definition.Context) → Stands F R (p .depth) (p .rows) → Seen S H (p .visits) C → turn (terminalStep w p F R C) ≡ applied (schedulingValue p n) F R C
+      same F R C d seen =
+          ap turn (value-terminal (terminalAt (tableOf w) (p .block)) f q .turns (tableOf w) (visitValueBlock (tableOf w) (127 - p .depth)) (p .block) (blockAt (tableOf w) (p .block)) F R (p .count) C)
+          ∙ unfold scheduleValue in (turn-ok _ ∙ rw (label-scheduled w (en .promise) S H (p .visits) C seen f fallthrough-few)
+          (sym (values-asked 65535 (openFrame p n (entriesIf (eqb n 65535))) (p .depth + 1) (p .rows) (p .visits) (scheduleIf (eqb n 65535) n) F R C
+          ∙ rw (visits-same (p .visits) C (seen .visits), label-if free C (seen .scheduled), no-number, label-entries n, d .many, within-all (p .depth + 1 - 1) F (omega (arith, d .deep))))))
+
+-- its value is made
+
+module _ (w : List ℕ) (p : Position) (frame : Frame) (ma : Making w p frame) (is : valueCode (codeAt w (frame .block)) ≡ true) where
   abbrev outcome : Result ValueTerminalResult
   outcome =
-      visitValueBlockTerminal (tableOf w) (visitValueBlock (tableOf w) (127 - p .depth)) (terminalAt (tableOf w) (p .block))
-      (blockAt (tableOf w) (p .block) .id) (blockAt (tableOf w) (p .block) .span) (p .visits) (p .block)
+      visitValueBlockTerminal (tableOf w) (visitValueBlock (tableOf w) (128 - p .depth)) (terminalAt (tableOf w) (frame .block))
+      (blockAt (tableOf w) (frame .block) .id) (blockAt (tableOf w) (frame .block) .span) (p .visits) (frame .block)
 
   -- the statement, once its value is made
   left : List machine.Frame → Output → definition.Context → ValueTerminalResult → Result State
-  left F R C result = ok (leave (unlessScheduled C f) F ((R ⊕ valueOut (result .value)) ⊕ (instrRow (result .id) (result .place) (blockAt (tableOf w) (p .block) .span) ∷ [])) (suc (p .count))
-      (unscheduledIf (unlessScheduled C f) (withVisits (result .visits) (scheduledIf (unlessScheduled C f) C))))
+  left F R C result =
+      ok (leave (unlessNone (frame .label)) F ((R ⊕ valueOut (result .value)) ⊕ (instrRow (result .id) (result .place) (blockAt (tableOf w) (frame .block) .span) ∷ [])) (suc (frame .count))
+      (unscheduledOf (frame .entries) (withVisits (result .visits) C)))
 
-  value-step : (F : List machine.Frame) (R : Output) (C : definition.Context) → Seen S H (p .visits) C → terminalStep w p F R C ≡ outcome >>= left F R C
-  unfolding valueTurn left
-  value-step F R C seen =
-      value-terminal (terminalAt (tableOf w) (p .block)) f q .turns (tableOf w) (visitValueBlock (tableOf w) (127 - p .depth)) (p .block)
-      (blockAt (tableOf w) (p .block)) F R (p .count) C ∙ rw (seen .visits)
+  value-step : (F : List machine.Frame) (R : Output) (C : definition.Context) → C .visits ≡ p .visits → valuesStep w p frame F R C ≡ outcome >>= left F R C
+  unfolding valueAt left
+  value-step F R C v =
+      statement-made (tableOf w) (visitValueBlock (tableOf w) (128 - p .depth)) (blockAt (tableOf w) (frame .block)) (unlessNone (p .block)) (frameOf frame) F R C (terminalAt (tableOf w) (frame .block))
+      (coded w p frame ma true is) ∙ rw v
 
   module _ {m : ℕ} {b b₁ : List ℕ} {r : ValueResult} (v : Met w terminalResult outcome (record { rows = p .rows; visits = p .visits }) m b r b₁) where
-    pub value-statement-refused : (plan : Plan) (b′ : List ℕ) → (r .code ≡ 0 → ⊥) → plan ≡ refusing (afterValue p (valuesOf r)) (r .code) (r .at) → PlannedRows w S H p b plan b′
-    value-statement-refused plan b′ z o = subst (λ (y : Plan). PlannedRows w S H p b y b′) (sym o) (record {
+    pub value-statement-refused : (plan : Plan) (b′ : List ℕ) → (r .code ≡ 0 → ⊥) → plan ≡ refusing (afterValues p (valuesOf r)) (r .code) (r .at) → PlannedValues w p frame b plan b′
+    value-statement-refused plan b′ z o = subst (λ (y : Plan). PlannedValues w p frame b y b′) (sym o) (record {
       out = [];
       held = λ e. absurd (z e);
       same =
           λ F R C d seen. ap turn (value-step F R C seen ∙ then-off (left F R C) v z) ∙ turn-refused (r .code) (r .at) (r .tally .visits) ∙ sym
-          (refuse-applied (afterValue p (valuesOf r)) (r .code) (r .at) F (R ⊕ []) C z);
+          (refuse-applied (afterValues p (valuesOf r)) (r .code) (r .at) (frameOf frame ∷ F) (R ⊕ []) C z);
       fitting = λ e. absurd (z e);
     })
 
-    pub value-statement-left : (n rows : ℕ) (plan : Plan) (b′ : List ℕ) → r .code ≡ 0 → n ≡ unlessTaken (has S f || has H f) f
-        → Written b₁ (r .tally .rows) (instrRow (r .id) (r .place) (blockAt (tableOf w) (p .block) .span)) b′ rows
-        → plan ≡ leaving n (p .depth) (p .count + 1) rows (r .tally .visits) (brieflyIf (eqb n 65535) n) → PlannedRows w S H p b plan b′
-    value-statement-left n rows plan b′ z o put e = subst (λ (y : Plan). PlannedRows w S H p b y b′) (sym e) (record {
+    pub value-statement-left : (rows : ℕ) (plan : Plan) (b′ : List ℕ) → r .code ≡ 0
+        → Written b₁ (r .tally .rows) (instrRow (r .id) (r .place) (blockAt (tableOf w) (frame .block) .span)) b′ rows
+        → plan ≡ leaving (frame .label) (p .depth - 1) (frame .count + 1) rows (r .tally .visits) (unscheduleIf (eqb (frame .entries) 0)) → PlannedValues w p frame b plan b′
+    value-statement-left rows plan b′ z put e = subst (λ (y : Plan). PlannedValues w p frame b y b′) (sym e) (record {
       out = valueOut (v .value) ++ (last ∷ []);
       held =
           λ _ R h. rw (
@@ -593,33 +645,29 @@ module _ (w : List ℕ) (S H : Flags) (p : Position) (en : Entered w p) (f : ℕ
       same = same;
       fitting =
           λ _. record {
-            change = named (eqb n 65535) refl;
+            change = off (frame .entries) refl;
             handler = rw no-number tt;
             scope = rw no-number tt;
             deep = λ y. absurd (let o : _≡_ {A = ℕ} 0 1 = cc in omega arith);
             next = omega arith;
-            nested = leave-nested (eqb n 65535);
+            nested = leave-nested (eqb (frame .label) 65535);
           };
     })
       where
         last : Row
-        last = instrRow (r .id) (r .place) (blockAt (tableOf w) (p .block) .span)
+        last = instrRow (r .id) (r .place) (blockAt (tableOf w) (frame .block) .span)
 
-        free : Label S n
-        free = rw o (label-taken S H false f (few-blocks w (en .promise) f fallthrough-below))
+        off : (n : ℕ) → frame .entries ≡ n → NamedChange (frame .entries) (unscheduleIf (eqb n 0))
+        off zero g = tt
+        off (suc n) g = rw (ne-eqb (suc n) 0 (λ y. omega (arith, y))) (omega (arith, g))
 
-        named : (y : Bool) → eqb n 65535 ≡ y → NamedChange 0 (brieflyIf y n)
-        named true g = tt
-        named false g = label-below free g
-
-        same : (F : List machine.Frame) (R : Output) (C : definition.Context) → Stands F R (p .depth) (p .rows) → Seen S H (p .visits) C
-            → turn (terminalStep w p F R C) ≡ applied (leaving n (p .depth) (p .count + 1) rows (r .tally .visits) (brieflyIf (eqb n 65535) n)) F (R ⊕ (valueOut (v .value) ++ (last ∷ []))) C
+        same : (F : List machine.Frame) (R : Output) (C : definition.Context) → Stands (frameOf frame ∷ F) R (p .depth) (p .rows) → C .visits ≡ p .visits
+            → turn (valuesStep w p frame F R C)
+            ≡ applied (leaving (frame .label) (p .depth - 1) (frame .count + 1) rows (r .tally .visits) (unscheduleIf (eqb (frame .entries) 0))) (frameOf frame ∷ F)
+            (R ⊕ (valueOut (v .value) ++ (last ∷ []))) C
         same F R C d seen =
             ap turn (value-step F R C seen ∙ then-on (left F R C) v z) ∙ unfold left in (turn-ok _
-            ∙ rw (
-              label-scheduled w (en .promise) S H (p .visits) C seen f (few-blocks w (en .promise) f fallthrough-below) ∙ ap unlessNone (sym o),
-              value-moved n (r .tally .visits) C,
-              out-assoc R (valueOut (v .value)) (last ∷ []),
-            )
-            (sym (leave-applied n (p .depth) (p .count + 1) rows (r .tally .visits) (brieflyIf (eqb n 65535) n) F (R ⊕ (valueOut (v .value) ++ (last ∷ []))) C _
-            (label-briefly free (withVisits (r .tally .visits) C) (seen-visits (r .tally .visits) seen .scheduled)) ∙ rw (within-all (p .depth) F (d .deep), add-one))))
+            ∙ rw (out-assoc R (valueOut (v .value)) (last ∷ []))
+            (sym (leave-applied (frame .label) (p .depth - 1) (frame .count + 1) rows (r .tally .visits) (unscheduleIf (eqb (frame .entries) 0)) (frameOf frame ∷ F)
+            (R ⊕ (valueOut (v .value) ++ (last ∷ []))) C _
+            (off-changed (frame .entries) (withVisits (r .tally .visits) C)) ∙ rw (within-rest (p .depth) (frameOf frame) F (d .deep), add-one))))

@@ -12,7 +12,7 @@ use Rattle.table.specs.Table.{Table, Terminal, absent, unreachable, throw, retu
 use Rattle.table.specs.Table.{ternary, optional, label, sequence, maybe-throw, try, scope, tableOf, terminalAt, blockAt, unlessNone}
 use Rattle.definition.specs.Context.{Flags, has}
 use Rattle.definition.specs.Context as definition
-use Rattle.definition.specs.Machine.{Output, State, loopAt, valueOut}
+use Rattle.definition.specs.Machine.{Output, State, makeAt, valueOut}
 use Rattle.definition.specs.Machine as machine
 use Rattle.definition.specs.Result.{Result, ok, refused, _>>=_}
 use Rattle.definition.specs.Tree.{Row, Value}
@@ -29,12 +29,8 @@ use Rattle.plan.specs.declared.Change.the-variants.{Nothing, Schedule}
 use Rattle.plan.specs.declared.Plan.{Plan}
 use Rattle.loops.specs.declared.Values.{Values}
 use Rattle.loops.specs.declared.Loop as loops
-use Rattle.plan.specs.Plans.{frameOf, advanced, openFrame, refusing, nesting, loopingNext, unlessTaken}
-use Rattle.plan.specs.Planned.{Seen, Planned, SameVisits, terminalStep}
-
--- a planner that puts out rows
-abbrev pub PlannedRows : List ℕ → Flags → Flags → Position → (buffer : List ℕ) → Plan → (buffer′ : List ℕ) → Type 0
-PlannedRows words scheduledSet handlerSet p buffer plan buffer′ = Planned (terminalStep words p) (Seen scheduledSet handlerSet (p .visits)) [] (p .depth) (p .rows) buffer plan buffer′
+use Rattle.plan.specs.Plans.{frameOf, advanced, openFrame, refusing, nesting, makingNext, entriesIf, scheduleIf, unlessTaken}
+use Rattle.plan.specs.Planned.{Planned, SameVisits}
 
 -- ---- values
 
@@ -124,7 +120,7 @@ pub record MakesTested (words : List ℕ) (p : Position) (init test : ℕ) (buff
   pub made : Makes p (testedValues words p init test) buffer values buffer′
   pub spent : Spent (noValues p) 6 values
 
--- ---- a loop that is scheduled
+-- ---- a statement that is scheduled
 
 -- the values that come before its body
 abbrev pub madeBy : Table → VisitValueBlock → Terminal → (span : Span) → Made → Result Made
@@ -165,10 +161,11 @@ pub record Making (words : List ℕ) (p : Position) (frame : Frame) : Type 0 whe
   pub deep : p .depth ≤ 128
   pub visits : p .visits ≤ 8192
   pub rows : p .rows ≤ 100000000
+  pub count : frame .count ≤ p .rows
 
 abbrev pub valuesStep : List ℕ → Position → Frame → List machine.Frame → Output → definition.Context → Result State
 valuesStep words p frame frames before cx =
-    loopAt (tableOf words) (visitValueBlock (tableOf words) (128 - p .depth)) (terminalAt (tableOf words) (frame .block)) (blockAt (tableOf words) (frame .block)) (unlessNone (p .block))
+    makeAt (tableOf words) (visitValueBlock (tableOf words) (128 - p .depth)) (terminalAt (tableOf words) (frame .block)) (blockAt (tableOf words) (frame .block)) (unlessNone (p .block))
     (frameOf frame) frames before cx
 
 abbrev pub PlannedValues : List ℕ → Position → Frame → List ℕ → Plan → List ℕ → Type 0
@@ -181,7 +178,7 @@ loopTarget fallthrough continueBlock loopBlock = Loop fallthrough continueBlock 
 
 abbrev pub schedulingLoop : (taken : Bool) → Position → loops.Loop → Plan
 schedulingLoop taken p blocks =
-    loopingNext (unlessTaken taken (blocks .«loop_block»)) (openFrame p (blocks .label) 1) (p .depth + 1) (p .rows) (p .visits)
+    makingNext (unlessTaken taken (blocks .«loop_block»)) (openFrame p (blocks .label) 1) (p .depth + 1) (p .rows) (p .visits)
     (Schedule (loopTarget (blocks .fallthrough) (blocks .«continue_block») (blocks .«loop_block»)))
 
 abbrev pub afterValues : Position → Values → Position
@@ -192,9 +189,9 @@ enteringBody false taken p values frame = refusing (afterValues p values) (value
 enteringBody true true p values frame = refusing (afterValues p values) 16 (frame .block)
 enteringBody true false p values frame = nesting (p .block) frame (p .depth) (values .rows) (values .visits) 65535 65535 Nothing
 
--- where a value statement's value is refused
-abbrev pub afterValue : Position → Values → Position
-afterValue p values = advanced p (p .count) (values .rows) (values .visits) Visit
+-- a value statement, with that label
+abbrev pub schedulingValue : Position → (label : ℕ) → Plan
+schedulingValue p taken = makingNext 65535 (openFrame p taken (entriesIf (eqb taken 65535))) (p .depth + 1) (p .rows) (p .visits) (scheduleIf (eqb taken 65535) taken)
 
 -- a loop block is the loop's fallthrough, or is scheduled
 abbrev pub loopTaken : Flags → Flags → (loop fallthrough : ℕ) → Bool
@@ -205,6 +202,10 @@ continuesAt true test update = test
 continuesAt false test update = update
 
 -- ---- value terminals as statements
+
+-- Logical, Ternary, Optional or Sequence
+abbrev pub valueCode : (code : ℕ) → Bool
+valueCode code = eqb code 13 || (eqb code 14 || (eqb code 15 || eqb code 17))
 
 -- the fallthrough of a Logical, Ternary, Optional or Sequence
 abbrev pub valueFallthrough : Terminal → Option ℕ

@@ -1,4 +1,4 @@
-// Loops: they are scheduled, then their values are made, then comes their body. And value terminals as statements.
+// Loops and value terminals as statements: they are scheduled, and then their values are made.
 use control::ControlFlowTarget;
 use plan::Change;
 use plan::Frame;
@@ -7,10 +7,13 @@ use plan::Plan;
 use plan::Position;
 use plan::Stage;
 use plan::advance;
+use plan::fallthrough::entries_of;
 use plan::fallthrough::narrow;
+use plan::fallthrough::schedule_if;
 use plan::fallthrough::scheduled_at;
 use plan::fallthrough::unless_scheduled;
 use plan::fallthrough::unless_unreachable;
+use plan::fallthrough::unschedule_if;
 use plan::frame_of;
 use plan::leave;
 use plan::make_values;
@@ -31,15 +34,15 @@ use value::sequence::value_block_result_to_sequence;
 use value_walk::walk::visit_value_block;
 use value_walk::walk::visit_value_block_terminal;
 ghost use mathlib.Core.Path.{_≡_};
-ghost use mathlib.Core.Option.{some};
+ghost use mathlib.Core.Bool.{true, _||_};
 ghost use Prim.Native.Nat.{_-_, _≤_, _<_};
 ghost use lib.Dec.{eqb};
 ghost use Rattle.table.specs.Words.{blockCount, codeAt};
-ghost use Rattle.table.specs.Table.{tableOf, terminalAt, unlessNone};
 ghost use Rattle.definition.specs.Value.{visitValueBlock};
 ghost use Rattle.plan.specs.Planned.{Entered, PlannedBare};
-ghost use Rattle.plan.specs.Plans.{brieflyIf, unlessTaken};
-ghost use Rattle.loops.specs.Loops.{PlannedRows, PlannedValues, Making, valuesPosition, valuesAt, plainMade, flatMade, forValues, forOfValues, noValues, valuesOf, Makes, Spent, MakesMore, MakesTested, loopTarget, schedulingLoop, enteringBody, loopTaken, continuesAt, valueFallthrough};
+ghost use Rattle.definition.specs.Context.{has};
+ghost use Rattle.plan.specs.Plans.{unlessTaken};
+ghost use Rattle.loops.specs.Loops.{PlannedValues, Making, valuesPosition, valuesAt, plainMade, flatMade, forValues, forOfValues, noValues, valuesOf, Makes, Spent, MakesMore, MakesTested, loopTarget, schedulingLoop, schedulingValue, enteringBody, loopTaken, continuesAt, valueCode};
 
 // What a loop's values came to: a refusal, or the rows and visits then.
 pub struct Values {
@@ -411,59 +414,44 @@ fn enter_body(p: Position, values: Values, frame: Frame) -> Plan
     )
 }
 
-// The turn of a loop that is scheduled.
-pub fn visit_values(words: &[u32], tree: &mut [u32], p: Position, frame: Frame) -> Plan
-    requires { ⌜ Making (now words) p frame ⌝ }
-    ensures { λ r. ⌜ PlannedValues (now (words .entry)) p frame (now (tree .entry)) r (now (tree .exit)) ⌝ }
-{
-    let depth = p.depth - 1;
-    let q = Position {
-        block: frame.block,
-        depth: depth,
-        count: 0,
-        rows: p.rows,
-        visits: p.visits,
-        stage: Stage::Visit,
-    };
-    let values = loop_values(words, tree, q);
-    enter_body(p, values, frame)
-}
-
-fn schedule_briefly(label: u32) -> Change
-    requires { ⌜ label ≤ 65535 ⌝ }
-    ensures { λ r. ⌜ r ≡ brieflyIf (eqb label 65535) label ⌝ }
-{
-    if label == NONE {
-        return Change::Nothing;
-    }
-    Change::ScheduleBriefly(ControlFlowTarget::If {
-        block: narrow(label),
-    })
-}
-
-// A Logical, Ternary, Optional or Sequence with that fallthrough, as a statement: an INSTR with the terminal's own span.
-pub fn visit_value<'a>(
-    words: &[u32],
-    tree: &mut [u32],
+// A Logical, Ternary, Optional or Sequence with that fallthrough, as a statement: scheduled like an If, if that is taken.
+pub fn schedule_value<'a>(
     scheduled: &'a [bool; 1024],
     catch_handlers: &'a [bool; 1024],
     p: Position,
     fallthrough: u32,
 ) -> Plan
-    requires { ⌜ Entered (now words) p ⌝ }
-    requires { ⌜ valueFallthrough (terminalAt (tableOf (now words)) (p .block)) ≡ some fallthrough ⌝ }
-    ensures { λ r. ⌜ PlannedRows (now (words .entry)) (now (scheduled .entry)) (now («catch_handlers» .entry)) p (now (tree .entry)) r (now (tree .exit)) ⌝ }
+    requires { ⌜ p .depth < 128 ⌝ }
+    requires { ⌜ fallthrough < 1024 ⌝ }
+    ensures { λ r. ⌜ r ≡ schedulingValue p (unlessTaken (has (now (scheduled .entry)) fallthrough || has (now («catch_handlers» .entry)) fallthrough) fallthrough) ⌝ }
 {
     let label = unless_scheduled(scheduled, catch_handlers, fallthrough);
-    let span = span_at(words, p.block);
+    let frame = frame_of(p, label, entries_of(label));
+    make_values(
+        NONE,
+        frame,
+        p.depth + 1,
+        p.rows,
+        p.visits,
+        schedule_if(label),
+    )
+}
+
+// Its value: an INSTR with the terminal's own span, with which the statement is complete.
+fn make_statement(words: &[u32], tree: &mut [u32], p: Position, frame: Frame) -> Plan
+    requires { ⌜ Making (now words) p frame ⌝ }
+    requires { ⌜ valueCode (codeAt (now words) (frame .block)) ≡ true ⌝ }
+    ensures { λ r. ⌜ PlannedValues (now (words .entry)) p frame (now (tree .entry)) r (now (tree .exit)) ⌝ }
+{
+    let span = span_at(words, frame.block);
     let tally = Tally {
         rows: p.rows,
         visits: p.visits,
     };
-    let result = visit_value_block_terminal(words, tree, tally, 127 - p.depth, p.block);
+    let result = visit_value_block_terminal(words, tree, tally, 128 - p.depth, frame.block);
     let after = result.tally;
     if result.code != 0 {
-        let position = advance(p, p.count, after.rows, after.visits, Stage::Visit);
+        let position = advance(p, p.count, after.rows, after.visits, Stage::Values);
         return refuse(position, result.code, result.at);
     }
     let rows = put(
@@ -477,11 +465,51 @@ pub fn visit_value<'a>(
         0,
     );
     leave(
-        label,
-        p.depth,
-        p.count + 1,
+        frame.label,
+        p.depth - 1,
+        frame.count + 1,
         rows,
         after.visits,
-        schedule_briefly(label),
+        unschedule_if(frame.entries),
     )
+}
+
+// Logical, Ternary, Optional or Sequence.
+fn is_value(code: u32) -> bool
+    ensures { λ r. ⌜ r ≡ valueCode code ⌝ }
+{
+    if code == 13 {
+        return true;
+    }
+    if code == 14 {
+        return true;
+    }
+    if code == 15 {
+        return true;
+    }
+    if code == 17 {
+        return true;
+    }
+    false
+}
+
+// The turn of a statement that is scheduled.
+pub fn visit_values(words: &[u32], tree: &mut [u32], p: Position, frame: Frame) -> Plan
+    requires { ⌜ Making (now words) p frame ⌝ }
+    ensures { λ r. ⌜ PlannedValues (now (words .entry)) p frame (now (tree .entry)) r (now (tree .exit)) ⌝ }
+{
+    if is_value(code_at(words, frame.block)) {
+        return make_statement(words, tree, p, frame);
+    }
+    let depth = p.depth - 1;
+    let q = Position {
+        block: frame.block,
+        depth: depth,
+        count: 0,
+        rows: p.rows,
+        visits: p.visits,
+        stage: Stage::Visit,
+    };
+    let values = loop_values(words, tree, q);
+    enter_body(p, values, frame)
 }

@@ -9,9 +9,9 @@ use Rattle.table.specs.Table.{unlessNone}
 use Rattle.definition.specs.Build.{accepted, rejected}
 use Rattle.definition.specs.Context.{schedule, scheduleCatchHandler, markScopeFallthrough, withVisits}
 use Rattle.definition.specs.Context as definition
-use Rattle.definition.specs.Machine.{Output, State, visiting, ended, choosing, popping, looping, Turn, going, halt, unscheduled}
+use Rattle.definition.specs.Machine.{Output, State, visiting, ended, choosing, popping, making, Turn, going, halt, unscheduled}
 use Rattle.definition.specs.Machine as machine
-use Rattle.definition.specs.Result.{Result, ok, refused, _>>=_}
+use Rattle.definition.specs.Result.{Result, ok, refused}
 use Rattle.definition.specs.Index as index
 use Rattle.control.specs.declared.ControlFlowTarget.the-variants.{If, Switch}
 use Rattle.control.specs.Abstraction.{targetOf}
@@ -20,7 +20,7 @@ use Rattle.plan.specs.declared.Stage.the-variants.{Visit, Ended, Choose,
 use Rattle.plan.specs.declared.Position.{Position}
 use Rattle.plan.specs.declared.Frame.{Frame}
 use Rattle.plan.specs.declared.Change.{Change}
-use Rattle.plan.specs.declared.Change.the-variants.{Nothing, Schedule, ScheduleBriefly, Unschedule}
+use Rattle.plan.specs.declared.Change.the-variants.{Nothing, Schedule, Unschedule}
 use Rattle.plan.specs.declared.Line.{Line}
 use Rattle.plan.specs.declared.Line.the-variants as line
 use Rattle.plan.specs.declared.Plan.{Plan}
@@ -47,7 +47,7 @@ stateAt Choose block (frame ∷ frames) out count cx = choosing frame frames out
 stateAt Pop block [] out count cx = ended [] out count cx
 stateAt Pop block (frame ∷ frames) out count cx = popping frame frames out cx
 stateAt Values block [] out count cx = ended [] out count cx
-stateAt Values block (frame ∷ frames) out count cx = looping (unlessNone block) frame frames out cx
+stateAt Values block (frame ∷ frames) out count cx = making (unlessNone block) frame frames out cx
 stateAt Halt block frames out count cx = ended frames out count cx
 
 -- ---- what the driver does with a plan
@@ -56,7 +56,6 @@ stateAt Halt block frames out count cx = ended frames out count cx
 abbrev pub changed : Change → definition.Context → Result definition.Context
 changed Nothing cx = ok cx
 changed (Schedule target) cx = schedule (targetOf target) cx
-changed (ScheduleBriefly target) cx = schedule (targetOf target) cx >>= λ inside. ok (unscheduled inside)
 changed Unschedule cx = ok (unscheduled cx)
 
 abbrev pub handled : Option ℕ → definition.Context → definition.Context
@@ -181,8 +180,8 @@ poppingNext frame depth rows visits = record {
   line = line.Nothing;
 }
 
-abbrev pub loopingNext : (body : ℕ) → Frame → (depth rows visits : ℕ) → Change → Plan
-loopingNext body frame depth rows visits change = record {
+abbrev pub makingNext : (body : ℕ) → Frame → (depth rows visits : ℕ) → Change → Plan
+makingNext body frame depth rows visits change = record {
   code = 0;
   at = 0;
   position = record { block = body; depth = depth; count = 0; rows = rows; visits = visits; stage = Values };
@@ -235,10 +234,10 @@ abbrev pub scheduleSwitch : Bool → ℕ → Change
 scheduleSwitch true taken = Nothing
 scheduleSwitch false taken = Schedule (Switch taken)
 
--- a value statement pushes an entry and pops it
-abbrev pub brieflyIf : (unlabeled : Bool) → (label : ℕ) → Change
-brieflyIf true taken = Nothing
-brieflyIf false taken = ScheduleBriefly (If taken)
+-- a statement's entry comes off, if it has one
+abbrev pub unscheduleIf : (none : Bool) → Change
+unscheduleIf true = Nothing
+unscheduleIf false = Unschedule
 
 -- a block is scheduled, or will be once the label is
 abbrev pub scheduledWith : (busy : Bool) → (label block : ℕ) → Bool

@@ -4,13 +4,13 @@ pub mod fallthrough;
 use control::ControlFlowTarget;
 ghost use mathlib.Core.Path.{_≡_};
 ghost use lib.Dec.{eqb};
-ghost use Rattle.plan.specs.Plans.{advanced, noFrame, openFrame, second, withCounts, refusing, stageAfter, leaving, nesting, choosingNext, poppingNext, loopingNext, accepting, withHandler, withScope, withLine};
+ghost use Rattle.plan.specs.Plans.{advanced, noFrame, openFrame, second, withCounts, refusing, stageAfter, leaving, nesting, choosingNext, poppingNext, makingNext, accepting, withHandler, withScope, withLine};
 
 // No block: paper 01's 65,535.
 pub const NONE: u32 = 65535;
 
 // What the next turn does: visit a block, resume the statement whose list has ended, take a Switch's next case, take an entry off the stack, or make the
-// values of a loop that is scheduled.
+// values of a statement that is scheduled.
 pub enum Stage {
     Visit,
     Ended,
@@ -44,11 +44,10 @@ pub struct Frame {
     pub second: bool,
 }
 
-// What a turn does to the stack. A value statement's entry is pushed and popped in one turn: no visit of its value looks at the stack.
+// What a turn does to the stack.
 pub enum Change {
     Nothing,
     Schedule(ControlFlowTarget),
-    ScheduleBriefly(ControlFlowTarget),
     Unschedule,
 }
 
@@ -280,7 +279,7 @@ pub fn pop(frame: Frame, depth: u32, rows: u32, visits: u32) -> Plan
     }
 }
 
-// A loop is scheduled: its values are made next, and then comes its body, of the frame, which is the innermost at that depth.
+// A statement is scheduled: its values are made next, a loop's before its body, of the frame, which is the innermost at that depth.
 pub fn make_values(
     body: u32,
     frame: Frame,
@@ -289,7 +288,7 @@ pub fn make_values(
     visits: u32,
     change: Change,
 ) -> Plan
-    ensures { λ r. ⌜ r ≡ loopingNext body frame depth rows visits change ⌝ }
+    ensures { λ r. ⌜ r ≡ makingNext body frame depth rows visits change ⌝ }
 {
     let position = Position {
         block: body,

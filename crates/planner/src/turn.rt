@@ -1,4 +1,4 @@
-// A turn of the walk: the visit of a block, the end of a nested list, a Switch's next case, an entry that comes off the stack, or a loop's values.
+// A turn of the walk: the visit of a block, the end of a nested list, a Switch's next case, an entry that comes off the stack, or a statement's values.
 use crate::visit::visit_block;
 use loops::visit_values;
 use plan::Frame;

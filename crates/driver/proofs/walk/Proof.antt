@@ -9,7 +9,7 @@ use borrow.Author.Needs.{needs}
 use Rattle.control.specs.Abstraction.{contextOf, resolvedOf}
 use Rattle.plan.specs.declared.Plan.{Plan}
 use Rattle.plan.specs.declared.Change.{Change}
-use Rattle.plan.specs.declared.Change.the-variants.{Schedule, ScheduleBriefly, Unschedule}
+use Rattle.plan.specs.declared.Change.the-variants.{Schedule, Unschedule}
 use Rattle.table.specs.Words.{blockCount}
 use Rattle.table.specs.Table.{tableOf}
 use Rattle.definition.specs.Around.{Rule}
@@ -20,10 +20,8 @@ use Rattle.definition.specs.Build.{report}
 use Rattle.jumps.specs.Search.{foundBy, goalBy}
 use Rattle.driver.specs.Driver.{visitedBlock, planEnds, blockedBy, Reported}
 use Rattle.driver.proofs.ApplyLaws.{marks-as, withMarks, Whole, Changeable, Changed, Blocked, Applicable, Applied, nothing-changed, schedule-changed}
-use Rattle.driver.proofs.ApplyLaws.{schedule-blocked, unschedule-changed, briefly-changed, briefly-blocked, changeable-marked}
-use Rattle.driver.proofs.ApplyLaws.{last-stored, whole-marked, plan-applied, last-entry}
+use Rattle.driver.proofs.ApplyLaws.{schedule-blocked, unschedule-changed, changeable-marked, whole-marked, plan-applied, last-entry}
 use Rattle.control.specs.Abstraction as control
-use Rattle.control.specs.Contract.{Last, Unscheduled}
 use Rattle.control.specs.declared.Context.{Context}
 use Rattle.plan.specs.declared.Position.{Position}
 use Rattle.plan.specs.declared.Frame.{Frame}
@@ -574,36 +572,6 @@ module _ (c : tie.Else7 Inv-loop2 μ-loop2 Inv-loop3 μ-loop3 Inv-loop μ-loop) 
   by-schedule =
       schedule-changed _ _ _ (begun-by .schedule .ensures) (whole (slotted begun-by)) (c .if7 .left) (schedulable begun-by .1 .len)
 
-module _ (c : tie.After-schedule2 Inv-loop2 μ-loop2 Inv-loop3 μ-loop3 Inv-loop μ-loop) where
-  abbrev slotted2 : tie.After-mark3 Inv-loop2 μ-loop2 Inv-loop3 μ-loop3 Inv-loop μ-loop
-  slotted2 = search
-
-  abbrev asked2 : tie.After-change2 Inv-loop2 μ-loop2 Inv-loop3 μ-loop3 Inv-loop μ-loop
-  asked2 = search
-
-  briefly : Changeable (ScheduleBriefly (asked2 .change2 .given .0 .0)) (with-marks slotted2)
-  briefly = changeable slotted2 _ (asked2 .change2 .given .1)
-
-module _ (c : tie.Else8 Inv-loop2 μ-loop2 Inv-loop3 μ-loop3 Inv-loop μ-loop) where
-  abbrev scheduled2 : tie.After-schedule2 Inv-loop2 μ-loop2 Inv-loop3 μ-loop3 Inv-loop μ-loop
-  scheduled2 = search
-
-  pushed-first : Changed (Schedule (asked2 scheduled2 .change2 .given .0 .0)) (with-marks (slotted2 scheduled2)) (control.stored (scheduled2 .schedule2 .result))
-  pushed-first =
-      schedule-changed _ _ _ (scheduled2 .schedule2 .ensures) (whole (slotted2 scheduled2)) (c .if8 .left) (briefly scheduled2 .1 .len)
-
-  last-pushed : Last (control.stored (scheduled2 .schedule2 .result)) (scheduled2 .schedule2 .result .pushed)
-  last-pushed = last-stored _ _ _ (scheduled2 .schedule2 .ensures) (whole (slotted2 scheduled2)) (briefly scheduled2 .0) (briefly scheduled2 .1 .len)
-
-module _ (c : tie.After-unschedule Inv-loop2 μ-loop2 Inv-loop3 μ-loop3 Inv-loop μ-loop) where
-  abbrev else5 : tie.Else8 Inv-loop2 μ-loop2 Inv-loop3 μ-loop3 Inv-loop μ-loop
-  else5 = search
-
-  by-briefly : Changed (ScheduleBriefly (asked2 (scheduled2 else5) .change2 .given .0 .0)) (with-marks (slotted2 (scheduled2 else5))) (c .unschedule .result)
-  by-briefly =
-      let off : Unscheduled (scheduled2 else5 .schedule2 .result .pushed) (control.stored (scheduled2 else5 .schedule2 .result)) (c .unschedule .result) = unfold control.stored in c .unschedule .ensures in
-      briefly-changed _ _ _ _ _ (pushed-first else5) off
-
 module _ (c : tie.After-enum-told2 Inv-loop2 μ-loop2 Inv-loop3 μ-loop3 Inv-loop μ-loop) where
   abbrev slotted3 : tie.After-mark3 Inv-loop2 μ-loop2 Inv-loop3 μ-loop3 Inv-loop μ-loop
   slotted3 = search
@@ -611,12 +579,12 @@ module _ (c : tie.After-enum-told2 Inv-loop2 μ-loop2 Inv-loop3 μ-loop3 Inv-loo
   some-entry : 0 < with-marks slotted3 .len
   some-entry = changeable slotted3 _ (c .enum-told2 .given .1)
 
-module _ (c : tie.After-unschedule2 Inv-loop2 μ-loop2 Inv-loop3 μ-loop3 Inv-loop μ-loop) where
+module _ (c : tie.After-unschedule Inv-loop2 μ-loop2 Inv-loop3 μ-loop3 Inv-loop μ-loop) where
   abbrev told : tie.After-enum-told2 Inv-loop2 μ-loop2 Inv-loop3 μ-loop3 Inv-loop μ-loop
   told = search
 
-  by-unschedule : Changed Unschedule (with-marks (slotted3 told)) (c .unschedule2 .result)
-  by-unschedule = unschedule-changed _ _ _ (c .unschedule2 .ensures) (whole (slotted3 told))
+  by-unschedule : Changed Unschedule (with-marks (slotted3 told)) (c .unschedule .result)
+  by-unschedule = unschedule-changed _ _ _ (c .unschedule .ensures) (whole (slotted3 told))
 
 mul-frames : tie.Need-mul-frames Inv-loop2 μ-loop2 Inv-loop3 μ-loop3 Inv-loop μ-loop
 mul-frames c =
@@ -698,66 +666,6 @@ loop-again-2 c =
     let free : tie.Else7 Inv-loop2 μ-loop2 Inv-loop3 μ-loop3 Inv-loop μ-loop = search in
     unfold control.stored in next at-kept _ (asked (begun-by free) .change .given .1) _ (by-schedule free)
 
-enum-known-change-2 : tie.Need-enum-known-change-2 Inv-loop2 μ-loop2 Inv-loop3 μ-loop3 Inv-loop μ-loop
-enum-known-change-2 c = search needs
-
-schedule-requires-2 : tie.Need-schedule-requires-2 Inv-loop2 μ-loop2 Inv-loop3 μ-loop3 Inv-loop μ-loop
-schedule-requires-2 c κs =
-    let at-change2 : tie.After-change2 Inv-loop2 μ-loop2 Inv-loop3 μ-loop3 Inv-loop μ-loop = search in
-    let at-marks : tie.After-mark3 Inv-loop2 μ-loop2 Inv-loop3 μ-loop3 Inv-loop μ-loop = search in
-    changeable at-marks _ (at-change2 .change2 .given .1)
-
-blocked-requires-2 : tie.Need-blocked-requires-2 Inv-loop2 μ-loop2 Inv-loop3 μ-loop3 Inv-loop μ-loop
-blocked-requires-2 c κs = tt
-
-same-length-5 : tie.Need-same-length-5 Inv-loop2 μ-loop2 Inv-loop3 μ-loop3 Inv-loop μ-loop
-same-length-5 c =
-    let at-marks : tie.After-mark3 Inv-loop2 μ-loop2 Inv-loop3 μ-loop3 Inv-loop μ-loop = search in
-    omega (arith, planned at-marks .plan-turn .kept .1 .0, at-head (written at-marks) .loop .inv .long)
-
-same-length-6 : tie.Need-same-length-6 Inv-loop2 μ-loop2 Inv-loop3 μ-loop3 Inv-loop μ-loop
-same-length-6 c =
-    let at-marks : tie.After-mark3 Inv-loop2 μ-loop2 Inv-loop3 μ-loop3 Inv-loop μ-loop = search in
-    omega (arith, written at-marks .put-line .kept .0, at-head (written at-marks) .loop .inv .wide)
-
-returns-3 : tie.Need-returns-3 Inv-loop2 μ-loop2 Inv-loop3 μ-loop3 Inv-loop μ-loop
-returns-3 c =
-    let then5 : tie.Then8 Inv-loop2 μ-loop2 Inv-loop3 μ-loop3 Inv-loop μ-loop = search in
-    let at-schedule2 : tie.After-schedule2 Inv-loop2 μ-loop2 Inv-loop3 μ-loop3 Inv-loop μ-loop = search in
-    let at-change2 : tie.After-change2 Inv-loop2 μ-loop2 Inv-loop3 μ-loop3 Inv-loop μ-loop = search in
-    let at-marks : tie.After-mark3 Inv-loop2 μ-loop2 Inv-loop3 μ-loop3 Inv-loop μ-loop = search in
-    rw (c .blocked2 .ensures) (blocks at-marks _ (at-change2 .change2 .given .1) (briefly-blocked _ _ _ (at-schedule2 .schedule2 .ensures) (whole (slotted2 at-schedule2)) (then5 .if8 .taken)))
-
-sub-entry-2 : tie.Need-sub-entry-2 Inv-loop2 μ-loop2 Inv-loop3 μ-loop3 Inv-loop μ-loop
-sub-entry-2 c =
-    let at-schedule2 : tie.After-schedule2 Inv-loop2 μ-loop2 Inv-loop3 μ-loop3 Inv-loop μ-loop = search in
-    omega (arith, at-schedule2 .schedule2 .ensures .len)
-
-mul-entry-3 : tie.Need-mul-entry-3 Inv-loop2 μ-loop2 Inv-loop3 μ-loop3 Inv-loop μ-loop
-mul-entry-3 c =
-    let at-schedule2 : tie.After-schedule2 Inv-loop2 μ-loop2 Inv-loop3 μ-loop3 Inv-loop μ-loop = search in
-    omega (arith, at-schedule2 .schedule2 .ensures .len, briefly at-schedule2 .1 .len)
-
-element-set-from-entry-2 : tie.Need-element-set-from-entry-2 Inv-loop2 μ-loop2 Inv-loop3 μ-loop3 Inv-loop μ-loop
-element-set-from-entry-2 c =
-    let at-schedule2 : tie.After-schedule2 Inv-loop2 μ-loop2 Inv-loop3 μ-loop3 Inv-loop μ-loop = search in
-    omega (arith, at-schedule2 .schedule2 .ensures .len, briefly at-schedule2 .1 .len)
-
-unschedule-requires : tie.Need-unschedule-requires Inv-loop2 μ-loop2 Inv-loop3 μ-loop3 Inv-loop μ-loop
-unschedule-requires c κs =
-    let free : tie.Else8 Inv-loop2 μ-loop2 Inv-loop3 μ-loop3 Inv-loop μ-loop = search in
-    unfold control.stored in last-pushed free
-
-loop-less-3 : tie.Need-loop-less-3 Inv-loop2 μ-loop2 Inv-loop3 μ-loop3 Inv-loop μ-loop
-loop-less-3 c =
-    let at-kept : tie.Joined6 Inv-loop2 μ-loop2 Inv-loop3 μ-loop3 Inv-loop μ-loop = search in
-    lower at-kept _ (asked2 (scheduled2 (else5 c)) .change2 .given .1) _ (by-briefly c)
-
-loop-again-3 : tie.Need-loop-again-3 Inv-loop2 μ-loop2 Inv-loop3 μ-loop3 Inv-loop μ-loop
-loop-again-3 c =
-    let at-kept : tie.Joined6 Inv-loop2 μ-loop2 Inv-loop3 μ-loop3 Inv-loop μ-loop = search in
-    next at-kept _ (asked2 (scheduled2 (else5 c)) .change2 .given .1) _ (by-briefly c)
-
 enum-told-2 : tie.Need-enum-told-2 Inv-loop2 μ-loop2 Inv-loop3 μ-loop3 Inv-loop μ-loop
 enum-told-2 c = search needs
 
@@ -770,18 +678,18 @@ mul-last c = omega (arith, whole (slotted3 c) .bounded .most)
 element-copy-out-last : tie.Need-element-copy-out-last Inv-loop2 μ-loop2 Inv-loop3 μ-loop3 Inv-loop μ-loop
 element-copy-out-last c = omega (arith, some-entry c, whole (slotted3 c) .bounded .most)
 
-unschedule-requires-2 : tie.Need-unschedule-requires-2 Inv-loop2 μ-loop2 Inv-loop3 μ-loop3 Inv-loop μ-loop
-unschedule-requires-2 c κs =
+unschedule-requires : tie.Need-unschedule-requires Inv-loop2 μ-loop2 Inv-loop3 μ-loop3 Inv-loop μ-loop
+unschedule-requires c κs =
     let told : tie.After-enum-told2 Inv-loop2 μ-loop2 Inv-loop3 μ-loop3 Inv-loop μ-loop = search in
     last-entry _ _ (some-entry told) refl (whole (slotted3 told))
 
-loop-less-4 : tie.Need-loop-less-4 Inv-loop2 μ-loop2 Inv-loop3 μ-loop3 Inv-loop μ-loop
-loop-less-4 c =
+loop-less-3 : tie.Need-loop-less-3 Inv-loop2 μ-loop2 Inv-loop3 μ-loop3 Inv-loop μ-loop
+loop-less-3 c =
     let at-kept : tie.Joined6 Inv-loop2 μ-loop2 Inv-loop3 μ-loop3 Inv-loop μ-loop = search in
     lower at-kept _ (told c .enum-told2 .given .1) _ (by-unschedule c)
 
-loop-again-4 : tie.Need-loop-again-4 Inv-loop2 μ-loop2 Inv-loop3 μ-loop3 Inv-loop μ-loop
-loop-again-4 c =
+loop-again-3 : tie.Need-loop-again-3 Inv-loop2 μ-loop2 Inv-loop3 μ-loop3 Inv-loop μ-loop
+loop-again-3 c =
     let at-kept : tie.Joined6 Inv-loop2 μ-loop2 Inv-loop3 μ-loop3 Inv-loop μ-loop = search in
     next at-kept _ (told c .enum-told2 .given .1) _ (by-unschedule c)
 
@@ -858,22 +766,10 @@ walk-spec =
     element-set-from-entry
     loop-less-2
     loop-again-2
-    enum-known-change-2
-    schedule-requires-2
-    blocked-requires-2
-    same-length-5
-    same-length-6
-    returns-3
-    sub-entry-2
-    mul-entry-3
-    element-set-from-entry-2
-    unschedule-requires
-    loop-less-3
-    loop-again-3
     enum-told-2
     sub-last
     mul-last
     element-copy-out-last
-    unschedule-requires-2
-    loop-less-4
-    loop-again-4)
+    unschedule-requires
+    loop-less-3
+    loop-again-3)

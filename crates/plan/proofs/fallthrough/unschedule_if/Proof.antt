@@ -1,6 +1,6 @@
 use borrow.Author.Tests.{eq-eqb, ne-eqb}
-use Rattle.resume.proofs.unschedule_if.Statement.{statement}
-use Rattle.resume.proofs.unschedule_if.Tie as tie
+use Rattle.plan.proofs.fallthrough.unschedule_if.Statement.{statement}
+use Rattle.plan.proofs.fallthrough.unschedule_if.Tie as tie
 
 returns : tie.Need-returns
 returns c = rw (eq-eqb _ _ (c .if1 .taken))
