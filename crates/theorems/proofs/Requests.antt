@@ -12,10 +12,12 @@ use Rattle.text.specs.declared.version.Version.the-variants.{Old, New}
 use Rattle.text.specs.Answer.{Accepted}
 use Rattle.text.specs.Placed.{Placing}
 use Rattle.control.specs.Abstraction.{targetOf, contextOf, resultOf}
-use Rattle.control.specs.Contract.{Scheduled}
+use Rattle.definition.specs.Result.{ok}
+use Rattle.control.specs.Contract.{Scheduled, Unscheduled}
+use Rattle.control.specs.declared.Entry.{Entry}
 use Rattle.control.specs.declared.Context.{Context}
 use Rattle.control.specs.declared.ControlFlowTarget.{ControlFlowTarget}
-use Rattle.definition.specs.Context.{schedule}
+use Rattle.definition.specs.Context.{schedule, unschedule}
 use Rattle.definition.specs.Around.{language}
 use Rattle.definition.specs.Build.{built}
 use Rattle.definition.specs.Plain.{with-switch, Plain}
@@ -45,14 +47,28 @@ use Rattle.lookup.proofs.find.Statement as find-stated
 use Rattle.lookup.proofs.find.Met as find-proved
 use Rattle.lookup.proofs.lookup.Statement as lookup-stated
 use Rattle.lookup.proofs.lookup.Met as lookup-proved
+use Rattle.control.proofs.Context.schedule.Statement as schedule-stated
+use Rattle.control.proofs.Context.schedule.Met as schedule-proved
+use Rattle.control.proofs.Context.unschedule.Statement as unschedule-stated
+use Rattle.control.proofs.Context.unschedule.Met as unschedule-proved
 use Rattle.runner.proofs.run_tree.Statement as run-stated
 use Rattle.runner.proofs.run_tree.Met as run-proved
 
 -- ---- M-109: one way to schedule. The operation's promise is one equation for every target and Context: the stack and the set handed back, or 15
 
+pub schedule-meets-its-contract : {M : Type 1} → schedule-stated.statement M
+schedule-meets-its-contract = schedule-proved.met
+
+pub unschedule-meets-its-contract : {M : Type 1} → unschedule-stated.statement M
+unschedule-meets-its-contract = unschedule-proved.met
+
+-- what the contract is
 pub schedule-gives-the-definition : (target : ControlFlowTarget) (self r : Context) → Scheduled target self r → (visits : ℕ)
     → schedule (targetOf target) (contextOf visits self) ≡ resultOf visits r
 schedule-gives-the-definition target self r promised = promised .context
+
+pub unschedule-gives-the-definition : (last : Entry) (self r : Context) → Unscheduled last self r → (visits : ℕ) → unschedule (last .id) (contextOf visits self) ≡ ok (contextOf visits r)
+unschedule-gives-the-definition last self r promised = promised .context
 
 -- ---- M-110: draw the blocks
 
