@@ -52,6 +52,7 @@ use Rattle.definition.proofs.Law.{switch-law, loops-law as law-of-loops, loops-
 use Rattle.definition.proofs.Crossed.{Found, break-found, continue-found}
 use Rattle.definition.proofs.JumpRows.{built-within}
 use Rattle.definition.proofs.Example.{W, loops, picks, W-law, loops-law, picks-law, not-for-rust}
+use Rattle.definition.proofs.LoopLawExample.{counts, counts-law}
 use Rattle.definition.proofs.Samples.{Sample, samples, builtFor, the-samples}
 use Rattle.definition.specs.Tree.{Row}
 use Rattle.definition.specs.Reading.{ReadAs}
@@ -256,6 +257,10 @@ the-runs-of-W-agree = W-law
 
 pub the-runs-of-two-loops-agree : (rule : Rule) → RunLaw loops (built rule loops 600 300)
 the-runs-of-two-loops-agree = loops-law
+
+-- nor is that with loops: a For whose init is its loop block
+pub the-runs-of-a-for-agree : (rule : Rule) → RunLaw counts (built rule counts 600 300)
+the-runs-of-a-for-agree = counts-law
 
 -- M-113: the same of plain tables with switches, in the language entry, over every list whose answers name existing cases. The runner on them: Requests
 pub the-runs-with-switches-agree : LawOfSwitches
