@@ -121,6 +121,10 @@ second frame = record { block = frame .block; label = frame .label; entries = fr
 abbrev pub withCounts : Frame → (entries left built : ℕ) → Frame
 withCounts frame entries left built = record { block = frame .block; label = frame .label; entries = entries; left = left; built = built; first = frame .first; count = frame .count; second = frame .second }
 
+-- on to the position, and nothing else
+abbrev pub goingOn : Position → Plan
+goingOn position = record { code = 0; at = 0; position = position; frame = noFrame; keep = false; handler = 65535; scope = 65535; change = Nothing; line = line.Nothing }
+
 abbrev pub refusing : Position → (code at : ℕ) → Plan
 refusing p code at = record { code = code; at = at; position = p; frame = noFrame; keep = false; handler = 65535; scope = 65535; change = Nothing; line = line.Nothing }
 

@@ -4,7 +4,7 @@ pub mod fallthrough;
 use control::ControlFlowTarget;
 ghost use mathlib.Core.Path.{_≡_};
 ghost use lib.Dec.{eqb};
-ghost use Rattle.plan.specs.Plans.{advanced, noFrame, openFrame, second, withCounts, refusing, stageAfter, leaving, nesting, choosingNext, poppingNext, makingNext, accepting, withHandler, withScope, withLine};
+ghost use Rattle.plan.specs.Plans.{advanced, goingOn, noFrame, openFrame, second, withCounts, refusing, stageAfter, leaving, nesting, choosingNext, poppingNext, makingNext, accepting, withHandler, withScope, withLine};
 
 // No block: paper 01's 65,535.
 pub const NONE: u32 = 65535;
@@ -75,12 +75,11 @@ pub fn advance(p: Position, count: u32, rows: u32, visits: u32, stage: Stage) ->
     ensures { λ r. ⌜ r ≡ advanced p count rows visits stage ⌝ }
 {
     Position {
-        block: p.block,
-        depth: p.depth,
-        count: count,
-        rows: rows,
-        visits: visits,
-        stage: stage,
+        count,
+        rows,
+        visits,
+        stage,
+        ..p
     }
 }
 
@@ -104,13 +103,11 @@ pub fn frame_of(p: Position, label: u32, entries: u32) -> Frame
 {
     Frame {
         block: p.block,
-        label: label,
-        entries: entries,
-        left: 0,
-        built: 0,
+        label,
+        entries,
         first: p.rows,
         count: p.count,
-        second: false,
+        ..no_frame()
     }
 }
 
@@ -118,14 +115,8 @@ pub fn second_part(frame: Frame) -> Frame
     ensures { λ r. ⌜ r ≡ second frame ⌝ }
 {
     Frame {
-        block: frame.block,
-        label: frame.label,
-        entries: frame.entries,
-        left: frame.left,
-        built: frame.built,
-        first: frame.first,
-        count: frame.count,
         second: true,
+        ..frame
     }
 }
 
@@ -133,31 +124,38 @@ pub fn with_counts(frame: Frame, entries: u32, left: u32, built: u32) -> Frame
     ensures { λ r. ⌜ r ≡ withCounts frame entries left built ⌝ }
 {
     Frame {
-        block: frame.block,
-        label: frame.label,
-        entries: entries,
-        left: left,
-        built: built,
-        first: frame.first,
-        count: frame.count,
-        second: frame.second,
+        entries,
+        left,
+        built,
+        ..frame
+    }
+}
+
+// On to the position, and nothing else.
+fn go_on(position: Position) -> Plan
+    ensures { λ r. ⌜ r ≡ goingOn position ⌝ }
+{
+    let frame = no_frame();
+    Plan {
+        code: 0,
+        at: 0,
+        position,
+        frame,
+        keep: false,
+        handler: NONE,
+        scope: NONE,
+        change: Change::Nothing,
+        line: Line::Nothing,
     }
 }
 
 pub fn refuse(p: Position, code: u32, at: u32) -> Plan
     ensures { λ r. ⌜ r ≡ refusing p code at ⌝ }
 {
-    let frame = no_frame();
     Plan {
-        code: code,
-        at: at,
-        position: p,
-        frame: frame,
-        keep: false,
-        handler: NONE,
-        scope: NONE,
-        change: Change::Nothing,
-        line: Line::Nothing,
+        code,
+        at,
+        ..go_on(p)
     }
 }
 
@@ -177,23 +175,15 @@ pub fn leave(next: u32, depth: u32, count: u32, rows: u32, visits: u32, change: 
     let stage = stage_after(next);
     let position = Position {
         block: next,
-        depth: depth,
-        count: count,
-        rows: rows,
-        visits: visits,
-        stage: stage,
+        depth,
+        count,
+        rows,
+        visits,
+        stage,
     };
-    let frame = no_frame();
     Plan {
-        code: 0,
-        at: 0,
-        position: position,
-        frame: frame,
-        keep: false,
-        handler: NONE,
-        scope: NONE,
-        change: change,
-        line: Line::Nothing,
+        change,
+        ..go_on(position)
     }
 }
 
@@ -209,23 +199,18 @@ pub fn traverse_block(
     ensures { λ r. ⌜ r ≡ nesting block frame depth rows visits 65535 65535 change ⌝ }
 {
     let position = Position {
-        block: block,
-        depth: depth,
+        block,
+        depth,
         count: 0,
-        rows: rows,
-        visits: visits,
+        rows,
+        visits,
         stage: Stage::Visit,
     };
     Plan {
-        code: 0,
-        at: 0,
-        position: position,
-        frame: frame,
+        frame,
         keep: true,
-        handler: NONE,
-        scope: NONE,
-        change: change,
-        line: Line::Nothing,
+        change,
+        ..go_on(position)
     }
 }
 
@@ -235,22 +220,17 @@ pub fn choose(frame: Frame, depth: u32, rows: u32, visits: u32, change: Change) 
 {
     let position = Position {
         block: 0,
-        depth: depth,
+        depth,
         count: 0,
-        rows: rows,
-        visits: visits,
+        rows,
+        visits,
         stage: Stage::Choose,
     };
     Plan {
-        code: 0,
-        at: 0,
-        position: position,
-        frame: frame,
+        frame,
         keep: true,
-        handler: NONE,
-        scope: NONE,
-        change: change,
-        line: Line::Nothing,
+        change,
+        ..go_on(position)
     }
 }
 
@@ -260,22 +240,17 @@ pub fn pop(frame: Frame, depth: u32, rows: u32, visits: u32) -> Plan
 {
     let position = Position {
         block: 0,
-        depth: depth,
+        depth,
         count: 0,
-        rows: rows,
-        visits: visits,
+        rows,
+        visits,
         stage: Stage::Pop,
     };
     Plan {
-        code: 0,
-        at: 0,
-        position: position,
-        frame: frame,
+        frame,
         keep: true,
-        handler: NONE,
-        scope: NONE,
         change: Change::Unschedule,
-        line: Line::Nothing,
+        ..go_on(position)
     }
 }
 
@@ -292,22 +267,17 @@ pub fn make_values(
 {
     let position = Position {
         block: body,
-        depth: depth,
+        depth,
         count: 0,
-        rows: rows,
-        visits: visits,
+        rows,
+        visits,
         stage: Stage::Values,
     };
     Plan {
-        code: 0,
-        at: 0,
-        position: position,
-        frame: frame,
+        frame,
         keep: true,
-        handler: NONE,
-        scope: NONE,
-        change: change,
-        line: Line::Nothing,
+        change,
+        ..go_on(position)
     }
 }
 
@@ -319,79 +289,27 @@ pub fn accept(rows: u32, visits: u32) -> Plan
         block: 0,
         depth: 0,
         count: 0,
-        rows: rows,
-        visits: visits,
+        rows,
+        visits,
         stage: Stage::Halt,
     };
-    let frame = no_frame();
-    Plan {
-        code: 0,
-        at: 0,
-        position: position,
-        frame: frame,
-        keep: false,
-        handler: NONE,
-        scope: NONE,
-        change: Change::Nothing,
-        line: Line::Nothing,
-    }
+    go_on(position)
 }
 
 pub fn with_handler(plan: Plan, handler: u32) -> Plan
     ensures { λ r. ⌜ r ≡ withHandler plan handler ⌝ }
 {
-    let position = plan.position;
-    let frame = plan.frame;
-    let change = plan.change;
-    let line = plan.line;
-    Plan {
-        code: plan.code,
-        at: plan.at,
-        position: position,
-        frame: frame,
-        keep: plan.keep,
-        handler: handler,
-        scope: plan.scope,
-        change: change,
-        line: line,
-    }
+    Plan { handler, ..plan }
 }
 
 pub fn with_scope(plan: Plan, scope: u32) -> Plan
     ensures { λ r. ⌜ r ≡ withScope plan scope ⌝ }
 {
-    let position = plan.position;
-    let frame = plan.frame;
-    let change = plan.change;
-    let line = plan.line;
-    Plan {
-        code: plan.code,
-        at: plan.at,
-        position: position,
-        frame: frame,
-        keep: plan.keep,
-        handler: plan.handler,
-        scope: scope,
-        change: change,
-        line: line,
-    }
+    Plan { scope, ..plan }
 }
 
 pub fn with_line(plan: Plan, line: Line) -> Plan
     ensures { λ r. ⌜ r ≡ withLine plan line ⌝ }
 {
-    let position = plan.position;
-    let frame = plan.frame;
-    let change = plan.change;
-    Plan {
-        code: plan.code,
-        at: plan.at,
-        position: position,
-        frame: frame,
-        keep: plan.keep,
-        handler: plan.handler,
-        scope: plan.scope,
-        change: change,
-        line: line,
-    }
+    Plan { line, ..plan }
 }
