@@ -249,11 +249,6 @@ pub record Walking (rule : Rule) (w : List ℕ) (buffer : Lent) (cx : Context) (
 abbrev pub turnsLeft : Position → List Frame → Context → ℕ
 turnsLeft p A cx = potential (stateOf p A noOutput cx)
 
-getD-any : {A : Type 0} (xs : List A) (i : ℕ) (d e : A) → i < length xs → getD xs i d ≡ getD xs i e
-getD-any [] i d e h = absurd (omega arith)
-getD-any (x ∷ xs) zero d e h = refl
-getD-any (x ∷ xs) (suc i) d e h = getD-any xs i d e (omega arith)
-
 entry-at : (w : List ℕ) → tableOf w .entry ≡ entryWord w
 unfolding tableOf
 entry-at w = refl
@@ -261,10 +256,6 @@ entry-at w = refl
 scheduled-start : (cx : Context) → contextOf 0 cx ≡ definition.start → length (cx .scheduled) ≡ 1024
 unfolding contextOf definition.start
 scheduled-start cx e = ap (λ (C : definition.Context). length (C .scheduled)) e ∙ length-none
-
--- what a read past the array's end would give
-abbrev pub beyond : Frame
-beyond = record { block = 0; label = 0; entries = 0; left = 0; built = 0; first = 0; count = 0; second = false }
 
 -- where the jump goes
 pub found-jump : (rule : Rule) (w : List ℕ) (cx : Context) (A : List Frame) (p : Position) (jump : Jump) (aim : Aim)
@@ -396,10 +387,6 @@ module _ (rule : Rule) (w : List ℕ) (pr : Promise w) (ck : Checked (tableOf w)
     pub shallow : p .depth ≤ 128
     shallow = omega (arith, numbered .frames, frames-length A (p .depth))
 
-    -- the innermost frame, as the code reads it
-    pub frame-read : (i : ℕ) → i ≡ p .depth - 1 → getD A i beyond ≡ getD A (p .depth - 1) noFrame
-    frame-read i e = ap (λ (k : ℕ). getD A k beyond) e ∙ getD-any A (p .depth - 1) beyond noFrame (omega (arith, I .frames, shallow))
-
     pub ready : (f : Frame) → f ≡ getD A (p .depth - 1) noFrame → Ready w p f
     unfolding contextOf
     ready f e = record {
@@ -428,10 +415,6 @@ module _ (rule : Rule) (w : List ℕ) (pr : Promise w) (ck : Checked (tableOf w)
         at Values zero h v l = absurd (omega arith)
         at Values (suc n) h v l = frame-or (tableOf w) A k n (h .1 .block) (λ l. frames-each (tableOf w) A k n (h .2) l) l
         at Halt n h v l = absurd v
-
-    -- one of them, as the code reads it
-    pub frame-at : (k : ℕ) → k < p .depth → getD A k beyond ≡ getD A k noFrame
-    frame-at k h = getD-any A k beyond noFrame (omega (arith, I .frames, shallow))
 
     abbrev pub inside : Around
     inside = aroundOf rule (tableOf w) (framesOf A (p .depth))
