@@ -46,7 +46,7 @@ fn refuse(refusal: Refusal, visits: u32, buffer: &mut [u32], index: &mut [u32]) 
     Outcome::refused(refusal, visits)
 }
 
-fn checked(words: &[u32]) -> Result<Table<'_>, Refusal> {
+pub fn checked(words: &[u32]) -> Result<Table<'_>, Refusal> {
     checked_by_rows(words).map_or_else(|| check(words), Ok)
 }
 

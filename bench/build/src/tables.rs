@@ -51,32 +51,31 @@ impl Table {
     }
 }
 
-/// Ifs one after the other: each goes on to the next one.
+/// Ifs one after the other: each goes on to the next one. Where an odd number of blocks is left, the last If has an alternate of its own.
 pub fn fallthroughs(blocks: u32, instructions: u32) -> Case {
     let mut table = Table::new(instructions);
     let mut next = table.add(3, &[0]);
-    while (table.blocks.len() as u32) + 1 < blocks {
+    while table.rows() + 1 < blocks {
+        let last_three = blocks - table.rows() == 3;
         let consequent = table.add(4, &[next, 0]);
-        next = table.add(5, &[0, consequent, next, next]);
+        let alternate = if last_three { table.add(4, &[next, 0]) } else { next };
+        next = table.add(5, &[0, consequent, alternate, next]);
     }
     table.entry = next;
     table.case("run of fallthroughs")
 }
 
-/// Statements in one another, 100 deep, and five such nests one after the other.
+/// Statements in one another, 100 deep, and five such nests one after the other; before them a nest of the nine blocks that are left of 1,000.
 pub fn nests(instructions: u32) -> Case {
     let mut table = Table::new(instructions);
     let mut next = table.add(3, &[0]);
-    for _ in 0..5 {
+    for levels in [99, 99, 99, 99, 99, 4] {
         let mut inner = table.add(4, &[next, 0]);
-        for level in 1..100 {
+        for level in 1..=levels {
             // A statement within another ends where its own fallthrough leaves that one.
-            let out = if level == 99 { next } else { table.add(4, &[next, 0]) };
-            inner = if out == next {
-                table.add(5, &[0, inner, next, next])
-            } else {
-                table.add(5, &[0, inner, out, out])
-            };
+            let out = if level == levels { next } else { table.add(4, &[next, 0]) };
+            let alternate = if (level, levels) == (1, 4) { table.add(4, &[out, 0]) } else { out };
+            inner = table.add(5, &[0, inner, alternate, out]);
         }
         next = inner;
     }
@@ -84,14 +83,14 @@ pub fn nests(instructions: u32) -> Case {
     table.case("nests 100 deep")
 }
 
-/// While loops in one another, 100 deep.
+/// While loops in one another: three nests 100 deep, and one of the blocks that are left of 1,000.
 pub fn loops(instructions: u32) -> Case {
     let mut table = Table::new(instructions);
     let mut next = table.add(3, &[0]);
-    for _ in 0..3 {
+    for levels in [99, 99, 99, 36] {
         let mut inner = None;
         let mut out = next;
-        for _ in 0..99 {
+        for _ in 0..levels {
             let test = table.add(6, &[0, 0, out]);
             let head = table.add(9, &[test, 0, out]);
             match inner {

@@ -10,20 +10,19 @@ use mathlib.Core.Logic.{⊎-elim}
 use lib.ListN.{getD, set, length, replicate}
 use lib.Seq.{getD-set-same, getD-set-other}
 use lib.Dec.{eqb}
-use native.Mathlib.Decide.{ℕ-discrete}
 use borrow.Author.Tests.{eq-eqb, ne-eqb}
 use Rattle.definition.specs.Result.{ok, refused, _>>=_, refuseIf}
 use Rattle.definition.specs.Context as definition
 use Rattle.definition.specs.Context.{Flags, has, add, noFlags, start, isScheduled, emit, markScopeFallthrough, scheduleCatchHandler, targetBlock, target-if}
-use Rattle.definition.specs.Context.{target-switch, target-case, target-loop, isBlocked, blockAsked, blockedCode, pushed, popped, schedule, scheduledBy, unscheduledBy}
+use Rattle.definition.specs.Context.{target-switch, target-case, target-loop, isBlocked, blockAsked, blockedCode, pushed, popped, schedule, scheduledBy, owns, unscheduledBy}
 use Rattle.definition.specs.Context.{unschedule, unscheduleTop}
 use Rattle.definition.specs.Machine as machine
 use Rattle.control.specs.declared.ControlFlowTarget.{ControlFlowTarget}
 use Rattle.control.specs.declared.ControlFlowTarget.the-variants.{If, Switch, Case, Loop}
 use Rattle.control.specs.declared.Entry.{Entry}
 use Rattle.control.specs.declared.Context.{Context}
-use Rattle.control.specs.Abstraction.{targetOf, entryOf, noEntry, stackOf, enteredIn, entriesOf, setOf, contextOf, settled, released}
-use Rattle.control.specs.Contract.{continueScheduled, blockedIn, Named, Bounded, Room, Last, withEntry, withoutLast, Created, Scheduled, Unscheduled}
+use Rattle.control.specs.Abstraction.{targetOf, entryOf, noEntry, stackOf, contextOf, enteredOf, stored}
+use Rattle.control.specs.Contract.{refusalIf, Named, Bounded, Room, Last, withEntry, withoutLast, Created, Scheduled, Unscheduled}
 
 -- ---- targets
 
@@ -32,21 +31,6 @@ named-block (If block) h = h
 named-block (Switch block) h = h
 named-block (Case block) h = h
 named-block (Loop block continueBlock loopBlock) h = h .0
-
--- the continue block, tested once the fallthrough is inserted
-pub continue-scheduled : (flags : Flags) (fallthrough continueBlock : ℕ) → fallthrough < length flags → continueScheduled flags fallthrough continueBlock ≡ has (add flags fallthrough) continueBlock
-unfolding has add
-continue-scheduled flags fallthrough continueBlock h = at (ℕ-discrete continueBlock fallthrough)
-  where
-    at : Dec (continueBlock ≡ fallthrough) → eqb continueBlock fallthrough || getD flags continueBlock false ≡ getD (set flags fallthrough true) continueBlock false
-    at (yes e) = rw (e, eq-eqb fallthrough fallthrough refl, getD-set-same flags fallthrough true false h)
-    at (no e) = rw (ne-eqb continueBlock fallthrough e, getD-set-other flags fallthrough continueBlock true false e)
-
-pub blocked-asked : (target : ControlFlowTarget) (flags : Flags) → Named target → 1024 ≤ length flags → blockedIn (targetOf target) flags ≡ isBlocked (targetOf target) flags
-blocked-asked (If block) flags named wide = refl
-blocked-asked (Switch block) flags named wide = refl
-blocked-asked (Case block) flags named wide = refl
-blocked-asked (Loop block continueBlock loopBlock) flags named wide = continue-scheduled flags block continueBlock (omega (arith, named .0, wide))
 
 -- ---- the stack
 
@@ -81,7 +65,7 @@ module _ (visits block : ℕ) (cx : Context) where
     len = cx .len;
     scheduled = cx .scheduled;
     pushed = cx .pushed;
-    pending = cx .pending;
+    refused = cx .refused;
     «next_schedule_id» = cx .«next_schedule_id»;
     stack = cx .stack;
   }) ≡ emit block (contextOf visits cx)
@@ -96,7 +80,7 @@ module _ (visits block : ℕ) (cx : Context) where
         len = cx .len;
         scheduled = cx .scheduled;
         pushed = cx .pushed;
-        pending = cx .pending;
+        refused = cx .refused;
         «next_schedule_id» = cx .«next_schedule_id»;
         stack =
             cx .stack;
@@ -112,7 +96,7 @@ module _ (visits block : ℕ) (cx : Context) where
         len = cx .len;
         scheduled = cx .scheduled;
         pushed = cx .pushed;
-        pending = cx .pending;
+        refused = cx .refused;
         «next_schedule_id» = cx .«next_schedule_id»;
         stack =
             cx .stack;
@@ -120,9 +104,9 @@ module _ (visits block : ℕ) (cx : Context) where
   unfolding contextOf scheduleCatchHandler
   schedules-catch-handler = refl
 
-  pub is-scheduled : cx .pending ≡ 0 → isScheduled (contextOf visits cx) block ≡ has (cx .scheduled) block || has (cx .«catch_handlers») block
+  pub is-scheduled : isScheduled (contextOf visits cx) block ≡ has (cx .scheduled) block || has (cx .«catch_handlers») block
   unfolding contextOf isScheduled
-  is-scheduled e = rw e refl
+  is-scheduled = refl
 
 -- ---- the steps
 
@@ -133,7 +117,7 @@ pub created : Created (record {
   len = 0;
   scheduled = replicate 1024 false;
   pushed = noEntry;
-  pending = 0;
+  refused = 0;
   «next_schedule_id» = 0;
   stack = replicate 1152 noEntry;
 })
@@ -143,40 +127,38 @@ created =
       context = refl;
       len = refl;
       id = refl;
-      settled = refl;
       stack = refl;
       bounded = record { most = omega arith; named = λ k below. let absurd-below : ⊥ = omega arith in absurd absurd-below };
     }
 
--- settling changes the form of a Context, and not what it stands for
-pub settles : (visits : ℕ) (cx : Context) → cx .pending ≡ 1 → 0 < cx .len → cx .len ≤ length (cx .stack) → contextOf visits (settled cx) ≡ contextOf visits cx
-unfolding contextOf settled
-settles visits cx e h k =
+-- once its entry is stored, a Context that `schedule` handed back is like any other
+pub stores : (visits : ℕ) (cx : Context) → 0 < cx .len → cx .len ≤ length (cx .stack) → contextOf visits (stored cx) ≡ enteredOf visits cx
+unfolding contextOf enteredOf stored
+stores visits cx h k =
     let n : ℕ = cx .len - 1 in
     let l : cx .len ≡ suc n = omega arith in
-    let entry : Entry = enteredIn (cx .scheduled) (cx .pushed) in
-    let s : stackOf (set (cx .stack) n entry) (cx .len) ≡ entriesOf (cx .pending) (cx .pushed) (cx .scheduled) (cx .stack) (cx .len) =
-    ap (stackOf (set (cx .stack) n entry)) l ∙ stack-stored (cx .stack) n entry (omega arith) ∙ sym (ap (λ (pending : ℕ). entriesOf pending (cx .pushed) (cx .scheduled) (cx .stack) (cx .len)) e) in
-    let f : scheduledBy (targetOf (cx .pushed .target)) (cx .scheduled) ≡ setOf (cx .pending) (cx .pushed) (getD (cx .stack) (cx .len) noEntry) (cx .scheduled) =
-    sym (ap (λ (pending : ℕ). setOf pending (cx .pushed) (getD (cx .stack) (cx .len) noEntry) (cx .scheduled)) e) in
-    rw (s, f)
-
-pub releases : (visits : ℕ) (cx : Context) → cx .pending ≡ 2 → contextOf visits (released cx) ≡ contextOf visits cx
-unfolding contextOf released
-releases visits cx e = rw e
+    let s : stackOf (set (cx .stack) n (cx .pushed)) (cx .len) ≡ entryOf (cx .pushed) ∷ stackOf (cx .stack) n =
+    ap (stackOf (set (cx .stack) n (cx .pushed))) l ∙ stack-stored (cx .stack) n (cx .pushed) (omega arith) in
+    rw s
 
 -- a refusal, or the next Context
-asked : (blocked : Bool) (code at visits : ℕ) (next : definition.Context)
-    → (refuseIf blocked code at visits >>= λ _. ok next) ≡ elim blocked [ true ↦ refused code at visits | false ↦ ok next ]
+asked : (blocked : Bool) (code at visits : ℕ) (next : definition.Context) → (code ≡ 0 → ⊥)
+    → (refuseIf blocked code at visits >>= λ _. ok next) ≡ elim (eqb (refusalIf blocked code) 0) [ true ↦ ok next | false ↦ refused (refusalIf blocked code) at visits ]
 unfolding refuseIf _>>=_
-asked true code at visits next = refl
-asked false code at visits next = refl
+asked true code at visits next h = rw (ne-eqb code 0 h) refl
+asked false code at visits next h = refl
 
-pub pushes : (visits : ℕ) (target : ControlFlowTarget) (cx : Context) → cx .pending ≡ 0 → contextOf visits (withEntry target cx) ≡ pushed (targetOf target) (contextOf visits cx)
-unfolding contextOf pushed
-pushes visits target cx e =
+pub refuses : (target : definition.ControlFlowTarget) → blockedCode target ≡ 0 → ⊥
+refuses (target-if b) e = omega (arith, e)
+refuses (target-switch b) e = omega (arith, e)
+refuses (target-case b) e = omega (arith, e)
+refuses (target-loop b c l) e = omega (arith, e)
+
+pushes : (visits : ℕ) (target : ControlFlowTarget) (cx : Context) → enteredOf visits (withEntry target cx) ≡ pushed (targetOf target) (contextOf visits cx)
+unfolding contextOf enteredOf pushed
+pushes visits target cx =
     let l : cx .len + 1 - 1 ≡ cx .len = omega arith in
-    rw (l, add-one, e)
+    rw (l, add-one)
 
 named-stored : (entries : List Entry) (n k : ℕ) (entry : Entry) → Named (entry .target) → n < length entries → k ≤ n
     → ((j : ℕ) → j < n → Named (getD entries j noEntry .target)) → Named (getD (set entries n entry) k noEntry .target)
@@ -191,27 +173,42 @@ bounded-stored entries n entry named h small bounded =
     let e : n + 1 - 1 ≡ n = omega arith in
     record { most = omega arith; named = λ k below. rw e (named-stored entries n k entry named h (omega arith) (bounded .named)) }
 
-by-definition : (visits : ℕ) (target : definition.ControlFlowTarget) (cx : Context) → cx .pending ≡ 0
+by-definition : (visits : ℕ) (target : definition.ControlFlowTarget) (cx : Context)
     → schedule target (contextOf visits cx) ≡
     (refuseIf (isBlocked target (cx .scheduled)) (blockedCode target) (blockAsked target) visits >>= λ _. ok (pushed target (contextOf visits cx)))
 unfolding schedule contextOf
-by-definition visits target cx e = rw e refl
+by-definition visits target cx = refl
 
 module _ (target : ControlFlowTarget) (cx : Context) (named : Named target) (room : Room cx) (inside : cx .len < length (cx .stack)) where
   pub scheduled : Scheduled target cx (withEntry target cx)
   scheduled = record {
     state = refl;
     context =
-        λ visits. by-definition visits (targetOf target) cx (room .settled) ∙ ap
+        λ visits. by-definition visits (targetOf target) cx ∙ ap
         (λ (next : definition.Context). refuseIf (isBlocked (targetOf target) (cx .scheduled)) (blockedCode (targetOf target)) (blockAsked (targetOf target))
-        visits >>= λ _. ok next) (sym (pushes visits target cx (room .settled)))
+        visits >>= λ _. ok next) (sym (pushes visits target cx))
         ∙ asked (isBlocked (targetOf target) (cx .scheduled)) (blockedCode (targetOf target)) (blockAsked (targetOf target)) visits
-        (contextOf visits (withEntry target cx));
+        (enteredOf visits (withEntry target cx)) (refuses (targetOf target));
     len = refl;
     id = refl;
-    pending = refl;
     bounded = bounded-stored _ _ _ named inside (room .len);
   }
+
+-- the same where the arms of `schedule` meet
+pub entered : {target t : ControlFlowTarget} {cx : Context} {flags : Flags} {code : ℕ} {owner : Bool} → t ≡ target → flags ≡ scheduledBy (targetOf target) (cx .scheduled)
+    → code ≡ refusalIf (isBlocked (targetOf target) (cx .scheduled)) (blockedCode (targetOf target)) → owner ≡ owns (targetOf target) (cx .scheduled)
+    → Scheduled target cx (withEntry target cx) → Scheduled target cx (record {
+      emitted = cx .emitted;
+      «catch_handlers» = cx .«catch_handlers»;
+      «scope_fallthroughs» = cx .«scope_fallthroughs»;
+      len = cx .len + 1;
+      scheduled = flags;
+      pushed = record { id = cx .«next_schedule_id»; target = t; «owns_loop» = owner };
+      refused = code;
+      «next_schedule_id» = cx .«next_schedule_id» + 1;
+      stack = cx .stack;
+    })
+entered t f c o h = rw (t, f, c, o) h
 
 -- ---- unschedule
 
@@ -225,24 +222,21 @@ unscheduled-top : (cx : definition.Context) (top : definition.Entry) (below : Li
 unfolding machine.unscheduled machine.unscheduledTop
 unscheduled-top cx top below e = ap (λ (stack : List definition.Entry). machine.unscheduledTop stack cx) e
 
-module _ (cx : Context) (top : Last cx) where
-  abbrev last : Entry
-  last = getD (cx .stack) (cx .len - 1) noEntry
-
+module _ (cx : Context) (last : Entry) (top : Last cx last) where
   on-top : (visits : ℕ) → contextOf visits cx .stack ≡ entryOf last ∷ stackOf (cx .stack) (cx .len - 1)
   unfolding contextOf
-  on-top visits = ap (λ (pending : ℕ). entriesOf pending (cx .pushed) (cx .scheduled) (cx .stack) (cx .len)) (top .settled) ∙ stack-last (cx .stack) (cx .len) last (top .nonempty) refl
+  on-top visits = stack-last (cx .stack) (cx .len) last (top .nonempty) (top .read)
 
   off : (visits : ℕ) → popped (stackOf (cx .stack) (cx .len - 1)) (unscheduledBy (targetOf (last .target)) (last .«owns_loop») (contextOf visits cx .scheduled))
-      (contextOf visits cx) ≡ contextOf visits (withoutLast cx)
+      (contextOf visits cx) ≡ contextOf visits (withoutLast last cx)
   unfolding contextOf popped
-  off visits = rw (top .settled)
+  off visits = refl
 
   -- the machine takes the last entry off whatever its id
-  pub pops : (visits : ℕ) → machine.unscheduled (contextOf visits cx) ≡ contextOf visits (withoutLast cx)
+  pub pops : (visits : ℕ) → machine.unscheduled (contextOf visits cx) ≡ contextOf visits (withoutLast last cx)
   pops visits = unscheduled-top (contextOf visits cx) (entryOf last) (stackOf (cx .stack) (cx .len - 1)) (on-top visits) ∙ off visits
 
-  pub unscheduled : Unscheduled cx (withoutLast cx)
+  pub unscheduled : Unscheduled last cx (withoutLast last cx)
   unscheduled = record {
     state = refl;
     context =
@@ -251,6 +245,20 @@ module _ (cx : Context) (top : Last cx) where
     pops = λ visits. sym (pops visits);
     len = refl;
     id = refl;
-    pending = refl;
     bounded = λ bounded. record { most = omega (arith, bounded .most); named = λ k below. bounded .named k (omega arith) };
   }
+
+-- the same where the arms of `unschedule` meet
+pub left : {last : Entry} {cx : Context} {flags : Flags} → flags ≡ unscheduledBy (targetOf (last .target)) (last .«owns_loop») (cx .scheduled)
+    → Unscheduled last cx (withoutLast last cx) → Unscheduled last cx (record {
+      emitted = cx .emitted;
+      «catch_handlers» = cx .«catch_handlers»;
+      «scope_fallthroughs» = cx .«scope_fallthroughs»;
+      len = cx .len - 1;
+      scheduled = flags;
+      pushed = cx .pushed;
+      refused = cx .refused;
+      «next_schedule_id» = cx .«next_schedule_id»;
+      stack = cx .stack;
+    })
+left f h = rw f h

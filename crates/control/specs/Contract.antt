@@ -1,19 +1,18 @@
 -- What the methods promise of the Context that they hand back.
 use Prim.Native.Nat.{ℕ, _+_, _-_, _≤_, _<_}
 use mathlib.Core.Path.{_≡_}
-use mathlib.Core.Bool.{Bool, true, false, _||_}
-use lib.Dec.{eqb}
+use mathlib.Core.Bool.{Bool, true, false}
 use mathlib.Core.List.{List}
 use lib.ListN.{getD, set, replicate}
 use Rattle.definition.specs.Result.{ok}
 use Rattle.definition.specs.Context as definition
 use Rattle.definition.specs.Machine as machine
-use Rattle.definition.specs.Context.{Flags, has, target-if, target-switch, target-case, target-loop, targetBlock, isLoop, breakKind, continueKind, start, schedule, unschedule}
+use Rattle.definition.specs.Context.{targetBlock, isLoop, isBlocked, blockedCode, scheduledBy, owns, unscheduledBy, breakKind, continueKind, start, schedule, unschedule}
 use Rattle.control.specs.declared.ControlFlowTarget.{ControlFlowTarget}
 use Rattle.control.specs.declared.ControlFlowTarget.the-variants.{If, Switch, Case, Loop}
 use Rattle.control.specs.declared.Entry.{Entry}
 use Rattle.control.specs.declared.Context.{Context}
-use Rattle.control.specs.Abstraction.{targetOf, noEntry, enteredIn, contextOf, resultOf}
+use Rattle.control.specs.Abstraction.{targetOf, noEntry, contextOf, resultOf}
 
 -- the blocks that a target names are among the 1,024
 abbrev pub Named : ControlFlowTarget → Type 0
@@ -27,36 +26,30 @@ pub record Bounded (entries : List Entry) (len : ℕ) : Type 0 where
   pub most : len ≤ 1152
   pub named : (k : ℕ) → k < len → Named (getD entries k noEntry .target)
 
--- what the methods ask: nothing is pending, and there is room for one entry more and its id, or there is one to take off
+-- what the methods ask: room for one entry more and its id; the stack's last entry, as the caller reads it
 pub record Room (cx : Context) : Type 0 where
   pub len : cx .len < 1152
   pub id : cx .«next_schedule_id» < 65535
-  pub settled : cx .pending ≡ 0
 
-pub record Last (cx : Context) : Type 0 where
+pub record Last (cx : Context) (entry : Entry) : Type 0 where
   pub nonempty : 0 < cx .len
-  pub settled : cx .pending ≡ 0
+  pub read : entry ≡ getD (cx .stack) (cx .len - 1) noEntry
+  pub named : Named (entry .target)
 
--- whether the continue block is scheduled once the fallthrough is inserted
-abbrev pub continueScheduled : Flags → (fallthrough continueBlock : ℕ) → Bool
-continueScheduled scheduled fallthrough continueBlock = eqb continueBlock fallthrough || has scheduled continueBlock
-
--- the definition's `isBlocked`, asked with nothing inserted. (They are equal for a set of 1,024 flags: proofs/ContextLaws, `blocked-asked`.)
-abbrev pub blockedIn : definition.ControlFlowTarget → Flags → Bool
-blockedIn (target-if block) scheduled = has scheduled block
-blockedIn (target-switch block) scheduled = has scheduled block
-blockedIn (target-case block) scheduled = has scheduled block
-blockedIn (target-loop block continueBlock loopBlock) scheduled = continueScheduled scheduled block continueBlock
+-- the number of a refusal, 0 where there is none
+abbrev pub refusalIf : (blocked : Bool) → (code : ℕ) → ℕ
+refusalIf true code = code
+refusalIf false code = 0
 
 -- ---- the Contexts that the methods hand back, field by field
 
--- a target under the next id, pending with its blocks; `owns_loop` is told where they go in
+-- a target under the next id, and its blocks in the scheduled set
 abbrev pub withEntry : ControlFlowTarget → Context → Context
-withEntry target cx = record { emitted = cx .emitted; «catch_handlers» = cx .«catch_handlers»; «scope_fallthroughs» = cx .«scope_fallthroughs»; len = cx .len + 1; scheduled = cx .scheduled; pushed = record { id = cx .«next_schedule_id»; target = target; «owns_loop» = false }; pending = 1; «next_schedule_id» = cx .«next_schedule_id» + 1; stack = cx .stack }
+withEntry target cx = record { emitted = cx .emitted; «catch_handlers» = cx .«catch_handlers»; «scope_fallthroughs» = cx .«scope_fallthroughs»; len = cx .len + 1; scheduled = scheduledBy (targetOf target) (cx .scheduled); pushed = record { id = cx .«next_schedule_id»; target = target; «owns_loop» = owns (targetOf target) (cx .scheduled) }; refused = refusalIf (isBlocked (targetOf target) (cx .scheduled)) (blockedCode (targetOf target)); «next_schedule_id» = cx .«next_schedule_id» + 1; stack = cx .stack }
 
--- one entry less, its blocks pending; the array of entries is as it was
-abbrev pub withoutLast : Context → Context
-withoutLast cx = record { emitted = cx .emitted; «catch_handlers» = cx .«catch_handlers»; «scope_fallthroughs» = cx .«scope_fallthroughs»; len = cx .len - 1; scheduled = cx .scheduled; pushed = cx .pushed; pending = 2; «next_schedule_id» = cx .«next_schedule_id»; stack = cx .stack }
+-- one entry less, and its blocks out of the set; the array of entries is as it was
+abbrev pub withoutLast : Entry → Context → Context
+withoutLast last cx = record { emitted = cx .emitted; «catch_handlers» = cx .«catch_handlers»; «scope_fallthroughs» = cx .«scope_fallthroughs»; len = cx .len - 1; scheduled = unscheduledBy (targetOf (last .target)) (last .«owns_loop») (cx .scheduled); pushed = cx .pushed; refused = cx .refused; «next_schedule_id» = cx .«next_schedule_id»; stack = cx .stack }
 
 -- ---- the promises. `context` is the equation with the definition, refusals included; `pops` that of the machine, which asks none; `state` says
 -- every field
@@ -65,7 +58,6 @@ pub record Created (r : Context) : Type 0 where
   pub context : contextOf 0 r ≡ start
   pub len : r .len ≡ 0
   pub id : r .«next_schedule_id» ≡ 0
-  pub settled : r .pending ≡ 0
   pub stack : r .stack ≡ replicate 1152 noEntry
   pub bounded : Bounded (r .stack) (r .len)
 
@@ -74,16 +66,14 @@ pub record Scheduled (target : ControlFlowTarget) (self r : Context) : Type 0 wh
   pub context : (visits : ℕ) → schedule (targetOf target) (contextOf visits self) ≡ resultOf visits r
   pub len : r .len ≡ self .len + 1
   pub id : r .«next_schedule_id» ≡ self .«next_schedule_id» + 1
-  pub pending : r .pending ≡ 1
-  pub bounded : Bounded (self .stack) (self .len) → Bounded (set (r .stack) (r .len - 1) (enteredIn (r .scheduled) (r .pushed))) (r .len)
+  pub bounded : Bounded (self .stack) (self .len) → Bounded (set (r .stack) (r .len - 1) (r .pushed)) (r .len)
 
-pub record Unscheduled (self r : Context) : Type 0 where
-  pub state : r ≡ withoutLast self
-  pub context : (visits : ℕ) → unschedule (getD (self .stack) (self .len - 1) noEntry .id) (contextOf visits self) ≡ ok (contextOf visits r)
+pub record Unscheduled (last : Entry) (self r : Context) : Type 0 where
+  pub state : r ≡ withoutLast last self
+  pub context : (visits : ℕ) → unschedule (last .id) (contextOf visits self) ≡ ok (contextOf visits r)
   pub pops : (visits : ℕ) → contextOf visits r ≡ machine.unscheduled (contextOf visits self)
   pub len : r .len ≡ self .len - 1
   pub id : r .«next_schedule_id» ≡ self .«next_schedule_id»
-  pub pending : r .pending ≡ 2
   pub bounded : Bounded (self .stack) (self .len) → Bounded (r .stack) (r .len)
 
 -- ---- a jump's entry, once it is found

@@ -1,18 +1,17 @@
 // The Rust's ControlFlowTarget and Context: which blocks are emitted, scheduled, catch handlers or scope fallthroughs, and the stack of the
 // statements that a jump can leave. Each step takes the Context and hands the next one back.
 //
-// A step never indexes an array of the Context that it is handed: a store into it or a read from it would copy the whole. So a step tells by `pending` what
-// is left to do in the arrays. The stack has `len` entries: those of the array, with `pushed` as the last where it ENTERED. The scheduled set is the array's,
-// with the blocks of `pushed` in it where it ENTERED, and without those of the entry just above the stack where it LEFT. The caller settles that, which
-// changes the form of the Context alone (`settles`, `releases`). A target that ENTERED and is blocked in the set is refused (`resultOf`), and such a Context goes
-// no further. For the same reason each step writes `len`, and the scalars stand between the arrays. (docs/PERFORMANCE.md has the times.)
+// A step never indexes an array of the Context that it is handed: a store into it or a read from it would copy the whole. So it copies the scheduled set into a
+// local and back, and of the stack's array it leaves two things to its caller, one line each: `schedule` gives the entry that went on in `pushed`, to be stored at
+// `len - 1`, and `unschedule` is handed the entry that its caller reads there. For the same reason each step writes `len`, and the scalars stand between the
+// arrays. (docs/PERFORMANCE.md has the times.)
 ghost use mathlib.Core.Path.{_≡_};
 ghost use Prim.Native.Nat.{_+_, _≤_, _<_};
 ghost use mathlib.Core.Bool.{_||_};
-ghost use Rattle.definition.specs.Context.{add, has, targetBlock, isLoop, loopsOf, continuesAt, blockAsked, blockedCode, scheduledBy, owns, breakKind, continueKind, unscheduledBy};
+ghost use Rattle.definition.specs.Context.{add, has, targetBlock, isLoop, loopsOf, continuesAt, blockAsked, breakKind, continueKind};
 ghost use Rattle.definition.specs.Tree.{kindNumber};
 ghost use Rattle.control.specs.Abstraction.{targetOf, kindOf, foundBlock, resolutionOf};
-ghost use Rattle.control.specs.Contract.{Named, Room, Last, blockedIn, Created, Scheduled, Unscheduled, breakTo, continueTo};
+ghost use Rattle.control.specs.Contract.{Named, Room, Last, refusalIf, Created, Scheduled, Unscheduled, breakTo, continueTo};
 
 // What an entry of the control stack stands for. A loop's `block` is its fallthrough.
 pub enum ControlFlowTarget {
@@ -57,13 +56,7 @@ pub enum Resolved {
     Found(Resolution),
 }
 
-// What is pending: nothing, the entry that went on the stack, or the one that came off.
-pub const SETTLED: u8 = 0;
-
-pub const ENTERED: u8 = 1;
-
-pub const LEFT: u8 = 2;
-
+// `pushed` is the entry that went on last. `refused` is 15 (90, which never occurs) where `schedule` refused it; such a Context goes no further.
 pub struct Context {
     pub emitted: [bool; 1024],
     pub catch_handlers: [bool; 1024],
@@ -71,7 +64,7 @@ pub struct Context {
     pub len: usize,
     pub scheduled: [bool; 1024],
     pub pushed: Entry,
-    pub pending: u8,
+    pub refused: u16,
     pub next_schedule_id: u16,
     pub stack: [Entry; 1152],
 }
@@ -138,22 +131,6 @@ impl ControlFlowTarget {
             } => continue_block,
         }
     }
-
-    // What it is refused with there: the Rust's message for a break block that is scheduled (it never occurs), and 15.
-    pub fn blocked_code(self) -> u32
-        ensures { λ r. ⌜ r ≡ blockedCode (targetOf self) ⌝ }
-    {
-        match self {
-            ControlFlowTarget::If { block: _ } => 90,
-            ControlFlowTarget::Switch { block: _ } => 90,
-            ControlFlowTarget::Case { block: _ } => 90,
-            ControlFlowTarget::Loop {
-                block: _,
-                continue_block: _,
-                loop_block: _,
-            } => 15,
-        }
-    }
 }
 
 impl ReactiveTerminalTargetKind {
@@ -196,88 +173,11 @@ pub fn is_scheduled<'a>(
     catch_handlers[at]
 }
 
-// Whether a target cannot be scheduled. Of a loop the fallthrough goes in without a test, and only then the continue block is tested.
-pub fn is_blocked(scheduled: &[bool; 1024], target: ControlFlowTarget) -> bool
-    requires { ⌜ Named target ⌝ }
-    ensures { λ r. ⌜ r ≡ blockedIn (targetOf target) (now (scheduled .entry)) ⌝ }
+// The number of a refusal, 0 where there is none.
+fn refusal(blocked: bool, code: u16) -> u16
+    ensures { λ r. ⌜ r ≡ refusalIf blocked code ⌝ }
 {
-    match target {
-        ControlFlowTarget::If { block } => scheduled[block as usize],
-        ControlFlowTarget::Switch { block } => scheduled[block as usize],
-        ControlFlowTarget::Case { block } => scheduled[block as usize],
-        ControlFlowTarget::Loop {
-            block,
-            continue_block,
-            loop_block: _,
-        } => {
-            if continue_block == block {
-                return true; // it goes in before the test
-            }
-            scheduled[continue_block as usize]
-        }
-    }
-}
-
-// Puts a target's blocks into the scheduled set. Gives whether the target owns its loop block.
-pub fn add_target(scheduled: &mut [bool; 1024], target: ControlFlowTarget) -> bool
-    requires { ⌜ Named target ⌝ }
-    ensures { λ r. ⌜ (now (scheduled .exit) ≡ scheduledBy (targetOf target) (now (scheduled .entry))) × (r ≡ owns (targetOf target) (now (scheduled .entry))) ⌝ }
-{
-    match target {
-        ControlFlowTarget::If { block } => {
-            scheduled[block as usize] = true;
-            false
-        }
-        ControlFlowTarget::Switch { block } => {
-            scheduled[block as usize] = true;
-            false
-        }
-        ControlFlowTarget::Case { block } => {
-            scheduled[block as usize] = true;
-            false
-        }
-        ControlFlowTarget::Loop {
-            block,
-            continue_block,
-            loop_block,
-        } => {
-            scheduled[block as usize] = true;
-            scheduled[continue_block as usize] = true;
-            let owns_loop = !scheduled[loop_block as usize];
-            scheduled[loop_block as usize] = true;
-            owns_loop
-        }
-    }
-}
-
-// What a target's statement takes out of the scheduled set where it ends: a loop its fallthrough and continue block, whoever put them there, and
-// its loop block only if it owns it.
-pub fn remove_target(scheduled: &mut [bool; 1024], target: ControlFlowTarget, owns_loop: bool)
-    requires { ⌜ Named target ⌝ }
-    ensures { λ _. ⌜ now (scheduled .exit) ≡ unscheduledBy (targetOf target) «owns_loop» (now (scheduled .entry)) ⌝ }
-{
-    match target {
-        ControlFlowTarget::If { block } => {
-            scheduled[block as usize] = false;
-        }
-        ControlFlowTarget::Switch { block } => {
-            scheduled[block as usize] = false;
-        }
-        ControlFlowTarget::Case { block } => {
-            scheduled[block as usize] = false;
-        }
-        ControlFlowTarget::Loop {
-            block,
-            continue_block,
-            loop_block,
-        } => {
-            scheduled[block as usize] = false;
-            scheduled[continue_block as usize] = false;
-            if owns_loop {
-                scheduled[loop_block as usize] = false;
-            }
-        }
-    }
+    if blocked { code } else { 0 }
 }
 
 // ---- the search of the stack for a jump's target
@@ -381,37 +281,91 @@ impl Context {
             len: 0,
             scheduled: [false; 1024],
             pushed: entry,
-            pending: SETTLED,
+            refused: 0,
             next_schedule_id: 0,
             stack: [entry; 1152],
         }
     }
 
-    // The one way to schedule: any target, a loop with its three blocks. The entry is pending, its blocks, and whether it is refused: `is_blocked` of the set
-    // and the target tells that, and `add_target` whether it owns its loop block.
+    // The one way to schedule: any target, a loop with its three blocks. `refused` is 15 where a loop's continue block is scheduled; a loop's fallthrough goes
+    // in without a test, and only then its continue block is tested. The entry is left in `pushed`.
     pub fn schedule(mut self, target: ControlFlowTarget) -> Context
         requires { ⌜ Named target ⌝ }
         requires { ⌜ Room self ⌝ }
         ensures { λ r. ⌜ Scheduled target self r ⌝ }
     {
+        let mut scheduled = self.scheduled;
+        let mut refused: u16 = 0;
+        let mut owns_loop = false;
+        match target {
+            ControlFlowTarget::If { block } => {
+                refused = refusal(scheduled[block as usize], 90);
+                scheduled[block as usize] = true;
+            }
+            ControlFlowTarget::Switch { block } => {
+                refused = refusal(scheduled[block as usize], 90);
+                scheduled[block as usize] = true;
+            }
+            ControlFlowTarget::Case { block } => {
+                refused = refusal(scheduled[block as usize], 90); // asked like any other
+                scheduled[block as usize] = true;
+            }
+            ControlFlowTarget::Loop {
+                block,
+                continue_block,
+                loop_block,
+            } => {
+                scheduled[block as usize] = true; // without a test
+                refused = refusal(scheduled[continue_block as usize], 15);
+                scheduled[continue_block as usize] = true;
+                owns_loop = !scheduled[loop_block as usize];
+                scheduled[loop_block as usize] = true;
+            }
+        }
         let entry = Entry {
             id: self.next_schedule_id,
             target: target,
-            owns_loop: false,
+            owns_loop: owns_loop,
         };
+        self.scheduled = scheduled;
+        self.refused = refused;
         self.pushed = entry;
-        self.pending = ENTERED;
         self.next_schedule_id = self.next_schedule_id + 1;
         self.len = self.len + 1;
         self
     }
 
-    // Takes the stack's last entry off. Its blocks are pending.
-    pub fn unschedule(mut self) -> Context
-        requires { ⌜ Last self ⌝ }
-        ensures { λ r. ⌜ Unscheduled self r ⌝ }
+    // Takes the stack's last entry off, which its caller read at `len - 1`, and its blocks out of the scheduled set: a loop's fallthrough and continue block
+    // whoever put them there, its loop block only if it owns it.
+    pub fn unschedule(mut self, last: Entry) -> Context
+        requires { ⌜ Last self last ⌝ }
+        ensures { λ r. ⌜ Unscheduled last self r ⌝ }
     {
-        self.pending = LEFT;
+        let mut scheduled = self.scheduled;
+        let target = last.target;
+        match target {
+            ControlFlowTarget::If { block } => {
+                scheduled[block as usize] = false;
+            }
+            ControlFlowTarget::Switch { block } => {
+                scheduled[block as usize] = false;
+            }
+            ControlFlowTarget::Case { block } => {
+                scheduled[block as usize] = false;
+            }
+            ControlFlowTarget::Loop {
+                block,
+                continue_block,
+                loop_block,
+            } => {
+                scheduled[block as usize] = false;
+                scheduled[continue_block as usize] = false;
+                if last.owns_loop {
+                    scheduled[loop_block as usize] = false;
+                }
+            }
+        }
+        self.scheduled = scheduled;
         self.len = self.len - 1;
         self
     }

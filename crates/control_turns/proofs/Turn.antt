@@ -1,10 +1,10 @@
 -- What each turn of a benchmark's loop keeps: the stack is empty again, every turn has seen its block, and as many ids are given out at most.
 use Prim.Native.Nat.{ℕ, _+_, _≤_, _<_}
-use mathlib.Core.Path.{_≡_, sym, ap, _∙_, subst}
+use mathlib.Core.Path.{_≡_, sym, ap, _∙_}
 use mathlib.Core.Bool.{Bool, true, false, _||_}
 use mathlib.Core.List.{List}
 use native.Mathlib.Nat.{add-zero}
-use lib.ListN.{length, length-set, getD, set}
+use lib.ListN.{length, length-set}
 use Rattle.definition.specs.Tree.{flagOf}
 use Rattle.definition.specs.Context.{Flags, has, add, remove, ControlFlowTarget, target-if, target-switch, target-case, target-loop, start, scheduledBy, unscheduledBy}
 use Rattle.definition.specs.Context as definition
@@ -12,15 +12,14 @@ use Rattle.definition.proofs.Flags.{has-new, length-add, length-none}
 use Rattle.control.specs.declared.Entry.{Entry}
 use Rattle.control.specs.declared.Context.{Context}
 use Rattle.control.specs.declared.ControlFlowTarget as control
-use Rattle.control.specs.Abstraction.{targetOf, noEntry, setOf, contextOf}
-use Rattle.control.specs.Contract.{Named, Bounded, Scheduled, Unscheduled}
+use Rattle.control.specs.Abstraction.{targetOf, contextOf}
+use Rattle.control.specs.Contract.{Bounded, Scheduled, Unscheduled}
 
 pub record Turn (turns : ℕ) (cx : Context) (block seen turn : ℕ) : Type 0 where
   pub named : block < 1024
   pub all : seen ≡ turn
   pub most : turn ≤ turns
   pub empty : cx .len ≡ 0
-  pub settled : cx .pending ≡ 0
   pub ids : cx .«next_schedule_id» ≤ turn
   pub size : length (cx .scheduled) ≡ 1024
   pub bounded : Bounded (cx .stack) (cx .len)
@@ -47,38 +46,27 @@ size-unscheduled (target-loop block continueBlock loopBlock) false s h = size-re
 size-unscheduled (target-loop block continueBlock loopBlock) true s h =
     size-removed (remove (remove s block) continueBlock) loopBlock (size-removed (remove s block) continueBlock (size-removed s block h))
 
-pub size-new : (cx : Context) → contextOf 0 cx ≡ start → cx .pending ≡ 0 → length (cx .scheduled) ≡ 1024
+pub size-new : (cx : Context) → contextOf 0 cx ≡ start → length (cx .scheduled) ≡ 1024
 unfolding start contextOf
-size-new cx e settled =
-    sym (ap (λ (pending : ℕ). length (setOf pending (cx .pushed) (getD (cx .stack) (cx .len) noEntry) (cx .scheduled))) settled) ∙
-    ap (λ (d : definition.Context). length (d .scheduled)) e ∙ length-none
+size-new cx e = ap (λ (d : definition.Context). length (d .scheduled)) e ∙ length-none
 
--- ---- what the caller settles
+-- ---- what the methods hand back
 
 module _ {target : control.ControlFlowTarget} {cx r : Context} (s : Scheduled target cx r) where
-  pub named-entered : Named target → Named (r .pushed .target)
-  named-entered named = rw (s .state) named
+  entered : r .scheduled ≡ scheduledBy (targetOf target) (cx .scheduled)
+  entered = ap (λ (d : Context). d .scheduled) (s .state)
 
-  module _ {flags : Flags} (added : flags ≡ scheduledBy (targetOf (r .pushed .target)) (r .scheduled)) where
-    entered : flags ≡ scheduledBy (targetOf target) (cx .scheduled)
-    entered = added ∙ ap (λ (d : Context). scheduledBy (targetOf (d .pushed .target)) (d .scheduled)) (s .state)
+  pub size-entered : length (cx .scheduled) ≡ 1024 → length (r .scheduled) ≡ 1024
+  size-entered k = ap length entered ∙ size-scheduled (targetOf target) (cx .scheduled) k
 
-    pub size-entered : length (cx .scheduled) ≡ 1024 → length flags ≡ 1024
-    size-entered k = ap length entered ∙ size-scheduled (targetOf target) (cx .scheduled) k
+  -- a block that was added is seen in this turn, by `is_scheduled`, and counted
+  pub one-more : (catch : Flags) (block seen result : ℕ) (more : Bool) → has (scheduledBy (targetOf target) (cx .scheduled)) block ≡ true
+      → more ≡ has (r .scheduled) block || has catch block → result ≡ seen + flagOf more → result ≡ seen + 1
+  one-more catch block seen result more h m k =
+      k ∙ ap (λ (y : Bool). seen + flagOf y) (m ∙ ap (λ (f : Flags). has f block || has catch block) entered ∙ ap (λ (y : Bool). y || has catch block) h)
 
-    -- a block that was added is seen in this turn, by `is_scheduled`, and counted
-    pub one-more : (catch : Flags) (block seen result : ℕ) (more : Bool) → has (scheduledBy (targetOf target) (cx .scheduled)) block ≡ true
-        → more ≡ has flags block || has catch block → result ≡ seen + flagOf more → result ≡ seen + 1
-    one-more catch block seen result more h m k =
-        k ∙ ap (λ (y : Bool). seen + flagOf y) (m ∙ ap (λ (f : Flags). has f block || has catch block) entered ∙ ap (λ (y : Bool). y || has catch block) h)
-
-module _ {cx r : Context} (u : Unscheduled cx r) where
-  pub named-left : (k : ℕ) → k < cx .len → Bounded (cx .stack) (cx .len) → Named (getD (r .stack) k noEntry .target)
-  named-left k below bounded = rw (u .state) (bounded .named k below)
-
-  pub size-left : (target : ControlFlowTarget) (owns : Bool) {flags : Flags} → flags ≡ unscheduledBy target owns (r .scheduled) → length (cx .scheduled) ≡ 1024 → length flags ≡ 1024
-  size-left target owns removed k =
-      ap length removed ∙ size-unscheduled target owns (r .scheduled) (ap (λ (d : Context). length (d .scheduled)) (u .state) ∙ k)
+pub size-left : {last : Entry} {cx r : Context} → Unscheduled last cx r → length (cx .scheduled) ≡ 1024 → length (r .scheduled) ≡ 1024
+size-left {last} {cx} u k = ap (λ (d : Context). length (d .scheduled)) (u .state) ∙ size-unscheduled (targetOf (last .target)) (last .«owns_loop») (cx .scheduled) k
 
 -- the loop block is the last of a loop's three
 pub loop-added : (s : Flags) (block continueBlock loopBlock : ℕ) → length s ≡ 1024 → loopBlock < 1024

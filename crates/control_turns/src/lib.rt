@@ -4,11 +4,7 @@ ghost use Prim.Native.Nat.{_+_, _<_};
 ghost use Rattle.definition.specs.Tree.{flagOf};
 use control::Context;
 use control::ControlFlowTarget;
-use control::Entry;
-use control::SETTLED;
-use control::add_target;
 use control::is_scheduled;
-use control::remove_target;
 
 // A walk through the 1,024 blocks.
 fn next_block(block: u16) -> u16
@@ -39,22 +35,11 @@ pub extern "C" fn control_turns_schedule(turns: u16) -> u16
         block = next_block(block);
         cx = cx.schedule(ControlFlowTarget::If { block: block });
         let at = cx.len - 1;
-        let pushed = cx.pushed;
-        let target = pushed.target;
-        let owns_loop = add_target(&mut cx.scheduled, target);
-        let entry = Entry {
-            id: pushed.id,
-            target: target,
-            owns_loop: owns_loop,
-        };
+        let entry = cx.pushed;
         cx.stack[at] = entry;
-        cx.pending = SETTLED;
         seen = count(seen, is_scheduled(&cx.scheduled, &cx.catch_handlers, block));
-        cx = cx.unschedule();
-        let left = cx.stack[at];
-        let target = left.target;
-        remove_target(&mut cx.scheduled, target, left.owns_loop);
-        cx.pending = SETTLED;
+        let last = cx.stack[at];
+        cx = cx.unschedule(last);
         turn += 1;
     }
     seen
@@ -79,25 +64,14 @@ pub extern "C" fn control_turns_schedule_loop(turns: u16) -> u16
         };
         cx = cx.schedule(target);
         let at = cx.len - 1;
-        let pushed = cx.pushed;
-        let target = pushed.target;
-        let owns_loop = add_target(&mut cx.scheduled, target);
-        let entry = Entry {
-            id: pushed.id,
-            target: target,
-            owns_loop: owns_loop,
-        };
+        let entry = cx.pushed;
         cx.stack[at] = entry;
-        cx.pending = SETTLED;
         seen = count(
             seen,
             is_scheduled(&cx.scheduled, &cx.catch_handlers, loop_block),
         );
-        cx = cx.unschedule();
-        let left = cx.stack[at];
-        let target = left.target;
-        remove_target(&mut cx.scheduled, target, left.owns_loop);
-        cx.pending = SETTLED;
+        let last = cx.stack[at];
+        cx = cx.unschedule(last);
         block = continue_block;
         turn += 1;
     }

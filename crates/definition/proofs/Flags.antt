@@ -54,6 +54,10 @@ pub length-add : (s : Flags) (y n : ℕ) → length s ≡ n → length (add s y)
 unfolding add
 length-add s y n e = length-set s y true ∙ e
 
+pub length-remove : (s : Flags) (y n : ℕ) → length s ≡ n → length (remove s y) ≡ n
+unfolding remove
+length-remove s y n e = length-set s y false ∙ e
+
 pub has-none : (x : ℕ) → has noFlags x ≡ false
 unfolding has noFlags
 has-none x = none-of 1024 x

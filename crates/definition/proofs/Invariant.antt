@@ -21,10 +21,10 @@ use Rattle.definition.specs.Context.{target-case, target-loop, blockedCo
 use Rattle.definition.specs.Context.{scheduleCatchHandler, markScopeFallthrough, pushed, schedule, target-loop, popped}
 use Rattle.definition.specs.Index.{Line}
 use Rattle.definition.specs.Machine.{Frame, enclosingBy, enclosingLabel, aroundOf, Output, _⊕_, lineOut, closed, complete, State, visiting, ended}
-use Rattle.definition.specs.Machine.{choosing, popping, Turn, going, halt, turn, leave, blockRow, valueOut, updateOut}
+use Rattle.definition.specs.Machine.{choosing, popping, making, Turn, going, halt, turn, leave, blockRow, valueOut, updateOut}
 use Rattle.definition.specs.Machine.{statementOut, jumpOut, added, instructionsOut, closingRow, scheduledIf, scheduledSwitch, unscheduledTop, unscheduled}
-use Rattle.definition.specs.Machine.{unscheduledIf, opens, frameOf, secondPart, withLeft, caseBuilt, into, intoLoop, closeBy, close, caseAt}
-use Rattle.definition.specs.Machine.{numberOfCases, chooseCase, switchColumns, resumeAt, resume, branchTurn, valueTurn, terminalTurn, depthLeft}
+use Rattle.definition.specs.Machine.{unscheduledOf, opens, frameOf, secondPart, withLeft, caseBuilt, into, bodyUnless, intoBody, closeBy, close, caseAt}
+use Rattle.definition.specs.Machine.{numberOfCases, chooseCase, switchColumns, resumeAt, resume, valueAt, makeAt, branchTurn, scheduleValue, scheduleLoop, terminalTurn, depthLeft}
 use Rattle.definition.specs.Machine.{visitTurn, step, begin, Gives, run}
 use Rattle.definition.specs.Around.{Rule, Around, breakKindIn}
 use Rattle.definition.specs.Result.{refused, Result, ok, refuseIf}
@@ -105,6 +105,7 @@ potential (visiting block frames out count cx) = 2053 * (8192 - cx .visits) + tu
 potential (ended frames out count cx) = suc (2053 * (8192 - cx .visits) + turnsOfAll frames)
 potential (choosing frame frames out cx) = 2053 * (8192 - cx .visits) + (2 + (2 * frame .left + frame .entries) + turnsOfAll frames)
 potential (popping frame frames out cx) = 2053 * (8192 - cx .visits) + (2 + frame .entries + turnsOfAll frames)
+potential (making body frame frames out cx) = 2053 * (8192 - cx .visits) + (suc (turnsOf frame) + turnsOfAll frames)
 
 -- ---- the invariant
 
@@ -129,6 +130,9 @@ Sound t (visiting block frames out count cx) = (block < length (t .blocks)) × F
 Sound t (ended frames out count cx) = Frames t frames × Holds 1 frames out count cx
 Sound t (choosing frame frames out cx) = (isSwitch (terminalAt t (frame .block)) ≡ true) × Framed t 1 frame × Frames t frames × Holds 0 (frame ∷ frames) out 0 cx
 Sound t (popping frame frames out cx) = Framed t 1 frame × Frames t frames × Holds 0 (frame ∷ frames) out 0 cx
+-- a statement's values may take 13 rows that their visits do not pay for
+Sound t (making body frame frames out cx) =
+    Below (length (t .blocks)) body × Framed t 0 frame × Frames t frames × Holds 0 (frame ∷ frames) out 0 cx × (13 + (length (out .rows) + 3 * suc (length frames)) ≤ 8208 * cx .visits) × (frame .entries ≤ 1)
 
 -- ---- the stack
 
@@ -614,6 +618,117 @@ module _ (t : Table) (ck : Checked t) (d : ℕ) where
       (push-fit t (withLeft j fr) b h (omega arith) (omega arith) refl (omega arith) (omega arith)
       (record { block = o .block; label = o .label; entries = o .entries; case = λ z. omega (arith, o .case z) }) f (ck .caseBlocks (x + j) (omega (arith, o .case q))))
 
+  -- ---- a loop makes its values
+
+  module _ {p : ℕ} (body : Option ℕ) (fr : Frame) (F : List Frame) (R : Output) (c : Context) (o : Framed t 0 fr) (f : Frames t F) (k : Below (length (t .blocks)) body)
+      (h : Inside p (turnsOf fr) 1 (fr .entries) (fr .built) 16 F R (fr .count) c) (few : fr .entries ≤ 1) where
+    body-fit : (v : ℕ) (S : List Row) → c .visits ≤ v → v ≤ 8192 → length S + 8208 * c .visits ≤ 13 + 8208 * v → Good (Fit t p) (intoBody body v fr F (R ⊕ S) c)
+    unfolding intoBody
+    body-fit v S a w u = at body k
+      where
+        at : (body : Option ℕ) → Below (length (t .blocks)) body → Good (Fit t p) (intoBody body v fr F (R ⊕ S) c)
+        at none y = tt
+        at (some l) y = push-fit t fr l (inside-visited t S v 3 h a w (omega arith)) (le-refl _) (omega arith) refl (le-refl _) (omega arith) o f y
+
+    in-a-row : (A B C : List Row) (v : ℕ) → Good (Fit t p) (intoBody body v fr F (R ⊕ (A ++ (B ++ C))) c) → Good (Fit t p) (intoBody body v fr F (((R ⊕ A) ⊕ B) ⊕ C) c)
+    in-a-row A B C v w =
+        subst (λ (z : List Row). Good (Fit t p) (intoBody body v fr F (record { rows = z; lines = R .lines }) c)) (sym (append-assoc (R .rows ++ A) B C ∙ append-assoc (R .rows) A (B ++ C))) w
+
+    long : (A B C : List Row) → length (A ++ (B ++ C)) ≡ length A + (length B + length C)
+    long A B C = omega (arith, length-append A (B ++ C), length-append B C)
+
+    two-in-a-row : (A B : List Row) (v : ℕ) → Good (Fit t p) (intoBody body v fr F (R ⊕ (A ++ B)) c) → Good (Fit t p) (intoBody body v fr F ((R ⊕ A) ⊕ B) c)
+    two-in-a-row A B v w = subst (λ (z : List Row). Good (Fit t p) (intoBody body v fr F (record { rows = z; lines = R .lines }) c)) (sym (append-assoc (R .rows) A B)) w
+
+    none-out : (v : ℕ) → Good (Fit t p) (intoBody body v fr F (R ⊕ []) c) → Good (Fit t p) (intoBody body v fr F R c)
+    none-out v w = subst (λ (z : List Row). Good (Fit t p) (intoBody body v fr F (record { rows = z; lines = R .lines }) c)) (append-nil (R .rows)) w
+
+    no-values : Good (Fit t p) (intoBody body (c .visits) fr F R c)
+    no-values = none-out (c .visits) (body-fit (c .visits) [] (le-refl _) (h .visits) (omega arith))
+
+    abbrev span : Span
+    span = blockAt t (fr .block) .span
+
+    statement-fit : (e : Terminal) → T (not (isMaybeThrow e)) → Good (Fit t p) (valueAt t visit e (blockAt t (fr .block)) fr F R c)
+    unfolding valueAt
+    statement-fit e z = good-bind (TerminalTaken (c .visits)) (Fit t p) _ _ (terminals e (blockAt t (fr .block) .id) span (c .visits) (fr .block) z (h .visits)) (λ w q. at (fr .entries) refl w q)
+      where
+        leaving : (w : ValueTerminalResult) (c₁ : Context) → Inside p (turnsOf fr) 1 0 (fr .built) 5 F (R ⊕ valueOut (w .value)) (fr .count) c₁
+            → Fit t p (leave (fr .label) F ((R ⊕ valueOut (w .value)) ⊕ (instrRow (w .id) (w .place) span ∷ [])) (suc (fr .count)) c₁)
+        leaving w c₁ x =
+            leave-fit t (fr .label) (inside-out t (instrRow (w .id) (w .place) span ∷ []) (suc (fr .count)) 2 x (omega arith) (omega (arith, x .tallied))) (omega arith) (omega arith) (omega arith) f (o .label)
+
+        at : (n : ℕ) → fr .entries ≡ n → (w : ValueTerminalResult) → TerminalTaken (c .visits) w
+            → Fit t p (leave (fr .label) F ((R ⊕ valueOut (w .value)) ⊕ (instrRow (w .id) (w .place) span ∷ [])) (suc (fr .count)) (unscheduledOf n (withVisits (w .visits) c)))
+        at zero e w q =
+            leaving w (withVisits (w .visits) c)
+            (inside-visited t (valueOut (w .value)) (w .visits) 5 (inside-held t c {e₁ = 0} 1 h (held c) (omega arith) (omega (arith, h .stack, e))) (q .0) (q .1)
+            (omega (arith, value-out-size (w .value), q .0, q .2)))
+        at (suc n) e w q =
+            let y : Inside p (turnsOf fr) 1 (fr .entries) (fr .built) 5 F (R ⊕ valueOut (w .value)) (fr .count) (withVisits (w .visits) c) =
+            inside-visited t (valueOut (w .value)) (w .visits) 5 h (q .0) (q .1) (omega (arith, value-out-size (w .value), q .0, q .2)) in
+            leaving w (unscheduled (withVisits (w .visits) c))
+            (inside-held t (withVisits (w .visits) c) {e₁ = 0} 1 y (unscheduled-held (withVisits (w .visits) c) (entriesOf F) (omega (arith, y .stack, e, few))) (omega arith) (omega arith))
+
+    values-fit : (e : Terminal) → Good (Fit t p) (makeAt t visit e (blockAt t (fr .block)) body fr F R c)
+    unfolding makeAt
+    values-fit absent = no-values
+    values-fit unreachable = no-values
+    values-fit (throw x) = no-values
+    values-fit (return x) = no-values
+    values-fit (goto x v) = no-values
+    values-fit (if x y a g) = no-values
+    values-fit (branch x y a) = no-values
+    values-fit (switch x i m g) = no-values
+    values-fit (do-while l x g) = no-values
+    values-fit (while x l g) = good-bind (BlockTaken (c .visits)) (Fit t p) _ _ (values x none span (c .visits) (h .visits)) (λ w u.
+        body-fit (w .visits) (valueOut (w .value)) (u .0) (u .1) (omega (arith, value-out-size (w .value), u .0, u .2)))
+    values-fit (for i x v l g) = good-bind (BlockTaken (c .visits)) (Fit t p) _ _ (values i none span (c .visits) (h .visits)) (λ w u.
+        good-bind (BlockTaken (w .visits)) (Fit t p) _ _ (values x none span (w .visits) (u .1)) (λ y u₁.
+        good-bind (UpdateTaken (y .visits)) (Fit t p) _ _ (updates v span (y .visits) (u₁ .1)) (λ z u₂.
+        in-a-row (valueOut (valueBlockResultToSequence t w span)) (valueOut (y .value)) (updateOut (z .value)) (z .visits)
+        (body-fit (z .visits) _ (omega (arith, u .0, u₁ .0, u₂ .0)) (u₂ .1)
+        (omega (
+          arith,
+          long (valueOut (valueBlockResultToSequence t w span)) (valueOut (y .value)) (updateOut (z .value)),
+          value-out-size (valueBlockResultToSequence t w span),
+          sequence-size t w span,
+          value-out-size (y .value),
+          u .0,
+          u₁ .0,
+          u₂ .0,
+          u .2,
+          u₁ .2,
+          u₂ .2,
+        ))))))
+    values-fit (for-of i x l g) = good-bind (BlockTaken (c .visits)) (Fit t p) _ _ (values i none span (c .visits) (h .visits)) (λ w u.
+        good-bind (BlockTaken (w .visits)) (Fit t p) _ _ (values x none span (w .visits) (u .1)) (λ y u₁.
+        two-in-a-row (valueOut (valueBlockResultToSequence t w span)) (valueOut (valueBlockResultToSequence t y span)) (y .visits)
+        (body-fit (y .visits) _ (omega (arith, u .0, u₁ .0)) (u₁ .1)
+        (omega (
+          arith,
+          length-append (valueOut (valueBlockResultToSequence t w span)) (valueOut (valueBlockResultToSequence t y span)),
+          value-out-size (valueBlockResultToSequence t w span),
+          sequence-size t w span,
+          value-out-size (valueBlockResultToSequence t y span),
+          sequence-size t y span,
+          u .0,
+          u₁ .0,
+          u .2,
+          u₁ .2,
+        )))))
+    values-fit (for-in i l g) = good-bind (BlockTaken (c .visits)) (Fit t p) _ _ (values i none span (c .visits) (h .visits)) (λ w u.
+        body-fit (w .visits) (valueOut (valueBlockResultToSequence t w span)) (u .0) (u .1)
+        (omega (arith, value-out-size (valueBlockResultToSequence t w span), sequence-size t w span, u .0, u .2)))
+    values-fit (logical x y g) = statement-fit (logical x y g) tt
+    values-fit (ternary x g) = statement-fit (ternary x g) tt
+    values-fit (optional x y g) = statement-fit (optional x y g) tt
+    values-fit (label x g) = no-values
+    values-fit (sequence x g) = statement-fit (sequence x g) tt
+    values-fit (maybe-throw x) = no-values
+    values-fit (try x y g m) = no-values
+    values-fit (scope x y g m) = no-values
+
   -- ---- a block that is entered
 
   reach-below : (c : Context) (g : ℕ) → g < length (t .blocks) → Good (Below (length (t .blocks))) (unlessUnreachable t c g)
@@ -653,41 +768,44 @@ module _ (t : Table) (ck : Checked t) (d : ℕ) where
         into-fit (frameOf b g (opens g) R m) x code at (nested (frameOf b g (opens g) R m) x c₁ k refl refl refl (opens-one g) o y) (omega (arith, opens-one g))
         (omega arith) refl (omega arith) (omega arith) o f y
 
-    loop-fit : (g : Option ℕ) (l : ℕ) (bad : Bool) (v : ℕ) (S : List Row) (c₁ : Context) → Held c 1 (suc (length (c .stack))) c₁ → Below (length (t .blocks)) g
-        → isSwitch (terminalAt t b) ≡ false → l < length (t .blocks)
-        → c₁ .visits ≤ v → v ≤ 8192 → length S + 8208 * c₁ .visits ≤ 13 + 8208 * v → Good (Fit t p) (intoLoop b l bad v (frameOf b g 1 R m) F (R ⊕ S) c₁)
-    unfolding intoLoop
-    loop-fit g l bad v S c₁ k q z y a w u =
-        let o : Framed t 0 (frameOf b g 1 R m) = framed b g 1 R m below q (omega arith) z in
-        good-bind Any (Fit t p) _ _ (good-any (refuseIf bad 16 b v)) (λ _ _.
-        push-fit t (frameOf b g 1 R m) l (inside-visited t S v 3 (inside-held t c {e₁ = 1} 1 h k (omega arith) (omega (arith, h .stack))) a w (omega arith))
-        (omega arith) (omega arith) refl (omega arith) (omega arith) o f y)
+    -- a statement that is scheduled, and makes its values next
+    making-fit : (body g : Option ℕ) (entries : ℕ) (c₁ : Context) → Held c 1 (entries + length (c .stack)) c₁ → Below (length (t .blocks)) body → Below (length (t .blocks)) g → entries ≤ 1
+        → isSwitch (terminalAt t b) ≡ false → Fit t p (making body (frameOf b g entries R m) F R c₁)
+    making-fit body g entries c₁ k y q few z = record {
+      lower = omega (arith, k .seen, h .lower);
+      sound = (
+        y,
+        framed b g entries R m below q few z,
+        f,
+        record {
+          visits = omega (arith, k .seen, h .visits);
+          ids = omega (arith, k .ids, k .seen, h .ids);
+          stack = omega (arith, k .stack, h .stack);
+          marked = omega (arith, k .marked, h .marked);
+          depth = omega (arith, h .depth);
+          flags = k .flags ∙ h .flags;
+          tallied = omega (arith, h .tallied);
+          paid = omega (arith, k .seen, h .paid);
+        },
+        omega (arith, k .seen, h .paid),
+        few,
+      );
+    }
 
-    value-fit : (e : Terminal) (g : ℕ) → T (not (isMaybeThrow e)) → g < length (t .blocks) → Good (Fit t p) (valueTurn t visit e b (blockAt t b) g F R m c)
-    unfolding valueTurn
-    value-fit e g z k = good-bind (TerminalTaken (c .visits)) (Fit t p) _ _ (terminals e (blockAt t b .id) (blockAt t b .span) (c .visits) b z (h .visits)) (λ w q.
-        at (unlessScheduled c g) (taken-below c g k) w q)
+    loop-fit : (g : Option ℕ) (l x k : ℕ) → Below (length (t .blocks)) g → isSwitch (terminalAt t b) ≡ false → l < length (t .blocks) → Good (Fit t p) (scheduleLoop b x k l g F R m c)
+    unfolding scheduleLoop
+    loop-fit g l x k q z y = good-bind (Held c 1 (suc (length (c .stack)))) (Fit t p) _ _ (schedule-held (target-loop x k l) c) (λ c₁ held₁.
+        making-fit (bodyUnless (loopIsTaken c l x) l) g 1 c₁ (record { ids = held₁ .ids; seen = held₁ .seen; marked = held₁ .marked; flags = held₁ .flags; stack = omega (arith, held₁ .stack) })
+        (at (loopIsTaken c l x)) q (omega arith) z)
       where
-        leaving : (g : Option ℕ) (w : ValueTerminalResult) (c₁ : Context) → TerminalTaken (c .visits) w → Below (length (t .blocks)) g → Inside p 2052 1 0 0 5 F (R ⊕ valueOut (w .value)) m c₁
-            → Fit t p (leave g F ((R ⊕ valueOut (w .value)) ⊕ (instrRow (w .id) (w .place) (blockAt t b .span) ∷ [])) (suc m) c₁)
-        leaving g w c₁ q k x =
-            leave-fit t g (inside-out t (instrRow (w .id) (w .place) (blockAt t b .span) ∷ []) (suc m) 2 x (omega arith) (omega (arith, x .tallied)))
-            (omega arith) (omega arith) (omega arith) f k
+        at : (bad : Bool) → Below (length (t .blocks)) (bodyUnless bad l)
+        at true = tt
+        at false = y
 
-        at : (g : Option ℕ) → Below (length (t .blocks)) g → (w : ValueTerminalResult) → TerminalTaken (c .visits) w
-            → Fit t p (leave g F ((R ⊕ valueOut (w .value)) ⊕ (instrRow (w .id) (w .place) (blockAt t b .span) ∷ [])) (suc m) (unscheduledIf g (withVisits (w .visits) (scheduledIf g c))))
-        at none k w q =
-            leaving none w (withVisits (w .visits) c) q k
-            (inside-visited t (valueOut (w .value)) (w .visits) 5 (inside-held t c 1 h (held c) (omega arith) (omega (arith, h .stack))) (q .0) (q .1)
-            (omega (arith, value-out-size (w .value), q .0, q .2)))
-        at (some x) k w q =
-            let s : Held c 1 (suc (length (c .stack))) (pushed (target-if x) c) = scheduled-held (target-if x) c in
-            let y : Inside p 2052 1 1 0 5 F (R ⊕ valueOut (w .value)) m (withVisits (w .visits) (pushed (target-if x) c)) =
-            inside-visited t (valueOut (w .value)) (w .visits) 5 (inside-held t c {e₁ = 1} 1 h s (omega arith) (omega (arith, h .stack)))
-            (omega (arith, q .0, s .seen)) (q .1) (omega (arith, value-out-size (w .value), q .0, q .2, s .seen)) in
-            leaving (some x) w (unscheduled (withVisits (w .visits) (pushed (target-if x) c))) q k
-            (inside-held t (withVisits (w .visits) (pushed (target-if x) c)) {e₁ = 0} 1 y
-            (unscheduled-held (withVisits (w .visits) (pushed (target-if x) c)) (entriesOf F) (omega (arith, y .stack))) (omega arith) (omega arith))
+    value-fit : (g : ℕ) → isSwitch (terminalAt t b) ≡ false → g < length (t .blocks) → Good (Fit t p) (scheduleValue b g F R m c)
+    unfolding scheduleValue
+    value-fit g z k = making-fit none (unlessScheduled c g) (opens (unlessScheduled c g)) (scheduledIf (unlessScheduled c g) c) (if-held (unlessScheduled c g) c) tt (taken-below c g k)
+        (opens-one (unlessScheduled c g)) z
 
     branch-fit : (o : Around) (x y a : ℕ) → isSwitch (terminalAt t b) ≡ false → y < length (t .blocks) → a < length (t .blocks) → Good (Fit t p) (branchTurn o b y a (blockAt t b .id) F R m c)
     unfolding branchTurn
@@ -719,87 +837,18 @@ module _ (t : Table) (ck : Checked t) (d : ℕ) where
       where
         fits : numberOfCases t i k ≤ length (t .cases) - i → numberOfCases t i k < 1 + (length (t .cases) - switchColumns (terminalAt t b) .first)
         fits u = rw q (omega (arith, u))
-    terminal-fit around (do-while l x g) q n = good-bind (Held c 1 (suc (length (c .stack)))) (Fit t p) _ _ (schedule-held (target-loop g x l) c) (λ c₁ k. at c₁ k)
-      where
-        none-out : (c₁ : Context) → Good (Fit t p) (intoLoop b l (loopIsTaken c l g) (c₁ .visits) (frameOf b (unlessScheduled c g) 1 R m) F (R ⊕ []) c₁)
-            → Good (Fit t p) (intoLoop b l (loopIsTaken c l g) (c₁ .visits) (frameOf b (unlessScheduled c g) 1 R m) F R c₁)
-        none-out c₁ w =
-            subst (λ (z : List Row). Good (Fit t p) (intoLoop b l (loopIsTaken c l g) (c₁ .visits) (frameOf b (unlessScheduled c g) 1 R m) F
-            (record { rows = z; lines = R .lines }) c₁)) (append-nil (R .rows)) w
-
-        at : (c₁ : Context) → Held c 1 (suc (length (c .stack))) c₁ → Good (Fit t p) (intoLoop b l (loopIsTaken c l g) (c₁ .visits) (frameOf b (unlessScheduled c g) 1 R m) F R c₁)
-        at c₁ k =
-            none-out c₁ (loop-fit (unlessScheduled c g) l (loopIsTaken c l g) (c₁ .visits) [] c₁ k (taken-below c g (n .2)) (ap isSwitch q) (n .0) (le-refl _)
-            (omega (arith, k .seen, h .visits)) (omega arith))
-    terminal-fit around (while x l g) q n = good-bind (Below (length (t .blocks))) (Fit t p) _ _ (reach-below c g (n .2)) (λ o k.
-        good-bind (Held c 1 (suc (length (c .stack)))) (Fit t p) _ _ (schedule-held (target-loop g x l) c) (λ c₁ k₁.
-        good-bind (BlockTaken (c₁ .visits)) (Fit t p) _ _ (values x none (blockAt t b .span) (c₁ .visits) (omega (arith, k₁ .seen, h .visits))) (λ w u.
-        loop-fit o l _ (w .visits) (valueOut (w .value)) c₁ k₁ k (ap isSwitch q) (n .1) (u .0) (u .1) (omega (arith, value-out-size (w .value), u .0, u .2)))))
-    terminal-fit around (for i x v l g) q n = good-bind (Held c 1 (suc (length (c .stack)))) (Fit t p) _ _ (schedule-held (target-loop g (continueBlockOf v x) l) c) (λ c₁ k₁.
-        good-bind (BlockTaken (c₁ .visits)) (Fit t p) _ _ (values i none (blockAt t b .span) (c₁ .visits) (omega (arith, k₁ .seen, h .visits))) (λ w u.
-        good-bind (BlockTaken (w .visits)) (Fit t p) _ _ (values x none (blockAt t b .span) (w .visits) (u .1)) (λ y u₁.
-        good-bind (UpdateTaken (y .visits)) (Fit t p) _ _ (updates v (blockAt t b .span) (y .visits) (u₁ .1)) (λ z u₂.
-        together (valueOut (valueBlockResultToSequence t w (blockAt t b .span))) (valueOut (y .value)) (updateOut (z .value)) c₁ (z .visits)
-        (loop-fit (unlessScheduled c g) l (loopIsTaken c l g) (z .visits) _ c₁ k₁ (taken-below c g (n .4)) (ap isSwitch q) (n .3) (omega (arith, u .0, u₁ .0, u₂ .0)) (u₂ .1)
-        (omega (
-          arith,
-          long (valueOut (valueBlockResultToSequence t w (blockAt t b .span))) (valueOut (y .value)) (updateOut (z .value)),
-          value-out-size (valueBlockResultToSequence t w (blockAt t b .span)),
-          sequence-size t w (blockAt t b .span),
-          value-out-size (y .value),
-          u .0,
-          u₁ .0,
-          u₂ .0,
-          u .2,
-          u₁ .2,
-          u₂ .2,
-        )))))))
-      where
-        long : (A B C : List Row) → length (A ++ (B ++ C)) ≡ length A + (length B + length C)
-        long A B C = omega (arith, length-append A (B ++ C), length-append B C)
-
-        together : (A B C : List Row) (c₁ : Context) (v : ℕ) → Good (Fit t p) (intoLoop b l (loopIsTaken c l g) v (frameOf b (unlessScheduled c g) 1 R m) F (R ⊕ (A ++ (B ++ C))) c₁)
-            → Good (Fit t p) (intoLoop b l (loopIsTaken c l g) v (frameOf b (unlessScheduled c g) 1 R m) F (((R ⊕ A) ⊕ B) ⊕ C) c₁)
-        together A B C c₁ v w =
-            subst (λ (z : List Row). Good (Fit t p) (intoLoop b l (loopIsTaken c l g) v (frameOf b (unlessScheduled c g) 1 R m) F (record { rows = z; lines = R .lines }) c₁))
-            (sym (append-assoc (R .rows ++ A) B C ∙ append-assoc (R .rows) A (B ++ C))) w
-    terminal-fit around (for-of i x l g) q n = good-bind (Held c 1 (suc (length (c .stack)))) (Fit t p) _ _ (schedule-held (target-loop g i l) c) (λ c₁ k₁.
-        good-bind (BlockTaken (c₁ .visits)) (Fit t p) _ _ (values i none (blockAt t b .span) (c₁ .visits) (omega (arith, k₁ .seen, h .visits))) (λ w u.
-        good-bind (BlockTaken (w .visits)) (Fit t p) _ _ (values x none (blockAt t b .span) (w .visits) (u .1)) (λ y u₁.
-        together (valueOut (valueBlockResultToSequence t w (blockAt t b .span))) (valueOut (valueBlockResultToSequence t y (blockAt t b .span))) c₁ (y .visits)
-        (loop-fit (unlessScheduled c g) l (loopIsTaken c l g) (y .visits) _ c₁ k₁ (taken-below c g (n .3)) (ap isSwitch q) (n .2) (omega (arith, u .0, u₁ .0)) (u₁ .1)
-        (omega (
-          arith,
-          length-append (valueOut (valueBlockResultToSequence t w (blockAt t b .span))) (valueOut
-              (valueBlockResultToSequence t y (blockAt t b .span))),
-          value-out-size (valueBlockResultToSequence t w (blockAt t b .span)),
-          sequence-size t w
-              (blockAt t b .span),
-          value-out-size (valueBlockResultToSequence t y (blockAt t b .span)),
-          sequence-size t y (blockAt t b .span),
-          u .0,
-          u₁ .0,
-          u .2,
-          u₁ .2,
-        ))))))
-      where
-        together : (A B : List Row) (c₁ : Context) (v : ℕ) → Good (Fit t p) (intoLoop b l (loopIsTaken c l g) v (frameOf b (unlessScheduled c g) 1 R m) F (R ⊕ (A ++ B)) c₁)
-            → Good (Fit t p) (intoLoop b l (loopIsTaken c l g) v (frameOf b (unlessScheduled c g) 1 R m) F ((R ⊕ A) ⊕ B) c₁)
-        together A B c₁ v w =
-            subst (λ (z : List Row). Good (Fit t p) (intoLoop b l (loopIsTaken c l g) v (frameOf b (unlessScheduled c g) 1 R m) F
-            (record { rows = z; lines = R .lines }) c₁)) (sym (append-assoc (R .rows) A B)) w
-    terminal-fit around (for-in i l g) q n = good-bind (Held c 1 (suc (length (c .stack)))) (Fit t p) _ _ (schedule-held (target-loop g i l) c) (λ c₁ k₁.
-        good-bind (BlockTaken (c₁ .visits)) (Fit t p) _ _ (values i none (blockAt t b .span) (c₁ .visits) (omega (arith, k₁ .seen, h .visits))) (λ w u.
-        loop-fit (unlessScheduled c g) l (loopIsTaken c l g) (w .visits) (valueOut (valueBlockResultToSequence t w (blockAt t b .span))) c₁ k₁
-        (taken-below c g (n .2)) (ap isSwitch q) (n .1) (u .0) (u .1)
-        (omega (arith, value-out-size (valueBlockResultToSequence t w (blockAt t b .span)), sequence-size t w (blockAt t b .span), u .0, u .2))))
-    terminal-fit around (logical o x g) q n = value-fit (logical o x g) g tt (n .1)
-    terminal-fit around (ternary x g) q n = value-fit (ternary x g) g tt (n .1)
-    terminal-fit around (optional o x g) q n = value-fit (optional o x g) g tt (n .1)
+    terminal-fit around (do-while l x g) q n = loop-fit (unlessScheduled c g) l g x (taken-below c g (n .2)) (ap isSwitch q) (n .0)
+    terminal-fit around (while x l g) q n = good-bind (Below (length (t .blocks))) (Fit t p) _ _ (reach-below c g (n .2)) (λ o k. loop-fit o l g x k (ap isSwitch q) (n .1))
+    terminal-fit around (for i x v l g) q n = loop-fit (unlessScheduled c g) l g (continueBlockOf v x) (taken-below c g (n .4)) (ap isSwitch q) (n .3)
+    terminal-fit around (for-of i x l g) q n = loop-fit (unlessScheduled c g) l g i (taken-below c g (n .3)) (ap isSwitch q) (n .2)
+    terminal-fit around (for-in i l g) q n = loop-fit (unlessScheduled c g) l g i (taken-below c g (n .2)) (ap isSwitch q) (n .1)
+    terminal-fit around (logical o x g) q n = value-fit g (ap isSwitch q) (n .1)
+    terminal-fit around (ternary x g) q n = value-fit g (ap isSwitch q) (n .1)
+    terminal-fit around (optional o x g) q n = value-fit g (ap isSwitch q) (n .1)
     terminal-fit around (label x g) q n =
         good-bind (Below (length (t .blocks))) (Fit t p) _ _ (reach-below c g (n .1))
         (λ l k. enclosed-fit l x 17 b (scheduledIf l c) (if-held l c) k (ap isSwitch q) (n .0))
-    terminal-fit around (sequence x g) q n = value-fit (sequence x g) g tt (n .1)
+    terminal-fit around (sequence x g) q n = value-fit g (ap isSwitch q) (n .1)
     terminal-fit around (maybe-throw x) q n = leave-fit t (unlessScheduled c x) h (omega arith) (omega arith) (omega arith) f (taken-below c x n)
     terminal-fit around (try x y g k) q n = good-bind (Below (length (t .blocks))) (Fit t p) _ _ (reach-below c g (n .2)) (λ l w.
         let o : Framed t 0 (frameOf b l (opens l) R m) = framed b l (opens l) R m below w (opens-one l) (ap isSwitch q) in
@@ -900,6 +949,19 @@ module _ (t : Table) (ck : Checked t) where
       next-of _ (chooseCase t (switchColumns (terminalAt t (fr .block)) .first) (switchColumns (terminalAt t (fr .block)) .fallthrough) (fr .left) fr F R c)
       (case-fit t ck 0 (fr .left) fr F R c refl q (holds-inside (suc (2 * fr .left + fr .entries)) fr F R c h (omega arith)) o f)
   step-next rule (popping fr F R c) (o, f, h) = close-fit t fr R c (holds-inside (suc (fr .entries)) fr F R c h (omega arith)) (le-refl _) (omega arith) (le-refl _) (omega arith) o f
+  step-next rule (making body fr F R c) (k, o, f, h, spare, few) =
+      next-of _ (makeAt t (visitValueBlock t (depthLeft F)) (terminalAt t (fr .block)) (blockAt t (fr .block)) body fr F R c)
+      (values-fit t ck (depthLeft F) body fr F R c o f k (record {
+        visits = h .visits;
+        ids = omega (arith, h .ids);
+        lower = omega arith;
+        stack = h .stack;
+        marked = omega (arith, h .marked);
+        depth = h .depth;
+        flags = h .flags;
+        tallied = omega (arith, h .tallied);
+        paid = omega (arith, spare);
+      }) few (terminalAt t (fr .block)))
 
   pub step-sound : (rule : Rule) (s s′ : State) → Sound t s → step rule t s ≡ going s′ → (potential s′ < potential s) × Sound t s′
   step-sound rule s s′ h e = let q : Fit t (potential s) s′ = subst (λ (z : Turn). Next (potential s) z) e (step-next rule s h) in (q .lower, q .sound)
@@ -954,24 +1016,28 @@ contextOf (visiting block frames out count cx) = cx
 contextOf (ended frames out count cx) = cx
 contextOf (choosing frame frames out cx) = cx
 contextOf (popping frame frames out cx) = cx
+contextOf (making body frame frames out cx) = cx
 
 abbrev pub framesOf : State → List Frame
 framesOf (visiting block frames out count cx) = frames
 framesOf (ended frames out count cx) = frames
 framesOf (choosing frame frames out cx) = frame ∷ frames
 framesOf (popping frame frames out cx) = frame ∷ frames
+framesOf (making body frame frames out cx) = frame ∷ frames
 
 abbrev pub outputOf : State → Output
 outputOf (visiting block frames out count cx) = out
 outputOf (ended frames out count cx) = out
 outputOf (choosing frame frames out cx) = out
 outputOf (popping frame frames out cx) = out
+outputOf (making body frame frames out cx) = out
 
 abbrev pub counted : State → ℕ
 counted (visiting block frames out count cx) = count
 counted (ended frames out count cx) = count
 counted (choosing frame frames out cx) = 0
 counted (popping frame frames out cx) = 0
+counted (making body frame frames out cx) = 0
 
 -- a frame that takes cases or is closed is as light as one that awaits a list
 light : (t : Table) (k : ℕ) (fr : Frame) (F : List Frame) (R : Output) (m : ℕ) (c : Context) → Framed t 1 fr → Frames t F → Holds k (fr ∷ F) R m c → k + length (c .stack) ≤ 1024
@@ -1022,6 +1088,16 @@ sound-small t (popping fr F R c) (o, f, h) =
       visits = h .visits;
       frames = h .depth;
       stack = omega (arith, light t 0 fr F R 0 c o f h);
+      ids = omega (arith, h .ids);
+      rows = omega (arith, h .paid, h .visits);
+      lines = omega (arith, h .marked, marks-below (c .emitted), h .flags);
+      count = h .tallied;
+    }
+sound-small t (making body fr F R c) (k, o, f, h, spare, few) =
+    record {
+      visits = h .visits;
+      frames = h .depth;
+      stack = omega (arith, stack-most t 0 (fr ∷ F) R 0 c (o, f) h);
       ids = omega (arith, h .ids);
       rows = omega (arith, h .paid, h .visits);
       lines = omega (arith, h .marked, marks-below (c .emitted), h .flags);

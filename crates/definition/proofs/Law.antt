@@ -23,6 +23,8 @@ use Rattle.definition.specs.Completion.{contains, Completion, normal, br
 use Rattle.definition.specs.TreeRun.{runStatements, reasonOf, treeRun}
 use Rattle.definition.specs.Plain.{Width, paper-01, with-switch, plainCodes, Plain}
 use Rattle.definition.specs.RunLaw.{Agree, RunLaw, Spoken, SwitchLaw, LawOfSwitches}
+use Rattle.definition.specs.LoopLaw.{LawOfLoops, LawOfLoopsAndSwitches}
+use Rattle.definition.specs.PlainLoops.{enoughCodes}
 use Rattle.definition.proofs.PlainEnough.{PlainEnough, plain-enough}
 use Rattle.definition.proofs.Semantics.{Built, LeadsOn, runs, runnable}
 use Rattle.definition.proofs.State.{start-ok}
@@ -98,7 +100,7 @@ built-agrees t s b answers spoken = elim (runs t b answers) [
 pub tree-built : (rule : Rule) {width : Width} (t : Table) → Covers t rule width → PlainEnough width t → Ranged t → (r : BlockResult) → buildTree rule t ≡ ok r
     → Built t [] (t .entry) (r .statements)
 unfolding buildTree WalkOk BlockOk
-tree-built rule t covers pl rg r e = walk-ok t rule covers pl rg 128 (outermost rule) [] (record { by-rule = refl; fits = fits-none }) (t .entry) start r (start-ok t) (pl .entry) e .tree
+tree-built rule t covers pl rg r e = walk-ok t rule covers pl rg 128 (outermost rule) [] (record { by-rule = refl; fits = fits-none }) (t .entry) start r (start-ok t) (pl .entry, pl .entry-reached) e .tree
 
 -- ---- a table as paper 01 has it has no Switch, so that its run comes to no answer that is the place of no case
 
@@ -125,7 +127,7 @@ answer-within x y [] = refl
 answer-within x y (zero ∷ a) = refl
 answer-within x y (suc n ∷ a) = refl
 
-move-within : (t : Table) (m : Terminal) (i : ℕ) (answers : Answers) → contains (plainCodes paper-01) (codeOf m) ≡ true → movesBeyond (move t m i answers) ≡ false
+move-within : (t : Table) (m : Terminal) (i : ℕ) (answers : Answers) → contains (enoughCodes paper-01) (codeOf m) ≡ true → movesBeyond (move t m i answers) ≡ false
 unfolding move
 move-within t absent i a h = refl
 move-within t unreachable i a h = refl
@@ -247,3 +249,10 @@ switch-law-enough words lent lentIndex h pl = record { one = one-tree language w
 
 pub switch-law : LawOfSwitches
 switch-law words lent lentIndex h pl = switch-law-enough words lent lentIndex h (plain-enough (tableOf words) pl)
+
+-- with DoWhile and For
+pub loops-law : LawOfLoops
+loops-law = run-law-enough
+
+pub loops-and-switches-law : LawOfLoopsAndSwitches
+loops-and-switches-law = switch-law-enough

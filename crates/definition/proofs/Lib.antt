@@ -36,4 +36,6 @@ pub mod Law
 pub mod JumpRows
 pub mod PlainTest
 pub mod Example
+pub mod LoopExample
+pub mod LoopLawExample
 pub mod Samples

@@ -8,24 +8,29 @@ use mathlib.Core.Option.{Option, none, some}
 use mathlib.Core.Bool.{Bool, true, false, _||_, cond}
 use lib.ListN.{length, take, drop}
 use lib.Dec.{eqb}
-use Rattle.table.specs.Table.{Table, Case, Terminal, throw, return, goto, if, branch, switch, while, label, scope, Variant, blockAt, terminalAt, instructionRowsAt}
-use Rattle.definition.specs.Tree.{Value, IF, SWITCH, WHILE, LABEL, SCOPE, RETURN, THROW, Statements, done, _▸_, Cases, no-cases, CASE}
+use Rattle.table.specs.Table.{Table, Case, Terminal, throw, return, goto, if, branch, switch, do-while, while, for, label, scope, Variant, blockAt, terminalAt, instructionRowsAt}
+use Rattle.definition.specs.Tree.{Value, IF, SWITCH, DOWHILE, WHILE, FOR, LABEL, SCOPE, RETURN, THROW, Statements, done, _▸_, Cases, no-cases, CASE}
 use Rattle.definition.specs.Statement.{casesLastFirst, instructionStatements}
 use Rattle.definition.specs.Run.{Answers, Reason, returned, threw, no-answer-left, no-such-case, isGood, Run, stopped}
 use Rattle.definition.specs.BlockRun.{Move, go, halt, byAnswer, caseList, atPlace, byPlace, move, performing, blockRun}
 use Rattle.definition.specs.Completion.{Completion, normal, break, continue, stop, loopContinues, breakable, labelled}
-use Rattle.definition.specs.TreeRun.{Completed, completed, completing, prefix, thenOn, then, choose, performs, afterBody, whileRounds, whileLoop, loop}
+use Rattle.definition.specs.TreeRun.{Completed, completed, completing, prefix, thenOn, then, choose, performs, afterBody, whileRounds, whileLoop, forLoop, doWhileLoop, performsUpdate, loop}
 use Rattle.definition.specs.TreeRun.{switchEnds, entryAt, choosePlace, runStatements, entriesFrom}
-use Rattle.definition.proofs.Runnable.{Straight, Runnable, RunnableCases}
+use Rattle.definition.proofs.Runnable.{Straight, StraightUpdate, Runnable, RunnableCases}
 use Rattle.definition.proofs.Steps.{none-some, some-eq}
+use Rattle.definition.specs.PlainLoops.{dropOwn}
+use borrow.Author.Tests.{eqb-true}
 
 -- ---- where a completion leads: the statements around, from the innermost
 
 pub data Frame : Type 0 where
   in-label : (ft : ℕ) → Frame
   in-scope : (ft : ℕ) → Frame
-  in-loop : (ft test : ℕ) → Frame
+  -- its fallthrough, and where it continues
+  in-loop : (ft again : ℕ) → Frame
   in-switch : (ft : ℕ) → Frame
+  -- a switch whose end is not reached
+  in-open : Frame
   -- an earlier case of a switch is built, and a normal completion leads on to the block of this one
   in-case : (next : ℕ) → Frame
 
@@ -35,6 +40,7 @@ exit (in-label l ∷ F) = some l
 exit (in-scope l ∷ F) = some l
 exit (in-loop l k ∷ F) = some k
 exit (in-switch l ∷ F) = some l
+exit (in-open ∷ F) = exit F
 exit (in-case k ∷ F) = some k
 
 abbrev pub breakOut : List Frame → Option ℕ
@@ -43,6 +49,7 @@ breakOut (in-label l ∷ F) = breakOut F
 breakOut (in-scope l ∷ F) = breakOut F
 breakOut (in-loop l k ∷ F) = some l
 breakOut (in-switch l ∷ F) = some l
+breakOut (in-open ∷ F) = none
 breakOut (in-case k ∷ F) = breakOut F
 
 abbrev pub continueOut : List Frame → Option ℕ
@@ -51,6 +58,7 @@ continueOut (in-label l ∷ F) = continueOut F
 continueOut (in-scope l ∷ F) = continueOut F
 continueOut (in-loop l k ∷ F) = some k
 continueOut (in-switch l ∷ F) = continueOut F
+continueOut (in-open ∷ F) = continueOut F
 continueOut (in-case k ∷ F) = continueOut F
 
 abbrev pub breakAt : List Frame → ℕ → Option ℕ
@@ -59,6 +67,7 @@ breakAt (in-label l ∷ F) t = cond (eqb l t) (some l) (breakAt F t)
 breakAt (in-scope l ∷ F) t = breakAt F t
 breakAt (in-loop l k ∷ F) t = cond (eqb l t) (some l) (breakAt F t)
 breakAt (in-switch l ∷ F) t = cond (eqb l t) (some l) (breakAt F t)
+breakAt (in-open ∷ F) t = breakAt F t
 breakAt (in-case k ∷ F) t = breakAt F t
 
 abbrev pub continueAt : List Frame → ℕ → Option ℕ
@@ -67,7 +76,16 @@ continueAt (in-label l ∷ F) t = continueAt F t
 continueAt (in-scope l ∷ F) t = continueAt F t
 continueAt (in-loop l k ∷ F) t = cond (eqb l t) (some k) (continueAt F t)
 continueAt (in-switch l ∷ F) t = continueAt F t
+continueAt (in-open ∷ F) t = continueAt F t
 continueAt (in-case k ∷ F) t = continueAt F t
+
+abbrev pub isOpen : Frame → Bool
+isOpen (in-label l) = false
+isOpen (in-scope l) = false
+isOpen (in-loop l k) = false
+isOpen (in-switch l) = false
+isOpen in-open = true
+isOpen (in-case k) = false
 
 abbrev pub target : List Frame → Completion → Option ℕ
 target F normal = exit F
@@ -293,22 +311,38 @@ module _ (t : Table) where
   ends-round F f x b answers o k (inr p) q =
       after-round F f x b answers (o .rows) (loopContinues (o .completion) (f ∷ [])) (o .completion) (o .left) k (loop-on F f x b answers (o .rows) (o .completion) (o .left) p) q
 
-  -- the rounds, from the test x, whose ways are the loop block l and the fallthrough f
-  ends-rounds : (F : List Frame) (c f x l : ℕ) (body : Answers → Completed) → terminalAt t x ≡ branch c l f
-      → ((a : Answers) → Leads (in-loop f x ∷ F) l a (body a))
-      → (n : ℕ) (a : Answers) → length a ≤ n → LoopEnds F f x a (whileRounds (f ∷ []) (instructionRowsAt t x) body n a)
+  -- the rounds, from where the loop continues, k, and over some rows to the test x, whose ways are the loop block l and the fallthrough f
+  ends-rounds : (F : List Frame) (c f k x l : ℕ) (over : List ℕ) (body : Answers → Completed) → terminalAt t x ≡ branch c l f → ((a : Answers) → Onward k a over x a)
+      → ((a : Answers) → Leads (in-loop f k ∷ F) l a (body a))
+      → (n : ℕ) (a : Answers) → length a ≤ n → LoopEnds F f k a (whileRounds (f ∷ []) (over ++ instructionRowsAt t x) body n a)
   unfolding whileRounds choose prefix completed move byAnswer labelled breakable
-  ends-rounds F c f x l body e ih zero [] h =
-      inr (refl, rw append-nil at (stops-halt x [] no-answer-left (move-of x (branch c l f) [] (halt no-answer-left) e refl)))
-  ends-rounds F c f x l body e ih zero (y ∷ a) h = absurd (not-suc-le-zero h)
-  ends-rounds F c f x l body e ih (suc n) [] h =
+  ends-rounds F c f k x l over body e way ih zero [] h =
+      inr (refl, way [] .and-on (instructionRowsAt t x) [] no-answer-left (rw append-nil at (stops-halt x [] no-answer-left (move-of x (branch c l f) [] (halt no-answer-left) e refl))))
+  ends-rounds F c f k x l over body e way ih zero (y ∷ a) h = absurd (not-suc-le-zero h)
+  ends-rounds F c f k x l over body e way ih (suc n) [] h =
+      inr (refl, rw append-assoc (way [] .and-on (instructionRowsAt t x ++ []) [] no-answer-left (stops-halt x [] no-answer-left (move-of x (branch c l f) [] (halt no-answer-left) e refl))))
+  ends-rounds F c f k x l over body e way ih (suc n) (suc m ∷ a) h =
+      loop-prefix F f (afterBody (f ∷ []) (body a) (λ a′. whileRounds (f ∷ []) (over ++ instructionRowsAt t x) body n a′))
+      (onward-onward (way (suc m ∷ a)) (onward-go x (suc m ∷ a) l a (move-of x (branch c l f) (suc m ∷ a) (go l a) e refl) (le-step (le-refl (length a)))))
+      (ends-round F f k l a (body a) (λ a′. whileRounds (f ∷ []) (over ++ instructionRowsAt t x) body n a′) (ih a)
+      (λ a′ h′. ends-rounds F c f k x l over body e way ih n a′ (le-trans h′ (le-of-suc-le-suc h))))
+  ends-rounds F c f k x l over body e way ih (suc n) (zero ∷ a) h =
+      loop-prefix F f (completed [] normal a)
+      (onward-onward (way (zero ∷ a)) (onward-go x (zero ∷ a) f a (move-of x (branch c l f) (zero ∷ a) (go f a) e refl) (le-step (le-refl (length a)))))
+      (inr (onward-here f a))
+
+  -- one round from the test, and then from where the loop continues
+  ends-first : (F : List Frame) (c f k x l : ℕ) (body again : Answers → Completed) → terminalAt t x ≡ branch c l f
+      → ((a : Answers) → Leads (in-loop f k ∷ F) l a (body a)) → ((a : Answers) → LoopEnds F f k a (again a))
+      → (a : Answers) → LoopEnds F f x a (prefix (instructionRowsAt t x) (choose (λ y. afterBody (f ∷ []) (body y) again) (λ y. completed [] normal y) a))
+  unfolding choose prefix completed move byAnswer labelled breakable
+  ends-first F c f k x l body again e ih q [] =
       inr (refl, stops-halt x [] no-answer-left (move-of x (branch c l f) [] (halt no-answer-left) e refl))
-  ends-rounds F c f x l body e ih (suc n) (suc m ∷ a) h =
-      loop-prefix F f (afterBody (f ∷ []) (body a) (λ a′. whileRounds (f ∷ []) (instructionRowsAt t x) body n a′))
+  ends-first F c f k x l body again e ih q (suc m ∷ a) =
+      loop-prefix F f (afterBody (f ∷ []) (body a) again)
       (onward-go x (suc m ∷ a) l a (move-of x (branch c l f) (suc m ∷ a) (go l a) e refl) (le-step (le-refl (length a))))
-      (ends-round F f x l a (body a) (λ a′. whileRounds (f ∷ []) (instructionRowsAt t x) body n a′) (ih a)
-      (λ a′ h′. ends-rounds F c f x l body e ih n a′ (le-trans h′ (le-of-suc-le-suc h))))
-  ends-rounds F c f x l body e ih (suc n) (zero ∷ a) h =
+      (ends-round F f k l a (body a) again (ih a) (λ a′ h. q a′))
+  ends-first F c f k x l body again e ih q (zero ∷ a) =
       loop-prefix F f (completed [] normal a)
       (onward-go x (zero ∷ a) f a (move-of x (branch c l f) (zero ∷ a) (go f a) e refl) (le-step (le-refl (length a))))
       (inr (onward-here f a))
@@ -337,14 +371,30 @@ module _ (t : Table) where
           → s₀ ≡ instructionStatements t (instructionRowsAt t b) (IF x i (some f) s₁ false done ▸ r) → Built F b s₀
       built-label : {F : List Frame} {b : ℕ} {s₀ : Statements} (c f i : ℕ) {s r : Statements} → terminalAt t b ≡ label c f
           → Built (in-label f ∷ F) c s → Built F f r → s₀ ≡ instructionStatements t (instructionRowsAt t b) (LABEL i (some f) s ▸ r) → Built F b s₀
+      -- their ends are not reached: nothing comes after, and a normal completion leads on where the list's does
+      built-if-open : {F : List Frame} {b : ℕ} {s₀ : Statements} (x c a f i : ℕ) {s₁ s₂ : Statements} → terminalAt t b ≡ if x c a f → Built F c s₁ → Built F a s₂
+          → s₀ ≡ instructionStatements t (instructionRowsAt t b) (IF x i none s₁ true s₂ ▸ done) → Built F b s₀
+      built-label-open : {F : List Frame} {b : ℕ} {s₀ : Statements} (c f i : ℕ) {s : Statements} → terminalAt t b ≡ label c f → Built F c s
+          → s₀ ≡ instructionStatements t (instructionRowsAt t b) (LABEL i none s ▸ done) → Built F b s₀
       built-scope : {F : List Frame} {b : ℕ} {s₀ : Statements} (p : Bool) (c f n : ℕ) {s r : Statements} → terminalAt t b ≡ scope p c f n
           → Built (in-scope f ∷ F) c s → Built F f r → s₀ ≡ instructionStatements t (instructionRowsAt t b) (SCOPE p n s ▸ r) → Built F b s₀
       built-while : {F : List Frame} {b : ℕ} {s₀ : Statements} (x l f y i : ℕ) (v : Value) {s r : Statements} → terminalAt t b ≡ while x l f → terminalAt t x ≡ branch y l f
           → performs v ≡ instructionRowsAt t x → Straight v → Built (in-loop f x ∷ F) l s → Built F f r
           → s₀ ≡ instructionStatements t (instructionRowsAt t b) (WHILE i (some f) v s ▸ r) → Built F b s₀
+      built-do-while : {F : List Frame} {b : ℕ} {s₀ : Statements} (l x f y i : ℕ) (v : Value) {s r : Statements} → terminalAt t b ≡ do-while l x f → terminalAt t x ≡ branch y l f
+          → performs v ≡ instructionRowsAt t x → Straight v → Built (in-loop f x ∷ F) l s → Built F f r
+          → s₀ ≡ instructionStatements t (instructionRowsAt t b) (DOWHILE i (some f) s v ▸ r) → Built F b s₀
+      -- k is where it continues, the update or the test; the way from there to the test performs the update
+      built-for : {F : List Frame} {b : ℕ} {s₀ : Statements} (n x : ℕ) (u : Option ℕ) (l f k y i : ℕ) (g : Variant) (vn vx : Value) (vu : Option Value) {s r : Statements}
+          → terminalAt t b ≡ for n x u l f → terminalAt t x ≡ branch y l f → terminalAt t n ≡ goto x g
+          → performs vn ≡ instructionRowsAt t n → performs vx ≡ instructionRowsAt t x → ((a : Answers) → Onward k a (performsUpdate vu) x a)
+          → Straight vn × Straight vx × StraightUpdate vu → Built (in-loop f k ∷ F) l s → Built F f r
+          → s₀ ≡ instructionStatements t (instructionRowsAt t b) (FOR i (some f) vn vx vu s ▸ r) → Built F b s₀
       built-switch : {F : List Frame} {b : ℕ} {s₀ : Statements} (x i n f d : ℕ) {cs : Cases} {r : Statements} → terminalAt t b ≡ switch x i n f
-          → BuiltCases (in-switch f ∷ F) (casesLastFirst t i n) cs → Built F f r
+          → BuiltCases (in-switch f ∷ F) (dropOwn f (casesLastFirst t i n)) cs → Built F f r
           → s₀ ≡ instructionStatements t (instructionRowsAt t b) (SWITCH x d (some f) cs ▸ r) → Built F b s₀
+      built-switch-open : {F : List Frame} {b : ℕ} {s₀ : Statements} (x i n f d : ℕ) {cs : Cases} → terminalAt t b ≡ switch x i n f
+          → BuiltCases (in-open ∷ F) (casesLastFirst t i n) cs → s₀ ≡ instructionStatements t (instructionRowsAt t b) (SWITCH x d none cs ▸ done) → Built F b s₀
 
     -- the cases of a switch, the last first: each is built above the blocks of the later ones
     pub data BuiltCases : List Frame → List Case → Cases → Type 0 where
@@ -419,6 +469,35 @@ module _ (t : Table) where
   unfolding completed completing labelled
   ends-nothing F f answers = inr (onward-here f answers)
 
+  -- ---- an If or a Label whose end is not reached
+
+  open-on : (F : List Frame) (c : ℕ) (a : Answers) (rows : List ℕ) (e : Completion) (left : Answers) → LeadsOn F c a rows e left
+      → Leads F c a (thenOn (labelled none e) (completed rows (labelled none e) left) (λ y. runStatements done y))
+  unfolding thenOn labelled completed prefix runStatements
+  open-on F c a rows normal left p = inr (subst (λ (z : List ℕ). LeadsOn F c a z normal left) (sym (append-nil rows)) p)
+  open-on F c a rows (break none j) left p = inr p
+  open-on F c a rows (break (some x) j) left p = inr p
+  open-on F c a rows (continue none j) left p = inr p
+  open-on F c a rows (continue (some x) j) left p = inr p
+  open-on F c a rows (stop r) left p = inr p
+
+  open-leads : (F : List Frame) (c : ℕ) (a : Answers) (o : Completed) → Leads F c a o → Leads F c a (then (completing (labelled none) o) (λ y. runStatements done y))
+  unfolding then completing completed
+  open-leads F c a o (inl p) = inl p
+  open-leads F c a o (inr p) = open-on F c a (o .rows) (o .completion) (o .left) p
+
+  if-open-leads : (F : List Frame) (b x c a f : ℕ) (s₁ s₂ : Statements) → terminalAt t b ≡ if x c a f
+      → ((y : Answers) → Leads F c y (runStatements s₁ y)) → ((y : Answers) → Leads F a y (runStatements s₂ y)) → (answers : Answers)
+      → Leads F b answers (prefix (instructionRowsAt t b) (then (completing (labelled none) (choose (λ y. runStatements s₁ y) (λ y. runStatements s₂ y) answers)) (λ y. runStatements done y)))
+  unfolding choose move byAnswer
+  if-open-leads F b x c a f s₁ s₂ e h₁ h₂ [] = wants F b f none (λ y. runStatements done y) (move-of b (if x c a f) [] (halt no-answer-left) e refl)
+  if-open-leads F b x c a f s₁ s₂ e h₁ h₂ (suc n ∷ y) =
+      leads-prefix F (then (completing (labelled none) (runStatements s₁ y)) (λ z. runStatements done z))
+      (onward-go b (suc n ∷ y) c y (move-of b (if x c a f) (suc n ∷ y) (go c y) e refl) (le-step (le-refl (length y)))) (open-leads F c y (runStatements s₁ y) (h₁ y))
+  if-open-leads F b x c a f s₁ s₂ e h₁ h₂ (zero ∷ y) =
+      leads-prefix F (then (completing (labelled none) (runStatements s₂ y)) (λ z. runStatements done z))
+      (onward-go b (zero ∷ y) a y (move-of b (if x c a f) (zero ∷ y) (go a y) e refl) (le-step (le-refl (length y)))) (open-leads F a y (runStatements s₂ y) (h₂ y))
+
   -- ---- switches
 
   -- G stands above the switch with the fallthrough f within F, and has the cases that were built before on top; a normal completion leads to m
@@ -459,8 +538,13 @@ module _ (t : Table) where
   ends-then H f m b answers o k (inr p) q = ends-then-on H f m b answers (o .rows) (o .completion) (o .left) k p q
 
   -- each entry, from its case's block, completes as the switch's frame says
+  -- the cases that are the switch's own fallthrough have none
+  abbrev AllOwn : ℕ → List Case → Type 0
+  AllOwn f [] = Unit {0}
+  AllOwn f (k ∷ ks) = (k .block ≡ f) × AllOwn f ks
+
   data EntriesOk (H : List Frame) (f : ℕ) : List Case → List (Answers → Completed) → Type 0 where
-    no-entries : EntriesOk H f [] []
+    no-entries : {ks : List Case} → AllOwn f ks → EntriesOk H f ks []
     an-entry : {k : Case} {e : Answers → Completed} {ks : List Case} {es : List (Answers → Completed)} → ((a : Answers) → Ends H f (k .block) a (e a)) → EntriesOk H f ks es
         → EntriesOk H f (k ∷ ks) (e ∷ es)
 
@@ -483,7 +567,11 @@ module _ (t : Table) where
       → moveAt b (k₀ ∷ a) ≡ atPlace ks k a → ((y : Answers) → Leads F f y (next y))
       → Leads F b (k₀ ∷ a) (prefix (instructionRowsAt t b) (then (switchEnds (some f) (entryAt es k a)) next))
   unfolding atPlace entryAt
-  place-leads F f b k₀ next no-entries k a e q = inl (record { rows = instructionRowsAt t b ++ []; left = k₀ ∷ a; comes = stops-halt b (k₀ ∷ a) no-such-case e })
+  place-leads F f b k₀ next (no-entries {ks = []} p) k a e q = inl (record { rows = instructionRowsAt t b ++ []; left = k₀ ∷ a; comes = stops-halt b (k₀ ∷ a) no-such-case e })
+  place-leads F f b k₀ next (no-entries {ks = c ∷ ks} (p, ps)) zero a e q =
+      leads-part F b f f (k₀ ∷ a) a (switchEnds (some f) (completed [] normal a)) next (e ∙ ap (λ (z : ℕ). go z a) p) (le-step (le-refl (length a)))
+      (unfold switchEnds completing completed labelled breakable in inr (onward-here f a)) q
+  place-leads F f b k₀ next (no-entries {ks = c ∷ ks} (p, ps)) (suc k) a e q = place-leads F f b k₀ next (no-entries {ks = ks} ps) k a e q
   place-leads F f b k₀ next (an-entry {k} {e = en} p ps) zero a e q =
       leads-part F b (k .block) f (k₀ ∷ a) a (switchEnds (some f) (en a)) next e (le-step (le-refl (length a))) (ends-switch F f (k .block) a (en a) (p a)) q
   place-leads F f b k₀ next (an-entry p ps) (suc k) a e q = place-leads F f b k₀ next ps k a e q
@@ -495,14 +583,115 @@ module _ (t : Table) where
   switch-leads F b x i n f es next e p q [] = wants-place F b f next (move-of b (switch x i n f) [] (halt no-answer-left) e refl)
   switch-leads F b x i n f es next e p q (k ∷ a) = place-leads F f b k next p k a (move-of b (switch x i n f) (k ∷ a) (atPlace (caseList t i n) k a) e refl) q
 
-  in-order : (i n : ℕ) → reverseAux (casesLastFirst t i n) [] ≡ caseList t i n
+  -- the cases left out, in order
+  abbrev owns : (f : ℕ) → List Case → List Case → List Case
+  owns f [] later = later
+  owns f (k ∷ ks) later = cond (eqb (k .block) f) (owns f ks (k ∷ later)) later
+
+  all-own : (f : ℕ) (ks later : List Case) → AllOwn f later → AllOwn f (owns f ks later)
+  all-own f [] later p = p
+  all-own f (k ∷ ks) later p = at (eqb (k .block) f) refl (λ q. all-own f ks (k ∷ later) (q, p))
+    where
+      at : (y : Bool) → eqb (k .block) f ≡ y → (k .block ≡ f → AllOwn f (owns f ks (k ∷ later))) → AllOwn f (cond y (owns f ks (k ∷ later)) later)
+      at true e ih = ih (eqb-true (k .block) f e)
+      at false e ih = p
+
+  with-own : (f : ℕ) (ks later : List Case) → reverseAux (dropOwn f ks) (owns f ks later) ≡ reverseAux ks later
+  with-own f [] later = refl
+  with-own f (k ∷ ks) later = at (eqb (k .block) f) (with-own f ks (k ∷ later))
+    where
+      at : (y : Bool) → reverseAux (dropOwn f ks) (owns f ks (k ∷ later)) ≡ reverseAux ks (k ∷ later) → reverseAux (cond y (dropOwn f ks) (k ∷ ks)) (cond y (owns f ks (k ∷ later)) later) ≡ reverseAux ks (k ∷ later)
+      at true ih = ih
+      at false ih = refl
+
+  in-order : (f i n : ℕ) → reverseAux (dropOwn f (casesLastFirst t i n)) (owns f (casesLastFirst t i n) []) ≡ caseList t i n
   unfolding casesLastFirst caseList
-  in-order i n = reverse-reverse (take n (drop i (t .cases)))
+  in-order f i n = with-own f (reverseAux (take n (drop i (t .cases))) []) [] ∙ reverse-reverse (take n (drop i (t .cases)))
+
+  -- ---- a switch whose end is not reached
+
+  data OpenEntries (F : List Frame) : List Case → List (Answers → Completed) → Type 0 where
+    no-open : OpenEntries F [] []
+    an-open : {k : Case} {e : Answers → Completed} {ks : List Case} {es : List (Answers → Completed)} → ((a : Answers) → Leads (in-open ∷ F) (k .block) a (e a)) → OpenEntries F ks es
+        → OpenEntries F (k ∷ ks) (e ∷ es)
+
+  -- the last case: nothing comes after
+  nothing-on : (H : List Frame) (b : ℕ) (a : Answers) (rows : List ℕ) (e : Completion) (left : Answers) → LeadsOn H b a rows e left
+      → Leads H b a (thenOn e (completed rows e left) (λ y. completed [] normal y))
+  unfolding thenOn completed prefix
+  nothing-on H b a rows normal left p = inr (subst (λ (z : List ℕ). LeadsOn H b a z normal left) (sym (append-nil rows)) p)
+  nothing-on H b a rows (break x j) left p = inr p
+  nothing-on H b a rows (continue x j) left p = inr p
+  nothing-on H b a rows (stop r) left p = inr p
+
+  nothing-after : (H : List Frame) (b : ℕ) (a : Answers) (o : Completed) → Leads H b a o → Leads H b a (then o (λ y. completed [] normal y))
+  unfolding then completed
+  nothing-after H b a o (inl p) = inl p
+  nothing-after H b a o (inr p) = nothing-on H b a (o .rows) (o .completion) (o .left) p
+
+  -- a case before the one at k
+  abbrev Steps : List Frame → List Frame → (Answers → Completed) → Type 0
+  Steps F G after = (b : ℕ) (a : Answers) (o : Completed) → Leads G b a o → Leads (in-open ∷ F) b a (then o after)
+
+  earlier-on : (F G : List Frame) (k : ℕ) (after e : Answers → Completed) → Steps F G after → ((a : Answers) → Leads (in-open ∷ F) k a (e a))
+      → (b : ℕ) (a : Answers) (rows : List ℕ) (c : Completion) (left : Answers) → LeadsOn (in-case k ∷ G) b a rows c left
+      → Leads (in-open ∷ F) b a (thenOn c (completed rows c left) e)
+  unfolding thenOn then completed
+  earlier-on F G k after e step entry b a rows normal left (b′, h, p) = leads-prefix (in-open ∷ F) (e left) (at k b′ h p) (entry left)
+  earlier-on F G k after e step entry b a rows (break none j) left p = step b a (completed rows (break none j) left) (inr p)
+  earlier-on F G k after e step entry b a rows (break (some x) j) left p = step b a (completed rows (break (some x) j) left) (inr p)
+  earlier-on F G k after e step entry b a rows (continue none j) left p = step b a (completed rows (continue none j) left) (inr p)
+  earlier-on F G k after e step entry b a rows (continue (some x) j) left p = step b a (completed rows (continue (some x) j) left) (inr p)
+  earlier-on F G k after e step entry b a rows (stop r) left p = inr p
+
+  earlier-steps : (F G : List Frame) (k : ℕ) (after e : Answers → Completed) → Steps F G after → ((a : Answers) → Leads (in-open ∷ F) k a (e a)) → Steps F (in-case k ∷ G) e
+  unfolding then completed
+  earlier-steps F G k after e step entry b a o (inl p) = inl p
+  earlier-steps F G k after e step entry b a o (inr p) = earlier-on F G k after e step entry b a (o .rows) (o .completion) (o .left) p
+
+  open-switch-on : (F : List Frame) (b : ℕ) (a : Answers) (rows : List ℕ) (e : Completion) (left : Answers) → LeadsOn (in-open ∷ F) b a rows e left
+      → Leads F b a (thenOn (labelled none (breakable e)) (completed rows (labelled none (breakable e)) left) (λ y. runStatements done y))
+  unfolding thenOn labelled breakable completed prefix runStatements
+  open-switch-on F b a rows normal left p = inr (subst (λ (z : List ℕ). LeadsOn F b a z normal left) (sym (append-nil rows)) p)
+  open-switch-on F b a rows (break none j) left (b′, h, p) = absurd (none-some h)
+  open-switch-on F b a rows (break (some x) j) left p = inr p
+  open-switch-on F b a rows (continue none j) left p = inr p
+  open-switch-on F b a rows (continue (some x) j) left p = inr p
+  open-switch-on F b a rows (stop r) left p = inr p
+
+  open-switch-leads : (F : List Frame) (b : ℕ) (a : Answers) (o : Completed) → Leads (in-open ∷ F) b a o → Leads F b a (then (switchEnds none o) (λ y. runStatements done y))
+  unfolding then switchEnds completing completed
+  open-switch-leads F b a o (inl p) = inl p
+  open-switch-leads F b a o (inr p) = open-switch-on F b a (o .rows) (o .completion) (o .left) p
+
+  wants-open : (F : List Frame) (b : ℕ) → moveAt b [] ≡ halt no-answer-left
+      → Leads F b [] (prefix (instructionRowsAt t b) (then (switchEnds none (completed [] (stop no-answer-left) [])) (λ y. runStatements done y)))
+  unfolding prefix completed then thenOn switchEnds completing labelled breakable
+  wants-open F b e = inr (refl, stops-halt b [] no-answer-left e)
+
+  open-place-leads : (F : List Frame) (b k₀ : ℕ) {ks : List Case} {es : List (Answers → Completed)} → OpenEntries F ks es → (k : ℕ) (a : Answers)
+      → moveAt b (k₀ ∷ a) ≡ atPlace ks k a → Leads F b (k₀ ∷ a) (prefix (instructionRowsAt t b) (then (switchEnds none (entryAt es k a)) (λ y. runStatements done y)))
+  unfolding atPlace entryAt
+  open-place-leads F b k₀ no-open k a e = inl (record { rows = instructionRowsAt t b ++ []; left = k₀ ∷ a; comes = stops-halt b (k₀ ∷ a) no-such-case e })
+  open-place-leads F b k₀ (an-open {k} {e = en} p ps) zero a e =
+      leads-prefix F (then (switchEnds none (en a)) (λ y. runStatements done y)) (onward-go b (k₀ ∷ a) (k .block) a e (le-step (le-refl (length a))))
+      (open-switch-leads F (k .block) a (en a) (p a))
+  open-place-leads F b k₀ (an-open p ps) (suc k) a e = open-place-leads F b k₀ ps k a e
+
+  switch-open-leads : (F : List Frame) (b x i n f : ℕ) (es : List (Answers → Completed)) → terminalAt t b ≡ switch x i n f → OpenEntries F (caseList t i n) es → (answers : Answers)
+      → Leads F b answers (prefix (instructionRowsAt t b) (then (switchEnds none (choosePlace es answers)) (λ y. runStatements done y)))
+  unfolding choosePlace move byPlace
+  switch-open-leads F b x i n f es e p [] = wants-open F b (move-of b (switch x i n f) [] (halt no-answer-left) e refl)
+  switch-open-leads F b x i n f es e p (k ∷ a) = open-place-leads F b k p k a (move-of b (switch x i n f) (k ∷ a) (atPlace (caseList t i n) k a) e refl)
+
+  in-whole-order : (i n : ℕ) → reverseAux (casesLastFirst t i n) [] ≡ caseList t i n
+  unfolding casesLastFirst caseList
+  in-whole-order i n = reverse-reverse (take n (drop i (t .cases)))
 
   -- ---- the law, for what is built
 
   mutual
-    unfolding runStatements move whileLoop completed
+    unfolding runStatements move whileLoop forLoop doWhileLoop completed
 
     pub runs : {F : List Frame} {b : ℕ} {s : Statements} → Built F b s → (answers : Answers) → Leads F b answers (runStatements s answers)
     runs {F} {b} (built-return {s₀} v e q₀) answers =
@@ -525,6 +714,12 @@ module _ (t : Table) where
         (leads-part F b c f answers answers (completing (labelled (some f)) (runStatements s answers)) (λ a′. runStatements r a′)
         (move-of b (label c f) answers (go c answers) e refl) (le-refl (length answers))
         (ends-label F f c answers (runStatements s answers) (runs h₁ answers)) (λ y. runs h₃ y))
+    runs {F} {b} (built-if-open {s₀} x c a f i {s₁} {s₂} e h₁ h₂ q₀) answers =
+        leads-instructions F b (IF x i none s₁ true s₂ ▸ done) answers s₀ q₀ (if-open-leads F b x c a f s₁ s₂ e (λ y. runs h₁ y) (λ y. runs h₂ y) answers)
+    runs {F} {b} (built-label-open {s₀} c f i {s} e h₁ q₀) answers =
+        leads-instructions F b (LABEL i none s ▸ done) answers s₀ q₀
+        (leads-prefix F (then (completing (labelled none) (runStatements s answers)) (λ y. runStatements done y))
+        (onward-go b answers c answers (move-of b (label c f) answers (go c answers) e refl) (le-refl (length answers))) (open-leads F c answers (runStatements s answers) (runs h₁ answers)))
     runs {F} {b} (built-scope {s₀} p c f n {s} {r} e h₁ h₃ q₀) answers =
         leads-instructions F b (SCOPE p n s ▸ r) answers s₀ q₀
         (leads-part F b c f answers answers (runStatements s answers) (λ a′. runStatements r a′) (move-of b (scope p c f n) answers (go c answers) e refl) (le-refl (length answers))
@@ -535,14 +730,48 @@ module _ (t : Table) where
         (move-of b (while x l f) answers (go x answers) e refl) (le-refl (length answers))
         (ends-loop F f x answers (whileLoop (f ∷ []) (performs v) (λ a′. runStatements s a′) answers)
         (subst (λ (z : List ℕ). LoopEnds F f x answers (whileLoop (f ∷ []) z (λ a′. runStatements s a′) answers)) (sym q)
-        (ends-rounds F y f x l (λ a′. runStatements s a′) e₁ (λ a′. runs h₁ a′) (length answers) answers (le-refl (length answers)))))
+        (ends-rounds F y f x x l [] (λ a′. runStatements s a′) e₁ (λ a′. onward-here x a′) (λ a′. runs h₁ a′) (length answers) answers (le-refl (length answers)))))
+        (λ y′. runs h₃ y′))
+    runs {F} {b} (built-do-while {s₀} l x f y i v {s} {r} e e₁ q w h₁ h₃ q₀) answers =
+        leads-instructions F b (DOWHILE i (some f) s v ▸ r) answers s₀ q₀
+        (leads-part F b l f answers answers (loop (some f) (doWhileLoop (f ∷ []) (performs v) (λ a′. runStatements s a′) answers)) (λ a′. runStatements r a′)
+        (move-of b (do-while l x f) answers (go l answers) e refl) (le-refl (length answers))
+        (ends-loop F f l answers (doWhileLoop (f ∷ []) (performs v) (λ a′. runStatements s a′) answers)
+        (subst (λ (z : List ℕ). LoopEnds F f l answers (doWhileLoop (f ∷ []) z (λ a′. runStatements s a′) answers)) (sym q)
+        (ends-round F f x l answers (runStatements s answers) (λ a′. whileLoop (f ∷ []) (instructionRowsAt t x) (λ z. runStatements s z) a′) (runs h₁ answers)
+        (λ a′ h′. ends-rounds F y f x x l [] (λ z. runStatements s z) e₁ (λ z. onward-here x z) (λ z. runs h₁ z) (length a′) a′ (le-refl (length a′))))))
+        (λ y′. runs h₃ y′))
+    runs {F} {b} (built-for {s₀} n x u l f k y i g vn vx vu {s} {r} e e₁ e₂ qn qx way w h₁ h₃ q₀) answers =
+        leads-instructions F b (FOR i (some f) vn vx vu s ▸ r) answers s₀ q₀
+        (leads-part F b n f answers answers (prefix (performs vn) (loop (some f) (forLoop (f ∷ []) (performs vx) (performsUpdate vu) (λ a′. runStatements s a′) answers))) (λ a′. runStatements r a′)
+        (move-of b (for n x u l f) answers (go n answers) e refl) (le-refl (length answers))
+        (subst (λ (z : List ℕ). Ends F f n answers (prefix z (loop (some f) (forLoop (f ∷ []) (performs vx) (performsUpdate vu) (λ a′. runStatements s a′) answers)))) (sym qn)
+        (ends-prefix F f (loop (some f) (forLoop (f ∷ []) (performs vx) (performsUpdate vu) (λ a′. runStatements s a′) answers))
+        (onward-go n answers x answers (move-of n (goto x g) answers (go x answers) e₂ refl) (le-refl (length answers)))
+        (ends-loop F f x answers (forLoop (f ∷ []) (performs vx) (performsUpdate vu) (λ a′. runStatements s a′) answers)
+        (subst (λ (z : List ℕ). LoopEnds F f x answers (forLoop (f ∷ []) z (performsUpdate vu) (λ a′. runStatements s a′) answers)) (sym qx)
+        (ends-first F y f k x l (λ z. runStatements s z) (λ a′. whileLoop (f ∷ []) (performsUpdate vu ++ instructionRowsAt t x) (λ z. runStatements s z) a′) e₁ (λ z. runs h₁ z)
+        (λ a′. ends-rounds F y f k x l (performsUpdate vu) (λ z. runStatements s z) e₁ way (λ z. runs h₁ z) (length a′) a′ (le-refl (length a′))) answers)))))
         (λ y′. runs h₃ y′))
     runs {F} {b} (built-switch {s₀} x i n f d {cs} {r} e h₁ h₃ q₀) answers =
         leads-instructions F b (SWITCH x d (some f) cs ▸ r) answers s₀ q₀
         (switch-leads F b x i n f (entriesFrom cs (λ a′. completed [] normal a′) []) (λ a′. runStatements r a′) e
-        (subst (λ (z : List Case). EntriesOk (in-switch f ∷ F) f z (entriesFrom cs (λ a′. completed [] normal a′) [])) (in-order i n)
-        (runs-cases h₁ f F f last-case (λ a′. completed [] normal a′) (λ a′. inr (onward-here f a′)) [] [] no-entries))
+        (subst (λ (z : List Case). EntriesOk (in-switch f ∷ F) f z (entriesFrom cs (λ a′. completed [] normal a′) [])) (in-order f i n)
+        (runs-cases h₁ f F f last-case (λ a′. completed [] normal a′) (λ a′. inr (onward-here f a′)) (owns f (casesLastFirst t i n) []) [] (no-entries (all-own f (casesLastFirst t i n) [] tt))))
         (λ y. runs h₃ y) answers)
+    runs {F} {b} (built-switch-open {s₀} x i n f d {cs} e h₁ q₀) answers =
+        leads-instructions F b (SWITCH x d none cs ▸ done) answers s₀ q₀
+        (switch-open-leads F b x i n f (entriesFrom cs (λ a′. completed [] normal a′) []) e
+        (subst (λ (z : List Case). OpenEntries F z (entriesFrom cs (λ a′. completed [] normal a′) [])) (in-whole-order i n)
+        (runs-open-cases h₁ F (λ a′. completed [] normal a′) (λ b′ a′ o p. nothing-after (in-open ∷ F) b′ a′ o p) [] [] no-open)) answers)
+
+    runs-open-cases : {G : List Frame} {ks : List Case} {cs : Cases} → BuiltCases G ks cs → (F : List Frame) (after : Answers → Completed) → Steps F G after
+        → (laterKs : List Case) (later : List (Answers → Completed)) → OpenEntries F laterKs later → OpenEntries F (reverseAux ks laterKs) (entriesFrom cs after later)
+    runs-open-cases built-none F after step laterKs later p = p
+    runs-open-cases {G} (built-case k x {ks} {s} {cs} p₁ p₂) F after step laterKs later p =
+        runs-open-cases p₂ F (λ a′. then (runStatements s a′) after)
+        (earlier-steps F G (k .block) after (λ a′. then (runStatements s a′) after) step (λ a. step (k .block) a (runStatements s a) (runs p₁ a)))
+        (k ∷ laterKs) ((λ a′. then (runStatements s a′) after) ∷ later) (an-open (λ a. step (k .block) a (runStatements s a) (runs p₁ a)) p)
 
     -- the cases from the last on: what comes after them is entered at m
     runs-cases : {G : List Frame} {ks : List Case} {cs : Cases} → BuiltCases G ks cs → (f : ℕ) (F : List Frame) (m : ℕ) → Over f F G m → (after : Answers → Completed)
@@ -574,9 +803,15 @@ module _ (t : Table) where
         from-block b s₀ (IF x i (some f) s₁ true s₂ ▸ r) q₀ ((runnable h₁, runnable h₂), runnable h₃)
     runnable {F} {b} (built-if-only {s₀} x c f i {s₁} {r} e h₁ h₃ q₀) = from-block b s₀ (IF x i (some f) s₁ false done ▸ r) q₀ ((runnable h₁, tt), runnable h₃)
     runnable {F} {b} (built-label {s₀} c f i {s} {r} e h₁ h₃ q₀) = from-block b s₀ (LABEL i (some f) s ▸ r) q₀ (runnable h₁, runnable h₃)
+    runnable {F} {b} (built-if-open {s₀} x c a f i {s₁} {s₂} e h₁ h₂ q₀) = from-block b s₀ (IF x i none s₁ true s₂ ▸ done) q₀ ((runnable h₁, runnable h₂), tt)
+    runnable {F} {b} (built-label-open {s₀} c f i {s} e h₁ q₀) = from-block b s₀ (LABEL i none s ▸ done) q₀ (runnable h₁, tt)
     runnable {F} {b} (built-scope {s₀} p c f n {s} {r} e h₁ h₃ q₀) = from-block b s₀ (SCOPE p n s ▸ r) q₀ (runnable h₁, runnable h₃)
     runnable {F} {b} (built-while {s₀} x l f y i v {s} {r} e e₁ q w h₁ h₃ q₀) = from-block b s₀ (WHILE i (some f) v s ▸ r) q₀ ((w, runnable h₁), runnable h₃)
+    runnable {F} {b} (built-do-while {s₀} l x f y i v {s} {r} e e₁ q w h₁ h₃ q₀) = from-block b s₀ (DOWHILE i (some f) s v ▸ r) q₀ ((runnable h₁, w), runnable h₃)
+    runnable {F} {b} (built-for {s₀} n x u l f k y i g vn vx vu {s} {r} e e₁ e₂ qn qx way w h₁ h₃ q₀) =
+        from-block b s₀ (FOR i (some f) vn vx vu s ▸ r) q₀ ((w .0, w .1, w .2, runnable h₁), runnable h₃)
     runnable {F} {b} (built-switch {s₀} x i n f d {cs} {r} e h₁ h₃ q₀) = from-block b s₀ (SWITCH x d (some f) cs ▸ r) q₀ (runnable-cases h₁, runnable h₃)
+    runnable {F} {b} (built-switch-open {s₀} x i n f d {cs} e h₁ q₀) = from-block b s₀ (SWITCH x d none cs ▸ done) q₀ (runnable-cases h₁, tt)
 
     runnable-cases : {G : List Frame} {ks : List Case} {cs : Cases} → BuiltCases G ks cs → RunnableCases cs
     runnable-cases built-none = tt

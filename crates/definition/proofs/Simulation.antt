@@ -19,11 +19,11 @@ use Rattle.definition.specs.Context.{has, ControlFlowTarget, target-case
 use Rattle.definition.specs.Context.{isScheduled, emit, withVisits, scheduleCatchHandler, markScopeFallthrough, pushed, schedule, unscheduledBy, popped}
 use Rattle.definition.specs.Context.{unscheduleTop, unschedule}
 use Rattle.definition.specs.Index.{labelOf, lines}
-use Rattle.definition.specs.Machine.{Frame, enclosingBy, enclosingLabel, aroundOf, Output, noOutput, _⊕_, lineOut, closed, State, visiting, ended, choosing}
+use Rattle.definition.specs.Machine.{Frame, enclosingBy, enclosingLabel, aroundOf, Output, noOutput, _⊕_, lineOut, closed, State, visiting, ended, choosing, making}
 use Rattle.definition.specs.Machine.{going, halt, turn, leave, blockRow, valueOut, updateOut}
 use Rattle.definition.specs.Machine.{jumpOut, added, instructionsOut, closingRowOf, scheduledIf, scheduledSwitch, unscheduledTop, unscheduled}
-use Rattle.definition.specs.Machine.{unscheduledIf, opens, frameOf, secondPart, withEntries, into, intoLoop, complete, closeBy, close, noCase, caseAt}
-use Rattle.definition.specs.Machine.{numberOfCases, chooseCase, switchColumns, resumeAt, resume, branchTurn, valueTurn, terminalTurn, depthLeft}
+use Rattle.definition.specs.Machine.{unscheduledOf, opens, frameOf, secondPart, withEntries, into, bodyUnless, intoBody, complete, closeBy, close, noCase, caseAt}
+use Rattle.definition.specs.Machine.{numberOfCases, chooseCase, switchColumns, resumeAt, resume, valueAt, makeAt, branchTurn, scheduleValue, scheduleLoop, terminalTurn, depthLeft}
 use Rattle.definition.specs.Machine.{visitTurn, step, begin, Gives, halts, goes}
 use Rattle.definition.specs.Around.{Rule, Enclosing, a-switch, another, Around, outermost, within}
 use Rattle.definition.specs.Result.{refused, Result, ok, _>>=_, refuseIf}
@@ -265,6 +265,12 @@ sim-close {rule} {t} {v} {F} {R} fr ids e R₁ m s c q o k u r first label-is h 
     closing z k a g = closes rule t z fr F R₁ c a
         (subst₂ (λ (y : Output) (i : ℕ). Gives rule t (leave (fr .label) F y (suc (fr .count)) (popAll i c)) a) (sym closed-is) (sym k) g)
 
+into-body : (bad : Bool) (l w : ℕ) (fr : Frame) (F : List Frame) (R : Output) (c : Context)
+    → intoBody (bodyUnless bad l) w fr F R c ≡ refuseIf bad 16 (fr .block) w >>= λ _. ok (visiting l (fr ∷ F) R 0 (withVisits w c))
+unfolding intoBody refuseIf _>>=_
+into-body true l w fr F R c = refl
+into-body false l w fr F R c = refl
+
 -- what a nested walk leaves of the state
 abbrev Past : Context → Context → Type 0
 Past c d = (c .visits < d .visits) × After c d
@@ -446,13 +452,28 @@ module _ (rule : Rule) (t : Table) (d : ℕ) (inner : TraverseInside) (ws : Walk
   loop-sim : {v : ℕ} {F : List Frame} {R : Output} {n : ℕ} (e : Terminal) (b l : ℕ) (bad : Bool) (w i : ℕ) (c : Context) (g : Option ℕ) (R₁ : Output) (make : Statements → Statement)
       → terminalAt t b ≡ e → Lasts e → length F + suc d ≡ 128 → v ≤ w → Tops (i ∷ []) (c .stack)
       → ((s : Statements) → Parts R (make s) (closingRowOf e (blockAt t b) false g 0) (blockPut R₁ s)) → ((s : Statements) → enclosingLabel (enclosingBy e g) ≡ labelOf (make s))
-      → Sim rule t v F R n (intoLoop b l bad w (frameOf b g 1 R n) F R₁ c) (traverseLoop (inside (enclosingBy e g) F) b l bad w i c g make)
-  unfolding traverseLoop intoLoop withVisits
+      → Sim rule t v F R n (intoBody (bodyUnless bad l) w (frameOf b g 1 R n) F R₁ c) (traverseLoop (inside (enclosingBy e g) F) b l bad w i c g make)
+  unfolding traverseLoop withVisits
   loop-sim {v} {F} {R} {n} e b l bad w i c g R₁ make q la size h u o lab =
-      sim-go _ _ _ (λ _. sim-inner (frameOf b g 1 R n) e l R₁ (withVisits w c) _ q size (λ r p.
+      rw (into-body bad l w (frameOf b g 1 R n) F R₁ c)
+      (sim-go _ _ _ (λ _. sim-inner (frameOf b g 1 R n) e l R₁ (withVisits w c) _ q size (λ r p.
       subst (λ (z : Result State). Sim rule t v F R n z (unschedule i (r .context) >>= λ c1. ok (record { statement = some (make (r .statements)); next = g; context = c1 }))) (sym (la _ _ _ _ _))
       (sim-close (frameOf b g 1 R n) (i ∷ []) e _ _ _ (r .context) q (off-loop i (r .context)) refl (tops-same (i ∷ []) c (r .context) (p .1 .same) u)
-      (o (r .statements)) refl (lab (r .statements)) (omega arith))))
+      (o (r .statements)) refl (lab (r .statements)) (omega arith)))))
+
+  -- a statement is scheduled, and its values are made in a turn of their own
+  looped-by : {v : ℕ} {F : List Frame} {R : Output} {n : ℕ} {x : Result State} (e : Terminal) (fr : Frame) (body : Option ℕ) (c : Context) (y : Result TerminalResult) → terminalAt t (fr .block) ≡ e
+      → length F + suc d ≡ 128 → makeAt t visit e (blockAt t (fr .block)) body fr F R c ≡ x → Sim rule t v F R n x y → Sim rule t v F R n (ok (making body fr F R c)) y
+  unfolding step
+  looped-by {F = F} {R} {x = x} e fr body c y q size made h =
+      let s : depthLeft F ≡ d = omega arith in
+      sim-turn (making body fr F R c) x y
+      (ap (λ (z : ℕ). turn (makeAt t (visitValueBlock t z) (terminalAt t (fr .block)) (blockAt t (fr .block)) body fr F R c)) s
+      ∙ ap (λ (z : Terminal). turn (makeAt t visit z (blockAt t (fr .block)) body fr F R c)) q ∙ ap turn made) h
+
+  looped : {v : ℕ} {F : List Frame} {R : Output} {n : ℕ} (e : Terminal) (fr : Frame) (body : Option ℕ) (c : Context) (y : Result TerminalResult) → terminalAt t (fr .block) ≡ e → length F + suc d ≡ 128
+      → Sim rule t v F R n (makeAt t visit e (blockAt t (fr .block)) body fr F R c) y → Sim rule t v F R n (ok (making body fr F R c)) y
+  looped e fr body c y q size h = looped-by e fr body c y q size refl h
 
   -- ---- Switch: what is put out before the cases that are left is R₁, and `make` is given these. `ids` are those of the entries so far
 
@@ -546,36 +567,38 @@ module _ (rule : Rule) (t : Table) (d : ℕ) (inner : TraverseInside) (ws : Walk
   goto-jumped o Continue b g i c = good-bind Unlined (Jumped c) _ _ (continue-unlined o b g i c) (λ s u. (refl, u))
   goto-jumped o Try b g i c = (refl, tt)
 
-  value-sim : {v : ℕ} {F : List Frame} {R : Output} {n : ℕ} (e : Terminal) (b : ℕ) (k : Block) (f : ℕ) (c : Context) → T (not (isMaybeThrow e)) → v ≤ c .visits
-      → Sim rule t v F R n (valueTurn t visit e b k f F R n c) (visitValueStatement t visit e b k f c)
-  unfolding valueTurn visitValueStatement
-  value-sim {v} {F} {R} {n} e b k f c m h =
-      sim-by _ (opened-if g c (untaken-free c f))
-      (subst (λ (w : ℕ). Sim rule t v F R n (visitValueBlockTerminal t visit e (k .id) (k .span) (c .visits) b >>= X)
-      (visitValueBlockTerminal t visit e (k .id) (k .span) w b >>= Y)) (sym (kept-if g c))
+  abbrev Makes : Terminal → ℕ → Type 0
+  Makes e b = (fr : Frame) (F : List Frame) (R : Output) (c : Context) → makeAt t visit e (blockAt t b) none fr F R c ≡ valueAt t visit e (blockAt t b) fr F R c
+
+  value-sim : {v : ℕ} {F : List Frame} {R : Output} {n : ℕ} (e : Terminal) (b f : ℕ) (c : Context) → terminalAt t b ≡ e → Makes e b → T (not (isMaybeThrow e)) → length F + suc d ≡ 128 → v ≤ c .visits
+      → Sim rule t v F R n (scheduleValue b f F R n c) (visitValueStatement t visit e b (blockAt t b) f c)
+  unfolding scheduleValue visitValueStatement valueAt
+  value-sim {v} {F} {R} {n} e b f c q made m size h =
+      sim-by _ (opened-if g c (untaken-free c f)) (looped-by e (labelled b g R n) none (scheduledIf g c) _ q size (made (labelled b g R n) F R (scheduledIf g c))
       (sim-bind (λ r. c .visits ≤ r .visits) _ X Y
-      (fine-good (TerminalTook t (c .visits)) (λ r. c .visits ≤ r .visits) (visitValueBlockTerminal t visit e (k .id) (k .span) (c .visits) b) (λ _ z. z .rises)
-      (terminal-took t visit (value-took t d) e (k .id) (k .span) (c .visits) b m)) (λ r q.
+      (fine-good (TerminalTook t (scheduledIf g c .visits)) (λ r. c .visits ≤ r .visits)
+      (visitValueBlockTerminal t visit e (blockAt t b .id) (blockAt t b .span) (scheduledIf g c .visits) b) (λ _ z. omega (arith, z .rises, kept-if g c))
+      (terminal-took t visit (value-took t d) e (blockAt t b .id) (blockAt t b .span) (scheduledIf g c .visits) b m)) (λ r p.
       sim-by _ (off-if g (c .nextId) (withVisits (r .visits) (scheduledIf g c)) ∙ pop-all (scheduleIds g (c .nextId)) (withVisits (r .visits) (scheduledIf g c))
       (unfold withVisits in tops-if g c) ∙ one g (withVisits (r .visits) (scheduledIf g c)))
-      (sim-leave (INSTR (r .id) (r .place) (k .span) (r .value)) (instr-put R (r .id) (r .place) (k .span) (r .value)) (seen g r (omega arith))))))
+      (sim-leave (INSTR (r .id) (r .place) (blockAt t b .span) (r .value)) (instr-put R (r .id) (r .place) (blockAt t b .span) (r .value)) (seen g r (omega arith))))))
     where
       g : Option ℕ
       g = unlessScheduled c f
 
-      one : (g : Option ℕ) (z : Context) → ok (popAll (length (scheduleIds g (c .nextId))) z) ≡ ok (unscheduledIf g z)
+      one : (g : Option ℕ) (z : Context) → ok (popAll (length (scheduleIds g (c .nextId))) z) ≡ ok (unscheduledOf (opens g) z)
       one none z = refl
       one (some f) z = refl
 
-      seen : (g : Option ℕ) (r : ValueTerminalResult) → v ≤ r .visits → v ≤ unscheduledIf g (withVisits (r .visits) (scheduledIf g c)) .visits
+      seen : (g : Option ℕ) (r : ValueTerminalResult) → v ≤ r .visits → v ≤ unscheduledOf (opens g) (withVisits (r .visits) (scheduledIf g c)) .visits
       seen none r q = unfold withVisits in q
       seen (some f) r q = unfold withVisits in (rw (unscheduled-kept (withVisits (r .visits) (scheduledIf (some f) c))) q)
 
       X : ValueTerminalResult → Result State
-      X r = ok (leave g F ((R ⊕ valueOut (r .value)) ⊕ (instrRow (r .id) (r .place) (k .span) ∷ [])) (suc n) (unscheduledIf g (withVisits (r .visits) (scheduledIf g c))))
+      X r = ok (leave g F ((R ⊕ valueOut (r .value)) ⊕ (instrRow (r .id) (r .place) (blockAt t b .span) ∷ [])) (suc n) (unscheduledOf (opens g) (withVisits (r .visits) (scheduledIf g c))))
 
       Y : ValueTerminalResult → Result TerminalResult
-      Y r = unscheduleIf g (c .nextId) (withVisits (r .visits) (scheduledIf g c)) >>= λ c2. ok (record { statement = some (INSTR (r .id) (r .place) (k .span) (r .value)); next = g; context = c2 })
+      Y r = unscheduleIf g (c .nextId) (withVisits (r .visits) (scheduledIf g c)) >>= λ c2. ok (record { statement = some (INSTR (r .id) (r .place) (blockAt t b .span) (r .value)); next = g; context = c2 })
 
   values : (x : ℕ) (ft : Option ℕ) (span : Span) (v : ℕ) → Good (λ r. v ≤ r .visits) (visit x ft span v)
   unfolding VisitTook
@@ -620,19 +643,20 @@ module _ (rule : Rule) (t : Table) (d : ℕ) (inner : TraverseInside) (ws : Walk
       K : Option ℕ → CasesResult → Result TerminalResult
       K g r = unscheduleAll (r .ids) (r .context) >>= λ c2. ok (record { statement = some (SWITCH x (blockAt t b .id) g (r .cases)); next = g; context = c2 })
   terminal-sim {v} {F} {R} {n} (do-while l x f) b c q size h =
-      sim-bind (Onto c) _ _ _ (onto-scheduled (target-loop f x l) c) (λ c1 p. unfold intoLoop withVisits resumeAt closingRowOf in sim-go _ _ _ (λ _.
+      unfold scheduleLoop makeAt in sim-bind (Onto c) _ _ _ (onto-scheduled (target-loop f x l) c) (λ c1 p. looped (do-while l x f) (frameOf b (unlessScheduled c f) 1 R n) _ c1 _ q size
+      (rw (into-body (loopIsTaken c l f) l (c1 .visits) (frameOf b (unlessScheduled c f) 1 R n) F R c1) (unfold withVisits resumeAt closingRowOf in sim-go _ _ _ (λ _.
       sim-inner (frameOf b (unlessScheduled c f) 1 R n) _ l _ c1 _ q size (λ r p₁.
       sim-bind (λ w. r .context .visits ≤ w .visits) _ _ _ (values x none (blockAt t b .span) (r .context .visits)) (λ w p₂.
       sim-close (frameOf b (unlessScheduled c f) 1 R n) (c .nextId ∷ []) _ _ _ _ (withVisits (w .visits) (r .context)) q (off-loop (c .nextId) (withVisits (w .visits) (r .context))) refl
-      (tops-same (c .nextId ∷ []) c1 (r .context) (p₁ .1 .same) (p .1 [] tt)) (parts-do-while R (blockAt t b .id) (unlessScheduled c f) (r .statements) (w .value)) refl refl (omega arith)))))
-  terminal-sim {R = R} (while x l f) b c q size h =
-      sim-go _ _ _ (λ g. sim-bind (Onto c) _ _ _ (onto-scheduled (target-loop f x l) c) (λ c1 p.
-      sim-bind (λ w. c1 .visits ≤ w .visits) _ _ _ (values x none (blockAt t b .span) (c1 .visits)) (λ w p₁.
+      (tops-same (c .nextId ∷ []) c1 (r .context) (p₁ .1 .same) (p .1 [] tt)) (parts-do-while R (blockAt t b .id) (unlessScheduled c f) (r .statements) (w .value)) refl refl (omega arith)))))))
+  terminal-sim {R = R} {n} (while x l f) b c q size h =
+      unfold scheduleLoop makeAt in sim-go _ _ _ (λ g. sim-bind (Onto c) _ _ _ (onto-scheduled (target-loop f x l) c) (λ c1 p. looped (while x l f) (frameOf b g 1 R n) _ c1 _ q size
+      (sim-bind (λ w. c1 .visits ≤ w .visits) _ _ _ (values x none (blockAt t b .span) (c1 .visits)) (λ w p₁.
       loop-sim _ b l (loopIsTaken c l f) (w .visits) (c .nextId) c1 g _ _ q (unfold resumeAt in λ _ _ _ _ _. refl) size (omega arith) (p .1 [] tt)
-      (unfold closingRowOf in parts-while R (blockAt t b .id) g (w .value)) (λ s. refl))))
-  terminal-sim {R = R} (for i x u l f) b c q size h =
-      sim-bind (Onto c) _ _ _ (onto-scheduled (target-loop f (continueBlockOf u x) l) c) (λ c1 p.
-      sim-bind (λ w. c1 .visits ≤ w .visits) _ _ _ (values i none (blockAt t b .span) (c1 .visits)) (λ n p₁.
+      (unfold closingRowOf in parts-while R (blockAt t b .id) g (w .value)) (λ s. refl)))))
+  terminal-sim {R = R} {n} (for i x u l f) b c q size h =
+      unfold scheduleLoop makeAt in sim-bind (Onto c) _ _ _ (onto-scheduled (target-loop f (continueBlockOf u x) l) c) (λ c1 p. looped (for i x u l f) (frameOf b (unlessScheduled c f) 1 R n) _ c1 _ q size
+      (sim-bind (λ w. c1 .visits ≤ w .visits) _ _ _ (values i none (blockAt t b .span) (c1 .visits)) (λ n p₁.
       sim-bind (λ w. n .visits ≤ w .visits) _ _ _ (values x none (blockAt t b .span) (n .visits)) (λ w p₂.
       sim-bind (Updated u (w .visits)) _ _ _ (updates u (blockAt t b .span) (w .visits)) (λ z p₃.
       loop-sim _ b l (loopIsTaken c l f) (z .visits) (c .nextId) c1 (unlessScheduled c f) _ _ q (unfold resumeAt in λ _ _ _ _ _. refl) size (omega arith) (p .1 [] tt)
@@ -640,27 +664,27 @@ module _ (rule : Rule) (t : Table) (d : ℕ) (inner : TraverseInside) (ws : Walk
       (FOR (blockAt t b .id) (unlessScheduled c f) (valueBlockResultToSequence t n (blockAt t b .span)) (w .value) (z .value) s)
       (row 15 (blockAt t b .id) (orNone (unlessScheduled c f)) y 0 0)
       (blockPut (((R ⊕ valueOut (valueBlockResultToSequence t n (blockAt t b .span))) ⊕ valueOut (w .value)) ⊕ updateOut (z .value)) s)) (p₃ .1)
-      (parts-for R (blockAt t b .id) (unlessScheduled c f) (valueBlockResultToSequence t n (blockAt t b .span)) (w .value) (z .value) s)) (λ s. refl)))))
-  terminal-sim {R = R} (for-of i x l f) b c q size h =
-      sim-bind (Onto c) _ _ _ (onto-scheduled (target-loop f i l) c) (λ c1 p.
-      sim-bind (λ w. c1 .visits ≤ w .visits) _ _ _ (values i none (blockAt t b .span) (c1 .visits)) (λ n p₁.
+      (parts-for R (blockAt t b .id) (unlessScheduled c f) (valueBlockResultToSequence t n (blockAt t b .span)) (w .value) (z .value) s)) (λ s. refl))))))
+  terminal-sim {R = R} {n} (for-of i x l f) b c q size h =
+      unfold scheduleLoop makeAt in sim-bind (Onto c) _ _ _ (onto-scheduled (target-loop f i l) c) (λ c1 p. looped (for-of i x l f) (frameOf b (unlessScheduled c f) 1 R n) _ c1 _ q size
+      (sim-bind (λ w. c1 .visits ≤ w .visits) _ _ _ (values i none (blockAt t b .span) (c1 .visits)) (λ n p₁.
       sim-bind (λ w. n .visits ≤ w .visits) _ _ _ (values x none (blockAt t b .span) (n .visits)) (λ w p₂.
       loop-sim _ b l (loopIsTaken c l f) (w .visits) (c .nextId) c1 (unlessScheduled c f) _ _ q (unfold resumeAt in λ _ _ _ _ _. refl) size (omega arith) (p .1 [] tt)
       (unfold closingRowOf in parts-for-of R (blockAt t b .id) (unlessScheduled c f) (blockAt t b .span) (valueBlockResultToSequence t n (blockAt t b .span))
-      (valueBlockResultToSequence t w (blockAt t b .span))) (λ s. refl))))
-  terminal-sim {R = R} (for-in i l f) b c q size h =
-      sim-bind (Onto c) _ _ _ (onto-scheduled (target-loop f i l) c) (λ c1 p.
-      sim-bind (λ w. c1 .visits ≤ w .visits) _ _ _ (values i none (blockAt t b .span) (c1 .visits)) (λ n p₁.
+      (valueBlockResultToSequence t w (blockAt t b .span))) (λ s. refl)))))
+  terminal-sim {R = R} {n} (for-in i l f) b c q size h =
+      unfold scheduleLoop makeAt in sim-bind (Onto c) _ _ _ (onto-scheduled (target-loop f i l) c) (λ c1 p. looped (for-in i l f) (frameOf b (unlessScheduled c f) 1 R n) _ c1 _ q size
+      (sim-bind (λ w. c1 .visits ≤ w .visits) _ _ _ (values i none (blockAt t b .span) (c1 .visits)) (λ n p₁.
       loop-sim _ b l (loopIsTaken c l f) (n .visits) (c .nextId) c1 (unlessScheduled c f) _ _ q (unfold resumeAt in λ _ _ _ _ _. refl) size (omega arith) (p .1 [] tt)
-      (unfold closingRowOf in parts-for-in R (blockAt t b .id) (unlessScheduled c f) (blockAt t b .span) (valueBlockResultToSequence t n (blockAt t b .span))) (λ s. refl)))
-  terminal-sim (logical o x f) b c q size h = value-sim (logical o x f) b (blockAt t b) f c tt h
-  terminal-sim (ternary x f) b c q size h = value-sim (ternary x f) b (blockAt t b) f c tt h
-  terminal-sim (optional g x f) b c q size h = value-sim (optional g x f) b (blockAt t b) f c tt h
+      (unfold closingRowOf in parts-for-in R (blockAt t b .id) (unlessScheduled c f) (blockAt t b .span) (valueBlockResultToSequence t n (blockAt t b .span))) (λ s. refl))))
+  terminal-sim (logical o x f) b c q size h = value-sim (logical o x f) b f c q (unfold makeAt in λ _ _ _ _. refl) tt size h
+  terminal-sim (ternary x f) b c q size h = value-sim (ternary x f) b f c q (unfold makeAt in λ _ _ _ _. refl) tt size h
+  terminal-sim (optional g x f) b c q size h = value-sim (optional g x f) b f c q (unfold makeAt in λ _ _ _ _. refl) tt size h
   terminal-sim {R = R} (label x f) b c q size h =
       sim-bind (λ g. Free g c) _ _ _ (reaches c f) (λ g free. sim-by _ (opened-if g c free)
       (enclosed-sim _ b x 17 b g c (scheduledIf g c) _ q (unfold resumeAt in λ _ _ _ _ _. refl) size (omega (arith, kept-if g c)) (tops-if g c)
       (unfold closingRowOf in parts-label R (blockAt t b .id) g) (λ s. refl)))
-  terminal-sim (sequence x f) b c q size h = value-sim (sequence x f) b (blockAt t b) f c tt h
+  terminal-sim (sequence x f) b c q size h = value-sim (sequence x f) b f c q (unfold makeAt in λ _ _ _ _. refl) tt size h
   terminal-sim (maybe-throw n) b c q size h = silent (unlessScheduled c n) c h
   terminal-sim {R = R} {n} (try x y f m) b c q size h =
       sim-bind (λ g. Free g c) _ _ _ (reaches c f) (λ g free. sim-by _ (opened-if g c free)

@@ -8,32 +8,34 @@ use mathlib.Core.Option.{none, some}
 use mathlib.Core.Bool.{Bool, true, false, _||_}
 use lib.ListN.{length}
 use lib.Dec.{eqb}
-use Rattle.table.specs.Table.{Table, switch, while, terminalAt, isAbsent}
+use Rattle.table.specs.Table.{Table, switch, terminalAt, isAbsent}
 use Rattle.definition.specs.Context.{Flags, has, add, remove, ControlFlowTarget, target-if, target-switch, target-case, target-loop, isBlocked}
 use Rattle.definition.specs.Context.{blockedCode, blockAsked, Entry, Context, start, isScheduled, emit, withVisits, markScopeFallthrough, pushed}
 use Rattle.definition.specs.Context.{schedule, unscheduledBy, popped, unscheduleTop, unschedule}
-use Rattle.definition.specs.Plain.{Width, IsCase, fallthroughOf}
+use Rattle.definition.specs.Plain.{Width, fallthroughOf}
 use Rattle.definition.specs.Result.{refused, ok, refuseIf}
 use Rattle.definition.specs.Statement.{enterBlock, unlessScheduled}
 use Rattle.definition.specs.Value.{beginVisit}
-use Rattle.definition.proofs.Semantics.{Frame, in-label, in-scope, in-loop, in-switch, in-case}
+use Rattle.definition.proofs.Semantics.{Frame, in-label, in-scope, in-loop, in-switch, in-open, in-case, isOpen}
 use Rattle.definition.proofs.Ranged.{Ranged}
+use Rattle.definition.specs.PlainLoops.{IsProper, aLoop, loopOf}
 use Rattle.definition.proofs.PlainEnough.{PlainEnough}
 use Rattle.definition.proofs.Steps.{true-false, refused-ok, ok-eq, bind-ok, unless-ok}
-use Rattle.definition.proofs.Flags.{has-add, has-remove, has-still, has-new, length-add, has-none, length-none, below-blocks}
-use Rattle.definition.proofs.Resolve.{Framed, no-frame, label-framed, scope-framed, loop-framed, switch-framed, case-framed}
+use Rattle.definition.proofs.Flags.{has-add, has-remove, has-still, has-new, length-add, length-remove, has-none, length-none, below-blocks}
+use Rattle.definition.proofs.Resolve.{Framed, no-frame, label-framed, scope-framed, loop-framed, switch-framed, open-framed, case-framed}
 
 module _ (t : Table) where
-  -- x is the fallthrough of an emitted block, or a loop block or test, or a case block
+  -- x is the fallthrough of an emitted block, or a loop block or where a loop continues, or a case block
   pub data Known (emitted : Flags) (x : ℕ) : Type 0 where
     fallthrough-of : (b : ℕ) → has emitted b ≡ true → fallthroughOf (terminalAt t b) ≡ some x → Known emitted x
-    loop-of : (w y g : ℕ) → terminalAt t w ≡ while y x g → Known emitted x
-    test-of : (w l g : ℕ) → terminalAt t w ≡ while x l g → Known emitted x
-    a-case : IsCase t x → Known emitted x
+    loop-of : (w y g k : ℕ) → loopOf (terminalAt t w) ≡ some (aLoop y x g k) → Known emitted x
+    again-of : (w y l g : ℕ) → loopOf (terminalAt t w) ≡ some (aLoop y l g x) → Known emitted x
+    a-case : IsProper t x → Known emitted x
 
   pub record StateOk (F : List Frame) (c : Context) : Type 0 where
     pub wide : length (c .emitted) ≡ 1024
     pub wide-scopes : length (c .scopeFallthroughs) ≡ 1024
+    pub wide-scheduled : length (c .scheduled) ≡ 1024
     pub no-catch : (x : ℕ) → has (c .catchHandlers) x ≡ false
     pub known : (x : ℕ) → has (c .scheduled) x ≡ true → Known (c .emitted) x
     pub framed : Framed t (c .scopeFallthroughs) F (c .stack)
@@ -43,6 +45,7 @@ module _ (t : Table) where
   start-ok = record {
     wide = length-none;
     wide-scopes = length-none;
+    wide-scheduled = length-none;
     no-catch = has-none;
     known = λ x e. absurd (true-false (sym e ∙ has-none x));
     framed = no-frame;
@@ -50,19 +53,20 @@ module _ (t : Table) where
 
   known-still : (emitted : Flags) (b x : ℕ) → Known emitted x → Known (add emitted b) x
   known-still emitted b x (fallthrough-of d h e) = fallthrough-of d (has-still emitted b d h) e
-  known-still emitted b x (loop-of w y g e) = loop-of w y g e
-  known-still emitted b x (test-of w l g e) = test-of w l g e
+  known-still emitted b x (loop-of w y g k e) = loop-of w y g k e
+  known-still emitted b x (again-of w y l g e) = again-of w y l g e
   known-still emitted b x (a-case h) = a-case h
 
   pub with-visits-ok : {F : List Frame} {c : Context} (v : ℕ) → StateOk F c → StateOk F (withVisits v c)
   unfolding withVisits
-  with-visits-ok v p = record { wide = p .wide; wide-scopes = p .wide-scopes; no-catch = p .no-catch; known = p .known; framed = p .framed }
+  with-visits-ok v p = record { wide = p .wide; wide-scopes = p .wide-scopes; wide-scheduled = p .wide-scheduled; no-catch = p .no-catch; known = p .known; framed = p .framed }
 
   pub emit-ok : {F : List Frame} {c : Context} (b : ℕ) → StateOk F c → StateOk F (emit b c)
   unfolding emit
   emit-ok {c} b p = record {
     wide = length-add (c .emitted) b 1024 (p .wide);
     wide-scopes = p .wide-scopes;
+    wide-scheduled = p .wide-scheduled;
     no-catch = p .no-catch;
     known = λ x e. known-still (c .emitted) b x (p .known x e);
     framed = p .framed;
@@ -108,8 +112,8 @@ module _ (t : Table) where
 
   not-known : {width : Width} (pl : PlainEnough width t) (emitted : Flags) (b f : ℕ) → has emitted b ≡ false → fallthroughOf (terminalAt t b) ≡ some f → Known emitted f → ⊥
   not-known pl emitted b f o e (fallthrough-of d h e′) = true-false (sym h ∙ ap (has emitted) (pl .one-fallthrough d b f e′ e) ∙ o)
-  not-known pl emitted b f o e (loop-of w y g e′) = pl .no-loop b f w y f g e e′ refl
-  not-known pl emitted b f o e (test-of w l g e′) = pl .no-test b f w f l g e e′ refl
+  not-known pl emitted b f o e (loop-of w y g k e′) = pl .no-loop b f w y f g k e e′ refl
+  not-known pl emitted b f o e (again-of w y l g e′) = pl .no-again b f w y l g f e e′ refl
   not-known pl emitted b f o e (a-case h) = pl .case-fallthrough b f e h
 
   both-false : (x y : Bool) → (x ≡ true → ⊥) → y ≡ false → x || y ≡ false
@@ -131,8 +135,9 @@ module _ (t : Table) where
   framed-still y no-frame = no-frame
   framed-still y (label-framed i f p) = label-framed i f (framed-still y p)
   framed-still {scopes} y (scope-framed i f h p) = scope-framed i f (has-still scopes y f h) (framed-still y p)
-  framed-still y (loop-framed i f x w l ll o h p) = loop-framed i f x w l ll o h (framed-still y p)
+  framed-still y (loop-framed i f x w z l ll o h p) = loop-framed i f x w z l ll o h (framed-still y p)
   framed-still y (switch-framed i f w x k n h p) = switch-framed i f w x k n h (framed-still y p)
+  framed-still y (open-framed w x k n f h p) = open-framed w x k n f h (framed-still y p)
   framed-still y (case-framed i k h p) = case-framed i k h (framed-still y p)
 
   known-add : (emitted s : Flags) (f : ℕ) → Known emitted f → ((x : ℕ) → has s x ≡ true → Known emitted x) → (x : ℕ) → has (add s f) x ≡ true → Known emitted x
@@ -143,6 +148,7 @@ module _ (t : Table) where
   push-label-ok {F} {c} f p k = record {
     wide = p .wide;
     wide-scopes = p .wide-scopes;
+    wide-scheduled = length-add (c .scheduled) f 1024 (p .wide-scheduled);
     no-catch = p .no-catch;
     known = known-add (c .emitted) (c .scheduled) f k (p .known);
     framed = label-framed (c .nextId) f (p .framed);
@@ -154,21 +160,23 @@ module _ (t : Table) where
   push-scope-ok {F} {c} f h p k = record {
     wide = p .wide;
     wide-scopes = length-add (c .scopeFallthroughs) f 1024 (p .wide-scopes);
+    wide-scheduled = length-add (c .scheduled) f 1024 (p .wide-scheduled);
     no-catch = p .no-catch;
     known = known-add (c .emitted) (c .scheduled) f k (p .known);
     framed = scope-framed (c .nextId) f (has-new (c .scopeFallthroughs) f (omega (arith, p .wide-scopes))) (framed-still f (p .framed));
   }
 
-  pub push-loop-ok : {F : List Frame} {c : Context} (w x l f : ℕ) → StateOk F c → terminalAt t w ≡ while x l f → Known (c .emitted) f
+  pub push-loop-ok : {F : List Frame} {c : Context} (w z l f x : ℕ) → StateOk F c → loopOf (terminalAt t w) ≡ some (aLoop z l f x) → Known (c .emitted) f
       → StateOk (in-loop f x ∷ F) (pushed (target-loop f x l) c)
   unfolding pushed
-  push-loop-ok {F} {c} w x l f p e k = record {
+  push-loop-ok {F} {c} w z l f x p e k = record {
     wide = p .wide;
     wide-scopes = p .wide-scopes;
+    wide-scheduled = length-add (add (add (c .scheduled) f) x) l 1024 (length-add (add (c .scheduled) f) x 1024 (length-add (c .scheduled) f 1024 (p .wide-scheduled)));
     no-catch = p .no-catch;
-    known = known-add (c .emitted) (add (add (c .scheduled) f) x) l (loop-of w x f e)
-        (known-add (c .emitted) (add (c .scheduled) f) x (test-of w l f e) (known-add (c .emitted) (c .scheduled) f k (p .known)));
-    framed = loop-framed (c .nextId) f x w l l _ e (p .framed);
+    known = known-add (c .emitted) (add (add (c .scheduled) f) x) l (loop-of w z f x e)
+        (known-add (c .emitted) (add (c .scheduled) f) x (again-of w z l f e) (known-add (c .emitted) (c .scheduled) f k (p .known)));
+    framed = loop-framed (c .nextId) f x w z l l _ e (p .framed);
   }
 
   pub push-switch-ok : {F : List Frame} {c : Context} (w x k n f : ℕ) → StateOk F c → terminalAt t w ≡ switch x k n f → Known (c .emitted) f
@@ -177,20 +185,26 @@ module _ (t : Table) where
   push-switch-ok {F} {c} w x k n f p e q = record {
     wide = p .wide;
     wide-scopes = p .wide-scopes;
+    wide-scheduled = length-add (c .scheduled) f 1024 (p .wide-scheduled);
     no-catch = p .no-catch;
     known = known-add (c .emitted) (c .scheduled) f q (p .known);
     framed = switch-framed (c .nextId) f w x k n e (p .framed);
   }
 
-  pub push-case-ok : {F : List Frame} {c : Context} (k : ℕ) → StateOk F c → IsCase t k → StateOk (in-case k ∷ F) (pushed (target-case k) c)
+  pub push-case-ok : {F : List Frame} {c : Context} (k : ℕ) → StateOk F c → IsProper t k → StateOk (in-case k ∷ F) (pushed (target-case k) c)
   unfolding pushed
   push-case-ok {F} {c} k p h = record {
     wide = p .wide;
     wide-scopes = p .wide-scopes;
+    wide-scheduled = length-add (c .scheduled) k 1024 (p .wide-scheduled);
     no-catch = p .no-catch;
     known = known-add (c .emitted) (c .scheduled) k (a-case h) (p .known);
     framed = case-framed (c .nextId) k h (p .framed);
   }
+
+  pub switch-scheduled : {F : List Frame} {c : Context} (f : ℕ) → f < 1024 → StateOk F c → isScheduled (pushed (target-switch f) c) f ≡ true
+  unfolding pushed isScheduled
+  switch-scheduled {F} {c} f h p = ap (λ (y : Bool). y || has (c .catchHandlers) f) (has-new (c .scheduled) f (omega (arith, h, p .wide-scheduled)))
 
   pub schedule-ok : (g : ControlFlowTarget) (c c₁ : Context) → schedule g c ≡ ok c₁ → pushed g c ≡ c₁
   unfolding schedule
@@ -207,38 +221,57 @@ module _ (t : Table) where
   has-unscheduled (target-loop b k l) false s x e = has-remove s b x (has-remove (remove s b) k x e)
   has-unscheduled (target-loop b k l) true s x e = has-remove s b x (has-remove (remove s b) k x (has-remove (remove (remove s b) k) l x e))
 
-  framed-tail : {scopes : Flags} {G : Frame} {F : List Frame} {e : Entry} {S : List Entry} → Framed t scopes (G ∷ F) (e ∷ S) → Framed t scopes F S
-  framed-tail (label-framed i f p) = p
-  framed-tail (scope-framed i f h p) = p
-  framed-tail (loop-framed i f x w l ll o h p) = p
-  framed-tail (switch-framed i f w x k n h p) = p
-  framed-tail (case-framed i k h p) = p
+  length-unscheduled : (g : ControlFlowTarget) (o : Bool) (s : Flags) (n : ℕ) → length s ≡ n → length (unscheduledBy g o s) ≡ n
+  unfolding unscheduledBy
+  length-unscheduled (target-if b) o s n e = length-remove s b n e
+  length-unscheduled (target-switch b) o s n e = length-remove s b n e
+  length-unscheduled (target-case b) o s n e = length-remove s b n e
+  length-unscheduled (target-loop b k l) false s n e = length-remove (remove s b) k n (length-remove s b n e)
+  length-unscheduled (target-loop b k l) true s n e = length-remove (remove (remove s b) k) l n (length-remove (remove s b) k n (length-remove s b n e))
+
+  framed-tail : {scopes : Flags} {G : Frame} {F : List Frame} {e : Entry} {S : List Entry} → isOpen G ≡ false → Framed t scopes (G ∷ F) (e ∷ S) → Framed t scopes F S
+  framed-tail real (label-framed i f p) = p
+  framed-tail real (scope-framed i f h p) = p
+  framed-tail real (loop-framed i f x w z l ll o h p) = p
+  framed-tail real (switch-framed i f w x k n h p) = p
+  framed-tail real (open-framed w x k n f h p) = absurd (true-false real)
+  framed-tail real (case-framed i k h p) = p
+
+  framed-open : {scopes : Flags} {F : List Frame} {S : List Entry} → Framed t scopes (in-open ∷ F) S → Framed t scopes F S
+  framed-open (open-framed w x k n f h p) = p
+
+  pub open-state : {F : List Frame} {c : Context} (w x k n f : ℕ) → terminalAt t w ≡ switch x k n f → StateOk F c → StateOk (in-open ∷ F) c
+  open-state w x k n f h p = record { wide = p .wide; wide-scopes = p .wide-scopes; wide-scheduled = p .wide-scheduled; no-catch = p .no-catch; known = p .known; framed = open-framed w x k n f h (p .framed) }
+
+  pub close-state : {F : List Frame} {c : Context} → StateOk (in-open ∷ F) c → StateOk F c
+  close-state p = record { wide = p .wide; wide-scopes = p .wide-scopes; wide-scheduled = p .wide-scheduled; no-catch = p .no-catch; known = p .known; framed = framed-open (p .framed) }
 
   pub record Closed (F : List Frame) (S : List Entry) (c : Context) : Type 0 where
     pub state : StateOk F c
     pub same : c .stack ≡ S
 
-  pop-ok : {G : Frame} {F : List Frame} {e : Entry} {S : List Entry} {c : Context} → StateOk (G ∷ F) c → c .stack ≡ e ∷ S
+  pop-ok : {G : Frame} {F : List Frame} {e : Entry} {S : List Entry} {c : Context} → isOpen G ≡ false → StateOk (G ∷ F) c → c .stack ≡ e ∷ S
       → Closed F S (popped S (unscheduledBy (e .target) (e .ownsLoop) (c .scheduled)) c)
   unfolding popped
-  pop-ok {G} {F} {e} {S} {c} p h = record {
+  pop-ok {G} {F} {e} {S} {c} real p h = record {
     state = record {
       wide = p .wide;
       wide-scopes = p .wide-scopes;
+      wide-scheduled = length-unscheduled (e .target) (e .ownsLoop) (c .scheduled) 1024 (p .wide-scheduled);
       no-catch = p .no-catch;
       known = λ x k. p .known x (has-unscheduled (e .target) (e .ownsLoop) (c .scheduled) x k);
-      framed = framed-tail (subst (λ (z : List Entry). Framed t (c .scopeFallthroughs) (G ∷ F) z) h (p .framed));
+      framed = framed-tail real (subst (λ (z : List Entry). Framed t (c .scopeFallthroughs) (G ∷ F) z) h (p .framed));
     };
     same = refl;
   }
 
-  popped-at : {G : Frame} {F : List Frame} {e : Entry} {S : List Entry} {c : Context} (i : ℕ) (c₂ : Context) (y : Bool) → StateOk (G ∷ F) c → c .stack ≡ e ∷ S
+  popped-at : {G : Frame} {F : List Frame} {e : Entry} {S : List Entry} {c : Context} (i : ℕ) (c₂ : Context) (y : Bool) → isOpen G ≡ false → StateOk (G ∷ F) c → c .stack ≡ e ∷ S
       → elim y [ true ↦ ok (popped S (unscheduledBy (e .target) (e .ownsLoop) (c .scheduled)) c) | false ↦ refused 91 0 (c .visits) ] ≡ ok c₂ → Closed F S c₂
-  popped-at {G} {F} {e} {S} {c} i c₂ true p h k = subst (λ (d : Context). Closed F S d) (ok-eq k) (pop-ok p h)
-  popped-at i c₂ false p h k = absurd (refused-ok k)
+  popped-at {G} {F} {e} {S} {c} i c₂ true real p h k = subst (λ (d : Context). Closed F S d) (ok-eq k) (pop-ok real p h)
+  popped-at i c₂ false real p h k = absurd (refused-ok k)
 
-  pub unschedule-ok : {G : Frame} {F : List Frame} (i : ℕ) (e : Entry) (S : List Entry) (c c₂ : Context) → StateOk (G ∷ F) c → c .stack ≡ e ∷ S
+  pub unschedule-ok : {G : Frame} {F : List Frame} (i : ℕ) (e : Entry) (S : List Entry) (c c₂ : Context) → isOpen G ≡ false → StateOk (G ∷ F) c → c .stack ≡ e ∷ S
       → unschedule i c ≡ ok c₂ → Closed F S c₂
   unfolding unschedule unscheduleTop
-  unschedule-ok i e S c c₂ p h k =
-      popped-at i c₂ (eqb (e .id) i) p h (subst (λ (z : List Entry). unscheduleTop z i c ≡ ok c₂) h k)
+  unschedule-ok i e S c c₂ real p h k =
+      popped-at i c₂ (eqb (e .id) i) real p h (subst (λ (z : List Entry). unscheduleTop z i c ≡ ok c₂) h k)

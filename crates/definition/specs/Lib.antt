@@ -16,8 +16,10 @@ pub mod BlockRun
 pub mod Completion
 pub mod TreeRun
 pub mod Plain
+pub mod PlainLoops
 pub mod Machine
 pub mod Framed
 pub mod RunLaw
+pub mod LoopLaw
 pub mod Relabeled
 pub mod RelabeledRows

@@ -84,13 +84,15 @@ infixl 45 _⊕_
 abbrev pub _⊕_ : Output → List Row → Output
 _⊕_ out more = record { rows = out .rows ++ more; lines = out .lines }
 
--- In order: a block is to be visited next; the list in hand has ended; a Switch takes its next case; a statement's entries are taken off the stack.
+-- In order: a block is to be visited next; the list in hand has ended; a Switch takes its next case; a statement's entries are taken off the stack; a
+-- statement is scheduled and its values are to be made, a loop's before its `body`.
 -- The innermost frame comes first; `count` statements of the list in hand are out
 pub data State : Type 0 where
   visiting : (block : ℕ) → (frames : List Frame) → (out : Output) → (count : ℕ) → (cx : Context) → State
   ended : (frames : List Frame) → (out : Output) → (count : ℕ) → (cx : Context) → State
   choosing : (frame : Frame) → (frames : List Frame) → (out : Output) → (cx : Context) → State
   popping : (frame : Frame) → (frames : List Frame) → (out : Output) → (cx : Context) → State
+  making : (body : Option ℕ) → (frame : Frame) → (frames : List Frame) → (out : Output) → (cx : Context) → State
 
 pub data Turn : Type 0 where
   going : State → Turn
@@ -182,9 +184,10 @@ unscheduledTop (top ∷ below) cx = popped below (unscheduledBy (top .target) (t
 unfoldable pub unscheduled : Context → Context
 unscheduled cx = unscheduledTop (cx .stack) cx
 
-abbrev pub unscheduledIf : Option ℕ → Context → Context
-unscheduledIf none cx = cx
-unscheduledIf (some fallthrough) cx = unscheduled cx
+-- a statement's entry, if it has one
+abbrev pub unscheduledOf : (entries : ℕ) → Context → Context
+unscheduledOf zero cx = cx
+unscheduledOf (suc more) cx = unscheduled cx
 
 -- ---- into a nested list, and out of a statement
 
@@ -214,9 +217,15 @@ caseBuilt frame = record { block = frame .block; second = frame .second; label =
 unfoldable pub into : (block code at : ℕ) → Frame → List Frame → Output → Context → Result State
 into block code at frame frames out cx = refuseIf (isScheduled cx block) code at (cx .visits) >>= λ _. ok (visiting block (frame ∷ frames) out 0 cx)
 
--- the body of a loop whose values are made, at so many visits
-unfoldable pub intoLoop : (at loop : ℕ) → (taken : Bool) → (visits : ℕ) → Frame → List Frame → Output → Context → Result State
-intoLoop at loop taken visits frame frames out cx = refuseIf taken 16 at visits >>= λ _. ok (visiting loop (frame ∷ frames) out 0 (withVisits visits cx))
+-- the body of a loop, unless it is taken: the Rust's `loop_id`
+abbrev pub bodyUnless : (taken : Bool) → (loop : ℕ) → Option ℕ
+bodyUnless true loop = none
+bodyUnless false loop = some loop
+
+-- into the body of a loop whose values are made, at so many visits
+unfoldable pub intoBody : (body : Option ℕ) → (visits : ℕ) → Frame → List Frame → Output → Context → Result State
+intoBody none visits frame frames out cx = refused 16 (frame .block) visits
+intoBody (some loop) visits frame frames out cx = ok (visiting loop (frame ∷ frames) out 0 (withVisits visits cx))
 
 -- a statement's line (M-101), if it has a label, where its closing row is the next to be put out
 abbrev pub lineOut : Option ℕ → (first closing : ℕ) → List Line
@@ -340,6 +349,51 @@ resumeAt t visit (scope pruned body fallthrough number) block frame frames out c
 abbrev pub resume : Table → VisitValueBlock → Frame → List Frame → Output → Context → Result State
 resume t visit frame frames out cx = resumeAt t visit (terminalAt t (frame .block)) (blockAt t (frame .block)) frame frames out cx
 
+-- ---- a statement that is scheduled makes its values: a loop those that come before its body, and Logical, Ternary, Optional and Sequence their own, with
+-- which they are complete. (Another terminal has none, and its clause is there to be total.)
+
+unfoldable pub valueAt : Table → VisitValueBlock → Terminal → Block → Frame → List Frame → Output → Context → Result State
+valueAt t visit terminal block frame frames out cx =
+    visitValueBlockTerminal t visit terminal (block .id) (block .span) (cx .visits) (frame .block) >>= λ result.
+    ok (leave (frame .label) frames ((out ⊕ valueOut (result .value)) ⊕ (instrRow (result .id) (result .place) (block .span) ∷ [])) (suc (frame .count))
+    (unscheduledOf (frame .entries) (withVisits (result .visits) cx)))
+
+unfoldable pub makeAt : Table → VisitValueBlock → Terminal → Block → (body : Option ℕ) → Frame → List Frame → Output → Context → Result State
+makeAt t visit absent block body frame frames out cx = intoBody body (cx .visits) frame frames out cx
+makeAt t visit unreachable block body frame frames out cx = intoBody body (cx .visits) frame frames out cx
+makeAt t visit (throw value) block body frame frames out cx = intoBody body (cx .visits) frame frames out cx
+makeAt t visit (return value) block body frame frames out cx = intoBody body (cx .visits) frame frames out cx
+makeAt t visit (goto target variant) block body frame frames out cx = intoBody body (cx .visits) frame frames out cx
+makeAt t visit (if test consequent alternate fallthrough) block body frame frames out cx = intoBody body (cx .visits) frame frames out cx
+makeAt t visit (branch test consequent alternate) block body frame frames out cx = intoBody body (cx .visits) frame frames out cx
+makeAt t visit (switch test first number fallthrough) block body frame frames out cx = intoBody body (cx .visits) frame frames out cx
+makeAt t visit (do-while loop test fallthrough) block body frame frames out cx = intoBody body (cx .visits) frame frames out cx
+makeAt t visit (while test loop fallthrough) block body frame frames out cx =
+    visit test none (block .span) (cx .visits) >>= λ tested.
+    intoBody body (tested .visits) frame frames (out ⊕ valueOut (tested .value)) cx
+makeAt t visit (for init test update loop fallthrough) block body frame frames out cx =
+    visit init none (block .span) (cx .visits) >>= λ first.
+    visit test none (block .span) (first .visits) >>= λ tested.
+    visitUpdate visit update (block .span) (tested .visits) >>= λ updated.
+    intoBody body (updated .visits) frame frames
+    (((out ⊕ valueOut (valueBlockResultToSequence t first (block .span))) ⊕ valueOut (tested .value)) ⊕ updateOut (updated .value)) cx
+makeAt t visit (for-of init test loop fallthrough) block body frame frames out cx =
+    visit init none (block .span) (cx .visits) >>= λ first.
+    visit test none (block .span) (first .visits) >>= λ tested.
+    intoBody body (tested .visits) frame frames
+    ((out ⊕ valueOut (valueBlockResultToSequence t first (block .span))) ⊕ valueOut (valueBlockResultToSequence t tested (block .span))) cx
+makeAt t visit (for-in init loop fallthrough) block body frame frames out cx =
+    visit init none (block .span) (cx .visits) >>= λ first.
+    intoBody body (first .visits) frame frames (out ⊕ valueOut (valueBlockResultToSequence t first (block .span))) cx
+makeAt t visit (logical operator test fallthrough) block body frame frames out cx = valueAt t visit (logical operator test fallthrough) block frame frames out cx
+makeAt t visit (ternary test fallthrough) block body frame frames out cx = valueAt t visit (ternary test fallthrough) block frame frames out cx
+makeAt t visit (optional flag test fallthrough) block body frame frames out cx = valueAt t visit (optional flag test fallthrough) block frame frames out cx
+makeAt t visit (label inner fallthrough) block body frame frames out cx = intoBody body (cx .visits) frame frames out cx
+makeAt t visit (sequence inner fallthrough) block body frame frames out cx = valueAt t visit (sequence inner fallthrough) block frame frames out cx
+makeAt t visit (maybe-throw continuation) block body frame frames out cx = intoBody body (cx .visits) frame frames out cx
+makeAt t visit (try inner handler fallthrough binding) block body frame frames out cx = intoBody body (cx .visits) frame frames out cx
+makeAt t visit (scope pruned inner fallthrough number) block body frame frames out cx = intoBody body (cx .visits) frame frames out cx
+
 -- ---- the terminal of a block that is entered
 
 -- Branch: a break in place of the consequent where that is scheduled
@@ -351,13 +405,17 @@ branchTurn around at consequent alternate id frames out count cx =
       | false ↦ ok (visiting consequent (frameOf at none 0 out count ∷ frames) out 0 cx)
     ]
 
--- Logical, Ternary, Optional, Sequence
-unfoldable pub valueTurn : Table → VisitValueBlock → Terminal → (at : ℕ) → Block → (fallthrough : ℕ) → List Frame → Output → (count : ℕ) → Context → Result State
-valueTurn t visit terminal at block fallthrough frames out count cx =
+-- Logical, Ternary, Optional, Sequence: scheduled like an If, if the fallthrough is taken
+unfoldable pub scheduleValue : (at fallthrough : ℕ) → List Frame → Output → (count : ℕ) → Context → Result State
+scheduleValue at fallthrough frames out count cx =
     let taken : Option ℕ = unlessScheduled cx fallthrough in
-    visitValueBlockTerminal t visit terminal (block .id) (block .span) (cx .visits) at >>= λ result.
-    ok (leave taken frames ((out ⊕ valueOut (result .value)) ⊕ (instrRow (result .id) (result .place) (block .span) ∷ [])) (suc count)
-    (unscheduledIf taken (withVisits (result .visits) (scheduledIf taken cx))))
+    ok (making none (frameOf at taken (opens taken) out count) frames out (scheduledIf taken cx))
+
+-- a loop: it is scheduled, and 15 is asked, before its values are made
+unfoldable pub scheduleLoop : (at fallthrough continueBlock loop : ℕ) → (label : Option ℕ) → List Frame → Output → (count : ℕ) → Context → Result State
+scheduleLoop at fallthrough continueBlock loop taken frames out count cx =
+    schedule (target-loop fallthrough continueBlock loop) cx >>= λ inside.
+    ok (making (bodyUnless (loopIsTaken cx loop fallthrough) loop) (frameOf at taken 1 out count) frames out inside)
 
 unfoldable pub terminalTurn : Around → Table → VisitValueBlock → Terminal → (at : ℕ) → Block → List Frame → Output → (count : ℕ) → Context → Result State
 terminalTurn around t visit absent at block frames out count cx = refused 99 at (cx .visits)
@@ -374,42 +432,20 @@ terminalTurn around t visit (branch test consequent alternate) at block frames o
 terminalTurn around t visit (switch test first number fallthrough) at block frames out count cx =
     unlessUnreachable t cx fallthrough >>= λ taken.
     ok (choosing (withLeft (numberOfCases t first number) (frameOf at taken (opens taken) out count)) frames out (scheduledSwitch taken cx))
-terminalTurn around t visit (do-while loop test fallthrough) at block frames out count cx =
-    let taken : Option ℕ = unlessScheduled cx fallthrough in
-    schedule (target-loop fallthrough test loop) cx >>= λ inside.
-    intoLoop at loop (loopIsTaken cx loop fallthrough) (inside .visits) (frameOf at taken 1 out count) frames out inside
+terminalTurn around t visit (do-while loop test fallthrough) at block frames out count cx = scheduleLoop at fallthrough test loop (unlessScheduled cx fallthrough) frames out count cx
 terminalTurn around t visit (while test loop fallthrough) at block frames out count cx =
     unlessUnreachable t cx fallthrough >>= λ taken.
-    schedule (target-loop fallthrough test loop) cx >>= λ inside.
-    visit test none (block .span) (inside .visits) >>= λ tested.
-    intoLoop at loop (loopIsTaken cx loop fallthrough) (tested .visits) (frameOf at taken 1 out count) frames (out ⊕ valueOut (tested .value)) inside
-terminalTurn around t visit (for init test update loop fallthrough) at block frames out count cx =
-    let taken : Option ℕ = unlessScheduled cx fallthrough in
-    schedule (target-loop fallthrough (continueBlockOf update test) loop) cx >>= λ inside.
-    visit init none (block .span) (inside .visits) >>= λ first.
-    visit test none (block .span) (first .visits) >>= λ tested.
-    visitUpdate visit update (block .span) (tested .visits) >>= λ updated.
-    intoLoop at loop (loopIsTaken cx loop fallthrough) (updated .visits) (frameOf at taken 1 out count) frames
-    (((out ⊕ valueOut (valueBlockResultToSequence t first (block .span))) ⊕ valueOut (tested .value)) ⊕ updateOut (updated .value)) inside
-terminalTurn around t visit (for-of init test loop fallthrough) at block frames out count cx =
-    let taken : Option ℕ = unlessScheduled cx fallthrough in
-    schedule (target-loop fallthrough init loop) cx >>= λ inside.
-    visit init none (block .span) (inside .visits) >>= λ first.
-    visit test none (block .span) (first .visits) >>= λ tested.
-    intoLoop at loop (loopIsTaken cx loop fallthrough) (tested .visits) (frameOf at taken 1 out count) frames
-    ((out ⊕ valueOut (valueBlockResultToSequence t first (block .span))) ⊕ valueOut (valueBlockResultToSequence t tested (block .span))) inside
-terminalTurn around t visit (for-in init loop fallthrough) at block frames out count cx =
-    let taken : Option ℕ = unlessScheduled cx fallthrough in
-    schedule (target-loop fallthrough init loop) cx >>= λ inside.
-    visit init none (block .span) (inside .visits) >>= λ first.
-    intoLoop at loop (loopIsTaken cx loop fallthrough) (first .visits) (frameOf at taken 1 out count) frames (out ⊕ valueOut (valueBlockResultToSequence t first (block .span))) inside
-terminalTurn around t visit (logical operator test fallthrough) at block frames out count cx = valueTurn t visit (logical operator test fallthrough) at block fallthrough frames out count cx
-terminalTurn around t visit (ternary test fallthrough) at block frames out count cx = valueTurn t visit (ternary test fallthrough) at block fallthrough frames out count cx
-terminalTurn around t visit (optional flag test fallthrough) at block frames out count cx = valueTurn t visit (optional flag test fallthrough) at block fallthrough frames out count cx
+    scheduleLoop at fallthrough test loop taken frames out count cx
+terminalTurn around t visit (for init test update loop fallthrough) at block frames out count cx = scheduleLoop at fallthrough (continueBlockOf update test) loop (unlessScheduled cx fallthrough) frames out count cx
+terminalTurn around t visit (for-of init test loop fallthrough) at block frames out count cx = scheduleLoop at fallthrough init loop (unlessScheduled cx fallthrough) frames out count cx
+terminalTurn around t visit (for-in init loop fallthrough) at block frames out count cx = scheduleLoop at fallthrough init loop (unlessScheduled cx fallthrough) frames out count cx
+terminalTurn around t visit (logical operator test fallthrough) at block frames out count cx = scheduleValue at fallthrough frames out count cx
+terminalTurn around t visit (ternary test fallthrough) at block frames out count cx = scheduleValue at fallthrough frames out count cx
+terminalTurn around t visit (optional flag test fallthrough) at block frames out count cx = scheduleValue at fallthrough frames out count cx
 terminalTurn around t visit (label body fallthrough) at block frames out count cx =
     unlessUnreachable t cx fallthrough >>= λ taken.
     into body 17 at (frameOf at taken (opens taken) out count) frames out (scheduledIf taken cx)
-terminalTurn around t visit (sequence body fallthrough) at block frames out count cx = valueTurn t visit (sequence body fallthrough) at block fallthrough frames out count cx
+terminalTurn around t visit (sequence body fallthrough) at block frames out count cx = scheduleValue at fallthrough frames out count cx
 terminalTurn around t visit (maybe-throw continuation) at block frames out count cx = ok (leave (unlessScheduled cx continuation) frames out count cx)
 terminalTurn around t visit (try body handler fallthrough binding) at block frames out count cx =
     unlessUnreachable t cx fallthrough >>= λ taken.
@@ -438,6 +474,7 @@ step rule t (ended [] out count cx) = halt (accepted (out .rows ++ (blockRow cou
 step rule t (ended (frame ∷ frames) out count cx) = turn (resume t (visitValueBlock t (depthLeft frames)) frame frames (out ⊕ (blockRow count ∷ [])) cx)
 step rule t (choosing frame frames out cx) = turn (chooseCase t (switchColumns (terminalAt t (frame .block)) .first) (switchColumns (terminalAt t (frame .block)) .fallthrough) (frame .left) frame frames out cx)
 step rule t (popping frame frames out cx) = going (close t frame frames out cx)
+step rule t (making body frame frames out cx) = turn (makeAt t (visitValueBlock t (depthLeft frames)) (terminalAt t (frame .block)) (blockAt t (frame .block)) body frame frames out cx)
 
 abbrev pub begin : Table → State
 begin t = visiting (t .entry) [] noOutput 0 start

@@ -5,22 +5,23 @@ use mathlib.Core.Path.{_≡_, refl, sym, ap, _∙_, subst}
 use mathlib.Core.Bool.{Bool, true, false}
 use mathlib.Core.Option.{Option, none, some}
 use lib.ListN.{length, getD, set, length-set}
+use lib.Dec.{eqb}
+use borrow.Author.Tests.{eq-eqb, ne-eqb}
 use Rattle.table.specs.Table.{unlessNone}
 use Rattle.table.proofs.BlockLaws.{no-number, some-number}
-use Rattle.definition.specs.Context.{Flags, add, emit, remove, isBlocked, blockedCode, blockAsked, owns, scheduledBy, scheduleCatchHandler, markScopeFallthrough, unscheduledBy}
+use Rattle.definition.specs.Context.{Flags, add, emit, remove, blockAsked, scheduledBy, scheduleCatchHandler, markScopeFallthrough, unscheduledBy}
 use Rattle.definition.specs.Context.{ControlFlowTarget, target-if, target-switch, target-case, target-loop}
 use Rattle.definition.specs.Context as definition
-use Rattle.definition.specs.Machine.{unscheduled}
-use Rattle.definition.specs.Result.{Result, ok, refused, _>>=_}
+use Rattle.definition.specs.Result.{Result, ok, refused}
 use Rattle.control.specs.declared.ControlFlowTarget as code
 use Rattle.control.specs.declared.Context.{Context}
 use Rattle.control.specs.declared.Entry.{Entry}
-use Rattle.control.specs.Abstraction.{targetOf, noEntry, enteredIn, contextOf, resultOf, settled, released}
-use Rattle.control.specs.Contract.{blockedIn, Named, Room, Bounded, Last, Scheduled, Unscheduled}
-use Rattle.control.proofs.ContextLaws.{blocked-asked, settles, releases}
+use Rattle.control.specs.Abstraction.{targetOf, noEntry, contextOf, enteredOf, resultOf, stored}
+use Rattle.control.specs.Contract.{Named, Room, Bounded, Last, Scheduled, Unscheduled}
+use Rattle.control.proofs.ContextLaws.{stores}
 use Rattle.definition.specs.Framed.{Below}
 use Rattle.plan.specs.declared.Change.{Change}
-use Rattle.plan.specs.declared.Change.the-variants.{Nothing, Schedule, ScheduleBriefly, Unschedule}
+use Rattle.plan.specs.declared.Change.the-variants.{Nothing, Schedule, Unschedule}
 use Rattle.plan.specs.declared.Plan.{Plan}
 use Rattle.plan.specs.Plans.{changed, handled, scoped}
 use Rattle.driver.specs.Driver.{marked}
@@ -40,7 +41,7 @@ withMarks visited handler fallthrough cx = record {
   len = cx .len;
   scheduled = cx .scheduled;
   pushed = cx .pushed;
-  pending = cx .pending;
+  refused = cx .refused;
   «next_schedule_id» = cx .«next_schedule_id»;
   stack = cx .stack;
 }
@@ -55,7 +56,7 @@ pub marks-as : (visited handler fallthrough asked : ℕ) (cx : Context) (emitted
       len = cx .len;
       scheduled = cx .scheduled;
       pushed = cx .pushed;
-      pending = cx .pending;
+      refused = cx .refused;
       «next_schedule_id» = cx .«next_schedule_id»;
       stack = cx .stack;
     } ≡ withMarks visited handler fallthrough cx
@@ -65,12 +66,10 @@ marks-as visited handler fallthrough asked cx emitted handlers scopes v e h f = 
 abbrev pub Changeable : Change → Context → Type 0
 Changeable Nothing cx = Unit {0}
 Changeable (Schedule target) cx = Named target × Room cx
-Changeable (ScheduleBriefly target) cx = Named target × Room cx
 Changeable Unschedule cx = 0 < cx .len
 
--- what the driver carries along: nothing is pending, the stack's bound, the blocks of its entries, and the arrays' lengths
+-- what the driver carries along: the stack's bound, the blocks of its entries, and the arrays' lengths
 pub record Whole (cx : Context) : Type 0 where
-  pub settled : cx .pending ≡ 0
   pub bounded : Bounded (cx .stack) (cx .len)
   pub wide : length (cx .scheduled) ≡ 1024
   pub tall : length (cx .stack) ≡ 1152
@@ -107,45 +106,33 @@ length-scheduled (target-switch b) s = length-set s b true
 length-scheduled (target-case b) s = length-set s b true
 length-scheduled (target-loop b c l) s = length-set (set (set s b true) c true) l true ∙ length-set (set s b true) c true ∙ length-set s b true
 
--- whether the target that went on is refused, as the driver asks it
-module _ (target : code.ControlFlowTarget) (cx r : Context) (h : Scheduled target cx r) (named : Named target) (w : Whole cx) where
-  abbrev went-on : ControlFlowTarget
-  went-on = targetOf (r .pushed .target)
+-- whether the target that went on is refused, as `schedule` tells
+module _ (target : code.ControlFlowTarget) (cx r : Context) (h : Scheduled target cx r) (w : Whole cx) where
+  result-by : (visits : ℕ) (y : Bool) → eqb (r .refused) 0 ≡ y
+      → resultOf visits r ≡ elim y [ true ↦ ok (enteredOf visits r) | false ↦ refused (r .refused) (blockAsked (targetOf (r .pushed .target))) visits ]
+  result-by visits y e = ap (λ (z : Bool). elim z [ true ↦ ok (enteredOf visits r) | false ↦ refused (r .refused) (blockAsked (targetOf (r .pushed .target))) visits ]) e
 
-  asks : (y : Bool) → blockedIn went-on (r .scheduled) ≡ y → isBlocked went-on (r .scheduled) ≡ y
-  asks y e = sym (blocked-asked (r .pushed .target) (r .scheduled) (rw (h .state) named) (rw (h .state) (omega (arith, w .wide)))) ∙ e
+  asked-of : blockAsked (targetOf (r .pushed .target)) ≡ blockAsked (targetOf target)
+  asked-of = ap (λ (z : Context). blockAsked (targetOf (z .pushed .target))) (h .state)
 
-  result-by : (visits : ℕ) (y : Bool) → blockedIn went-on (r .scheduled) ≡ y
-      → resultOf visits r ≡ elim y [ true ↦ refused (blockedCode went-on) (blockAsked went-on) visits | false ↦ ok (contextOf visits r) ]
-  result-by visits y e = ap (λ (z : Bool). elim z [ true ↦ refused (blockedCode went-on) (blockAsked went-on) visits | false ↦ ok (contextOf visits r) ]) (asks y e)
+  pub schedule-blocked : (r .refused ≡ 0 → ⊥) → Blocked (Schedule target) cx (r .refused) (blockAsked (targetOf target))
+  schedule-blocked b = record {
+    context = λ visits. h .context visits ∙ result-by visits false (ne-eqb (r .refused) 0 b) ∙ ap (λ (at : ℕ). refused (r .refused) at visits) asked-of;
+    refuses = b;
+  }
 
-  refusing : (t : ControlFlowTarget) → blockedCode t ≡ 0 → ⊥
-  refusing (target-if b) e = omega (arith, e)
-  refusing (target-switch b) e = omega (arith, e)
-  refusing (target-case b) e = omega (arith, e)
-  refusing (target-loop b c l) e = omega (arith, e)
+  long : length (r .stack) ≡ 1152
+  long = ap (λ (z : Context). length (z .stack)) (h .state) ∙ w .tall
 
-  pub schedule-blocked : blockedIn went-on (r .scheduled) ≡ true → Blocked (Schedule target) cx (blockedCode went-on) (blockAsked went-on)
-  schedule-blocked b = record { context = λ visits. h .context visits ∙ result-by visits true b; refuses = refusing went-on }
-
-  pub briefly-blocked : blockedIn went-on (r .scheduled) ≡ true → Blocked (ScheduleBriefly target) cx (blockedCode went-on) (blockAsked went-on)
-  unfolding _>>=_
-  briefly-blocked b =
-      record { context = λ visits. ap (λ (m : Result definition.Context). m >>= λ inside. ok (unscheduled inside)) (schedule-blocked b .context visits); refuses = refusing went-on }
-
-  pub schedule-changed : (s : Context) → blockedIn went-on (r .scheduled) ≡ false → s ≡ settled r → cx .len < 1152 → Changed (Schedule target) cx s
-  schedule-changed s b e small = rw e (record {
-    context = λ visits. h .context visits ∙ result-by visits false b ∙ ap ok (sym (settles visits r (h .pending) (omega (arith, h .len)) (omega (arith, h .len, long))));
-    whole = unfold settled in record {
-      settled = refl;
+  pub schedule-changed : r .refused ≡ 0 → cx .len < 1152 → Changed (Schedule target) cx (stored r)
+  schedule-changed b small = record {
+    context = λ visits. h .context visits ∙ result-by visits true (eq-eqb (r .refused) 0 b) ∙ ap ok (sym (stores visits r (omega (arith, h .len)) (omega (arith, h .len, long))));
+    whole = unfold stored in record {
       bounded = h .bounded (w .bounded);
-      wide = length-scheduled went-on (r .scheduled) ∙ ap (λ (z : Context). length (z .scheduled)) (h .state) ∙ w .wide;
-      tall = length-set (r .stack) (r .len - 1) (enteredIn (r .scheduled) (r .pushed)) ∙ long;
+      wide = ap (λ (z : Context). length (z .scheduled)) (h .state) ∙ length-scheduled (targetOf target) (cx .scheduled) ∙ w .wide;
+      tall = length-set (r .stack) (r .len - 1) (r .pushed) ∙ long;
     };
-  })
-    where
-      long : length (r .stack) ≡ 1152
-      long = ap (λ (z : Context). length (z .stack)) (h .state) ∙ w .tall
+  }
 
 length-removed : (target : ControlFlowTarget) (owner : Bool) (flags : Flags) → length (unscheduledBy target owner flags) ≡ length flags
 unfolding unscheduledBy remove
@@ -155,70 +142,15 @@ length-removed (target-case b) o s = length-set s b false
 length-removed (target-loop b c l) false s = length-set (set s b false) c false ∙ length-set s b false
 length-removed (target-loop b c l) true s = length-set (set (set s b false) c false) l false ∙ length-set (set s b false) c false ∙ length-set s b false
 
-pub unschedule-changed : (cx r s : Context) → Unscheduled cx r → s ≡ released r → Whole cx → Changed Unschedule cx s
-unschedule-changed cx r s h e w = rw e (record {
-  context = λ visits. ap ok (sym (h .pops visits) ∙ sym (releases visits r (h .pending)));
-  whole = unfold released in record {
-    settled = refl;
+pub unschedule-changed : (last : Entry) (cx r : Context) → Unscheduled last cx r → Whole cx → Changed Unschedule cx r
+unschedule-changed last cx r h w = record {
+  context = λ visits. ap ok (sym (h .pops visits));
+  whole = record {
     bounded = h .bounded (w .bounded);
-    wide =
-        length-removed (targetOf (getD (r .stack) (r .len) noEntry .target)) (getD (r .stack) (r .len) noEntry .«owns_loop») (r .scheduled) ∙
-        ap (λ (z : Context). length (z .scheduled)) (h .state) ∙ w .wide;
+    wide = ap (λ (z : Context). length (z .scheduled)) (h .state) ∙ length-removed (targetOf (last .target)) (last .«owns_loop») (cx .scheduled) ∙ w .wide;
     tall = ap (λ (z : Context). length (z .stack)) (h .state) ∙ w .tall;
   };
-})
-
-pub briefly-changed : (target : code.ControlFlowTarget) (cx s r t : Context) → Changed (Schedule target) cx s → Unscheduled s r → t ≡ released r → Changed (ScheduleBriefly target) cx t
-unfolding _>>=_
-briefly-changed target cx s r t h u e =
-    let off : Changed Unschedule s t = unschedule-changed s r t u e (h .whole) in
-    record { context = λ visits. ap (λ (m : Result definition.Context). m >>= λ inside. ok (unscheduled inside)) (h .context visits) ∙ off .context visits; whole = off .whole }
-
--- ---- what the driver settles
-
-abbrev pub settledBy : Flags → (owner : Bool) → Context → Context
-settledBy flags owner cx = record {
-  emitted = cx .emitted;
-  «catch_handlers» = cx .«catch_handlers»;
-  «scope_fallthroughs» = cx .«scope_fallthroughs»;
-  len = cx .len;
-  scheduled = flags;
-  pushed = cx .pushed;
-  pending = 0;
-  «next_schedule_id» = cx .«next_schedule_id»;
-  stack = set (cx .stack) (cx .len - 1) (record { id = cx .pushed .id; target = cx .pushed .target; «owns_loop» = owner });
 }
-
-abbrev pub releasedBy : Flags → Context → Context
-releasedBy flags cx = record {
-  emitted = cx .emitted;
-  «catch_handlers» = cx .«catch_handlers»;
-  «scope_fallthroughs» = cx .«scope_fallthroughs»;
-  len = cx .len;
-  scheduled = flags;
-  pushed = cx .pushed;
-  pending = 0;
-  «next_schedule_id» = cx .«next_schedule_id»;
-  stack = cx .stack;
-}
-
-pub settled-by : (r : Context) (flags : Flags) (owner : Bool) → flags ≡ scheduledBy (targetOf (r .pushed .target)) (r .scheduled)
-    → owner ≡ owns (targetOf (r .pushed .target)) (r .scheduled) → settledBy flags owner r ≡ settled r
-unfolding settled
-settled-by r flags owner e o = ap (λ (f : Flags). settledBy f owner r) e ∙ ap (λ (y : Bool). settledBy (scheduledBy (targetOf (r .pushed .target)) (r .scheduled)) y r) o
-
-pub released-by : (r : Context) (flags : Flags)
-    → flags ≡ unscheduledBy (targetOf (getD (r .stack) (r .len) noEntry .target)) (getD (r .stack) (r .len) noEntry .«owns_loop») (r .scheduled)
-    → releasedBy flags r ≡ released r
-unfolding released
-released-by r flags e = ap (λ (f : Flags). releasedBy f r) e
-
-pub named-entered : (target : code.ControlFlowTarget) (cx r : Context) → Scheduled target cx r → Named target → Named (r .pushed .target)
-named-entered target cx r h named = rw (h .state) named
-
--- the entry that came off stands just above the stack
-pub named-left : (cx r : Context) → Unscheduled cx r → 0 < cx .len → Whole cx → Named (getD (r .stack) (r .len) noEntry .target)
-named-left cx r u on w = rw (u .state) (w .bounded .named (cx .len - 1) (omega arith))
 
 -- ---- the sets
 
@@ -229,7 +161,7 @@ marks-by : (visited handler fallthrough : Option ℕ) (cx : Context) (visits : �
   len = cx .len;
   scheduled = cx .scheduled;
   pushed = cx .pushed;
-  pending = cx .pending;
+  refused = cx .refused;
   «next_schedule_id» = cx .«next_schedule_id»;
   stack = cx .stack;
 }) ≡ scoped fallthrough (handled handler (emitted visited (contextOf visits cx)))
@@ -249,8 +181,7 @@ marks visited handler fallthrough cx visits = marks-by (unlessNone visited) (unl
 
 pub changeable-marked : (change : Change) (visited handler fallthrough : ℕ) (cx : Context) → Changeable change cx → Changeable change (withMarks visited handler fallthrough cx)
 changeable-marked Nothing visited handler fallthrough cx h = tt
-changeable-marked (Schedule target) visited handler fallthrough cx (n, r) = (n, record { len = r .len; id = r .id; settled = r .settled })
-changeable-marked (ScheduleBriefly target) visited handler fallthrough cx (n, r) = (n, record { len = r .len; id = r .id; settled = r .settled })
+changeable-marked (Schedule target) visited handler fallthrough cx (n, r) = (n, record { len = r .len; id = r .id })
 changeable-marked Unschedule visited handler fallthrough cx h = h
 
 pub plan-applied : (visited : ℕ) (plan : Plan) (cx m r : Context) → m ≡ withMarks visited (plan .handler) (plan .scope) cx → Changed (plan .change) m r → Applied visited plan cx r
@@ -268,9 +199,10 @@ pub below-block : (n : ℕ) → Below 1024 (unlessNone n) → (n ≡ 65535 → �
 below-block n b h = subst (λ (o : Option ℕ). Below 1024 o) (some-number n h) b
 
 pub whole-marked : (visited handler fallthrough : ℕ) (cx : Context) → Whole cx → Whole (withMarks visited handler fallthrough cx)
-whole-marked visited handler fallthrough cx w = record { settled = w .settled; bounded = w .bounded; wide = w .wide; tall = w .tall }
+whole-marked visited handler fallthrough cx w = record { bounded = w .bounded; wide = w .wide; tall = w .tall }
 
 -- ---- what the methods ask
 
-pub last-entry : (cx : Context) → 0 < cx .len → Whole cx → Last cx
-last-entry cx h w = record { nonempty = h; settled = w .settled }
+pub last-entry : (cx : Context) (last : Entry) → 0 < cx .len → last ≡ getD (cx .stack) (cx .len - 1) noEntry → Whole cx → Last cx last
+last-entry cx last h e w =
+    record { nonempty = h; read = e; named = subst (λ (z : Entry). Named (z .target)) (sym e) (w .bounded .named (cx .len - 1) (omega arith)) }

@@ -19,7 +19,7 @@ use Rattle.definition.proofs.Steps.{true-false}
 use Rattle.definition.specs.Build.{Report, accepted, rejected, report}
 use Rattle.definition.specs.Context.{emit, withVisits}
 use Rattle.definition.specs.Context as definition
-use Rattle.definition.specs.Machine.{Output, noOutput, _⊕_, enclosings, aroundOf, State, visiting, ended, choosing, popping, going, halt, step}
+use Rattle.definition.specs.Machine.{Output, noOutput, _⊕_, enclosings, aroundOf, State, visiting, ended, choosing, popping, making, going, halt, step}
 use Rattle.definition.specs.Around.{Rule, Around}
 use Rattle.definition.specs.Goal.{Goal}
 use Rattle.definition.specs.Machine as machine
@@ -33,7 +33,6 @@ use Rattle.survey.specs.declared.Aim.{Aim}
 use Rattle.survey.specs.Abstraction.{aimOf, FoundBelow}
 use Rattle.control.specs.declared.Entry.{Entry}
 use Rattle.control.specs.declared.Resolved.the-variants as resolved
-use Rattle.control.specs.Abstraction as control
 use Rattle.control.specs.Abstraction.{contextOf, resolvedOf, resolutionOf, targetOf, stackOf, noEntry}
 use Rattle.control.specs.Contract.{Named, Room, Created}
 use Rattle.definition.proofs.Flags.{length-none}
@@ -42,11 +41,11 @@ use Rattle.rows.specs.Rows.{Holds}
 use Rattle.rows.specs.Stack.{pushed}
 use Rattle.rows.proofs.StackLaws.{length-pushed}
 use Rattle.plan.specs.declared.Stage.{Stage}
-use Rattle.plan.specs.declared.Stage.the-variants.{Visit, Ended, Choose, Pop, Halt}
+use Rattle.plan.specs.declared.Stage.the-variants.{Visit, Ended, Choose, Pop, Values, Halt}
 use Rattle.plan.specs.declared.Position.{Position}
 use Rattle.plan.specs.declared.Frame.{Frame}
 use Rattle.plan.specs.declared.Change.{Change}
-use Rattle.plan.specs.declared.Change.the-variants.{Nothing, Schedule, ScheduleBriefly, Unschedule}
+use Rattle.plan.specs.declared.Change.the-variants.{Nothing, Schedule, Unschedule}
 use Rattle.plan.specs.declared.Plan.{Plan}
 use Rattle.jumps.specs.declared.Jump.{Jump}
 use Rattle.jumps.specs.declared.Jump.the-variants as search
@@ -144,6 +143,8 @@ restOf A Choose zero = []
 restOf A Choose (suc n) = framesOf A n
 restOf A Pop zero = []
 restOf A Pop (suc n) = framesOf A n
+restOf A Values zero = []
+restOf A Values (suc n) = framesOf A n
 restOf A Halt n = framesOf A n
 
 in-hand : (A : List Frame) (s : Stage) (n : ℕ) (f : Frame) → f ≡ getD A (n - 1) noFrame → inHand s n f ++ restOf A s n ≡ framesOf A n
@@ -155,6 +156,8 @@ in-hand A Choose zero f e = refl
 in-hand A Choose (suc n) f e = let q : suc n - 1 ≡ n = omega arith in ap {B = List machine.Frame} (λ (z : Frame). frameOf z ∷ framesOf A n) (rw q at e)
 in-hand A Pop zero f e = refl
 in-hand A Pop (suc n) f e = let q : suc n - 1 ≡ n = omega arith in ap {B = List machine.Frame} (λ (z : Frame). frameOf z ∷ framesOf A n) (rw q at e)
+in-hand A Values zero f e = refl
+in-hand A Values (suc n) f e = let q : suc n - 1 ≡ n = omega arith in ap {B = List machine.Frame} (λ (z : Frame). frameOf z ∷ framesOf A n) (rw q at e)
 in-hand A Halt n f e = refl
 
 entries-top : (s : Stage) (n : ℕ) (f : Frame) (F : List machine.Frame) → entriesOnTop (inHand s n f) ≤ entriesOf (inHand s n f ++ F)
@@ -165,16 +168,19 @@ entries-top Choose zero f F = omega arith
 entries-top Choose (suc n) f F = omega arith
 entries-top Pop zero f F = omega arith
 entries-top Pop (suc n) f F = omega arith
+entries-top Values zero f F = omega arith
+entries-top Values (suc n) f F = omega arith
 entries-top Halt n f F = omega arith
 
 -- ---- states
 
--- a Switch that takes its next case, and a statement whose entries come off, have a frame; and the walk has not come to its end
+-- a Switch that takes its next case, a statement whose entries come off, and a loop that makes its values, have a frame; and the walk has not come to its end
 abbrev pub Live : Stage → (depth : ℕ) → Type 0
 Live Visit depth = Unit {0}
 Live Ended depth = Unit {0}
 Live Choose depth = 1 ≤ depth
 Live Pop depth = 1 ≤ depth
+Live Values depth = 1 ≤ depth
 Live Halt depth = ⊥
 
 abbrev pub stateOf : Position → List Frame → Output → Context → State
@@ -205,6 +211,10 @@ numbers t Pop b [] R m C l h = absurd (omega arith)
 numbers t Pop b (f ∷ F) R m C l h =
     let z : invariant.Small (popping f F R C) = invariant.sound-small t (popping f F R C) h in record
     { visits = z .visits; frames = z .frames; stack = z .stack; ids = z .ids; rows = z .rows; lines = z .lines; entries = h .2 .stack }
+numbers t Values b [] R m C l h = absurd (omega arith)
+numbers t Values b (f ∷ F) R m C l h =
+    let z : invariant.Small (making (unlessNone b) f F R C) = invariant.sound-small t (making (unlessNone b) f F R C) h in record
+    { visits = z .visits; frames = z .frames; stack = z .stack; ids = z .ids; rows = z .rows; lines = z .lines; entries = h .3 .stack }
 numbers t Halt b F R m C l h = absurd l
 
 -- the potential does not look at the rows
@@ -215,6 +225,8 @@ no-rows Choose b [] R m C = refl
 no-rows Choose b (f ∷ F) R m C = refl
 no-rows Pop b [] R m C = refl
 no-rows Pop b (f ∷ F) R m C = refl
+no-rows Values b [] R m C = refl
+no-rows Values b (f ∷ F) R m C = refl
 no-rows Halt b F R m C = refl
 
 -- ---- what holds at each turn of the loop
@@ -237,37 +249,23 @@ pub record Walking (rule : Rule) (w : List ℕ) (buffer : Lent) (cx : Context) (
 abbrev pub turnsLeft : Position → List Frame → Context → ℕ
 turnsLeft p A cx = potential (stateOf p A noOutput cx)
 
-getD-any : {A : Type 0} (xs : List A) (i : ℕ) (d e : A) → i < length xs → getD xs i d ≡ getD xs i e
-getD-any [] i d e h = absurd (omega arith)
-getD-any (x ∷ xs) zero d e h = refl
-getD-any (x ∷ xs) (suc i) d e h = getD-any xs i d e (omega arith)
-
 entry-at : (w : List ℕ) → tableOf w .entry ≡ entryWord w
 unfolding tableOf
 entry-at w = refl
 
--- with nothing pending the scheduled set is the array's
-as-stored : (visits : ℕ) (cx : Context) → cx .pending ≡ 0 → contextOf visits cx .scheduled ≡ cx .scheduled
-unfolding contextOf
-as-stored visits cx e = rw e refl
-
-scheduled-start : (cx : Context) → cx .pending ≡ 0 → contextOf 0 cx ≡ definition.start → length (cx .scheduled) ≡ 1024
-unfolding definition.start
-scheduled-start cx s e = sym (ap length (as-stored 0 cx s)) ∙ ap (λ (C : definition.Context). length (C .scheduled)) e ∙ length-none
-
--- what a read past the array's end would give
-abbrev pub beyond : Frame
-beyond = record { block = 0; label = 0; entries = 0; left = 0; built = 0; first = 0; count = 0; second = false }
+scheduled-start : (cx : Context) → contextOf 0 cx ≡ definition.start → length (cx .scheduled) ≡ 1024
+unfolding contextOf definition.start
+scheduled-start cx e = ap (λ (C : definition.Context). length (C .scheduled)) e ∙ length-none
 
 -- where the jump goes
 pub found-jump : (rule : Rule) (w : List ℕ) (cx : Context) (A : List Frame) (p : Position) (jump : Jump) (aim : Aim)
-    → cx .pending ≡ 0 → (p .stage ≡ Visit → Searches w (cx .scheduled) (cx .«catch_handlers») (p .block) jump)
+    → (p .stage ≡ Visit → Searches w (cx .scheduled) (cx .«catch_handlers») (p .block) jump)
     → ((visits : ℕ) → aimOf aim ≡ goalBy jump (aroundOf rule (tableOf w) (framesOf A (p .depth))) (foundBy jump (contextOf visits cx)))
     → p .stage ≡ Visit → Resolves (terminalAt (tableOf w) (p .block)) (aroundOf rule (tableOf w) (framesOf A (p .depth))) (contextOf (p .visits) cx) (aimOf aim)
 unfolding contextOf
-found-jump rule w cx A p jump aim settled S R e =
+found-jump rule w cx A p jump aim S R e =
     subst (λ (z : Option Goal). Resolves (terminalAt (tableOf w) (p .block)) (aroundOf rule (tableOf w) (framesOf A (p .depth))) (contextOf (p .visits) cx) z)
-    (sym (R (p .visits))) (S e .resolves (aroundOf rule (tableOf w) (framesOf A (p .depth))) (contextOf (p .visits) cx) (as-stored (p .visits) cx settled) refl)
+    (sym (R (p .visits))) (S e .resolves (aroundOf rule (tableOf w) (framesOf A (p .depth))) (contextOf (p .visits) cx) refl refl)
 
 -- its target is one of the 1,024 blocks, as every entry's is
 break-below : (entries : List Entry) (n b : ℕ) (top : Bool) (above : ℕ) → ((k : ℕ) → k < n → Named (getD entries k noEntry .target))
@@ -321,8 +319,8 @@ pub found-below : (cx : Context) (jump : Jump) (found : Resolved) → Whole cx �
 unfolding contextOf definition.getBreakTarget definition.getContinueTarget
 found-below cx jump resolved.Nothing h e = tt
 found-below cx search.Nothing (resolved.Found r) h e = absurd (none-some (sym (e 0)))
-found-below cx (search.Break b) (resolved.Found r) h e = break-below (cx .stack) (cx .len) b true 0 (h .bounded .named) (resolutionOf r) (sym (rw (h .settled) at (e 0)))
-found-below cx (search.Continue b) (resolved.Found r) h e = continue-below (cx .stack) (cx .len) b true 0 (h .bounded .named) (resolutionOf r) (sym (rw (h .settled) at (e 0)))
+found-below cx (search.Break b) (resolved.Found r) h e = break-below (cx .stack) (cx .len) b true 0 (h .bounded .named) (resolutionOf r) (sym (e 0))
+found-below cx (search.Continue b) (resolved.Found r) h e = continue-below (cx .stack) (cx .len) b true 0 (h .bounded .named) (resolutionOf r) (sym (e 0))
 
 module _ (rule : Rule) (w : List ℕ) (pr : Promise w) (ck : Checked (tableOf w)) where
   -- where the loop begins
@@ -336,7 +334,7 @@ module _ (rule : Rule) (w : List ℕ) (pr : Promise w) (ck : Checked (tableOf w)
     held = record { count = refl; rows = tt };
     indexed = rw none-out (no-lines (buffer .index));
     live = tt;
-    whole = record { settled = new .settled; bounded = new .bounded; wide = flags; tall = ap length (new .stack) ∙ length-replicate 1152 noEntry };
+    whole = record { bounded = new .bounded; wide = flags; tall = ap length (new .stack) ∙ length-replicate 1152 noEntry };
     frames = l;
   })
     where
@@ -344,7 +342,7 @@ module _ (rule : Rule) (w : List ℕ) (pr : Promise w) (ck : Checked (tableOf w)
       entry-word = entry-at w
 
       flags : length (cx .scheduled) ≡ 1024
-      flags = scheduled-start cx (new .settled) (new .context)
+      flags = scheduled-start cx (new .context)
 
   frame-fits : (chosen over n rows : ℕ) (A : List Frame) (F : List machine.Frame) (R : Output) (m : ℕ) (C : definition.Context) (f : Frame) → f ≡ getD A (suc n - 1) noFrame → length (R .rows) ≡ rows
       → Framed (tableOf w) chosen (frameOf (getD A n noFrame)) → invariant.Holds over (frameOf (getD A n noFrame) ∷ F) R m C → FrameFits w chosen rows f
@@ -367,6 +365,8 @@ module _ (rule : Rule) (w : List ℕ) (pr : Promise w) (ck : Checked (tableOf w)
       (omega arith, rw z (h .0), frame-fits 1 0 n rows A (framesOf A n) R 0 C f e l (h .1) (h .3))
   fits-at A R C f Pop b zero m rows u e l v h = absurd (omega arith)
   fits-at A R C f Pop b (suc n) m rows u e l v h = (omega arith, frame-fits 1 0 n rows A (framesOf A n) R 0 C f e l (h .0) (h .2))
+  fits-at A R C f Values b zero m rows u e l v h = absurd (omega arith)
+  fits-at A R C f Values b (suc n) m rows u e l v h = (omega arith, frame-fits 0 0 n rows A (framesOf A n) R 0 C f e l (h .1) (h .3))
   fits-at A R C f Halt b n m rows u e l v h = absurd v
 
   -- ---- a turn
@@ -386,10 +386,6 @@ module _ (rule : Rule) (w : List ℕ) (pr : Promise w) (ck : Checked (tableOf w)
 
     pub shallow : p .depth ≤ 128
     shallow = omega (arith, numbered .frames, frames-length A (p .depth))
-
-    -- the innermost frame, as the code reads it
-    pub frame-read : (i : ℕ) → i ≡ p .depth - 1 → getD A i beyond ≡ getD A (p .depth - 1) noFrame
-    frame-read i e = ap (λ (k : ℕ). getD A k beyond) e ∙ getD-any A (p .depth - 1) beyond noFrame (omega (arith, I .frames, shallow))
 
     pub ready : (f : Frame) → f ≡ getD A (p .depth - 1) noFrame → Ready w p f
     unfolding contextOf
@@ -416,11 +412,9 @@ module _ (rule : Rule) (w : List ℕ) (pr : Promise w) (ck : Checked (tableOf w)
         at Choose (suc n) h v l = frame-or (tableOf w) A k n (h .1 .block) (λ l. frames-each (tableOf w) A k n (h .2) l) l
         at Pop zero h v l = absurd (omega arith)
         at Pop (suc n) h v l = frame-or (tableOf w) A k n (h .0 .block) (λ l. frames-each (tableOf w) A k n (h .1) l) l
+        at Values zero h v l = absurd (omega arith)
+        at Values (suc n) h v l = frame-or (tableOf w) A k n (h .1 .block) (λ l. frames-each (tableOf w) A k n (h .2) l) l
         at Halt n h v l = absurd v
-
-    -- one of them, as the code reads it
-    pub frame-at : (k : ℕ) → k < p .depth → getD A k beyond ≡ getD A k noFrame
-    frame-at k h = getD-any A k beyond noFrame (omega (arith, I .frames, shallow))
 
     abbrev pub inside : Around
     inside = aroundOf rule (tableOf w) (framesOf A (p .depth))
@@ -431,7 +425,7 @@ module _ (rule : Rule) (w : List ℕ) (pr : Promise w) (ck : Checked (tableOf w)
         (J : p .stage ≡ Visit → Resolves (terminalAt (tableOf w) (p .block)) inside C (aimOf aim)) where
       shown : Shown w (cx .emitted) (cx .scheduled) (cx .«catch_handlers») (cx .«scope_fallthroughs») p aim inside C
       unfolding contextOf
-      shown = record { emitted = refl; scheduled = as-stored (p .visits) cx (I .whole .settled); handlers = refl; scopes = refl; visits = refl; wide = I .whole .wide; jump = J }
+      shown = record { emitted = refl; scheduled = refl; handlers = refl; scopes = refl; visits = refl; wide = I .whole .wide; jump = J }
 
       together : inHand (p .stage) (p .depth) f ++ restOf A (p .stage) (p .depth) ≡ framesOf A (p .depth)
       together = in-hand A (p .stage) (p .depth) f read
@@ -486,6 +480,7 @@ module _ (rule : Rule) (w : List ℕ) (pr : Promise w) (ck : Checked (tableOf w)
             at Ended e = absurd (true-false (sym e))
             at Choose e = absurd (true-false (sym e))
             at Pop e = absurd (true-false (sym e))
+            at Values e = absurd (true-false (sym e))
             at Halt e = refl
 
         accepted-reported : isHalt (plan .position .stage) ≡ true → Reported (report rule (tableOf w)) (walkedBy plan (buffer′ .lines)) (buffer′ .tree) (buffer′ .index)
@@ -508,6 +503,7 @@ module _ (rule : Rule) (w : List ℕ) (pr : Promise w) (ck : Checked (tableOf w)
               at Ended e n = tt
               at Choose e n = fit .deep n
               at Pop e n = fit .deep n
+              at Values e n = fit .deep n
               at Halt e n = absurd (true-false e)
 
           -- ---- the Context
@@ -541,6 +537,7 @@ module _ (rule : Rule) (w : List ℕ) (pr : Promise w) (ck : Checked (tableOf w)
               at Ended h = none-at (unlessNone 65535) no-number
               at Choose h = none-at (unlessNone 65535) no-number
               at Pop h = none-at (unlessNone 65535) no-number
+              at Values h = none-at (unlessNone 65535) no-number
               at Halt h = none-at (unlessNone 65535) no-number
 
           -- ---- what applying the plan asks
@@ -549,22 +546,21 @@ module _ (rule : Rule) (w : List ℕ) (pr : Promise w) (ck : Checked (tableOf w)
           unfolding contextOf
           changeable = at (plan .change) (fit .change)
             where
-              len : length (control.entriesOf (cx .pending) (cx .pushed) (cx .scheduled) (cx .stack) (cx .len)) ≡ cx .len
-              len = rw (I .whole .settled) (stack-length (cx .stack) (cx .len))
+              len : length (stackOf (cx .stack) (cx .len)) ≡ cx .len
+              len = stack-length (cx .stack) (cx .len)
 
               room : Room cx
-              room = record { len = omega (arith, len, numbered .stack); id = omega (arith, numbered .ids); settled = I .whole .settled }
+              room = record { len = omega (arith, len, numbered .stack); id = omega (arith, numbered .ids) }
 
               filled : entriesOnTop (inHand (p .stage) (p .depth) f) ≤ cx .len
               filled =
-                  let z : length (control.entriesOf (cx .pending) (cx .pushed) (cx .scheduled) (cx .stack) (cx .len)) ≡ entriesOf
+                  let z : length (stackOf (cx .stack) (cx .len)) ≡ entriesOf
                   (inHand (p .stage) (p .depth) f ++ restOf A (p .stage) (p .depth)) = numbered .entries ∙ ap entriesOf (sym together) in
                   omega (arith, entries-top (p .stage) (p .depth) f (restOf A (p .stage) (p .depth)), len, z)
 
               at : (ch : Change) → NamedChange (entriesOnTop (inHand (p .stage) (p .depth) f)) ch → Changeable ch cx
               at Nothing n = tt
               at (Schedule target) n = (n, room)
-              at (ScheduleBriefly target) n = (n, room)
               at Unschedule n = omega (arith, n, filled)
 
           pub applicable : Applicable visited plan cx
@@ -577,6 +573,7 @@ module _ (rule : Rule) (w : List ℕ) (pr : Promise w) (ck : Checked (tableOf w)
               at Ended h = subst (λ (o : Option ℕ). Below 1024 o) (sym no-number) tt
               at Choose h = subst (λ (o : Option ℕ). Below 1024 o) (sym no-number) tt
               at Pop h = subst (λ (o : Option ℕ). Below 1024 o) (sym no-number) tt
+              at Values h = subst (λ (o : Option ℕ). Below 1024 o) (sym no-number) tt
               at Halt h = subst (λ (o : Option ℕ). Below 1024 o) (sym no-number) tt
 
           pub depth-below : plan .position .depth ≤ 129
@@ -598,6 +595,7 @@ module _ (rule : Rule) (w : List ℕ) (pr : Promise w) (ck : Checked (tableOf w)
                 ends Ended e = refl
                 ends Choose e = refl
                 ends Pop e = refl
+                ends Values e = refl
                 ends Halt e = absurd (true-false e)
 
             pub blocked-reported : Reported (report rule (tableOf w)) (blockedBy code at (plan .position)) (buffer′ .tree) (buffer′ .index)
@@ -629,12 +627,17 @@ module _ (rule : Rule) (w : List ℕ) (pr : Promise w) (ck : Checked (tableOf w)
                 pop-same [] h = absurd (omega arith)
                 pop-same (g ∷ F) h = refl
 
+                values-same : (F : List machine.Frame) → 1 ≤ length F → stateAt Values (plan .position .block) F after 0 D ≡ stateAt Values (plan .position .block) F after (plan .position .count) D
+                values-same [] h = absurd (omega arith)
+                values-same (g ∷ F) h = refl
+
                 at : (s : Stage) → isHalt s ≡ false → Live s (plan .position .depth)
                     → onward s plan (framesOf A (p .depth)) after (ok D) ≡ going (stateAt s (plan .position .block) K after (plan .position .count) D)
                 at Visit e l = refl
                 at Ended e l = refl
                 at Choose e l = ap going (choose-same K (omega (arith, kept-deep)))
                 at Pop e l = ap going (pop-same K (omega (arith, kept-deep)))
+                at Values e l = ap going (values-same K (omega (arith, kept-deep)))
                 at Halt e l = absurd (true-false e)
 
             next-going : Going rule (tableOf w) next

@@ -1,4 +1,5 @@
 pub mod LinedLaws
+pub mod FrameLaws
 pub mod ApplyLaws
 pub mod CheckedLaws
 pub mod DriverLaws

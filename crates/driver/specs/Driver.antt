@@ -11,7 +11,7 @@ use Rattle.rows.specs.Rows.{Holds}
 use Rattle.rows.specs.Stack.{pushed}
 use Rattle.driver.specs.Lined.{HoldsLines}
 use Rattle.plan.specs.declared.Stage.{Stage}
-use Rattle.plan.specs.declared.Stage.the-variants.{Visit, Ended, Choose, Pop, Halt}
+use Rattle.plan.specs.declared.Stage.the-variants.{Visit, Ended, Choose, Pop, Values, Halt}
 use Rattle.plan.specs.declared.Position.{Position}
 use Rattle.plan.specs.declared.Plan.{Plan}
 use Rattle.driver.specs.declared.Walked.{Walked}
@@ -24,6 +24,7 @@ visitedBlock Visit block = block
 visitedBlock Ended block = 65535
 visitedBlock Choose block = 65535
 visitedBlock Pop block = 65535
+visitedBlock Values block = 65535
 visitedBlock Halt block = 65535
 
 abbrev pub marked : Option ℕ → Flags → Flags
@@ -35,6 +36,7 @@ isHalt Visit = false
 isHalt Ended = false
 isHalt Choose = false
 isHalt Pop = false
+isHalt Values = false
 isHalt Halt = true
 
 -- refused, or accepted
@@ -49,7 +51,7 @@ startingAt entry = record { block = entry; depth = 0; count = 0; rows = 0; visit
 abbrev pub walkedBy : Plan → (lines : ℕ) → Walked
 walkedBy plan lines = record { code = plan .code; at = plan .at; rows = plan .position .rows; visits = plan .position .visits; lines = lines }
 
--- what `schedule` itself refuses
+-- what `schedule` refused
 abbrev pub blockedBy : (code at : ℕ) → Position → Walked
 blockedBy code at p = record { code = code; at = at; rows = p .rows; visits = p .visits; lines = 0 }
 

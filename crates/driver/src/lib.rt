@@ -1,47 +1,38 @@
 // The loop over the Context by value and the frames: each turn is planned, and its plan applied.
+mod around;
+mod frames;
 mod index;
 
+use crate::around::aim_around;
+use crate::frames::frame_at;
+use crate::frames::keep_frame;
 use crate::index::put_line;
 use control::Context;
 use control::ControlFlowTarget;
-use control::Entry;
 use control::Resolved;
-use control::SETTLED;
-use control::add_target;
 use control::count_loop;
 use control::insert;
-use control::is_blocked;
-use control::remove_target;
-use jumps::aim_at;
-use jumps::asks_around;
 use jumps::jump_at;
-use jumps::knows;
 use jumps::meets;
 use jumps::resolve;
 use jumps::search_from;
 use plan::Change;
-use plan::Frame;
 use plan::NONE;
 use plan::Plan;
 use plan::Position;
 use plan::Stage;
 use plan::fallthrough::narrow;
-use plan::no_frame;
 use planner::turn::plan_turn;
 use survey::Rule;
-use survey::pass;
-use survey::pass_from;
-use survey::target_of;
-use survey::unseen;
 use table::words::entry;
 ghost use mathlib.Core.Path.{_≡_};
-ghost use Prim.Native.Nat.{_-_, _<_};
+ghost use Prim.Native.Nat.{_-_};
 ghost use Rattle.table.specs.Words.{entryWord};
 ghost use Rattle.table.specs.Table.{tableOf, unlessNone};
 ghost use Rattle.table.specs.Promise.{Promise};
 ghost use Rattle.definition.specs.Build.{report};
 ghost use Rattle.definition.specs.Framed.{Below};
-ghost use Rattle.definition.specs.Context.{blockedCode, blockAsked};
+ghost use Rattle.definition.specs.Context.{blockAsked};
 ghost use Rattle.control.specs.Abstraction.{targetOf};
 ghost use Rattle.survey.specs.Abstraction.{ruleOf};
 ghost use Rattle.driver.specs.Driver.{visitedBlock, marked, startingAt, planEnds, isHalt, walkedBy, blockedBy, Reported};
@@ -78,6 +69,7 @@ fn visited_block(p: Position) -> u32
         Stage::Ended => NONE,
         Stage::Choose => NONE,
         Stage::Pop => NONE,
+        Stage::Values => NONE,
         Stage::Halt => NONE,
     }
 }
@@ -100,6 +92,7 @@ fn halted(stage: Stage) -> bool
         Stage::Ended => false,
         Stage::Choose => false,
         Stage::Pop => false,
+        Stage::Values => false,
         Stage::Halt => true,
     }
 }
@@ -129,14 +122,13 @@ fn answer(plan: Plan, lines: u32) -> Walked
     }
 }
 
-// What `schedule` itself refuses, at the block that it asks about.
-fn blocked(target: ControlFlowTarget, p: Position) -> Walked
-    ensures { λ r. ⌜ r ≡ blockedBy (blockedCode (targetOf target)) (blockAsked (targetOf target)) p ⌝ }
+// What `schedule` refused, at the block that it asks about.
+fn blocked(code: u16, target: ControlFlowTarget, p: Position) -> Walked
+    ensures { λ r. ⌜ r ≡ blockedBy code (blockAsked (targetOf target)) p ⌝ }
 {
-    let code = target.blocked_code();
     let at = target.block_asked() as u32;
     Walked {
-        code: code,
+        code: code as u32,
         at: at,
         rows: p.rows,
         visits: p.visits,
@@ -154,31 +146,18 @@ fn innermost(depth: u32) -> usize
     (depth - 1) as usize
 }
 
-// Where to look first for the statement of the entry that was found: there, if each statement around has one entry.
-fn likely_owner(at: usize, depth: usize) -> usize
-    requires { ⌜ 0 < depth ⌝ }
-    ensures { λ r. ⌜ r < depth ⌝ }
-{
-    if at < depth {
-        return at;
-    }
-    0
-}
-
-// Long, since a function that is handed the Context by value and indexes its entries copies it, 18 KB a turn (docs/PERFORMANCE.md).
-// So the search of the stack (the Rust's `get_break_target` and `get_continue_target`), the pass over the frames (M-102, in the language entry alone) and the
-// plan's change stand in the loop, each method called once.
+// Each turn is planned, and its plan applied. The search of the stack (the Rust's `get_break_target` and `get_continue_target`) and the store of an entry stand
+// here, since a function that is handed the Context by value and indexes its entries copies it, 18 KB a turn (docs/PERFORMANCE.md).
 pub fn walk(rule: Rule, words: &[u32], tree: &mut [u32], index: &mut [u32]) -> Walked
     requires { ⌜ Promise (now words) ⌝ }
     ensures { λ r. ⌜ Reported (report (ruleOf rule) (tableOf (now (words .entry)))) r (now (tree .exit)) (now (index .exit)) ⌝ }
 {
     let mut cx = Context::new();
-    let none = no_frame();
-    let mut frames = [none; 129];
+    let mut frames = [0; 1032];
     let mut p = start(words);
     let mut lines: u32 = 0;
     loop {
-        let frame = frames[innermost(p.depth)];
+        let frame = frame_at(&frames, innermost(p.depth));
         let jump = jump_at(words, &cx.scheduled, &cx.catch_handlers, p);
         let mut at = search_from(jump, cx.len);
         let mut loops: u32 = 0;
@@ -195,23 +174,7 @@ pub fn walk(rule: Rule, words: &[u32], tree: &mut [u32], index: &mut [u32]) -> W
             }
             loops = count_loop(loops, target);
         };
-        let target = target_of(found);
-        let mut left = pass_from(asks_around(rule, found), p.depth);
-        let mut seen = unseen(found);
-        if left > 0 {
-            let owner = frames[likely_owner(at, left)];
-            let looked = pass(words, target, owner.block, owner.label, seen);
-            if knows(jump, found, looked) {
-                left = 0;
-                seen = looked;
-            }
-        }
-        while left > 0 {
-            left -= 1;
-            let around = frames[left];
-            seen = pass(words, target, around.block, around.label, seen);
-        }
-        let aim = aim_at(rule, jump, found, seen);
+        let aim = aim_around(rule, words, &frames, p.depth, at, jump, found);
         let plan = plan_turn(
             words,
             tree,
@@ -232,77 +195,25 @@ pub fn walk(rule: Rule, words: &[u32], tree: &mut [u32], index: &mut [u32]) -> W
         mark(&mut cx.emitted, visited_block(p));
         mark(&mut cx.catch_handlers, plan.handler);
         mark(&mut cx.scope_fallthroughs, plan.scope);
-        let stage = next.stage;
-        // The position and a kept frame go by fields: whole, they are stored and waited for (docs/PERFORMANCE.md, "M-105").
-        p = Position {
-            block: next.block,
-            depth: next.depth,
-            count: next.count,
-            rows: next.rows,
-            visits: next.visits,
-            stage: stage,
-        };
+        p = next;
         if plan.keep {
             let kept = plan.frame;
-            frames[innermost(p.depth)] = Frame {
-                block: kept.block,
-                label: kept.label,
-                entries: kept.entries,
-                left: kept.left,
-                built: kept.built,
-                first: kept.first,
-                count: kept.count,
-                second: kept.second,
-            };
+            keep_frame(&mut frames, innermost(p.depth), kept);
         }
         let change = plan.change;
         match change {
             Change::Nothing => {}
             Change::Schedule(target) => {
                 cx = cx.schedule(target);
-                let pushed = cx.pushed;
-                let target = pushed.target;
-                let busy = is_blocked(&cx.scheduled, target); // catch handlers play no part
-                if busy {
-                    return blocked(target, p);
+                if cx.refused != 0 {
+                    return blocked(cx.refused, target, p);
                 }
-                let owns_loop = add_target(&mut cx.scheduled, target); // its blocks go in
-                let entry = Entry {
-                    id: pushed.id,
-                    target: target,
-                    owns_loop: owns_loop,
-                };
-                cx.stack[cx.len - 1] = entry;
-                cx.pending = SETTLED; // the arrays have the entry and its blocks
-            }
-            Change::ScheduleBriefly(target) => {
-                cx = cx.schedule(target);
-                let pushed = cx.pushed;
-                let target = pushed.target;
-                let busy = is_blocked(&cx.scheduled, target);
-                if busy {
-                    return blocked(target, p);
-                }
-                let owns_loop = add_target(&mut cx.scheduled, target);
-                let entry = Entry {
-                    id: pushed.id,
-                    target: target,
-                    owns_loop: owns_loop,
-                };
-                cx.stack[cx.len - 1] = entry;
-                cx.pending = SETTLED;
-                cx = cx.unschedule();
-                let off = cx.stack[cx.len];
-                let target = off.target;
-                remove_target(&mut cx.scheduled, target, off.owns_loop);
-                cx.pending = SETTLED;
+                let entry = cx.pushed;
+                cx.stack[cx.len - 1] = entry; // the stack's last, in its place
             }
             Change::Unschedule => {
-                cx = cx.unschedule();
-                let off = cx.stack[cx.len]; // just above the stack
-                let target = off.target;
-                remove_target(&mut cx.scheduled, target, off.owns_loop); // and its blocks come out
-                cx.pending = SETTLED;
+                let last = cx.stack[cx.len - 1];
+                cx = cx.unschedule(last);
             }
         }
     }

@@ -100,14 +100,13 @@ foundAmong (jump.Continue block) entries top loopsAbove = continueTargetFrom ent
 
 -- the first so many entries give what all give; the innermost is the last of all
 pub record Searching (sought : Jump) (cx : Context) (at : ℕ) (loopsAbove : ℕ) : Type 0 where
-  pub settled : cx .pending ≡ 0
   pub within : loopsAbove + at ≤ cx .len
   pub rest : foundAmong sought (stackOf (cx .stack) (cx .len)) true 0 ≡ foundAmong sought (stackOf (cx .stack) at) (eqb at (cx .len)) loopsAbove
 
-pub search-start : (sought : Jump) (cx : Context) (n : ℕ) → cx .pending ≡ 0 → n ≡ searchedFrom sought (cx .len) → Searching sought cx n 0
-search-start Nothing cx n s e = record { settled = s; within = omega (arith, e); rest = refl }
-search-start (jump.Break b) cx n s e = record { settled = s; within = omega (arith, e); rest = rw (eq-eqb n (cx .len) e, e) refl }
-search-start (jump.Continue b) cx n s e = record { settled = s; within = omega (arith, e); rest = rw (eq-eqb n (cx .len) e, e) refl }
+pub search-start : (sought : Jump) (cx : Context) (n : ℕ) → n ≡ searchedFrom sought (cx .len) → Searching sought cx n 0
+search-start Nothing cx n e = record { within = omega (arith, e); rest = refl }
+search-start (jump.Break b) cx n e = record { within = omega (arith, e); rest = rw (eq-eqb n (cx .len) e, e) refl }
+search-start (jump.Continue b) cx n e = record { within = omega (arith, e); rest = rw (eq-eqb n (cx .len) e, e) refl }
 
 module _ (cx : Context) (at : ℕ) (above : ℕ) where
   below-top : (sought : Jump) → Searching sought cx at above → (at ≡ 0 → ⊥) → eqb (at - 1) (cx .len) ≡ false
@@ -116,21 +115,21 @@ module _ (cx : Context) (at : ℕ) (above : ℕ) where
   -- one entry further down, with the loops counted
   pub search-on : {counted : ℕ} (sought : Jump) → Searching sought cx at above → (at ≡ 0 → ⊥) → isMet sought (lastTarget (cx .stack) at) ≡ false
       → (counted ≡ loopsOf (lastTarget (cx .stack) at) + above) × (counted ≤ above + 1) → Searching sought cx (at - 1) counted
-  search-on Nothing h f m (e, one) = record { settled = h .settled; within = omega (arith, h .within, one); rest = refl }
+  search-on Nothing h f m (e, one) = record { within = omega (arith, h .within, one); rest = refl }
   search-on (jump.Break b) h f m (e, one) =
-      record { settled = h .settled; within = omega (arith, h .within, one); rest = h .rest ∙ rw (e, below-top _ h f) (break-missed _ _ _ _ _ f (eqb-false _ _ m)) }
+      record { within = omega (arith, h .within, one); rest = h .rest ∙ rw (e, below-top _ h f) (break-missed _ _ _ _ _ f (eqb-false _ _ m)) }
   search-on (jump.Continue b) h f m (e, one) =
-      record { settled = h .settled; within = omega (arith, h .within, one); rest = h .rest ∙ rw (e, below-top _ h f) (continue-missed _ _ _ _ _ f m) }
+      record { within = omega (arith, h .within, one); rest = h .rest ∙ rw (e, below-top _ h f) (continue-missed _ _ _ _ _ f m) }
 
   pub search-none : (sought : Jump) → Searching sought cx at above → at ≡ 0 → (visits : ℕ) → none ≡ foundBy sought (contextOf visits cx)
   unfolding getBreakTarget getContinueTarget contextOf
   search-none Nothing h e visits = refl
-  search-none (jump.Break b) h e visits = rw (h .settled) (sym (h .rest ∙ break-none _ _ _ _ _ e))
-  search-none (jump.Continue b) h e visits = rw (h .settled) (sym (h .rest ∙ continue-none _ _ _ _ _ e))
+  search-none (jump.Break b) h e visits = sym (h .rest ∙ break-none _ _ _ _ _ e)
+  search-none (jump.Continue b) h e visits = sym (h .rest ∙ continue-none _ _ _ _ _ e)
 
   pub search-found : (sought : Jump) → Searching sought cx at above → (at ≡ 0 → ⊥) → isMet sought (lastTarget (cx .stack) at) ≡ true → (visits : ℕ)
       → resolvedAt sought (lastTarget (cx .stack) at) (eqb at (cx .len)) above ≡ foundBy sought (contextOf visits cx)
   unfolding getBreakTarget getContinueTarget contextOf
   search-found Nothing h f m visits = refl
-  search-found (jump.Break b) h f m visits = rw (h .settled) (sym (h .rest ∙ break-found _ _ _ _ _ f (eqb-true _ _ m)))
-  search-found (jump.Continue b) h f m visits = rw (h .settled) (sym (h .rest ∙ continue-found _ _ _ _ _ f m))
+  search-found (jump.Break b) h f m visits = sym (h .rest ∙ break-found _ _ _ _ _ f (eqb-true _ _ m))
+  search-found (jump.Continue b) h f m visits = sym (h .rest ∙ continue-found _ _ _ _ _ f m)

@@ -215,6 +215,7 @@ pub fn jump_at<'a>(
         Stage::Ended => Jump::Nothing,
         Stage::Choose => Jump::Nothing,
         Stage::Pop => Jump::Nothing,
+        Stage::Values => Jump::Nothing,
         Stage::Halt => Jump::Nothing,
     }
 }

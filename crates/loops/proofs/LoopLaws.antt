@@ -7,29 +7,26 @@ use mathlib.Core.Bool.{Bool, true, false, _||_}
 use mathlib.Core.List.{List, [], _∷_, _++_, append-nil, append-assoc}
 use mathlib.Core.Option.{Option, none, some}
 use lib.Dec.{eqb}
-use lib.ListN.{length, getD, set}
-use lib.Seq.{getD-set-same, getD-set-other}
-use native.Mathlib.Decide.{ℕ-discrete}
+use lib.ListN.{length}
 use borrow.Author.Tests.{eq-eqb, ne-eqb, eqb-true, eqb-false}
 use Rattle.table.specs.declared.columns.Span.{Span}
 use Rattle.table.specs.Words.{blockCount, placeCount, caseCount, blockWord, codeAt}
 use Rattle.table.specs.Promise.{Promise, InRange, BelowUnlessNone, Ends}
 use Rattle.table.specs.Table.{Table, Block, Terminal, absent, unreachable, throw, return, goto, if, branch, switch, do-while, while, for, for-of, for-in}
-use Rattle.table.specs.Table.{logical, ternary, optional, label, sequence, maybe-throw, try, scope, tableOf, terminalOf, terminalAt, blockAt, unlessNone}
+use Rattle.table.specs.Table.{logical, ternary, optional, label, sequence, maybe-throw, try, scope, codeOf, tableOf, terminalAt, blockAt, unlessNone}
 use Rattle.table.proofs.RangeLaws.{in-range}
-use Rattle.table.proofs.BlockLaws.{no-number, some-number, end-by}
-use Rattle.definition.proofs.Never.{or-false}
+use Rattle.table.proofs.BlockLaws.{no-number, some-number, code-at}
+use Rattle.definition.proofs.Steps.{true-false}
 use Rattle.definition.proofs.Simulation.{bind-assoc}
 use Rattle.definition.proofs.Lines.{out-nil, out-assoc}
-use Rattle.definition.specs.Context.{Flags, has, add, remove, pushed, popped, target-if, target-loop, withVisits, schedule, unscheduledBy}
+use Rattle.definition.specs.Context.{Flags, has, pushed, target-loop, withVisits, schedule}
 use Rattle.definition.specs.Context as definition
-use Rattle.definition.specs.Machine.{Output, _⊕_, State, visiting, turn, leave, intoLoop, scheduledIf, unscheduled, unscheduledTop, unscheduledIf, valueOut, updateOut, valueTurn, terminalTurn}
+use Rattle.definition.specs.Machine.{Output, _⊕_, State, making, turn, leave, bodyUnless, intoBody, makeAt, scheduleLoop, unscheduledOf, valueOut, updateOut, valueAt, scheduleValue, terminalTurn}
 use Rattle.definition.specs.Machine as machine
-use Rattle.definition.specs.Result.{Result, ok, refused, _>>=_, refuseIf}
+use Rattle.definition.specs.Result.{Result, ok, refused, _>>=_}
 use Rattle.definition.specs.Statement.{unlessScheduled, unlessUnreachable, loopIsTaken, continueBlockOf, visitUpdate}
 use Rattle.definition.specs.Tree.{Row, row, Value, instrRow}
 use Rattle.definition.specs.Value.{VisitValueBlock, ValueBlockResult, ValueTerminalResult, visitValueBlock, visitValueBlockTerminal}
-use Rattle.control.specs.Contract.{continueScheduled}
 use Rattle.rows.specs.Rows.{Holds, Written}
 use Rattle.rows.specs.Stack.{pushValue}
 use Rattle.rows.specs.Stack as stack
@@ -40,18 +37,19 @@ use Rattle.value.specs.declared.result.ValueResult.{ValueResult}
 use Rattle.value.specs.Met.{blockResult, terminalResult, Met}
 use Rattle.value.proofs.MetLaws.{then-on, then-off}
 use Rattle.plan.specs.declared.Position.{Position}
-use Rattle.plan.specs.declared.Change.the-variants.{Schedule}
+use Rattle.plan.specs.declared.Frame.{Frame}
+use Rattle.plan.specs.declared.Change.the-variants.{Nothing, Schedule}
 use Rattle.plan.specs.declared.Plan.{Plan}
 use Rattle.loops.specs.declared.Values.{Values}
 use Rattle.loops.specs.declared.Loop as loops
 use Rattle.control.specs.declared.ControlFlowTarget.the-variants.{Loop}
-use Rattle.plan.specs.Plans.{frameOf, changed, applied, openFrame, refusing, leaving, unlessTaken, brieflyIf}
+use Rattle.plan.specs.Plans.{frameOf, applied, openFrame, refusing, leaving, unlessTaken, entriesIf, scheduleIf, unscheduleIf}
 use Rattle.plan.specs.Planned.{Seen, Stands, NamedChange, Fitting, PlannedBare, Entered, nowhere, terminalStep}
-use Rattle.loops.specs.Loops.{PlannedRows, Made, plainMade, flatMade, testedValues, forValues, forOfValues, noneMade, valueMade, plainForm, flatForm}
-use Rattle.loops.specs.Loops.{updateMade, testedMade, forMade, forOfMade, noValues, valuesOf, Makes, Spent, MakesMore, MakesTested, loopTurn}
-use Rattle.loops.specs.Loops.{afterValues, enteringBody, enteringLoop, loopTaken, continuesAt, valueFallthrough}
-use Rattle.plan.proofs.PlanLaws.{within-all, refuse-applied, leave-applied, leave-nested, nest-applied, Label, label-taken, label-below, label-briefly}
-use Rattle.plan.proofs.StepLaws.{label-scheduled, seen-scheduled, turn-refused, turn-ok}
+use Rattle.loops.specs.Loops.{Made, plainMade, flatMade, testedValues, forValues, forOfValues, noneMade, valueMade, plainForm, flatForm}
+use Rattle.loops.specs.Loops.{updateMade, testedMade, forMade, forOfMade, madeBy, valuesAt, valuesPosition, Making, valuesStep, PlannedValues, noValues, valuesOf, Makes, Spent, MakesMore, MakesTested}
+use Rattle.loops.specs.Loops.{afterValues, schedulingLoop, schedulingValue, enteringBody, loopTaken, continuesAt, valueCode, valueFallthrough}
+use Rattle.plan.proofs.PlanLaws.{within-all, within-rest, visits-same, refuse-applied, leave-applied, leave-nested, nest-applied, values-asked, off-changed, Label, label-taken, label-below, label-entries, label-if}
+use Rattle.plan.proofs.StepLaws.{label-scheduled, seen-scheduled, turn-refused, turn-ok, turn-asked}
 use Rattle.plan.proofs.PlannedLaws.{bare-planned, step-by, few-blocks, ranges, reach-same, reached-missing, Takes}
 
 no-some : {f : ℕ} → _≡_ {A = Option ℕ} none (some f) → ⊥
@@ -145,15 +143,7 @@ update-then visit (some update) span made k =
     ∙ sym (bind-assoc (visit update none span (made .visits)) (λ result. ok (record { value = some (result .value); visits = result .visits }))
     (λ updated. k (record { out = made .out ++ updateOut (updated .value); visits = updated .visits })))
 
--- ---- schedule_loop, by what a planner sees
-
-inserted-has : (S : Flags) (f c : ℕ) → f < length S → has (add S f) c ≡ continueScheduled S f c
-unfolding has add
-inserted-has S f c h = at (ℕ-discrete c f)
-  where
-    at : Dec (c ≡ f) → getD (set S f true) c false ≡ eqb c f || getD S c false
-    at (yes e) = rw (e, eq-eqb f f refl, getD-set-same S f true false h)
-    at (no e) = rw (ne-eqb c f e, getD-set-other S f c true false e)
+-- ---- a loop is scheduled
 
 or-swap : (x y : Bool) → x || y ≡ y || x
 or-swap true true = refl
@@ -161,94 +151,25 @@ or-swap true false = refl
 or-swap false true = refl
 or-swap false false = refl
 
-module _ (S H : Flags) (v : ℕ) (C : definition.Context) (seen : Seen S H v C) (f c l : ℕ) (h : f < 1024) where
-  asked : has (add (C .scheduled) f) c ≡ continueScheduled S f c
-  asked = ap (λ (z : Flags). has (add z f) c) (seen .scheduled) ∙ inserted-has S f c (omega (arith, seen .wide))
+loop-taken : (S H : Flags) (v : ℕ) (C : definition.Context) → Seen S H v C → (f l : ℕ) → loopIsTaken C l f ≡ loopTaken S H l f
+unfolding loopIsTaken
+loop-taken S H v C seen f l = ap (λ (z : Bool). z || eqb l f) (seen-scheduled S H v C seen l) ∙ or-swap (has S l || has H l) (eqb l f)
 
-  loop-not-scheduled : continueScheduled S f c ≡ true → schedule (target-loop f c l) C ≡ refused 15 c v
-  unfolding schedule refuseIf _>>=_
-  loop-not-scheduled e = rw (asked ∙ e, seen .visits)
-
-  loop-scheduled : continueScheduled S f c ≡ false → schedule (target-loop f c l) C ≡ ok (pushed (target-loop f c l) C)
-  unfolding schedule refuseIf _>>=_
-  loop-scheduled e = rw (asked ∙ e)
-
-  loop-visits : pushed (target-loop f c l) C .visits ≡ v
-  unfolding pushed
-  loop-visits = seen .visits
-
-  loop-taken : loopIsTaken C l f ≡ loopTaken S H l f
-  unfolding loopIsTaken
-  loop-taken = ap (λ (z : Bool). z || eqb l f) (seen-scheduled S H v C seen l) ∙ or-swap (has S l || has H l) (eqb l f)
-
-visits-inside : (f c l v : ℕ) (C : definition.Context) → withVisits v (pushed (target-loop f c l) C) ≡ pushed (target-loop f c l) (withVisits v C)
-unfolding withVisits pushed
-visits-inside f c l v C = refl
-
-seen-visits : {S H : Flags} {v : ℕ} {C : definition.Context} (after : ℕ) → Seen S H v C → Seen S H after (withVisits after C)
-unfolding withVisits
-seen-visits after seen = record { scheduled = seen .scheduled; handlers = seen .handlers; visits = refl; wide = seen .wide }
-
--- ---- the turn that all loops share is its plan
-
-into-taken : (at l v : ℕ) (taken : Bool) (fr : machine.Frame) (F : List machine.Frame) (R : Output) (C : definition.Context) → taken ≡ true → intoLoop at l taken v fr F R C ≡ refused 16 at v
-unfolding intoLoop refuseIf _>>=_
-into-taken at l v taken fr F R C e = rw e
-
-into-body : (at l v : ℕ) (taken : Bool) (fr : machine.Frame) (F : List machine.Frame) (R : Output) (C : definition.Context) → taken ≡ false
-    → intoLoop at l taken v fr F R C ≡ ok (visiting l (fr ∷ F) R 0 (withVisits v C))
-unfolding intoLoop refuseIf _>>=_
-into-body at l v taken fr F R C e = rw e
+body-is : (taken : Bool) (l : ℕ) → l < 1024 → bodyUnless taken l ≡ unlessNone (unlessTaken taken l)
+body-is true l h = sym no-number
+body-is false l h = sym (some-number l (λ e. omega arith))
 
 abbrev blocksOf : (f n c l : ℕ) → loops.Loop
 blocksOf f n c l = record { fallthrough = f; label = n; «continue_block» = c; «loop_block» = l }
 
-module _ (S H : Flags) (p : Position) (f c l n : ℕ) (values : ℕ → Result Made) (F : List machine.Frame) (R : Output) (C : definition.Context) (seen : Seen S H (p .visits) C) (h : f < 1024) where
-  refused-same : continueScheduled S f c ≡ true → turn (loopTurn (p .block) f c l (unlessNone n) (p .count) values F R C) ≡ applied (refusing p 15 c) F R C
-  unfolding loopTurn _>>=_
-  refused-same e =
-      ap (λ (z : Result definition.Context). turn
-      (z >>= λ inside. values (inside .visits) >>= λ made. intoLoop (p .block) l (loopIsTaken C l f) (made .visits)
-      (machine.frameOf (p .block) (unlessNone n) 1 R (p .count)) F (R ⊕ made .out) inside)) (loop-not-scheduled S H (p .visits) C seen f c l h e)
-      ∙ turn-refused 15 c (p .visits) ∙ sym (refuse-applied p 15 c F R C (λ z. omega arith))
-
-  body-same : (r : Values) (out : Output) → Stands F R (p .depth) (p .rows) → continueScheduled S f c ≡ false
-      → turn (intoLoop (p .block) l (loopIsTaken C l f) (r .visits) (machine.frameOf (p .block) (unlessNone n) 1 R (p .count)) F out
-      (pushed (target-loop f c l) C)) ≡ applied (enteringBody (loopTaken S H l f) p r (blocksOf f n c l)) F out C
-  body-same r out d e =
-      ap (λ (z : Bool). turn (intoLoop (p .block) l z (r .visits) (machine.frameOf (p .block) (unlessNone n) 1 R (p .count)) F out
-      (pushed (target-loop f c l) C))) (loop-taken S H (p .visits) C seen f c l h) ∙ by (loopTaken S H l f)
-    where
-      by : (y : Bool) → turn (intoLoop (p .block) l y (r .visits) (machine.frameOf (p .block) (unlessNone n) 1 R (p .count)) F out
-          (pushed (target-loop f c l) C)) ≡ applied (enteringBody y p r (blocksOf f n c l)) F out C
-      by true =
-          ap turn (into-taken (p .block) l (r .visits) true _ F out _ refl) ∙ turn-refused 16 (p .block) (r .visits) ∙ sym
-          (refuse-applied (afterValues p r) 16 (p .block) F out C (λ z. omega arith))
-      by false = ap turn (into-body (p .block) l (r .visits) false _ F out _ refl) ∙ turn-ok _
-          ∙ sym (nest-applied l (openFrame p n 1) (p .depth + 1) (r .rows) (r .visits) 65535 65535 (Schedule (Loop f c l)) F out C (pushed (target-loop f c l) (withVisits (r .visits) C))
-          (rw no-number (loop-scheduled S H (r .visits) (withVisits (r .visits) C) (seen-visits (r .visits) seen) f c l h e))
-          ∙ rw (d .many, within-all (p .depth + 1 - 1) F (omega (arith, d .deep)), ← (visits-inside f c l (r .visits) C)))
-
-  entered-same : {b b′ : List ℕ} (r : Values) (m : Makes p (values (p .visits)) b r b′) → Stands F R (p .depth) (p .rows) → continueScheduled S f c ≡ false
-      → turn (loopTurn (p .block) f c l (unlessNone n) (p .count) values F R C) ≡ applied (enteringLoop (eqb (r .code) 0) (loopTaken S H l f) p r (blocksOf f n c l)) F (R ⊕ m .out) C
-  unfolding loopTurn
-  entered-same r m d e =
-      ap (λ (z : Result definition.Context). turn (z >>= rest)) (loop-scheduled S H (p .visits) C seen f c l h e) ∙ started ∙ by (eqb (r .code) 0) refl
-    where
-      k : Made → Result State
-      k made = intoLoop (p .block) l (loopIsTaken C l f) (made .visits) (machine.frameOf (p .block) (unlessNone n) 1 R (p .count)) F (R ⊕ made .out) (pushed (target-loop f c l) C)
-
-      rest : definition.Context → Result State
-      rest inside = values (inside .visits) >>= λ made. intoLoop (p .block) l (loopIsTaken C l f) (made .visits) (machine.frameOf (p .block) (unlessNone n) 1 R (p .count)) F (R ⊕ made .out) inside
-
-      started : turn (ok (pushed (target-loop f c l) C) >>= rest) ≡ turn (values (p .visits) >>= k)
-      started = unfold _>>=_ in ap (λ (v : ℕ). turn (values v >>= k)) (loop-visits S H (p .visits) C seen f c l h)
-
-      by : (y : Bool) → eqb (r .code) 0 ≡ y → turn (values (p .visits) >>= k) ≡ applied (enteringLoop y (loopTaken S H l f) p r (blocksOf f n c l)) F (R ⊕ m .out) C
-      by true q = ap turn (made-on m k (eqb-true (r .code) 0 q)) ∙ body-same r (R ⊕ m .out) d e
-      by false q =
-          ap turn (made-off m k (eqb-false (r .code) 0 q)) ∙ turn-refused (r .code) (r .at) (r .visits) ∙ sym
-          (refuse-applied (afterValues p r) (r .code) (r .at) F (R ⊕ m .out) C (eqb-false (r .code) 0 q))
+schedules : (S H : Flags) (p : Position) (f c l n : ℕ) (F : List machine.Frame) (R : Output) (C : definition.Context) → Seen S H (p .visits) C → Stands F R (p .depth) (p .rows) → l < 1024
+    → turn (scheduleLoop (p .block) f c l (unlessNone n) F R (p .count) C) ≡ applied (schedulingLoop (loopTaken S H l f) p (blocksOf f n c l)) F R C
+unfolding scheduleLoop
+schedules S H p f c l n F R C seen d h =
+    turn-asked (schedule (target-loop f c l) C) (making (bodyUnless (loopIsTaken C l f) l) (machine.frameOf (p .block) (unlessNone n) 1 R (p .count)) F R)
+    ∙ rw (loop-taken S H (p .visits) C seen f l, body-is (loopTaken S H l f) l h)
+    (sym (values-asked (unlessTaken (loopTaken S H l f) l) (openFrame p n 1) (p .depth + 1) (p .rows) (p .visits) (Schedule (Loop f c l)) F R C
+    ∙ rw (visits-same (p .visits) C (seen .visits), d .many, within-all (p .depth + 1 - 1) F (omega (arith, d .deep)))))
 
 -- ---- planners of loops
 
@@ -302,126 +223,43 @@ module _ (w : List ℕ) (S H : Flags) (p : Position) (en : Entered w p) where
   abbrev visit : VisitValueBlock
   visit = visitValueBlock (tableOf w) (127 - p .depth)
 
-  abbrev span : Span
-  span = blockAt (tableOf w) (p .block) .span
+  -- the block's turn schedules a loop with these blocks and this label
+  abbrev Turns : (f c l n : ℕ) → Type 0
+  Turns f c l n = (F : List machine.Frame) (R : Output) (C : definition.Context) → Seen S H (p .visits) C
+      → turn (terminalStep w p F R C) ≡ turn (scheduleLoop (p .block) f c l (unlessNone n) F R (p .count) C)
 
-  -- the block's turn is that of a loop with these blocks, this label and these values
-  abbrev Turns : (f c l n : ℕ) → (ℕ → Result Made) → Type 0
-  Turns f c l n values = (F : List machine.Frame) (R : Output) (C : definition.Context) → Seen S H (p .visits) C
-      → turn (terminalStep w p F R C) ≡ turn (loopTurn (p .block) f c l (unlessNone n) (p .count) values F R C)
-
-  loop-refused : (f c l n : ℕ) (values : ℕ → Result Made) (plan : Plan) → Turns f c l n values → f < blockCount w → continueScheduled S f c ≡ true → plan ≡ refusing p 15 c → PlannedBare w S H p plan
-  loop-refused f c l n values plan turns h e q = subst (λ (z : Plan). PlannedBare w S H p z) (sym q)
-      (bare-planned w S H p (refusing p 15 c) (λ _. refl)
-      (λ F R C d seen. turns F R C seen ∙ refused-same S H p f c l n values F R C seen (few-blocks w (en .promise) f h) e) (λ z. absurd (omega arith)))
-
-  loop-entered : (f c l n : ℕ) (values : ℕ → Result Made) {b b′ : List ℕ} (r : Values) (plan : Plan) → Turns f c l n values → (f < blockCount w) × (c < blockCount w) × (l < blockCount w)
-      → continueScheduled S f c ≡ false → Makes p (values (p .visits)) b r b′ → plan ≡ enteringLoop (eqb (r .code) 0) (loopTaken S H l f) p r (blocksOf f n c l) → PlannedRows w S H p b plan b′
-  loop-entered f c l n values {b} {b′} r plan turns h e m q = subst (λ (z : Plan). PlannedRows w S H p b z b′) (sym q) (record {
-    out = m .out;
-    held = held (eqb (r .code) 0) refl (loopTaken S H l f);
-    same = λ F R C d seen. turns F R C seen ∙ entered-same S H p f c l n values F R C seen (few-blocks w (en .promise) f (h .0)) r m d e;
-    fitting = fits (eqb (r .code) 0) refl (loopTaken S H l f);
-  })
-    where
-      E : Bool → Bool → Plan
-      E y z = enteringLoop y z p r (blocksOf f n c l)
-
-      held : (y : Bool) → eqb (r .code) 0 ≡ y → (z : Bool) → E y z .code ≡ 0 → (R : List Row) → Holds b (p .rows) (stack.pushed R []) → Holds b′ (E y z .position .rows) (stack.pushed (R ++ m .out) [])
-      held true o true g = absurd (omega arith)
-      held true o false g = m .held (eqb-true (r .code) 0 o)
-      held false o z g = absurd (eqb-false (r .code) 0 o g)
-
-      fits : (y : Bool) → eqb (r .code) 0 ≡ y → (z : Bool) → E y z .code ≡ 0 → Fitting [] (p .depth) (E y z)
-      fits true o true g = absurd (omega arith)
-      fits true o false g = record {
+  loop-planned : (f c l n : ℕ) (plan : Plan) → Turns f c l n → (f < blockCount w) × (c < blockCount w) × (l < blockCount w) → plan ≡ schedulingLoop (loopTaken S H l f) p (blocksOf f n c l)
+      → PlannedBare w S H p plan
+  loop-planned f c l n plan turns h q = subst (λ (z : Plan). PlannedBare w S H p z) (sym q)
+      (bare-planned w S H p (schedulingLoop (loopTaken S H l f) p (blocksOf f n c l)) (λ _. refl)
+      (λ F R C d seen. turns F R C seen ∙ schedules S H p f c l n F R C seen d (few-blocks w (en .promise) l (h .2))) (λ _. record {
         change = (few-blocks w (en .promise) f (h .0), few-blocks w (en .promise) c (h .1), few-blocks w (en .promise) l (h .2));
         handler = rw no-number tt;
         scope = rw no-number tt;
         deep = λ _. omega arith;
-        nested = tt;
         next = omega arith;
-      }
-      fits false o z g = absurd (eqb-false (r .code) 0 o g)
-
-  -- ---- the turns of the loops
+        nested = refl;
+      }))
 
   abbrev Is : Terminal → Type 0
   Is e = terminalAt (tableOf w) (p .block) ≡ e
 
   -- a loop that does not ask whether its fallthrough is reachable
-  abbrev Loops : Terminal → (f c l : ℕ) → (ℕ → Result Made) → Type 0
-  Loops e f c l values = (F : List machine.Frame) (R : Output) (C : definition.Context)
-      → terminalTurn nowhere (tableOf w) visit e (p .block) (blockAt (tableOf w) (p .block)) F R (p .count) C ≡ loopTurn (p .block) f c l (unlessScheduled C f) (p .count) values F R C
+  abbrev Loops : Terminal → (f c l : ℕ) → Type 0
+  Loops e f c l = (F : List machine.Frame) (R : Output) (C : definition.Context)
+      → terminalTurn nowhere (tableOf w) visit e (p .block) (blockAt (tableOf w) (p .block)) F R (p .count) C ≡ scheduleLoop (p .block) f c l (unlessScheduled C f) F R (p .count) C
 
-  turns : (e : Terminal) (f c l n : ℕ) (values : ℕ → Result Made) → Is e → Loops e f c l values → f < blockCount w → n ≡ unlessTaken (has S f || has H f) f → Turns f c l n values
-  turns e f c l n values q loops h o F R C seen = ap turn (step-by w p e F R C q ∙ loops F R C)
-      ∙ ap (λ (z : Option ℕ). turn (loopTurn (p .block) f c l z (p .count) values F R C))
+  turns : (e : Terminal) (f c l n : ℕ) → Is e → Loops e f c l → f < blockCount w → Takes S H f n → Turns f c l n
+  turns e f c l n q loops h o F R C seen = ap turn (step-by w p e F R C q ∙ loops F R C)
+      ∙ ap (λ (z : Option ℕ). turn (scheduleLoop (p .block) f c l z F R (p .count) C))
       (label-scheduled w (en .promise) S H (p .visits) C seen f (few-blocks w (en .promise) f h) ∙ ap unlessNone (sym o))
-
-  do-while-turns : (l c f n : ℕ) → Is (do-while l c f) → f < blockCount w → n ≡ unlessTaken (has S f || has H f) f → Turns f c l n (λ v. ok (noneMade v))
-  unfolding terminalTurn loopTurn _>>=_
-  do-while-turns l c f n q h o = turns (do-while l c f) f c l n (λ v. ok (noneMade v)) q (λ F R C. then-same (schedule (target-loop f c l) C) _ _ (λ inside. rw (out-nil R))) h o
-
-  module _ (f l : ℕ) (F : List machine.Frame) (R : Output) (C inside : definition.Context) (taken : Option ℕ) where
-    -- the loop's body, after its values
-    abbrev body : Made → Result State
-    body made = intoLoop (p .block) l (loopIsTaken C l f) (made .visits) (machine.frameOf (p .block) taken 1 R (p .count)) F (R ⊕ made .out) inside
-
-  for-in-turns : (c l f n : ℕ) → Is (for-in c l f) → f < blockCount w → n ≡ unlessTaken (has S f || has H f) f → Turns f c l n (λ v. valueMade visit (flatForm (tableOf w) span) c span (noneMade v))
-  unfolding terminalTurn loopTurn
-  for-in-turns c l f n q h o = turns (for-in c l f) f c l n _ q (λ F R C. (then-same (schedule (target-loop f c l) C) _ _ (λ inside.
-      sym (value-then visit (flatForm (tableOf w) span) c span (noneMade (inside .visits)) (body f l F R C inside (unlessScheduled C f)))))) h o
-
-  for-of-turns : (c test l f n : ℕ) → Is (for-of c test l f) → f < blockCount w → n ≡ unlessTaken (has S f || has H f) f → Turns f c l n (λ v. forOfMade (tableOf w) visit c test span (noneMade v))
-  unfolding terminalTurn loopTurn
-  for-of-turns c test l f n q h o = turns (for-of c test l f) f c l n _ q (λ F R C. (then-same (schedule (target-loop f c l) C) _ _ (λ inside.
-      let k : Made → Result State = body f l F R C inside (unlessScheduled C f) in
-      let flat : ValueBlockResult → Value = flatForm (tableOf w) span in
-      sym (bind-assoc (valueMade visit flat c span (noneMade (inside .visits))) (valueMade visit flat test span) k
-      ∙ value-then visit flat c span (noneMade (inside .visits)) (λ made. valueMade visit flat test span made >>= k)
-      ∙ then-same (visit c none span (inside .visits)) _ _ (λ first.
-      value-then visit flat test span (record { out = valueOut (flat first); visits = first .visits }) k
-      ∙ then-same (visit test none span (first .visits)) _ _ (λ tested. rw (out-assoc R (valueOut (flat first)) (valueOut (flat tested))))))))) h o
-
-  for-turns : (init test : ℕ) (update : Option ℕ) (l f n : ℕ) → Is (for init test update l f) → f < blockCount w → n ≡ unlessTaken (has S f || has H f) f
-      → Turns f (continueBlockOf update test) l n (λ v. forMade (tableOf w) visit init test update span (noneMade v))
-  unfolding terminalTurn loopTurn
-  for-turns init test update l f n q h o =
-      turns (for init test update l f) f (continueBlockOf update test) l n _ q
-      (λ F R C. (then-same (schedule (target-loop f (continueBlockOf update test) l) C) _ _ (λ inside.
-      let k : Made → Result State = body f l F R C inside (unlessScheduled C f) in
-      let flat : ValueBlockResult → Value = flatForm (tableOf w) span in
-      let start : Result Made = valueMade visit flat init span (noneMade (inside .visits)) in
-      sym (bind-assoc (start >>= valueMade visit plainForm test span) (updateMade visit update span) k
-      ∙ bind-assoc start (valueMade visit plainForm test span) (λ made. updateMade visit update span made >>= k)
-      ∙ value-then visit flat init span (noneMade (inside .visits)) (λ made. valueMade visit plainForm test span made >>= λ more. updateMade visit update span more >>= k)
-      ∙ then-same (visit init none span (inside .visits)) _ _ (λ first.
-      value-then visit plainForm test span (record { out = valueOut (flat first); visits = first .visits }) (λ made. updateMade visit update span made >>= k)
-      ∙ then-same (visit test none span (first .visits)) _ _ (λ tested.
-      update-then visit update span (record { out = valueOut (flat first) ++ valueOut (tested .value); visits = tested .visits }) k
-      ∙ then-same (visitUpdate visit update span (tested .visits)) _ _ (λ updated.
-      rw (append-assoc (R .rows) (valueOut (flat first)) (valueOut (tested .value)), append-assoc (R .rows) (valueOut (flat first) ++ valueOut (tested .value)) (updateOut (updated .value)))))))))) h o
 
   -- While asks first whether its fallthrough is reachable
   while-asks : (c l f : ℕ) (F : List machine.Frame) (R : Output) (C : definition.Context)
       → terminalTurn nowhere (tableOf w) visit (while c l f) (p .block) (blockAt (tableOf w) (p .block)) F R (p .count) C
-      ≡ unlessUnreachable (tableOf w) C f >>= λ taken. loopTurn (p .block) f c l taken (p .count) (λ v. valueMade visit plainForm c span (noneMade v)) F R C
-  unfolding terminalTurn loopTurn
-  while-asks c l f F R C = (then-same (unlessUnreachable (tableOf w) C f) _ _ (λ taken. then-same (schedule (target-loop f c l) C) _ _ (λ inside.
-      sym (value-then visit plainForm c span (noneMade (inside .visits)) (body f l F R C inside taken)))))
-
-  while-turns : (c l f n : ℕ) → Is (while c l f) → f < blockCount w → (blockWord w f 2 ≡ 0 → ⊥) → n ≡ unlessTaken (eqb (blockWord w f 2) 1 || (has S f || has H f)) f
-      → Turns f c l n (λ v. valueMade visit plainForm c span (noneMade v))
-  while-turns c l f n q h z o F R C seen = ap turn (step-by w p (while c l f) F R C q ∙ while-asks c l f F R C)
-      ∙ reach-same w S H p (en .promise) f n h (few-blocks w (en .promise) f h) z o
-      (λ taken. loopTurn (p .block) f c l taken (p .count) (λ v. valueMade visit plainForm c span (noneMade v)) F R C) C seen
-
-  while-unreached : (c l f : ℕ) (plan : Plan) → Ends w (p .block) (while c l f) → codeAt w f ≡ 0 → plan ≡ refusing p 10 f → PlannedBare w S H p plan
-  while-unreached c l f plan ends z r =
-      reached-missing w S H p en (while c l f) f
-      (λ F R C taken. loopTurn (p .block) f c l taken (p .count) (λ v. valueMade visit plainForm c span (noneMade v)) F R C) ends (while-asks c l f)
-      (ends .named .2) plan z r
+      ≡ unlessUnreachable (tableOf w) C f >>= λ taken. scheduleLoop (p .block) f c l taken F R (p .count) C
+  unfolding terminalTurn
+  while-asks c l f F R C = refl
 
 -- ---- a For's update, as its code reads it
 
@@ -432,11 +270,6 @@ continue-is test update = at (eqb update 65535)
     at : (y : Bool) → continueBlockOf (elim y [ true ↦ none | false ↦ some update ]) test ≡ continuesAt y test update
     at true = refl
     at false = refl
-
-for-turns-at : (w : List ℕ) (S H : Flags) (p : Position) (en : Entered w p) (init test update l f c n : ℕ) → terminalAt (tableOf w) (p .block) ≡ for init test (unlessNone update) l f
-    → c ≡ continuesAt (eqb update 65535) test update → f < blockCount w → n ≡ unlessTaken (has S f || has H f) f
-    → Turns w S H p en f c l n (λ v. forMade (tableOf w) (visitValueBlock (tableOf w) (127 - p .depth)) init test (unlessNone update) (blockAt (tableOf w) (p .block) .span) (noneMade v))
-for-turns-at w S H p en init test update l f c n q o h z = rw (o ∙ sym (continue-is test update)) (for-turns w S H p en init test (unlessNone update) l f n q h z)
 
 module _ {w : List ℕ} {block init test : ℕ} (update : ℕ) {l f : ℕ} (ends : Ends w block (for init test (unlessNone update) l f)) where
   pub update-below : (update ≡ 65535 → ⊥) → update < blockCount w
@@ -454,82 +287,243 @@ module _ {w : List ℕ} {block init test : ℕ} (update : ℕ) {l f : ℕ} (ends
 
 -- ---- what the loops' code returns. A premise is a contract's own words or a test's, so that `search` finds it among what the code has bound
 
-abbrev Enters : Flags → Flags → Position → Values → Plan → (f n c l : ℕ) → Type 0
-Enters S H p r plan f n c l = plan ≡ enteringLoop (eqb (r .code) 0) (loopTaken S H l f) p r (blocksOf f n c l)
+abbrev Schedules : Flags → Flags → Position → Plan → (f n c l : ℕ) → Type 0
+Schedules S H p plan f n c l = plan ≡ schedulingLoop (loopTaken S H l f) p (blocksOf f n c l)
 
 module _ {w : List ℕ} {S H : Flags} {p : Position} {plan : Plan} (en : Entered w p) where
-  module _ {l c f : ℕ} (ends : Ends w (p .block) (do-while l c f)) {scheduled : Bool} (asked : scheduled ≡ continueScheduled S f c) where
-    pub do-while-refused : scheduled ≡ true → plan ≡ refusing p 15 c → PlannedBare w S H p plan
-    do-while-refused t q = loop-refused w S H p en f c l _ _ plan (do-while-turns w S H p en l c f _ (ends .is) (ends .named .2) refl) (ends .named .2) (sym asked ∙ t) q
-
-    pub do-while-entered : {n : ℕ} {r : Values} → scheduled ≡ false → Takes S H f n → r ≡ noValues p → Enters S H p r plan f n c l → PlannedBare w S H p plan
-    do-while-entered {n} {r} t o start q buffer =
-        loop-entered w S H p en f c l n _ r plan
-        (do-while-turns w S H p en l c f n (ends .is) (ends .named .2) o)
-        (ends .named .2, ends .named .1, ends .named .0) (sym asked ∙ t) (no-values-made p buffer r start) q
+  pub do-while-scheduled : {l c f n : ℕ} → Ends w (p .block) (do-while l c f) → Takes S H f n → Schedules S H p plan f n c l → PlannedBare w S H p plan
+  unfolding terminalTurn
+  do-while-scheduled {l} {c} {f} {n} ends o q =
+      loop-planned w S H p en f c l n plan (turns w S H p en (do-while l c f) f c l n (ends .is) (λ F R C. refl) (ends .named .2) o) (ends .named .2, ends .named .1, ends .named .0) q
 
   module _ {c l f kind : ℕ} (ends : Ends w (p .block) (while c l f)) (reached : kind ≡ blockWord w f 2) where
     pub while-missing : kind ≡ 0 → plan ≡ refusing p 10 f → PlannedBare w S H p plan
-    while-missing z q = while-unreached w S H p en c l f plan ends (sym reached ∙ z) q
+    while-missing z q =
+        reached-missing w S H p en (while c l f) f (λ F R C taken. scheduleLoop (p .block) f c l taken F R (p .count) C) ends (while-asks w S H p en c l f)
+        (ends .named .2) plan (sym reached ∙ z) q
 
-    pub while-refused : {scheduled : Bool} → (kind ≡ 0 → ⊥) → scheduled ≡ continueScheduled S f c → scheduled ≡ true → plan ≡ refusing p 15 c → PlannedBare w S H p plan
-    while-refused z asked t q = loop-refused w S H p en f c l _ _ plan (while-turns w S H p en c l f _ (ends .is) (ends .named .2) (λ y. z (reached ∙ y)) refl) (ends .named .2) (sym asked ∙ t) q
+    pub while-scheduled : {n : ℕ} → (kind ≡ 0 → ⊥) → n ≡ unlessTaken (eqb (blockWord w f 2) 1 || (has S f || has H f)) f → Schedules S H p plan f n c l → PlannedBare w S H p plan
+    while-scheduled {n} z o q =
+        loop-planned w S H p en f c l n plan
+        (λ F R C seen. ap turn (step-by w p (while c l f) F R C (ends .is) ∙ while-asks w S H p en c l f F R C)
+        ∙ reach-same w S H p (en .promise) f n (ends .named .2) (few-blocks w (en .promise) f (ends .named .2)) (λ y. z (reached ∙ y)) o
+        (λ taken. scheduleLoop (p .block) f c l taken F R (p .count) C) C seen) (ends .named .2, ends .named .0, ends .named .1) q
 
-    pub while-entered : {scheduled : Bool} {n : ℕ} {before r : Values} {b b′ : List ℕ} → (kind ≡ 0 → ⊥) → scheduled ≡ continueScheduled S f c → scheduled ≡ false
-        → n ≡ unlessTaken (eqb (blockWord w f 2) 1 || (has S f || has H f)) f
-        → before ≡ noValues p → MakesMore p (plainMade w p c) before b r b′ → Enters S H p r plan f n c l → PlannedRows w S H p b plan b′
-    while-entered {n = n} {r = r} z asked t o start made q =
-        loop-entered w S H p en f c l n _ r plan
-        (while-turns w S H p en c l f n (ends .is) (ends .named .2) (λ y. z (reached ∙ y)) o)
-        (ends .named .2, ends .named .0, ends .named .1) (sym asked ∙ t) (first-made _ start made) q
+  pub for-scheduled : {init test : ℕ} (update : ℕ) {l f c n : ℕ} → Ends w (p .block) (for init test (unlessNone update) l f) → c ≡ continuesAt (eqb update 65535) test update → Takes S H f n
+      → Schedules S H p plan f n c l → PlannedBare w S H p plan
+  unfolding terminalTurn
+  for-scheduled {init} {test} update {l} {f} {c} {n} ends continues o q =
+      loop-planned w S H p en f c l n plan
+      (turns w S H p en (for init test (unlessNone update) l f) f c l n (ends .is)
+      (λ F R C. ap (λ (k : ℕ). scheduleLoop (p .block) f k l (unlessScheduled C f) F R (p .count) C) (continue-is test update ∙ sym continues)) (ends .named .4) o)
+      (ends .named .4, continues-below update ends continues, ends .named .3) q
 
-  module _ {init test : ℕ} (update : ℕ) {l f c : ℕ} (ends : Ends w (p .block) (for init test (unlessNone update) l f))
-      (continues : c ≡ continuesAt (eqb update 65535) test update) {scheduled : Bool} (asked : scheduled ≡ continueScheduled S f c) where
-    pub for-refused : scheduled ≡ true → plan ≡ refusing p 15 c → PlannedBare w S H p plan
-    for-refused t q = loop-refused w S H p en f c l _ _ plan (for-turns-at w S H p en init test update l f c _ (ends .is) continues (ends .named .4) refl) (ends .named .4) (sym asked ∙ t) q
+  pub for-of-scheduled : {c test l f n : ℕ} → Ends w (p .block) (for-of c test l f) → Takes S H f n → Schedules S H p plan f n c l → PlannedBare w S H p plan
+  unfolding terminalTurn
+  for-of-scheduled {c} {test} {l} {f} {n} ends o q =
+      loop-planned w S H p en f c l n plan (turns w S H p en (for-of c test l f) f c l n (ends .is) (λ F R C. refl) (ends .named .3) o) (ends .named .3, ends .named .0, ends .named .2) q
 
-    pub for-entered : {n : ℕ} {r : Values} {b b′ : List ℕ} → scheduled ≡ false → Takes S H f n → Makes p (forValues w p init test update) b r b′ → Enters S H p r plan f n c l
-        → PlannedRows w S H p b plan b′
-    for-entered {n} {r} t o made q =
-        loop-entered w S H p en f c l n _ r plan
-        (for-turns-at w S H p en init test update l f c n (ends .is) continues (ends .named .4) o)
-        (ends .named .4, continues-below update ends continues, ends .named .3) (sym asked ∙ t) made q
+  pub for-in-scheduled : {c l f n : ℕ} → Ends w (p .block) (for-in c l f) → Takes S H f n → Schedules S H p plan f n c l → PlannedBare w S H p plan
+  unfolding terminalTurn
+  for-in-scheduled {c} {l} {f} {n} ends o q =
+      loop-planned w S H p en f c l n plan (turns w S H p en (for-in c l f) f c l n (ends .is) (λ F R C. refl) (ends .named .2) o) (ends .named .2, ends .named .0, ends .named .1) q
 
-  module _ {c test l f : ℕ} (ends : Ends w (p .block) (for-of c test l f)) {scheduled : Bool} (asked : scheduled ≡ continueScheduled S f c) where
-    pub for-of-refused : scheduled ≡ true → plan ≡ refusing p 15 c → PlannedBare w S H p plan
-    for-of-refused t q = loop-refused w S H p en f c l _ _ plan (for-of-turns w S H p en c test l f _ (ends .is) (ends .named .3) refl) (ends .named .3) (sym asked ∙ t) q
+-- ---- its values are made
 
-    pub for-of-entered : {n : ℕ} {r : Values} {b b′ : List ℕ} → scheduled ≡ false → Takes S H f n → Makes p (forOfValues w p c test) b r b′ → Enters S H p r plan f n c l
-        → PlannedRows w S H p b plan b′
-    for-of-entered {n} {r} t o made q =
-        loop-entered w S H p en f c l n _ r plan
-        (for-of-turns w S H p en c test l f n (ends .is) (ends .named .3) o)
-        (ends .named .3, ends .named .0, ends .named .2) (sym asked ∙ t) made q
+-- the loops' own turn, by the values that they make
+module _ (t : Table) (visit : VisitValueBlock) (block : Block) (body : Option ℕ) (fr : machine.Frame) (F : List machine.Frame) (R : Output) (C : definition.Context) where
+  abbrev k : Made → Result State
+  k made = intoBody body (made .visits) fr F (R ⊕ made .out) C
 
-  module _ {c l f : ℕ} (ends : Ends w (p .block) (for-in c l f)) {scheduled : Bool} (asked : scheduled ≡ continueScheduled S f c) where
-    pub for-in-refused : scheduled ≡ true → plan ≡ refusing p 15 c → PlannedBare w S H p plan
-    for-in-refused t q = loop-refused w S H p en f c l _ _ plan (for-in-turns w S H p en c l f _ (ends .is) (ends .named .2) refl) (ends .named .2) (sym asked ∙ t) q
+  nothing-made : intoBody body (C .visits) fr F R C ≡ ok (noneMade (C .visits)) >>= k
+  unfolding _>>=_
+  nothing-made = rw (out-nil R)
 
-    pub for-in-entered : {n : ℕ} {before r : Values} {b b′ : List ℕ} → scheduled ≡ false → Takes S H f n → before ≡ noValues p → MakesMore p (flatMade w p c) before b r b′
-        → Enters S H p r plan f n c l → PlannedRows w S H p b plan b′
-    for-in-entered {n} {r = r} t o start made q =
-        loop-entered w S H p en f c l n _ r plan
-        (for-in-turns w S H p en c l f n (ends .is) (ends .named .2) o)
-        (ends .named .2, ends .named .0, ends .named .1) (sym asked ∙ t) (first-made _ start made) q
+  pub values-made : (e : Terminal) → valueCode (codeOf e) ≡ false → makeAt t visit e block body fr F R C ≡ madeBy t visit e (block .span) (noneMade (C .visits)) >>= k
+  unfolding makeAt
+  values-made absent z = nothing-made
+  values-made unreachable z = nothing-made
+  values-made (throw value) z = nothing-made
+  values-made (return value) z = nothing-made
+  values-made (goto target variant) z = nothing-made
+  values-made (if test consequent alternate fallthrough) z = nothing-made
+  values-made (branch test consequent alternate) z = nothing-made
+  values-made (switch test first number fallthrough) z = nothing-made
+  values-made (do-while loop test fallthrough) z = nothing-made
+  values-made (while test loop fallthrough) z = sym (value-then visit plainForm test (block .span) (noneMade (C .visits)) k)
+  values-made (for init test update loop fallthrough) z =
+      let flat : ValueBlockResult → Value = flatForm t (block .span) in
+      let start : Result Made = valueMade visit flat init (block .span) (noneMade (C .visits)) in
+      sym (bind-assoc (start >>= valueMade visit plainForm test (block .span)) (updateMade visit update (block .span)) k
+      ∙ bind-assoc start (valueMade visit plainForm test (block .span)) (λ made. updateMade visit update (block .span) made >>= k)
+      ∙ value-then visit flat init (block .span) (noneMade (C .visits)) (λ made. valueMade visit plainForm test (block .span) made >>= λ more. updateMade visit update (block .span) more >>= k)
+      ∙ then-same (visit init none (block .span) (C .visits)) _ _ (λ first.
+      value-then visit plainForm test (block .span) (record { out = valueOut (flat first); visits = first .visits }) (λ made. updateMade visit update (block .span) made >>= k)
+      ∙ then-same (visit test none (block .span) (first .visits)) _ _ (λ tested.
+      update-then visit update (block .span) (record { out = valueOut (flat first) ++ valueOut (tested .value); visits = tested .visits }) k
+      ∙ then-same (visitUpdate visit update (block .span) (tested .visits)) _ _ (λ updated.
+      rw (append-assoc (R .rows) (valueOut (flat first)) (valueOut (tested .value)), append-assoc (R .rows) (valueOut (flat first) ++ valueOut (tested .value)) (updateOut (updated .value)))))))
+  values-made (for-of init test loop fallthrough) z =
+      let flat : ValueBlockResult → Value = flatForm t (block .span) in
+      sym (bind-assoc (valueMade visit flat init (block .span) (noneMade (C .visits))) (valueMade visit flat test (block .span)) k
+      ∙ value-then visit flat init (block .span) (noneMade (C .visits)) (λ made. valueMade visit flat test (block .span) made >>= k)
+      ∙ then-same (visit init none (block .span) (C .visits)) _ _ (λ first.
+      value-then visit flat test (block .span) (record { out = valueOut (flat first); visits = first .visits }) k
+      ∙ then-same (visit test none (block .span) (first .visits)) _ _ (λ tested. rw (out-assoc R (valueOut (flat first)) (valueOut (flat tested))))))
+  values-made (for-in init loop fallthrough) z = sym (value-then visit (flatForm t (block .span)) init (block .span) (noneMade (C .visits)) k)
+  values-made (logical operator test fallthrough) z = absurd (true-false z)
+  values-made (ternary test fallthrough) z = absurd (true-false z)
+  values-made (optional chain test fallthrough) z = absurd (true-false z)
+  values-made (label inner fallthrough) z = nothing-made
+  values-made (sequence inner fallthrough) z = absurd (true-false z)
+  values-made (maybe-throw continuation) z = nothing-made
+  values-made (try inner handler fallthrough binding) z = nothing-made
+  values-made (scope pruned inner fallthrough number) z = nothing-made
+
+  -- a value statement's turn is that of its value
+  pub statement-made : (e : Terminal) → valueCode (codeOf e) ≡ true → makeAt t visit e block body fr F R C ≡ valueAt t visit e block fr F R C
+  unfolding makeAt
+  statement-made absent z = absurd (true-false (sym z))
+  statement-made unreachable z = absurd (true-false (sym z))
+  statement-made (throw value) z = absurd (true-false (sym z))
+  statement-made (return value) z = absurd (true-false (sym z))
+  statement-made (goto target variant) z = absurd (true-false (sym z))
+  statement-made (if test consequent alternate fallthrough) z = absurd (true-false (sym z))
+  statement-made (branch test consequent alternate) z = absurd (true-false (sym z))
+  statement-made (switch test first number fallthrough) z = absurd (true-false (sym z))
+  statement-made (do-while loop test fallthrough) z = absurd (true-false (sym z))
+  statement-made (while test loop fallthrough) z = absurd (true-false (sym z))
+  statement-made (for init test update loop fallthrough) z = absurd (true-false (sym z))
+  statement-made (for-of init test loop fallthrough) z = absurd (true-false (sym z))
+  statement-made (for-in init loop fallthrough) z = absurd (true-false (sym z))
+  statement-made (logical operator test fallthrough) z = refl
+  statement-made (ternary test fallthrough) z = refl
+  statement-made (optional chain test fallthrough) z = refl
+  statement-made (label inner fallthrough) z = absurd (true-false (sym z))
+  statement-made (sequence inner fallthrough) z = refl
+  statement-made (maybe-throw continuation) z = absurd (true-false (sym z))
+  statement-made (try inner handler fallthrough binding) z = absurd (true-false (sym z))
+  statement-made (scope true inner fallthrough number) z = absurd (true-false (sym z))
+  statement-made (scope false inner fallthrough number) z = absurd (true-false (sym z))
+
+-- none of these codes: no value comes before the body
+abbrev pub NoValues : ℕ → Type 0
+NoValues code = (code ≡ 9 → ⊥) × (code ≡ 10 → ⊥) × (code ≡ 11 → ⊥) × (code ≡ 12 → ⊥)
+
+none-before : (t : Table) (visit : VisitValueBlock) (e : Terminal) (span : Span) (made : Made) → NoValues (codeOf e) → madeBy t visit e span made ≡ ok made
+none-before t visit absent span made h = refl
+none-before t visit unreachable span made h = refl
+none-before t visit (throw value) span made h = refl
+none-before t visit (return value) span made h = refl
+none-before t visit (goto target variant) span made h = refl
+none-before t visit (if test consequent alternate fallthrough) span made h = refl
+none-before t visit (branch test consequent alternate) span made h = refl
+none-before t visit (switch test first number fallthrough) span made h = refl
+none-before t visit (do-while loop test fallthrough) span made h = refl
+none-before t visit (while test loop fallthrough) span made h = absurd (h .0 refl)
+none-before t visit (for init test update loop fallthrough) span made h = absurd (h .1 refl)
+none-before t visit (for-of init test loop fallthrough) span made h = absurd (h .2 refl)
+none-before t visit (for-in init loop fallthrough) span made h = absurd (h .3 refl)
+none-before t visit (logical operator test fallthrough) span made h = refl
+none-before t visit (ternary test fallthrough) span made h = refl
+none-before t visit (optional chain test fallthrough) span made h = refl
+none-before t visit (label inner fallthrough) span made h = refl
+none-before t visit (sequence inner fallthrough) span made h = refl
+none-before t visit (maybe-throw continuation) span made h = refl
+none-before t visit (try inner handler fallthrough binding) span made h = refl
+none-before t visit (scope pruned inner fallthrough number) span made h = refl
+
+-- what `loop_values` makes
+module _ {w : List ℕ} {q : Position} (en : Entered w q) {b b′ : List ℕ} {r : Values} where
+  by-terminal : (e : Terminal) → terminalAt (tableOf w) (q .block) ≡ e
+      → Makes q (madeBy (tableOf w) (visitValueBlock (tableOf w) (127 - q .depth)) e (blockAt (tableOf w) (q .block) .span) (noneMade (q .visits))) b r b′ → Makes q (valuesAt w q) b r b′
+  by-terminal e is m = subst (λ (z : Terminal). Makes q (madeBy (tableOf w) (visitValueBlock (tableOf w) (127 - q .depth)) z (blockAt (tableOf w) (q .block) .span) (noneMade (q .visits))) b r b′) (sym is) m
+
+  pub while-made : {test l f : ℕ} {before : Values} → Ends w (q .block) (while test l f) → before ≡ noValues q → MakesMore q (plainMade w q test) before b r b′ → Makes q (valuesAt w q) b r b′
+  while-made ends start m = by-terminal _ (ends .is) (first-made _ start m)
+
+  pub for-made : {init test : ℕ} (update : ℕ) {l f : ℕ} → Ends w (q .block) (for init test (unlessNone update) l f) → Makes q (forValues w q init test update) b r b′ → Makes q (valuesAt w q) b r b′
+  for-made update ends m = by-terminal _ (ends .is) m
+
+  pub for-of-values-made : {init test l f : ℕ} → Ends w (q .block) (for-of init test l f) → Makes q (forOfValues w q init test) b r b′ → Makes q (valuesAt w q) b r b′
+  for-of-values-made ends m = by-terminal _ (ends .is) m
+
+  pub for-in-made : {init l f : ℕ} {before : Values} → Ends w (q .block) (for-in init l f) → before ≡ noValues q → MakesMore q (flatMade w q init) before b r b′ → Makes q (valuesAt w q) b r b′
+  for-in-made ends start m = by-terminal _ (ends .is) (first-made _ start m)
+
+pub none-made : {w : List ℕ} {q : Position} (en : Entered w q) {b : List ℕ} {r : Values} → NoValues (codeAt w (q .block)) → r ≡ noValues q → Makes q (valuesAt w q) b r b
+none-made {w} {q} en {b} {r} h start =
+    subst (λ (z : Result Made). Makes q z b r b)
+    (sym (none-before (tableOf w) (visitValueBlock (tableOf w) (127 - q .depth)) (terminalAt (tableOf w) (q .block)) (blockAt (tableOf w) (q .block) .span) (noneMade (q .visits))
+    (subst NoValues (sym (code-at w (q .block) (en .promise) (en .block))) h))) (no-values-made q b r start)
+
+-- ---- the turn of a loop that is scheduled
+
+module _ (w : List ℕ) (p : Position) (frame : Frame) (ma : Making w p frame) where
+  pub values-entered : Entered w (valuesPosition p frame)
+  values-entered = record { promise = ma .promise; block = ma .block; depth = omega (arith, ma .depth, ma .deep); visits = ma .visits; rows = ma .rows; count = omega arith }
+
+  coded : (y : Bool) → valueCode (codeAt w (frame .block)) ≡ y → valueCode (codeOf (terminalAt (tableOf w) (frame .block))) ≡ y
+  coded y e = ap valueCode (code-at w (frame .block) (ma .promise) (ma .block)) ∙ e
+
+  module _ {b b′ : List ℕ} (looped : valueCode (codeAt w (frame .block)) ≡ false) (r : Values) (m : Makes (valuesPosition p frame) (valuesAt w (valuesPosition p frame)) b r b′) where
+    abbrev E : Bool → Bool → Plan
+    E y z = enteringBody y z p r frame
+
+    on : List machine.Frame → Output → definition.Context → Made → Result State
+    on F R C made = intoBody (unlessNone (p .block)) (made .visits) (frameOf frame) F (R ⊕ made .out) C
+
+    step-is : (F : List machine.Frame) (R : Output) (C : definition.Context) → C .visits ≡ p .visits → valuesStep w p frame F R C ≡ valuesAt w (valuesPosition p frame) >>= on F R C
+    unfolding on
+    step-is F R C v =
+        let e : 128 - p .depth ≡ 127 - (p .depth - 1) = omega (arith, ma .depth, ma .deep) in
+        values-made (tableOf w) (visitValueBlock (tableOf w) (128 - p .depth)) (blockAt (tableOf w) (frame .block)) (unlessNone (p .block)) (frameOf frame) F R C (terminalAt (tableOf w) (frame .block)) (coded false looped)
+        ∙ rw (e, v)
+
+    body-same : (F : List machine.Frame) (out : Output) (C : definition.Context) → suc (length F) ≡ p .depth
+        → turn (intoBody (unlessNone (p .block)) (r .visits) (frameOf frame) F out C) ≡ applied (E true (eqb (p .block) 65535)) (frameOf frame ∷ F) out C
+    unfolding unlessNone
+    body-same F out C d = by (eqb (p .block) 65535)
+      where
+        by : (z : Bool) → turn (intoBody (elim z [ true ↦ none | false ↦ some (p .block) ]) (r .visits) (frameOf frame) F out C) ≡ applied (E true z) (frameOf frame ∷ F) out C
+        by true = unfold intoBody in turn-refused 16 (frame .block) (r .visits) ∙ sym (refuse-applied (afterValues p r) 16 (frame .block) (frameOf frame ∷ F) out C (λ z. omega arith))
+        by false = unfold intoBody in turn-ok _
+            ∙ sym (nest-applied (p .block) frame (p .depth) (r .rows) (r .visits) 65535 65535 Nothing (frameOf frame ∷ F) out C _ refl ∙ rw (within-rest (p .depth) (frameOf frame) F d))
+
+    same : (F : List machine.Frame) (R : Output) (C : definition.Context) → Stands (frameOf frame ∷ F) R (p .depth) (p .rows) → C .visits ≡ p .visits
+        → turn (valuesStep w p frame F R C) ≡ applied (E (eqb (r .code) 0) (eqb (p .block) 65535)) (frameOf frame ∷ F) (R ⊕ m .out) C
+    same F R C d v = ap turn (step-is F R C v) ∙ by (eqb (r .code) 0) refl
+      where
+        by : (y : Bool) → eqb (r .code) 0 ≡ y → turn (valuesAt w (valuesPosition p frame) >>= on F R C) ≡ applied (E y (eqb (p .block) 65535)) (frameOf frame ∷ F) (R ⊕ m .out) C
+        by true q = ap turn (made-on m (on F R C) (eqb-true (r .code) 0 q)) ∙ unfold on in body-same F (R ⊕ m .out) C (d .deep)
+        by false q =
+            ap turn (made-off m (on F R C) (eqb-false (r .code) 0 q)) ∙ turn-refused (r .code) (r .at) (r .visits) ∙ sym
+            (refuse-applied (afterValues p r) (r .code) (r .at) (frameOf frame ∷ F) (R ⊕ m .out) C (eqb-false (r .code) 0 q))
+
+    pub values-planned : (plan : Plan) → plan ≡ E (eqb (r .code) 0) (eqb (p .block) 65535) → PlannedValues w p frame b plan b′
+    values-planned plan q = subst (λ (z : Plan). PlannedValues w p frame b z b′) (sym q) (record {
+      out = m .out;
+      held = held (eqb (r .code) 0) refl (eqb (p .block) 65535);
+      same = same;
+      fitting = fits (eqb (r .code) 0) refl (eqb (p .block) 65535);
+    })
+      where
+        held : (y : Bool) → eqb (r .code) 0 ≡ y → (z : Bool) → E y z .code ≡ 0 → (R : List Row) → Holds b (p .rows) (stack.pushed R []) → Holds b′ (E y z .position .rows) (stack.pushed (R ++ m .out) [])
+        held true o true g = absurd (omega arith)
+        held true o false g = m .held (eqb-true (r .code) 0 o)
+        held false o z g = absurd (eqb-false (r .code) 0 o g)
+
+        fits : (y : Bool) → eqb (r .code) 0 ≡ y → (z : Bool) → E y z .code ≡ 0 → Fitting (frameOf frame ∷ []) (p .depth) (E y z)
+        fits true o true g = absurd (omega arith)
+        fits true o false g = record { change = tt; handler = rw no-number tt; scope = rw no-number tt; deep = λ _. ma .depth; next = omega arith; nested = tt }
+        fits false o z g = absurd (eqb-false (r .code) 0 o g)
 
 -- ---- value statements
-
-value-moved : (n after : ℕ) (C : definition.Context) → withVisits after (scheduledIf (unlessNone n) C) ≡ scheduledIf (unlessNone n) (withVisits after C)
-value-moved n after C = at (unlessNone n)
-  where
-    at : (o : Option ℕ) → withVisits after (scheduledIf o C) ≡ scheduledIf o (withVisits after C)
-    at none = refl
-    at (some f) = unfold withVisits pushed in refl
 
 -- a terminal with such a fallthrough: its turn, and the fallthrough's range
 pub record ValueTerminal (e : Terminal) (f : ℕ) : Type 0 where
   pub turns : (t : Table) (visit : VisitValueBlock) (at : ℕ) (block : Block) (F : List machine.Frame) (R : Output) (count : ℕ) (C : definition.Context)
-      → terminalTurn nowhere t visit e at block F R count C ≡ valueTurn t visit e at block f F R count C
+      → terminalTurn nowhere t visit e at block F R count C ≡ scheduleValue at f F R count C
   pub below : (blocks places cases : ℕ) → InRange blocks places cases e → f < blocks
 
 value-terminal : (e : Terminal) (f : ℕ) → valueFallthrough e ≡ some f → ValueTerminal e f
@@ -549,64 +543,98 @@ value-terminal (for-of init test loop fallthrough) f q = absurd (no-some q)
 value-terminal (for-in init loop fallthrough) f q = absurd (no-some q)
 value-terminal (logical operator test fallthrough) f q =
     record {
-      turns = λ t visit at block F R count C. ap (λ (z : ℕ). valueTurn t visit (logical operator test fallthrough) at block z F R count C) (some-same q);
+      turns = λ t visit at block F R count C. ap (λ (z : ℕ). scheduleValue at z F R count C) (some-same q);
       below = λ blocks places cases r. omega (arith, some-same q, r .2);
     }
 value-terminal (ternary test fallthrough) f q =
     record {
-      turns = λ t visit at block F R count C. ap (λ (z : ℕ). valueTurn t visit (ternary test fallthrough) at block z F R count C) (some-same q);
+      turns = λ t visit at block F R count C. ap (λ (z : ℕ). scheduleValue at z F R count C) (some-same q);
       below = λ blocks places cases r. omega (arith, some-same q, r .1);
     }
 value-terminal (optional chain test fallthrough) f q =
     record {
-      turns = λ t visit at block F R count C. ap (λ (z : ℕ). valueTurn t visit (optional chain test fallthrough) at block z F R count C) (some-same q);
+      turns = λ t visit at block F R count C. ap (λ (z : ℕ). scheduleValue at z F R count C) (some-same q);
       below = λ blocks places cases r. omega (arith, some-same q, r .2);
     }
 value-terminal (label body fallthrough) f q = absurd (no-some q)
 value-terminal (sequence body fallthrough) f q =
     record {
-      turns = λ t visit at block F R count C. ap (λ (z : ℕ). valueTurn t visit (sequence body fallthrough) at block z F R count C) (some-same q);
+      turns = λ t visit at block F R count C. ap (λ (z : ℕ). scheduleValue at z F R count C) (some-same q);
       below = λ blocks places cases r. omega (arith, some-same q, r .1);
     }
 value-terminal (maybe-throw continuation) f q = absurd (no-some q)
 value-terminal (try body handler fallthrough binding) f q = absurd (no-some q)
 value-terminal (scope pruned body fallthrough number) f q = absurd (no-some q)
 
-module _ (w : List ℕ) (S H : Flags) (p : Position) (en : Entered w p) (f : ℕ) (q : valueFallthrough (terminalAt (tableOf w) (p .block)) ≡ some f) where
-  pub fallthrough-below : f < blockCount w
-  fallthrough-below = value-terminal (terminalAt (tableOf w) (p .block)) f q .below (blockCount w) (placeCount w) (caseCount w) (in-range w (en .promise) (p .block) (en .block))
+module _ {w : List ℕ} {p : Position} (en : Entered w p) {f : ℕ} (q : valueFallthrough (terminalAt (tableOf w) (p .block)) ≡ some f) where
+  pub fallthrough-few : f < 1024
+  fallthrough-few =
+      few-blocks w (en .promise) f
+      (value-terminal (terminalAt (tableOf w) (p .block)) f q .below (blockCount w) (placeCount w) (caseCount w) (in-range w (en .promise) (p .block) (en .block)))
 
+  pub value-scheduled : {S H : Flags} {plan : Plan} → plan ≡ schedulingValue p (unlessTaken (has S f || has H f) f) → PlannedBare w S H p plan
+  value-scheduled {S} {H} {plan} e = subst (λ (z : Plan). PlannedBare w S H p z) (sym e)
+      (bare-planned w S H p (schedulingValue p n) (λ _. refl) same (λ _. record {
+        change = named (eqb n 65535) refl;
+        handler = rw no-number tt;
+        scope = rw no-number tt;
+        deep = λ _. omega arith;
+        next = omega arith;
+        nested = refl;
+      }))
+    where
+      n : ℕ
+      n = unlessTaken (has S f || has H f) f
+
+      free : Label S n
+      free = label-taken S H false f fallthrough-few
+
+      named : (y : Bool) → eqb n 65535 ≡ y → NamedChange 0 (scheduleIf y n)
+      named true g = tt
+      named false g = label-below free g
+
+      same : (F : List machine.Frame) (R : Output) (C : definition.Context) → Stands F R (p .depth) (p .rows) → Seen S H (p .visits) C → turn (terminalStep w p F R C) ≡ applied (schedulingValue p n) F R C
+      same F R C d seen =
+          ap turn (value-terminal (terminalAt (tableOf w) (p .block)) f q .turns (tableOf w) (visitValueBlock (tableOf w) (127 - p .depth)) (p .block) (blockAt (tableOf w) (p .block)) F R (p .count) C)
+          ∙ unfold scheduleValue in (turn-ok _ ∙ rw (label-scheduled w (en .promise) S H (p .visits) C seen f fallthrough-few)
+          (sym (values-asked 65535 (openFrame p n (entriesIf (eqb n 65535))) (p .depth + 1) (p .rows) (p .visits) (scheduleIf (eqb n 65535) n) F R C
+          ∙ rw (visits-same (p .visits) C (seen .visits), label-if free C (seen .scheduled), no-number, label-entries n, d .many, within-all (p .depth + 1 - 1) F (omega (arith, d .deep))))))
+
+-- its value is made
+
+module _ (w : List ℕ) (p : Position) (frame : Frame) (ma : Making w p frame) (is : valueCode (codeAt w (frame .block)) ≡ true) where
   abbrev outcome : Result ValueTerminalResult
   outcome =
-      visitValueBlockTerminal (tableOf w) (visitValueBlock (tableOf w) (127 - p .depth)) (terminalAt (tableOf w) (p .block))
-      (blockAt (tableOf w) (p .block) .id) (blockAt (tableOf w) (p .block) .span) (p .visits) (p .block)
+      visitValueBlockTerminal (tableOf w) (visitValueBlock (tableOf w) (128 - p .depth)) (terminalAt (tableOf w) (frame .block))
+      (blockAt (tableOf w) (frame .block) .id) (blockAt (tableOf w) (frame .block) .span) (p .visits) (frame .block)
 
   -- the statement, once its value is made
   left : List machine.Frame → Output → definition.Context → ValueTerminalResult → Result State
-  left F R C result = ok (leave (unlessScheduled C f) F ((R ⊕ valueOut (result .value)) ⊕ (instrRow (result .id) (result .place) (blockAt (tableOf w) (p .block) .span) ∷ [])) (suc (p .count))
-      (unscheduledIf (unlessScheduled C f) (withVisits (result .visits) (scheduledIf (unlessScheduled C f) C))))
+  left F R C result =
+      ok (leave (unlessNone (frame .label)) F ((R ⊕ valueOut (result .value)) ⊕ (instrRow (result .id) (result .place) (blockAt (tableOf w) (frame .block) .span) ∷ [])) (suc (frame .count))
+      (unscheduledOf (frame .entries) (withVisits (result .visits) C)))
 
-  value-step : (F : List machine.Frame) (R : Output) (C : definition.Context) → Seen S H (p .visits) C → terminalStep w p F R C ≡ outcome >>= left F R C
-  unfolding valueTurn left
-  value-step F R C seen =
-      value-terminal (terminalAt (tableOf w) (p .block)) f q .turns (tableOf w) (visitValueBlock (tableOf w) (127 - p .depth)) (p .block)
-      (blockAt (tableOf w) (p .block)) F R (p .count) C ∙ rw (seen .visits)
+  value-step : (F : List machine.Frame) (R : Output) (C : definition.Context) → C .visits ≡ p .visits → valuesStep w p frame F R C ≡ outcome >>= left F R C
+  unfolding valueAt left
+  value-step F R C v =
+      statement-made (tableOf w) (visitValueBlock (tableOf w) (128 - p .depth)) (blockAt (tableOf w) (frame .block)) (unlessNone (p .block)) (frameOf frame) F R C (terminalAt (tableOf w) (frame .block))
+      (coded w p frame ma true is) ∙ rw v
 
   module _ {m : ℕ} {b b₁ : List ℕ} {r : ValueResult} (v : Met w terminalResult outcome (record { rows = p .rows; visits = p .visits }) m b r b₁) where
-    pub value-statement-refused : (plan : Plan) (b′ : List ℕ) → (r .code ≡ 0 → ⊥) → plan ≡ refusing (afterValues p (valuesOf r)) (r .code) (r .at) → PlannedRows w S H p b plan b′
-    value-statement-refused plan b′ z o = subst (λ (y : Plan). PlannedRows w S H p b y b′) (sym o) (record {
+    pub value-statement-refused : (plan : Plan) (b′ : List ℕ) → (r .code ≡ 0 → ⊥) → plan ≡ refusing (afterValues p (valuesOf r)) (r .code) (r .at) → PlannedValues w p frame b plan b′
+    value-statement-refused plan b′ z o = subst (λ (y : Plan). PlannedValues w p frame b y b′) (sym o) (record {
       out = [];
       held = λ e. absurd (z e);
       same =
           λ F R C d seen. ap turn (value-step F R C seen ∙ then-off (left F R C) v z) ∙ turn-refused (r .code) (r .at) (r .tally .visits) ∙ sym
-          (refuse-applied (afterValues p (valuesOf r)) (r .code) (r .at) F (R ⊕ []) C z);
+          (refuse-applied (afterValues p (valuesOf r)) (r .code) (r .at) (frameOf frame ∷ F) (R ⊕ []) C z);
       fitting = λ e. absurd (z e);
     })
 
-    pub value-statement-left : (n rows : ℕ) (plan : Plan) (b′ : List ℕ) → r .code ≡ 0 → n ≡ unlessTaken (has S f || has H f) f
-        → Written b₁ (r .tally .rows) (instrRow (r .id) (r .place) (blockAt (tableOf w) (p .block) .span)) b′ rows
-        → plan ≡ leaving n (p .depth) (p .count + 1) rows (r .tally .visits) (brieflyIf (eqb n 65535) n) → PlannedRows w S H p b plan b′
-    value-statement-left n rows plan b′ z o put e = subst (λ (y : Plan). PlannedRows w S H p b y b′) (sym e) (record {
+    pub value-statement-left : (rows : ℕ) (plan : Plan) (b′ : List ℕ) → r .code ≡ 0
+        → Written b₁ (r .tally .rows) (instrRow (r .id) (r .place) (blockAt (tableOf w) (frame .block) .span)) b′ rows
+        → plan ≡ leaving (frame .label) (p .depth - 1) (frame .count + 1) rows (r .tally .visits) (unscheduleIf (eqb (frame .entries) 0)) → PlannedValues w p frame b plan b′
+    value-statement-left rows plan b′ z put e = subst (λ (y : Plan). PlannedValues w p frame b y b′) (sym e) (record {
       out = valueOut (v .value) ++ (last ∷ []);
       held =
           λ _ R h. rw (
@@ -617,33 +645,29 @@ module _ (w : List ℕ) (S H : Flags) (p : Position) (en : Entered w p) (f : ℕ
       same = same;
       fitting =
           λ _. record {
-            change = named (eqb n 65535) refl;
+            change = off (frame .entries) refl;
             handler = rw no-number tt;
             scope = rw no-number tt;
             deep = λ y. absurd (let o : _≡_ {A = ℕ} 0 1 = cc in omega arith);
             next = omega arith;
-            nested = leave-nested (eqb n 65535);
+            nested = leave-nested (eqb (frame .label) 65535);
           };
     })
       where
         last : Row
-        last = instrRow (r .id) (r .place) (blockAt (tableOf w) (p .block) .span)
+        last = instrRow (r .id) (r .place) (blockAt (tableOf w) (frame .block) .span)
 
-        free : Label S n
-        free = rw o (label-taken S H false f (few-blocks w (en .promise) f fallthrough-below))
+        off : (n : ℕ) → frame .entries ≡ n → NamedChange (frame .entries) (unscheduleIf (eqb n 0))
+        off zero g = tt
+        off (suc n) g = rw (ne-eqb (suc n) 0 (λ y. omega (arith, y))) (omega (arith, g))
 
-        named : (y : Bool) → eqb n 65535 ≡ y → NamedChange 0 (brieflyIf y n)
-        named true g = tt
-        named false g = label-below free g
-
-        same : (F : List machine.Frame) (R : Output) (C : definition.Context) → Stands F R (p .depth) (p .rows) → Seen S H (p .visits) C
-            → turn (terminalStep w p F R C) ≡ applied (leaving n (p .depth) (p .count + 1) rows (r .tally .visits) (brieflyIf (eqb n 65535) n)) F (R ⊕ (valueOut (v .value) ++ (last ∷ []))) C
+        same : (F : List machine.Frame) (R : Output) (C : definition.Context) → Stands (frameOf frame ∷ F) R (p .depth) (p .rows) → C .visits ≡ p .visits
+            → turn (valuesStep w p frame F R C)
+            ≡ applied (leaving (frame .label) (p .depth - 1) (frame .count + 1) rows (r .tally .visits) (unscheduleIf (eqb (frame .entries) 0))) (frameOf frame ∷ F)
+            (R ⊕ (valueOut (v .value) ++ (last ∷ []))) C
         same F R C d seen =
             ap turn (value-step F R C seen ∙ then-on (left F R C) v z) ∙ unfold left in (turn-ok _
-            ∙ rw (
-              label-scheduled w (en .promise) S H (p .visits) C seen f (few-blocks w (en .promise) f fallthrough-below) ∙ ap unlessNone (sym o),
-              value-moved n (r .tally .visits) C,
-              out-assoc R (valueOut (v .value)) (last ∷ []),
-            )
-            (sym (leave-applied n (p .depth) (p .count + 1) rows (r .tally .visits) (brieflyIf (eqb n 65535) n) F (R ⊕ (valueOut (v .value) ++ (last ∷ []))) C _
-            (label-briefly free (withVisits (r .tally .visits) C) (seen-visits (r .tally .visits) seen .scheduled)) ∙ rw (within-all (p .depth) F (d .deep), add-one))))
+            ∙ rw (out-assoc R (valueOut (v .value)) (last ∷ []))
+            (sym (leave-applied (frame .label) (p .depth - 1) (frame .count + 1) rows (r .tally .visits) (unscheduleIf (eqb (frame .entries) 0)) (frameOf frame ∷ F)
+            (R ⊕ (valueOut (v .value) ++ (last ∷ []))) C _
+            (off-changed (frame .entries) (withVisits (r .tally .visits) C)) ∙ rw (within-rest (p .depth) (frameOf frame) F (d .deep), add-one))))

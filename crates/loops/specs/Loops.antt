@@ -1,19 +1,20 @@
 -- Loops: the values that are made before a body, the turn that all loops share, and its plan. And value terminals as statements.
-use Prim.Native.Nat.{ℕ, _+_, _-_, _*_, _≤_}
+use Prim.Native.Nat.{ℕ, _+_, _-_, _*_, _≤_, _<_}
 use mathlib.Core.Path.{_≡_}
 use mathlib.Core.Bool.{Bool, true, false, _||_}
-use mathlib.Core.List.{List, [], _++_}
+use mathlib.Core.List.{List, [], _∷_, _++_}
 use mathlib.Core.Option.{Option, none, some}
 use lib.Dec.{eqb}
 use Rattle.table.specs.declared.columns.Span.{Span}
+use Rattle.table.specs.Words.{blockCount}
+use Rattle.table.specs.Promise.{Promise}
 use Rattle.table.specs.Table.{Table, Terminal, absent, unreachable, throw, return, goto, if, branch, switch, do-while, while, for, for-of, for-in, logical}
-use Rattle.table.specs.Table.{ternary, optional, label, sequence, maybe-throw, try, scope, tableOf, blockAt, unlessNone}
+use Rattle.table.specs.Table.{ternary, optional, label, sequence, maybe-throw, try, scope, tableOf, terminalAt, blockAt, unlessNone}
 use Rattle.definition.specs.Context.{Flags, has}
 use Rattle.definition.specs.Context as definition
-use Rattle.definition.specs.Machine.{Output, _⊕_, State, intoLoop, valueOut}
+use Rattle.definition.specs.Machine.{Output, State, makeAt, valueOut}
 use Rattle.definition.specs.Machine as machine
 use Rattle.definition.specs.Result.{Result, ok, refused, _>>=_}
-use Rattle.definition.specs.Statement.{loopIsTaken}
 use Rattle.definition.specs.Tree.{Row, Value}
 use Rattle.definition.specs.Value.{VisitValueBlock, ValueBlockResult, valueBlockResultToSequence, visitValueBlock}
 use Rattle.control.specs.declared.ControlFlowTarget.{ControlFlowTarget}
@@ -21,19 +22,15 @@ use Rattle.control.specs.declared.ControlFlowTarget.the-variants.{Loop}
 use Rattle.rows.specs.Rows.{Holds}
 use Rattle.rows.specs.Stack.{pushed}
 use Rattle.value.specs.declared.result.ValueResult.{ValueResult}
-use Rattle.plan.specs.declared.Stage.the-variants.{Visit}
+use Rattle.plan.specs.declared.Stage.the-variants.{Visit, Values as at-values}
 use Rattle.plan.specs.declared.Position.{Position}
-use Rattle.plan.specs.declared.Change.{Change}
-use Rattle.plan.specs.declared.Change.the-variants.{Schedule}
+use Rattle.plan.specs.declared.Frame.{Frame}
+use Rattle.plan.specs.declared.Change.the-variants.{Nothing, Schedule}
 use Rattle.plan.specs.declared.Plan.{Plan}
 use Rattle.loops.specs.declared.Values.{Values}
 use Rattle.loops.specs.declared.Loop as loops
-use Rattle.plan.specs.Plans.{advanced, openFrame, refusing, nesting}
-use Rattle.plan.specs.Planned.{Seen, Planned, terminalStep}
-
--- a planner that puts out rows
-abbrev pub PlannedRows : List ℕ → Flags → Flags → Position → (buffer : List ℕ) → Plan → (buffer′ : List ℕ) → Type 0
-PlannedRows words scheduledSet handlerSet p buffer plan buffer′ = Planned (terminalStep words p) (Seen scheduledSet handlerSet (p .visits)) [] (p .depth) (p .rows) buffer plan buffer′
+use Rattle.plan.specs.Plans.{frameOf, advanced, openFrame, refusing, nesting, makingNext, entriesIf, scheduleIf, unlessTaken}
+use Rattle.plan.specs.Planned.{Planned, SameVisits}
 
 -- ---- values
 
@@ -123,33 +120,78 @@ pub record MakesTested (words : List ℕ) (p : Position) (init test : ℕ) (buff
   pub made : Makes p (testedValues words p init test) buffer values buffer′
   pub spent : Spent (noValues p) 6 values
 
--- ---- the turn that all loops share
+-- ---- a statement that is scheduled
 
-unfoldable pub loopTurn : (at fallthrough continueBlock loop : ℕ) → (taken : Option ℕ) → (count : ℕ) → (values : ℕ → Result Made) → List machine.Frame → Output → definition.Context → Result State
-loopTurn at fallthrough continueBlock loop taken count values frames out cx =
-    definition.schedule (definition.target-loop fallthrough continueBlock loop) cx >>= λ inside.
-    values (inside .visits) >>= λ made.
-    intoLoop at loop (loopIsTaken cx loop fallthrough) (made .visits) (machine.frameOf at taken 1 out count) frames (out ⊕ made .out) inside
+-- the values that come before its body
+abbrev pub madeBy : Table → VisitValueBlock → Terminal → (span : Span) → Made → Result Made
+madeBy t visit absent span made = ok made
+madeBy t visit unreachable span made = ok made
+madeBy t visit (throw value) span made = ok made
+madeBy t visit (return value) span made = ok made
+madeBy t visit (goto target variant) span made = ok made
+madeBy t visit (if test consequent alternate fallthrough) span made = ok made
+madeBy t visit (branch test consequent alternate) span made = ok made
+madeBy t visit (switch test first number fallthrough) span made = ok made
+madeBy t visit (do-while loop test fallthrough) span made = ok made
+madeBy t visit (while test loop fallthrough) span made = valueMade visit plainForm test span made
+madeBy t visit (for init test update loop fallthrough) span made = forMade t visit init test update span made
+madeBy t visit (for-of init test loop fallthrough) span made = forOfMade t visit init test span made
+madeBy t visit (for-in init loop fallthrough) span made = valueMade visit (flatForm t span) init span made
+madeBy t visit (logical operator test fallthrough) span made = ok made
+madeBy t visit (ternary test fallthrough) span made = ok made
+madeBy t visit (optional chain test fallthrough) span made = ok made
+madeBy t visit (label body fallthrough) span made = ok made
+madeBy t visit (sequence body fallthrough) span made = ok made
+madeBy t visit (maybe-throw continuation) span made = ok made
+madeBy t visit (try body handler fallthrough binding) span made = ok made
+madeBy t visit (scope pruned body fallthrough number) span made = ok made
 
--- ---- its plan
+abbrev pub valuesAt : List ℕ → Position → Result Made
+valuesAt words q = madeBy (tableOf words) (visitValueBlock (tableOf words) (127 - q .depth)) (terminalAt (tableOf words) (q .block)) (blockAt (tableOf words) (q .block) .span) (noneMade (q .visits))
 
-abbrev pub afterValues : Position → Values → Position
-afterValues p values = advanced p (p .count) (values .rows) (values .visits) Visit
+-- where they are made: at the loop's block, under the frames around it
+abbrev pub valuesPosition : Position → Frame → Position
+valuesPosition p frame = record { block = frame .block; depth = p .depth - 1; count = 0; rows = p .rows; visits = p .visits; stage = Visit }
+
+-- what its turn asks
+pub record Making (words : List ℕ) (p : Position) (frame : Frame) : Type 0 where
+  pub promise : Promise words
+  pub block : frame .block < blockCount words
+  pub depth : 1 ≤ p .depth
+  pub deep : p .depth ≤ 128
+  pub visits : p .visits ≤ 8192
+  pub rows : p .rows ≤ 100000000
+  pub count : frame .count ≤ p .rows
+
+abbrev pub valuesStep : List ℕ → Position → Frame → List machine.Frame → Output → definition.Context → Result State
+valuesStep words p frame frames before cx =
+    makeAt (tableOf words) (visitValueBlock (tableOf words) (128 - p .depth)) (terminalAt (tableOf words) (frame .block)) (blockAt (tableOf words) (frame .block)) (unlessNone (p .block))
+    (frameOf frame) frames before cx
+
+abbrev pub PlannedValues : List ℕ → Position → Frame → List ℕ → Plan → List ℕ → Type 0
+PlannedValues words p frame = Planned (valuesStep words p frame) (SameVisits p) (frameOf frame ∷ []) (p .depth) (p .rows)
+
+-- ---- plans
 
 abbrev pub loopTarget : (fallthrough continueBlock loopBlock : ℕ) → ControlFlowTarget
 loopTarget fallthrough continueBlock loopBlock = Loop fallthrough continueBlock loopBlock
 
-abbrev pub scheduleLoop : loops.Loop → Change
-scheduleLoop blocks = Schedule (loopTarget (blocks .fallthrough) (blocks .«continue_block») (blocks .«loop_block»))
+abbrev pub schedulingLoop : (taken : Bool) → Position → loops.Loop → Plan
+schedulingLoop taken p blocks =
+    makingNext (unlessTaken taken (blocks .«loop_block»)) (openFrame p (blocks .label) 1) (p .depth + 1) (p .rows) (p .visits)
+    (Schedule (loopTarget (blocks .fallthrough) (blocks .«continue_block») (blocks .«loop_block»)))
 
-abbrev pub enteringBody : (taken : Bool) → Position → Values → loops.Loop → Plan
-enteringBody true p values blocks = refusing (afterValues p values) 16 (p .block)
-enteringBody false p values blocks =
-    nesting (blocks .«loop_block») (openFrame p (blocks .label) 1) (p .depth + 1) (values .rows) (values .visits) 65535 65535 (scheduleLoop blocks)
+abbrev pub afterValues : Position → Values → Position
+afterValues p values = advanced p (p .count) (values .rows) (values .visits) at-values
 
-abbrev pub enteringLoop : (made taken : Bool) → Position → Values → loops.Loop → Plan
-enteringLoop false taken p values blocks = refusing (afterValues p values) (values .code) (values .at)
-enteringLoop true taken p values blocks = enteringBody taken p values blocks
+abbrev pub enteringBody : (made taken : Bool) → Position → Values → Frame → Plan
+enteringBody false taken p values frame = refusing (afterValues p values) (values .code) (values .at)
+enteringBody true true p values frame = refusing (afterValues p values) 16 (frame .block)
+enteringBody true false p values frame = nesting (p .block) frame (p .depth) (values .rows) (values .visits) 65535 65535 Nothing
+
+-- a value statement, with that label
+abbrev pub schedulingValue : Position → (label : ℕ) → Plan
+schedulingValue p taken = makingNext 65535 (openFrame p taken (entriesIf (eqb taken 65535))) (p .depth + 1) (p .rows) (p .visits) (scheduleIf (eqb taken 65535) taken)
 
 -- a loop block is the loop's fallthrough, or is scheduled
 abbrev pub loopTaken : Flags → Flags → (loop fallthrough : ℕ) → Bool
@@ -160,6 +202,10 @@ continuesAt true test update = test
 continuesAt false test update = update
 
 -- ---- value terminals as statements
+
+-- Logical, Ternary, Optional or Sequence
+abbrev pub valueCode : (code : ℕ) → Bool
+valueCode code = eqb code 13 || (eqb code 14 || (eqb code 15 || eqb code 17))
 
 -- the fallthrough of a Logical, Ternary, Optional or Sequence
 abbrev pub valueFallthrough : Terminal → Option ℕ

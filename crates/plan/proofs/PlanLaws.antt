@@ -12,9 +12,9 @@ use Rattle.table.specs.Table.{unlessNone}
 use Rattle.definition.specs.Build.{accepted, rejected}
 use Rattle.definition.specs.Context.{Flags, has, target-if, target-switch, withVisits}
 use Rattle.definition.specs.Context as definition
-use Rattle.definition.specs.Machine.{Output, visiting, choosing, popping, going, halt, leave, opens, scheduledIf, scheduledSwitch, unscheduled, unscheduledIf}
+use Rattle.definition.specs.Machine.{Output, visiting, choosing, popping, making, going, halt, leave, opens, scheduledIf, scheduledSwitch, unscheduled, unscheduledOf}
 use Rattle.definition.specs.Machine as machine
-use Rattle.definition.specs.Result.{Result, ok, _>>=_}
+use Rattle.definition.specs.Result.{Result, ok}
 use Rattle.definition.proofs.Never.{schedule-free}
 use Rattle.definition.proofs.Steps.{true-false}
 use Rattle.plan.specs.declared.Position.{Position}
@@ -24,7 +24,7 @@ use Rattle.plan.specs.declared.Line.{Line}
 use Rattle.plan.specs.declared.Line.the-variants.{Nothing}
 use Rattle.plan.specs.declared.Stage.the-variants.{Visit}
 use Rattle.plan.specs.Plans.{frameOf, within, changed, handled, scoped, contextAfter, unlessRefused, onward, lined, applied, withLine, refusing, stageAfter, leaving}
-use Rattle.plan.specs.Plans.{nesting, choosingNext, poppingNext, accepting, unlessTaken, entriesIf, scheduleIf, scheduleSwitch, brieflyIf}
+use Rattle.plan.specs.Plans.{nesting, choosingNext, poppingNext, makingNext, accepting, unlessTaken, entriesIf, scheduleIf, scheduleSwitch, unscheduleIf}
 use Rattle.plan.specs.Planned.{Nested}
 
 -- ---- frames
@@ -99,6 +99,17 @@ pub pop-applied : (frame : Frame) (depth rows visits : ℕ) (F : List machine.Fr
 unfolding applied unlessNone
 pop-applied frame depth rows visits F R C = refl
 
+-- 15 is `schedule`'s
+pub values-asked : (body : ℕ) (frame : Frame) (depth rows visits : ℕ) (change : Change) (F : List machine.Frame) (R : Output) (C : definition.Context)
+    → applied (makingNext body frame depth rows visits change) F R C ≡ unlessRefused (changed change (withVisits visits C)) (making (unlessNone body) (frameOf frame) (within (depth - 1) F) R)
+unfolding applied unlessNone
+values-asked body frame depth rows visits change F R C = refl
+
+-- a statement's entry comes off, if it has one
+pub off-changed : (entries : ℕ) (C : definition.Context) → changed (unscheduleIf (eqb entries 0)) C ≡ ok (unscheduledOf entries C)
+off-changed zero C = refl
+off-changed (suc n) C = rw (ne-eqb (suc n) 0 (λ e. omega (arith, e))) refl
+
 pub accept-applied : (rows visits : ℕ) (F : List machine.Frame) (R : Output) (C : definition.Context) → applied (accepting rows visits) F R C ≡ halt (accepted (R .rows) (R .lines) visits)
 unfolding applied
 accept-applied rows visits F R C = refl
@@ -161,14 +172,6 @@ module _ {S : Flags} {n : ℕ} (l : Label S n) where
         at : (y : Bool) → eqb n 65535 ≡ y → changed (scheduleSwitch y n) C ≡ ok (scheduledSwitch (elim y [ true ↦ none | false ↦ some n ]) C)
         at true q = refl
         at false q = schedule-free (target-switch n) C (label-free q)
-
-    pub label-briefly : changed (brieflyIf (eqb n 65535) n) C ≡ ok (unscheduledIf (unlessNone n) (scheduledIf (unlessNone n) C))
-    unfolding unlessNone _>>=_
-    label-briefly = at (eqb n 65535) refl
-      where
-        at : (y : Bool) → eqb n 65535 ≡ y → changed (brieflyIf y n) C ≡ ok (unscheduledIf (elim y [ true ↦ none | false ↦ some n ]) (scheduledIf (elim y [ true ↦ none | false ↦ some n ]) C))
-        at true q = refl
-        at false q = ap (λ (z : Result definition.Context). z >>= λ inside. ok (unscheduled inside)) (schedule-free (target-if n) C (label-free q))
 
 pub leave-nested : (y : Bool) → Nested (stageAfter y) false
 leave-nested true = tt

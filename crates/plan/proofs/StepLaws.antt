@@ -20,11 +20,11 @@ use Rattle.definition.specs.Context.{Flags, has, add, isScheduled, pushed, targ
 use Rattle.definition.specs.Context as definition
 use Rattle.definition.specs.Machine.{Output, State, visiting, going, halt, turn, into, opens, scheduledIf}
 use Rattle.definition.specs.Machine as machine
-use Rattle.definition.specs.Result.{ok, refused, _>>=_, refuseIf}
+use Rattle.definition.specs.Result.{Result, ok, refused, _>>=_, refuseIf}
 use Rattle.definition.specs.Statement.{unlessScheduled, unlessUnreachable}
 use Rattle.plan.specs.declared.Position.{Position}
 use Rattle.plan.specs.declared.Frame.{Frame}
-use Rattle.plan.specs.Plans.{frameOf, applied, openFrame, unlessTaken, entriesIf, scheduleIf, scheduledWith, enclosing}
+use Rattle.plan.specs.Plans.{frameOf, unlessRefused, applied, openFrame, unlessTaken, entriesIf, scheduleIf, scheduledWith, enclosing}
 use Rattle.plan.specs.Planned.{Seen, Stands}
 use Rattle.plan.proofs.PlanLaws.{within-all, visits-same, refuse-applied, nest-applied, Label, no-label, free-label, label-entries, label-if}
 
@@ -75,6 +75,12 @@ turn-refused c a v = refl
 pub turn-ok : (s : State) → turn (ok s) ≡ going s
 unfolding turn
 turn-ok s = refl
+
+-- a step that may be refused, and then a state
+pub turn-asked : (m : Result definition.Context) (to : definition.Context → State) → turn (m >>= λ inside. ok (to inside)) ≡ unlessRefused m to
+unfolding turn _>>=_
+turn-asked (ok inside) to = refl
+turn-asked (refused code at visits) to = refl
 
 pub into-busy : (block code at : ℕ) (fr : machine.Frame) (F : List machine.Frame) (R : Output) (C : definition.Context) → isScheduled C block ≡ true
     → into block code at fr F R C ≡ refused code at (C .visits)

@@ -20,10 +20,10 @@ use Rattle.control.specs.Contract.{Named}
 use Rattle.rows.specs.Rows.{Holds}
 use Rattle.rows.specs.Stack.{pushed}
 use Rattle.plan.specs.declared.Stage.{Stage}
-use Rattle.plan.specs.declared.Stage.the-variants.{Visit, Ended, Choose, Pop, Halt}
+use Rattle.plan.specs.declared.Stage.the-variants.{Visit, Ended, Choose, Pop, Values, Halt}
 use Rattle.plan.specs.declared.Position.{Position}
 use Rattle.plan.specs.declared.Change.{Change}
-use Rattle.plan.specs.declared.Change.the-variants.{Nothing, Schedule, ScheduleBriefly, Unschedule}
+use Rattle.plan.specs.declared.Change.the-variants.{Nothing, Schedule, Unschedule}
 use Rattle.plan.specs.declared.Plan.{Plan}
 use Rattle.plan.specs.Plans.{applied}
 
@@ -38,7 +38,6 @@ pub record Seen (scheduledSet handlerSet : Flags) (begun : ℕ) (cx : definition
 abbrev pub NamedChange : (entries : ℕ) → Change → Type 0
 NamedChange entries Nothing = Unit {0}
 NamedChange entries (Schedule target) = Named target
-NamedChange entries (ScheduleBriefly target) = Named target
 NamedChange entries Unschedule = 1 ≤ entries
 
 abbrev pub entriesOnTop : List machine.Frame → ℕ
@@ -50,12 +49,13 @@ abbrev pub deepest : (keep : Bool) → ℕ → ℕ
 deepest true depth = suc depth
 deepest false depth = depth
 
--- a Switch that takes its next case, and a statement whose entries come off, are kept
+-- a Switch that takes its next case, a statement whose entries come off, and one that makes its values, are kept
 abbrev pub Nested : Stage → (keep : Bool) → Type 0
 Nested Visit keep = Unit {0}
 Nested Ended keep = Unit {0}
 Nested Choose keep = keep ≡ true
 Nested Pop keep = keep ≡ true
+Nested Values keep = keep ≡ true
 Nested Halt keep = Unit {0}
 
 -- what the driver needs to apply a plan. `top` is the frame in hand, if any

@@ -9,18 +9,18 @@ use Rattle.table.specs.Table.{unlessNone}
 use Rattle.definition.specs.Build.{accepted, rejected}
 use Rattle.definition.specs.Context.{schedule, scheduleCatchHandler, markScopeFallthrough, withVisits}
 use Rattle.definition.specs.Context as definition
-use Rattle.definition.specs.Machine.{Output, State, visiting, ended, choosing, popping, Turn, going, halt, unscheduled}
+use Rattle.definition.specs.Machine.{Output, State, visiting, ended, choosing, popping, making, Turn, going, halt, unscheduled}
 use Rattle.definition.specs.Machine as machine
-use Rattle.definition.specs.Result.{Result, ok, refused, _>>=_}
+use Rattle.definition.specs.Result.{Result, ok, refused}
 use Rattle.definition.specs.Index as index
 use Rattle.control.specs.declared.ControlFlowTarget.the-variants.{If, Switch}
 use Rattle.control.specs.Abstraction.{targetOf}
 use Rattle.plan.specs.declared.Stage.{Stage}
-use Rattle.plan.specs.declared.Stage.the-variants.{Visit, Ended, Choose, Pop, Halt}
+use Rattle.plan.specs.declared.Stage.the-variants.{Visit, Ended, Choose, Pop, Values, Halt}
 use Rattle.plan.specs.declared.Position.{Position}
 use Rattle.plan.specs.declared.Frame.{Frame}
 use Rattle.plan.specs.declared.Change.{Change}
-use Rattle.plan.specs.declared.Change.the-variants.{Nothing, Schedule, ScheduleBriefly, Unschedule}
+use Rattle.plan.specs.declared.Change.the-variants.{Nothing, Schedule, Unschedule}
 use Rattle.plan.specs.declared.Line.{Line}
 use Rattle.plan.specs.declared.Line.the-variants as line
 use Rattle.plan.specs.declared.Plan.{Plan}
@@ -38,7 +38,7 @@ unfoldable pub framesOf : List Frame → ℕ → List machine.Frame
 framesOf frames zero = []
 framesOf frames (suc n) = frameOf (getD frames n noFrame) ∷ framesOf frames n
 
--- the state at a stage. (With no frame, Choose and Pop do not occur; nor does Halt.)
+-- the state at a stage. (With no frame, Choose, Pop and Values do not occur; nor does Halt.)
 abbrev pub stateAt : Stage → (block : ℕ) → List machine.Frame → Output → (count : ℕ) → definition.Context → State
 stateAt Visit block frames out count cx = visiting block frames out count cx
 stateAt Ended block frames out count cx = ended frames out count cx
@@ -46,6 +46,8 @@ stateAt Choose block [] out count cx = ended [] out count cx
 stateAt Choose block (frame ∷ frames) out count cx = choosing frame frames out cx
 stateAt Pop block [] out count cx = ended [] out count cx
 stateAt Pop block (frame ∷ frames) out count cx = popping frame frames out cx
+stateAt Values block [] out count cx = ended [] out count cx
+stateAt Values block (frame ∷ frames) out count cx = making (unlessNone block) frame frames out cx
 stateAt Halt block frames out count cx = ended frames out count cx
 
 -- ---- what the driver does with a plan
@@ -54,7 +56,6 @@ stateAt Halt block frames out count cx = ended frames out count cx
 abbrev pub changed : Change → definition.Context → Result definition.Context
 changed Nothing cx = ok cx
 changed (Schedule target) cx = schedule (targetOf target) cx
-changed (ScheduleBriefly target) cx = schedule (targetOf target) cx >>= λ inside. ok (unscheduled inside)
 changed Unschedule cx = ok (unscheduled cx)
 
 abbrev pub handled : Option ℕ → definition.Context → definition.Context
@@ -86,6 +87,7 @@ onward Visit plan frames out after = unlessRefused after (visiting (plan .positi
 onward Ended plan frames out after = unlessRefused after (ended (kept (plan .keep) (plan .frame) (plan .position .depth) frames) out (plan .position .count))
 onward Choose plan frames out after = unlessRefused after (stateAt Choose 0 (kept (plan .keep) (plan .frame) (plan .position .depth) frames) out 0)
 onward Pop plan frames out after = unlessRefused after (stateAt Pop 0 (kept (plan .keep) (plan .frame) (plan .position .depth) frames) out 0)
+onward Values plan frames out after = unlessRefused after (stateAt Values (plan .position .block) (kept (plan .keep) (plan .frame) (plan .position .depth) frames) out 0)
 onward Halt plan frames out after = halt (accepted (out .rows) (out .lines) (plan .position .visits))
 
 -- the line of a statement (M-101) whose closing row is the last of the rows that are out
@@ -118,6 +120,10 @@ second frame = record { block = frame .block; label = frame .label; entries = fr
 
 abbrev pub withCounts : Frame → (entries left built : ℕ) → Frame
 withCounts frame entries left built = record { block = frame .block; label = frame .label; entries = entries; left = left; built = built; first = frame .first; count = frame .count; second = frame .second }
+
+-- on to the position, and nothing else
+abbrev pub goingOn : Position → Plan
+goingOn position = record { code = 0; at = 0; position = position; frame = noFrame; keep = false; handler = 65535; scope = 65535; change = Nothing; line = line.Nothing }
 
 abbrev pub refusing : Position → (code at : ℕ) → Plan
 refusing p code at = record { code = code; at = at; position = p; frame = noFrame; keep = false; handler = 65535; scope = 65535; change = Nothing; line = line.Nothing }
@@ -178,6 +184,19 @@ poppingNext frame depth rows visits = record {
   line = line.Nothing;
 }
 
+abbrev pub makingNext : (body : ℕ) → Frame → (depth rows visits : ℕ) → Change → Plan
+makingNext body frame depth rows visits change = record {
+  code = 0;
+  at = 0;
+  position = record { block = body; depth = depth; count = 0; rows = rows; visits = visits; stage = Values };
+  frame = frame;
+  keep = true;
+  handler = 65535;
+  scope = 65535;
+  change = change;
+  line = line.Nothing;
+}
+
 abbrev pub accepting : (rows visits : ℕ) → Plan
 accepting rows visits = record {
   code = 0;
@@ -219,10 +238,10 @@ abbrev pub scheduleSwitch : Bool → ℕ → Change
 scheduleSwitch true taken = Nothing
 scheduleSwitch false taken = Schedule (Switch taken)
 
--- a value statement pushes an entry and pops it
-abbrev pub brieflyIf : (unlabeled : Bool) → (label : ℕ) → Change
-brieflyIf true taken = Nothing
-brieflyIf false taken = ScheduleBriefly (If taken)
+-- a statement's entry comes off, if it has one
+abbrev pub unscheduleIf : (none : Bool) → Change
+unscheduleIf true = Nothing
+unscheduleIf false = Unschedule
 
 -- a block is scheduled, or will be once the label is
 abbrev pub scheduledWith : (busy : Bool) → (label block : ℕ) → Bool

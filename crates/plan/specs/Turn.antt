@@ -22,7 +22,7 @@ use Rattle.survey.specs.Abstraction.{aimOf}
 use Rattle.rows.specs.Rows.{Holds}
 use Rattle.rows.specs.Stack.{pushed}
 use Rattle.plan.specs.declared.Stage.{Stage}
-use Rattle.plan.specs.declared.Stage.the-variants.{Visit, Ended, Choose, Pop, Halt}
+use Rattle.plan.specs.declared.Stage.the-variants.{Visit, Ended, Choose, Pop, Values, Halt}
 use Rattle.plan.specs.declared.Position.{Position}
 use Rattle.plan.specs.declared.Frame.{Frame}
 use Rattle.plan.specs.declared.Plan.{Plan}
@@ -94,6 +94,8 @@ inHand Choose zero frame = []
 inHand Choose (suc depth) frame = frameOf frame ∷ []
 inHand Pop zero frame = []
 inHand Pop (suc depth) frame = frameOf frame ∷ []
+inHand Values zero frame = []
+inHand Values (suc depth) frame = frameOf frame ∷ []
 inHand Halt depth frame = []
 
 -- numbers of the frame in hand
@@ -107,6 +109,7 @@ StageFits words Visit p frame = (p .block < blockCount words) × (p .count ≤ p
 StageFits words Ended p frame = (p .count ≤ p .rows) × (1 ≤ p .depth → FrameFits words 0 (p .rows) frame)
 StageFits words Choose p frame = (1 ≤ p .depth) × (isSwitch (terminalAt (tableOf words) (frame .block)) ≡ true) × FrameFits words 1 (p .rows) frame
 StageFits words Pop p frame = (1 ≤ p .depth) × FrameFits words 1 (p .rows) frame
+StageFits words Values p frame = (1 ≤ p .depth) × FrameFits words 0 (p .rows) frame
 StageFits words Halt p frame = ⊥
 
 pub record Ready (words : List ℕ) (p : Position) (frame : Frame) : Type 0 where
@@ -124,6 +127,7 @@ emitting Visit block cx = emit block cx
 emitting Ended block cx = cx
 emitting Choose block cx = cx
 emitting Pop block cx = cx
+emitting Values block cx = cx
 emitting Halt block cx = cx
 
 -- the plan, applied, is the machine's step over the frames that are around

@@ -16,7 +16,7 @@ ghost use Rattle.table.specs.Words.{blockCount, codeAt};
 ghost use Rattle.table.specs.Promise.{Promise};
 ghost use mathlib.Core.Bool.{_||_};
 ghost use Rattle.definition.specs.Context.{has};
-ghost use Rattle.plan.specs.Plans.{unlessTaken, entriesIf, scheduleIf, scheduleSwitch, scheduledWith, enclosing};
+ghost use Rattle.plan.specs.Plans.{unlessTaken, entriesIf, scheduleIf, scheduleSwitch, unscheduleIf, scheduledWith, enclosing};
 
 // A block's number as the sets and the stack have it.
 pub fn narrow(block: u32) -> u16
@@ -118,6 +118,16 @@ pub fn schedule_switch(label: u32) -> Change
     Change::Schedule(ControlFlowTarget::Switch {
         block: narrow(label),
     })
+}
+
+// A statement's entry comes off, if it has one.
+pub fn unschedule_if(entries: u32) -> Change
+    ensures { λ r. ⌜ r ≡ unscheduleIf (eqb entries 0) ⌝ }
+{
+    if entries == 0 {
+        return Change::Nothing;
+    }
+    Change::Unschedule
 }
 
 // A statement with a label and one nested block that must not be scheduled: If's consequent, Label's and a scope's block.

@@ -4,21 +4,24 @@ pub mod fallthrough;
 use control::ControlFlowTarget;
 ghost use mathlib.Core.Path.{_≡_};
 ghost use lib.Dec.{eqb};
-ghost use Rattle.plan.specs.Plans.{advanced, noFrame, openFrame, second, withCounts, refusing, stageAfter, leaving, nesting, choosingNext, poppingNext, accepting, withHandler, withScope, withLine};
+ghost use Rattle.plan.specs.Plans.{advanced, goingOn, noFrame, openFrame, second, withCounts, refusing, stageAfter, leaving, nesting, choosingNext, poppingNext, makingNext, accepting, withHandler, withScope, withLine};
 
 // No block: paper 01's 65,535.
 pub const NONE: u32 = 65535;
 
-// What the next turn does: visit a block, resume the statement whose list has ended, take a Switch's next case, or take an entry off the stack.
+// What the next turn does: visit a block, resume the statement whose list has ended, take a Switch's next case, take an entry off the stack, or make the
+// values of a statement that is scheduled.
 pub enum Stage {
     Visit,
     Ended,
     Choose,
     Pop,
+    Values,
     Halt,
 }
 
-// Where the walk stands: under `depth` frames, with `count` statements of the list in hand and `rows` rows out.
+// Where the walk stands: under `depth` frames, with `count` statements of the list in hand and `rows` rows out. `block` is the one to be visited, or the
+// body of the loop whose values are made, NONE where that is taken.
 pub struct Position {
     pub block: u32,
     pub depth: u32,
@@ -41,11 +44,10 @@ pub struct Frame {
     pub second: bool,
 }
 
-// What a turn does to the stack. A value statement's entry is pushed and popped in one turn: no visit of its value looks at the stack.
+// What a turn does to the stack.
 pub enum Change {
     Nothing,
     Schedule(ControlFlowTarget),
-    ScheduleBriefly(ControlFlowTarget),
     Unschedule,
 }
 
@@ -73,12 +75,11 @@ pub fn advance(p: Position, count: u32, rows: u32, visits: u32, stage: Stage) ->
     ensures { λ r. ⌜ r ≡ advanced p count rows visits stage ⌝ }
 {
     Position {
-        block: p.block,
-        depth: p.depth,
-        count: count,
-        rows: rows,
-        visits: visits,
-        stage: stage,
+        count,
+        rows,
+        visits,
+        stage,
+        ..p
     }
 }
 
@@ -102,13 +103,11 @@ pub fn frame_of(p: Position, label: u32, entries: u32) -> Frame
 {
     Frame {
         block: p.block,
-        label: label,
-        entries: entries,
-        left: 0,
-        built: 0,
+        label,
+        entries,
         first: p.rows,
         count: p.count,
-        second: false,
+        ..no_frame()
     }
 }
 
@@ -116,14 +115,8 @@ pub fn second_part(frame: Frame) -> Frame
     ensures { λ r. ⌜ r ≡ second frame ⌝ }
 {
     Frame {
-        block: frame.block,
-        label: frame.label,
-        entries: frame.entries,
-        left: frame.left,
-        built: frame.built,
-        first: frame.first,
-        count: frame.count,
         second: true,
+        ..frame
     }
 }
 
@@ -131,31 +124,38 @@ pub fn with_counts(frame: Frame, entries: u32, left: u32, built: u32) -> Frame
     ensures { λ r. ⌜ r ≡ withCounts frame entries left built ⌝ }
 {
     Frame {
-        block: frame.block,
-        label: frame.label,
-        entries: entries,
-        left: left,
-        built: built,
-        first: frame.first,
-        count: frame.count,
-        second: frame.second,
+        entries,
+        left,
+        built,
+        ..frame
+    }
+}
+
+// On to the position, and nothing else.
+fn go_on(position: Position) -> Plan
+    ensures { λ r. ⌜ r ≡ goingOn position ⌝ }
+{
+    let frame = no_frame();
+    Plan {
+        code: 0,
+        at: 0,
+        position,
+        frame,
+        keep: false,
+        handler: NONE,
+        scope: NONE,
+        change: Change::Nothing,
+        line: Line::Nothing,
     }
 }
 
 pub fn refuse(p: Position, code: u32, at: u32) -> Plan
     ensures { λ r. ⌜ r ≡ refusing p code at ⌝ }
 {
-    let frame = no_frame();
     Plan {
-        code: code,
-        at: at,
-        position: p,
-        frame: frame,
-        keep: false,
-        handler: NONE,
-        scope: NONE,
-        change: Change::Nothing,
-        line: Line::Nothing,
+        code,
+        at,
+        ..go_on(p)
     }
 }
 
@@ -175,23 +175,15 @@ pub fn leave(next: u32, depth: u32, count: u32, rows: u32, visits: u32, change: 
     let stage = stage_after(next);
     let position = Position {
         block: next,
-        depth: depth,
-        count: count,
-        rows: rows,
-        visits: visits,
-        stage: stage,
+        depth,
+        count,
+        rows,
+        visits,
+        stage,
     };
-    let frame = no_frame();
     Plan {
-        code: 0,
-        at: 0,
-        position: position,
-        frame: frame,
-        keep: false,
-        handler: NONE,
-        scope: NONE,
-        change: change,
-        line: Line::Nothing,
+        change,
+        ..go_on(position)
     }
 }
 
@@ -207,23 +199,18 @@ pub fn traverse_block(
     ensures { λ r. ⌜ r ≡ nesting block frame depth rows visits 65535 65535 change ⌝ }
 {
     let position = Position {
-        block: block,
-        depth: depth,
+        block,
+        depth,
         count: 0,
-        rows: rows,
-        visits: visits,
+        rows,
+        visits,
         stage: Stage::Visit,
     };
     Plan {
-        code: 0,
-        at: 0,
-        position: position,
-        frame: frame,
+        frame,
         keep: true,
-        handler: NONE,
-        scope: NONE,
-        change: change,
-        line: Line::Nothing,
+        change,
+        ..go_on(position)
     }
 }
 
@@ -233,22 +220,17 @@ pub fn choose(frame: Frame, depth: u32, rows: u32, visits: u32, change: Change) 
 {
     let position = Position {
         block: 0,
-        depth: depth,
+        depth,
         count: 0,
-        rows: rows,
-        visits: visits,
+        rows,
+        visits,
         stage: Stage::Choose,
     };
     Plan {
-        code: 0,
-        at: 0,
-        position: position,
-        frame: frame,
+        frame,
         keep: true,
-        handler: NONE,
-        scope: NONE,
-        change: change,
-        line: Line::Nothing,
+        change,
+        ..go_on(position)
     }
 }
 
@@ -258,22 +240,44 @@ pub fn pop(frame: Frame, depth: u32, rows: u32, visits: u32) -> Plan
 {
     let position = Position {
         block: 0,
-        depth: depth,
+        depth,
         count: 0,
-        rows: rows,
-        visits: visits,
+        rows,
+        visits,
         stage: Stage::Pop,
     };
     Plan {
-        code: 0,
-        at: 0,
-        position: position,
-        frame: frame,
+        frame,
         keep: true,
-        handler: NONE,
-        scope: NONE,
         change: Change::Unschedule,
-        line: Line::Nothing,
+        ..go_on(position)
+    }
+}
+
+// A statement is scheduled: its values are made next, a loop's before its body, of the frame, which is the innermost at that depth.
+pub fn make_values(
+    body: u32,
+    frame: Frame,
+    depth: u32,
+    rows: u32,
+    visits: u32,
+    change: Change,
+) -> Plan
+    ensures { λ r. ⌜ r ≡ makingNext body frame depth rows visits change ⌝ }
+{
+    let position = Position {
+        block: body,
+        depth,
+        count: 0,
+        rows,
+        visits,
+        stage: Stage::Values,
+    };
+    Plan {
+        frame,
+        keep: true,
+        change,
+        ..go_on(position)
     }
 }
 
@@ -285,79 +289,27 @@ pub fn accept(rows: u32, visits: u32) -> Plan
         block: 0,
         depth: 0,
         count: 0,
-        rows: rows,
-        visits: visits,
+        rows,
+        visits,
         stage: Stage::Halt,
     };
-    let frame = no_frame();
-    Plan {
-        code: 0,
-        at: 0,
-        position: position,
-        frame: frame,
-        keep: false,
-        handler: NONE,
-        scope: NONE,
-        change: Change::Nothing,
-        line: Line::Nothing,
-    }
+    go_on(position)
 }
 
 pub fn with_handler(plan: Plan, handler: u32) -> Plan
     ensures { λ r. ⌜ r ≡ withHandler plan handler ⌝ }
 {
-    let position = plan.position;
-    let frame = plan.frame;
-    let change = plan.change;
-    let line = plan.line;
-    Plan {
-        code: plan.code,
-        at: plan.at,
-        position: position,
-        frame: frame,
-        keep: plan.keep,
-        handler: handler,
-        scope: plan.scope,
-        change: change,
-        line: line,
-    }
+    Plan { handler, ..plan }
 }
 
 pub fn with_scope(plan: Plan, scope: u32) -> Plan
     ensures { λ r. ⌜ r ≡ withScope plan scope ⌝ }
 {
-    let position = plan.position;
-    let frame = plan.frame;
-    let change = plan.change;
-    let line = plan.line;
-    Plan {
-        code: plan.code,
-        at: plan.at,
-        position: position,
-        frame: frame,
-        keep: plan.keep,
-        handler: plan.handler,
-        scope: scope,
-        change: change,
-        line: line,
-    }
+    Plan { scope, ..plan }
 }
 
 pub fn with_line(plan: Plan, line: Line) -> Plan
     ensures { λ r. ⌜ r ≡ withLine plan line ⌝ }
 {
-    let position = plan.position;
-    let frame = plan.frame;
-    let change = plan.change;
-    Plan {
-        code: plan.code,
-        at: plan.at,
-        position: position,
-        frame: frame,
-        keep: plan.keep,
-        handler: plan.handler,
-        scope: plan.scope,
-        change: change,
-        line: line,
-    }
+    Plan { line, ..plan }
 }

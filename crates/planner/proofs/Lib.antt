@@ -4,3 +4,4 @@ pub mod JumpLaws
 pub mod GotoLaws
 pub mod BranchLaws
 pub mod TerminalLaws
+pub mod ValuesLaws

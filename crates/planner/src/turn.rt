@@ -1,5 +1,6 @@
-// A turn of the walk: the visit of a block, the end of a nested list, a Switch's next case, or an entry that comes off the stack.
+// A turn of the walk: the visit of a block, the end of a nested list, a Switch's next case, an entry that comes off the stack, or a statement's values.
 use crate::visit::visit_block;
+use loops::visit_values;
 use plan::Frame;
 use plan::Plan;
 use plan::Position;
@@ -43,6 +44,7 @@ pub fn plan_turn<'a>(
         Stage::Ended => resume(words, tree, scheduled, catch_handlers, p, frame),
         Stage::Choose => choose_case(words, tree, scheduled, catch_handlers, p, frame),
         Stage::Pop => close_statement(words, tree, p, frame),
+        Stage::Values => visit_values(words, tree, p, frame),
         Stage::Halt => refuse(p, 99, 0),
     }
 }

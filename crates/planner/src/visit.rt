@@ -9,11 +9,11 @@ use crate::nested::visit_maybe_throw;
 use crate::nested::visit_scope;
 use crate::nested::visit_switch;
 use crate::nested::visit_try;
+use loops::schedule_value;
 use loops::visit_do_while;
 use loops::visit_for;
 use loops::visit_for_in;
 use loops::visit_for_of;
-use loops::visit_value;
 use loops::visit_while;
 use plan::Change;
 use plan::NONE;
@@ -64,54 +64,26 @@ fn visit_terminal<'a>(
         6 => visit_branch(words, tree, scheduled, catch_handlers, scopes, p, aim),
         7 => visit_switch(words, scheduled, catch_handlers, p),
         8 => visit_do_while(words, scheduled, catch_handlers, p),
-        9 => visit_while(words, tree, scheduled, catch_handlers, p),
-        10 => visit_for(words, tree, scheduled, catch_handlers, p),
-        11 => visit_for_of(words, tree, scheduled, catch_handlers, p),
-        12 => visit_for_in(words, tree, scheduled, catch_handlers, p),
+        9 => visit_while(words, scheduled, catch_handlers, p),
+        10 => visit_for(words, scheduled, catch_handlers, p),
+        11 => visit_for_of(words, scheduled, catch_handlers, p),
+        12 => visit_for_in(words, scheduled, catch_handlers, p),
         13 => {
             let terminal = logical_at(words, p.block);
-            visit_value(
-                words,
-                tree,
-                scheduled,
-                catch_handlers,
-                p,
-                terminal.fallthrough,
-            )
+            schedule_value(scheduled, catch_handlers, p, terminal.fallthrough)
         }
         14 => {
             let terminal = ternary_at(words, p.block);
-            visit_value(
-                words,
-                tree,
-                scheduled,
-                catch_handlers,
-                p,
-                terminal.fallthrough,
-            )
+            schedule_value(scheduled, catch_handlers, p, terminal.fallthrough)
         }
         15 => {
             let terminal = optional_at(words, p.block);
-            visit_value(
-                words,
-                tree,
-                scheduled,
-                catch_handlers,
-                p,
-                terminal.fallthrough,
-            )
+            schedule_value(scheduled, catch_handlers, p, terminal.fallthrough)
         }
         16 => visit_label(words, scheduled, catch_handlers, p),
         17 => {
             let terminal = sequence_at(words, p.block);
-            visit_value(
-                words,
-                tree,
-                scheduled,
-                catch_handlers,
-                p,
-                terminal.fallthrough,
-            )
+            schedule_value(scheduled, catch_handlers, p, terminal.fallthrough)
         }
         18 => visit_maybe_throw(words, scheduled, catch_handlers, p),
         19 => visit_try(words, scheduled, catch_handlers, p),

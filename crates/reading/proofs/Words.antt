@@ -15,7 +15,7 @@ use Rattle.reading.specs.Needs.{refused, codeOf, atOf, rowsVerdict, rows
 use Rattle.reading.proofs.Upto.{and-both}
 use Rattle.reading.proofs.Answers.{verdictOf, machine-answers, answer-is, code-is, at-is}
 
-words-back : (list : List Row) → rowsOfWords (wordsOf list) ≡ some list
+pub words-back : (list : List Row) → rowsOfWords (wordsOf list) ≡ some list
 unfolding wordsOf
 words-back [] = refl
 words-back (row op a b c d e ∷ list) = rw (words-back list)
@@ -38,7 +38,7 @@ back-words (op ∷ a ∷ b ∷ c ∷ d ∷ f ∷ words) list e = by (rowsOfWords
     by none o e q = absurd (none-some e)
     by (some l) o e q = let z : row op a b c d f ∷ l ≡ list = cc e in ap wordsOf (sym z) ∙ ap (λ (k : List ℕ). op ∷ a ∷ b ∷ c ∷ d ∷ f ∷ k) (q l o)
 
-sized : (list : List Row) → 1 ≤ length list → length list ≤ mostRows → sizedVerdict list ≡ rowsVerdict list 0 []
+pub sized : (list : List Row) → 1 ≤ length list → length list ≤ mostRows → sizedVerdict list ≡ rowsVerdict list 0 []
 sized list h l =
     let y : leb 1 (length list) && leb (length list) mostRows ≡ true = rw (le-leb 1 (length list) h, le-leb (length list) 2048 l) in
     ap (λ (b : Bool). elim b [ true ↦ rowsVerdict list 0 [] | false ↦ refused 62 0 ]) y

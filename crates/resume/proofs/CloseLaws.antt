@@ -32,10 +32,10 @@ use Rattle.plan.specs.declared.Change.{Change}
 use Rattle.plan.specs.declared.Line.{Line}
 use Rattle.plan.specs.declared.Line.the-variants as line
 use Rattle.plan.specs.declared.Plan.{Plan}
-use Rattle.plan.specs.Plans.{frameOf, changed, lined, applied, leaving, withLine, poppingNext}
+use Rattle.plan.specs.Plans.{frameOf, changed, lined, applied, leaving, withLine, poppingNext, unscheduleIf}
 use Rattle.plan.specs.Planned.{NamedChange, Stands}
 use Rattle.resume.specs.declared.ClosingRow.{ClosingRow}
-use Rattle.resume.specs.Resume.{entriesLess, rowOf, closingRowAt, lineAs, lineAt, unscheduleIf, Closing, closeStep, PlannedClose}
+use Rattle.resume.specs.Resume.{entriesLess, rowOf, closingRowAt, lineAs, lineAt, Closing, closeStep, PlannedClose}
 use Rattle.plan.proofs.PlanLaws.{within-rest, visits-same, leave-lined, leave-nested, pop-applied}
 use Rattle.plan.proofs.StepLaws.{turn-ok}
 

@@ -41,23 +41,18 @@ use Rattle.plan.specs.declared.Position.{Position}
 use Rattle.plan.specs.declared.Frame.{Frame}
 use Rattle.plan.specs.declared.Change.the-variants.{Nothing, Schedule}
 use Rattle.plan.specs.declared.Plan.{Plan}
-use Rattle.plan.specs.Plans.{frameOf, stateAt, second, unlessRefused, applied, refusing, nesting, choosingNext, accepting}
+use Rattle.plan.specs.Plans.{frameOf, stateAt, second, applied, refusing, nesting, choosingNext, accepting}
 use Rattle.plan.specs.Planned.{Seen, Stands, Fitting, Planned}
 use Rattle.definition.specs.Around.{Around}
 use Rattle.plan.specs.Turn.{inHand, FrameFits, StageFits, Ready, emitting, PlannedTurn}
 use Rattle.resume.specs.Resume.{oneBuilt, leftLess, alternating, Closing, Resuming, Choosing, Begun, closeStep, resumeStep, chooseStep, PlannedClose, PlannedOn, PlannedResume, PlannedChoice}
 use Rattle.plan.proofs.PlanLaws.{within-rest, visits-same, refuse-applied, nest-applied, choose-asked, choose-applied, accept-applied}
-use Rattle.plan.proofs.StepLaws.{seen-scheduled, turn-ok, turn-refused, into-busy, into-free}
+use Rattle.plan.proofs.StepLaws.{seen-scheduled, turn-ok, turn-refused, turn-asked, into-busy, into-free}
 use Rattle.plan.proofs.PlannedLaws.{planned-as, planned-after, applied-visits}
 
 visits-set : (v : ℕ) (C : definition.Context) → withVisits v C .visits ≡ v
 unfolding withVisits
 visits-set v C = refl
-
-turn-asked : (m : Result definition.Context) (to : definition.Context → State) → turn (m >>= λ inside. ok (to inside)) ≡ unlessRefused m to
-unfolding turn _>>=_
-turn-asked (ok inside) to = refl
-turn-asked (refused code at visits) to = refl
 
 -- ---- a statement is resumed
 

@@ -17,8 +17,7 @@ use Rattle.definition.specs.Value.{visitValueBlock}
 use Rattle.definition.specs.Framed.{isSwitch}
 use Rattle.plan.specs.declared.Position.{Position}
 use Rattle.plan.specs.declared.Frame.{Frame}
-use Rattle.plan.specs.declared.Change.{Change}
-use Rattle.plan.specs.declared.Change.the-variants.{Nothing, Unschedule}
+use Rattle.plan.specs.declared.Change.the-variants.{Nothing}
 use Rattle.plan.specs.declared.Line.{Line}
 use Rattle.plan.specs.declared.Line.the-variants as line
 use Rattle.plan.specs.declared.Plan.{Plan}
@@ -52,10 +51,6 @@ abbrev pub lineAt : List ℕ → Frame → Line
 lineAt words frame = lineAs (enclosingLabel (enclosingBy (terminalAt (tableOf words) (frame .block)) (unlessNone (frame .label)))) (frame .first)
 
 -- ---- plans
-
-abbrev pub unscheduleIf : Bool → Change
-unscheduleIf true = Nothing
-unscheduleIf false = Unschedule
 
 -- a second part that must not be scheduled
 abbrev pub alternating : (busy : Bool) → Position → Frame → (block code at : ℕ) → Plan

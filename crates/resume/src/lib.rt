@@ -12,6 +12,7 @@ use plan::advance;
 use plan::choose;
 use plan::fallthrough::narrow;
 use plan::fallthrough::scheduled_at;
+use plan::fallthrough::unschedule_if;
 use plan::leave;
 use plan::pop;
 use plan::refuse;
@@ -59,7 +60,7 @@ ghost use Rattle.plan.specs.declared.Stage.the-variants.{Ended, Choose};
 ghost use Rattle.plan.specs.Planned.{Seen};
 ghost use Rattle.definition.specs.Around.{Around};
 ghost use Rattle.plan.specs.Turn.{Ready, PlannedTurn};
-ghost use Rattle.resume.specs.Resume.{rowOf, closingRowAt, lineAt, unscheduleIf, alternating, Closing, Resuming, PlannedClose, PlannedOn, PlannedResume};
+ghost use Rattle.resume.specs.Resume.{rowOf, closingRowAt, lineAt, alternating, Closing, Resuming, PlannedClose, PlannedOn, PlannedResume};
 
 // The words of a statement's closing row; the last is 0.
 pub struct ClosingRow {
@@ -163,15 +164,6 @@ fn line_at(words: &[u32], frame: Frame) -> Line
         return Line::Nothing;
     }
     Line::Put(frame.label, frame.first)
-}
-
-fn unschedule_if(entries: u32) -> Change
-    ensures { λ r. ⌜ r ≡ unscheduleIf (eqb entries 0) ⌝ }
-{
-    if entries == 0 {
-        return Change::Nothing;
-    }
-    Change::Unschedule
 }
 
 // One entry is taken off the stack; with the last the statement is complete.

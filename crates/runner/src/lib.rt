@@ -7,7 +7,7 @@ use treerows::read_tree;
 ghost use mathlib.Core.Path.{_≡_};
 ghost use lib.ListN.{length};
 ghost use Rattle.running.specs.Ran.{notRun, refusal};
-ghost use Rattle.running.specs.Given.{Gives};
+ghost use Rattle.running.specs.Given.{runOf};
 ghost use Rattle.runner.specs.Holds.{notRunFrom, outcomeOf};
 
 mod cells;
@@ -86,7 +86,7 @@ pub fn refuse(code: u32, at: u32, performed: &mut [u32]) -> Ran
 
 // Runs the tree that any words are the rows of: writes the rows performed, then zeros. The tree and the answers are left alone.
 pub fn run_tree(tree: &[u32], answers: &[u32], performed: &mut [u32]) -> Ran
-    ensures { λ r. ⌜ Gives (now (tree .entry)) (now (answers .entry)) (length (now (performed .entry))) (outcomeOf r (now (performed .exit))) ⌝ }
+    ensures { λ r. ⌜ outcomeOf r (now (performed .exit)) ≡ runOf (now (tree .entry)) (now (answers .entry)) (length (now (performed .entry))) ⌝ }
 {
     let read = read_tree(tree);
     if read.code != 0 {
@@ -128,8 +128,7 @@ pub extern "C" fn tree_run(
     number: &mut usize,
     reason: &mut u32,
 ) -> u32
-    ensures { λ r. ⌜ Gives (now (tree .entry)) (now (answers .entry)) (length (now (performed .entry)))
-        (record { code = r; at = now (at .exit); number = now (number .exit); reason = now (reason .exit); buffer = now (performed .exit) }) ⌝ }
+    ensures { λ r. ⌜ record { code = r; at = now (at .exit); number = now (number .exit); reason = now (reason .exit); buffer = now (performed .exit) } ≡ runOf (now (tree .entry)) (now (answers .entry)) (length (now (performed .entry))) ⌝ }
 {
     let run = run_tree(tree, answers, performed);
     *at = run.at;

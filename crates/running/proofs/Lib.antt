@@ -9,4 +9,5 @@ pub mod Linking
 pub mod ActLaws
 pub mod OneOutcome
 pub mod SwitchRuns
+pub mod LoopRuns
 pub mod Samples

@@ -169,11 +169,11 @@ module _ {root : Statements} {answers : Answers} {lent : ℕ} {performed : List 
       at false e = g (leb-false (length performed) lent e)
 
   -- "where none of 63, 64 and 65 is given": where 65 is not
-  unless-65 : (ran root answers lent .code ≡ 65 → ⊥) → ran root answers lent ≡ ended performed lent reason
+  pub unless-65 : (ran root answers lent .code ≡ 65 → ⊥) → ran root answers lent ≡ ended performed lent reason
   unless-65 f = by-room (p .fits) (λ h. absurd (f (p .short h)))
 
   -- 63 and 64 never come
-  nought-or-65 : isGood reason ≡ true → (ran root answers lent .code ≡ 0) ⊎ (ran root answers lent .code ≡ 65)
+  pub nought-or-65 : isGood reason ≡ true → (ran root answers lent .code ≡ 0) ⊎ (ran root answers lent .code ≡ 65)
   nought-or-65 g = by-room (λ h. inl (ap (λ (o : Outcome). o .code) (p .fits h) ∙ ended-good performed lent reason g)) (λ h. inr (p .short h))
 
 -- the parts of a run that stopped
@@ -185,7 +185,7 @@ abbrev goodIn : Run → Bool
 goodIn unfinished = false
 goodIn (stopped performed left reason) = isGood reason
 
-runs-as : (root : Statements) → WellFormed root → Runnable root → (answers : Answers) (lent : ℕ) (performed : List ℕ) (left : Answers) (reason : Reason)
+pub runs-as : (root : Statements) → WellFormed root → Runnable root → (answers : Answers) (lent : ℕ) (performed : List ℕ) (left : Answers) (reason : Reason)
     → treeRun root answers ≡ stopped performed left reason → isGood reason ≡ true → RunsAs root answers lent performed reason
 unfolding treeRun
 runs-as root w p answers lent performed left reason e g =

@@ -1,15 +1,19 @@
 -- M-103, the whole: what the runner gives for any words, any answers and any lent buffer. "M-100's refusals come before these."
 use mathlib.Core.Path.{_≡_}
 use Prim.Native.Nat.{ℕ, _≤_}
-use mathlib.Core.List.{List}
+use mathlib.Core.List.{List, [], _∷_}
+use mathlib.Core.Option.{Option, none, some}
 use mathlib.Core.Bool.{true}
 use lib.ListN.{length}
-use Rattle.definition.specs.Tree.{Row, Statements}
-use Rattle.definition.specs.Reading.{ReadAs}
+use Rattle.definition.specs.Tree.{Row, Statements, done, _▸_}
+use Rattle.definition.specs.Reading.{ReadAs, Part, value, statement, block, case, Forest}
+use Rattle.definition.proofs.Readings.{read}
 use Rattle.definition.specs.Build.{wordsOf}
 use Rattle.definition.specs.Run.{Answers}
 use Rattle.reading.specs.Ranges.{allInRange}
 use Rattle.reading.specs.Grammar.{mostRows, Answer}
+use Rattle.reading.specs.Needs.{RowsVerdict, rowsOfWords, treeVerdict}
+use Rattle.reading.specs.Needs as check
 use Rattle.running.specs.Ran.{Outcome, refusal, ran}
 
 -- words that the check refuses get its code and place; rows that read as a tree are run. There is one such outcome (proofs/OneOutcome)
@@ -17,3 +21,24 @@ pub data Gives (words : List ℕ) (answers : Answers) (lent : ℕ) : Outcome →
   refused : (code at : ℕ) → Answer words code at → (code ≡ 0 → ⊥) → Gives words answers lent (refusal code at lent)
   runs : (list : List Row) → wordsOf list ≡ words → 1 ≤ length list → length list ≤ mostRows → allInRange list ≡ true → (root : Statements) → ReadAs list root
       → Gives words answers lent (ran root answers lent)
+
+-- ---- the same as a function: the check's verdict, and the tree that the reader reads
+
+abbrev pub rootIn : Option Forest → Statements
+rootIn none = done
+rootIn (some []) = done
+rootIn (some (value v ∷ parts)) = done
+rootIn (some (statement s ∷ parts)) = done
+rootIn (some (block root ∷ parts)) = root
+rootIn (some (case test body ∷ parts)) = done
+
+abbrev pub rootOf : Option (List Row) → Statements
+rootOf none = done
+rootOf (some list) = rootIn (read list [])
+
+unfoldable pub runBy : RowsVerdict → (words : List ℕ) → Answers → (lent : ℕ) → Outcome
+runBy (check.refused code at) words answers lent = refusal code at lent
+runBy check.accepted words answers lent = ran (rootOf (rowsOfWords words)) answers lent
+
+unfoldable pub runOf : (words : List ℕ) → Answers → (lent : ℕ) → Outcome
+runOf words answers lent = runBy (treeVerdict words) words answers lent

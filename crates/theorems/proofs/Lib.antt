@@ -2,6 +2,5 @@ pub mod Language
 pub mod Parting
 pub mod Previews
 pub mod Requests
-pub mod Runs
 pub mod Theorems
 pub mod WalkingOrder

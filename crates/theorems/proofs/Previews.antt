@@ -21,8 +21,10 @@ use Rattle.preview.proofs.preview_language.Met as language-proved
 use Rattle.preview.proofs.preview_language.Reads as language-entry
 use Rattle.preview.proofs.reactive_preview.Statement as export-stated
 use Rattle.preview.proofs.reactive_preview.Met as export-proved
+use Rattle.preview.proofs.reactive_preview.Reads as export
 use Rattle.preview.proofs.reactive_preview_language.Statement as language-export-stated
 use Rattle.preview.proofs.reactive_preview_language.Met as language-export-proved
+use Rattle.preview.proofs.reactive_preview_language.Reads as language-export
 
 -- ---- the entries: the words alone in, and nothing is asked
 
@@ -53,6 +55,36 @@ the-language-preview-asks-nothing κs before = tt
 pub the-language-preview-gives-the-definition : (κs : Lfts 1) (before after : Lent) (answer : Outcome) → language-entry.Learnt κs before answer after
     → numbers answer ≡ previewed language (now (before .0))
 the-language-preview-gives-the-definition κs before after answer learnt = learnt
+
+-- the export's references: the words, at, rows, visits and lines
+abbrev pub LentWithAnswer : Type 0
+LentWithAnswer = RefT (List ℕ) × (RefT ℕ × (RefT ℕ × (RefT ℕ × (RefT ℕ × Unit {0}))))
+
+pub the-preview-export-asks-nothing : (κs : Lfts 5) (before : LentWithAnswer) → export.Asked κs before
+the-preview-export-asks-nothing κs before = tt
+
+pub the-preview-export-gives-the-definition : (κs : Lfts 5) (before after : LentWithAnswer) (code : ℕ) → export.Learnt κs before code after
+    → record {
+      code = code;
+      at = now (after .1 .0);
+      rows = now (after .1 .1 .0);
+      visits = now (after .1 .1 .1 .0);
+      lines = now (after .1 .1 .1 .1 .0);
+    } ≡ previewed rust (now (before .0))
+the-preview-export-gives-the-definition κs before after code learnt = learnt
+
+pub the-language-preview-export-asks-nothing : (κs : Lfts 5) (before : LentWithAnswer) → language-export.Asked κs before
+the-language-preview-export-asks-nothing κs before = tt
+
+pub the-language-preview-export-gives-the-definition : (κs : Lfts 5) (before after : LentWithAnswer) (code : ℕ) → language-export.Learnt κs before code after
+    → record {
+      code = code;
+      at = now (after .1 .0);
+      rows = now (after .1 .1 .0);
+      visits = now (after .1 .1 .1 .0);
+      lines = now (after .1 .1 .1 .1 .0);
+    } ≡ previewed language (now (before .0))
+the-language-preview-export-gives-the-definition κs before after code learnt = learnt
 
 -- ---- a preview and a build of the same words, in either entry
 

@@ -12,7 +12,15 @@ use contract.Lifetimes.{Lfts}
 use denote.Ref.{RefT, now}
 use Rattle.table.specs.Check.{accepted, checked}
 use Rattle.table.specs.Table.{Table, tableOf}
+use Rattle.table.specs.Answer as table
+use Rattle.table.specs.declared.Checked.{Checked}
 use Rattle.table.proofs.PromiseLaws.{promised}
+use Rattle.table_check.proofs.check.Statement as check-stated
+use Rattle.table_check.proofs.check.Met as check-proved
+use Rattle.table_check.proofs.check.Reads as check-entry
+use Rattle.table_check.proofs.table_check.Statement as check-export-stated
+use Rattle.table_check.proofs.table_check.Met as check-export-proved
+use Rattle.table_check.proofs.table_check.Reads as check-export
 use Rattle.definition.specs.Around.{Rule, rust, language, Around}
 use Rattle.definition.specs.Result.{alreadyScheduled, unscheduleOutOfOrder, maybeThrowInValueTerminal}
 use Rattle.definition.specs.Tree.{Statements, rows}
@@ -24,7 +32,7 @@ use Rattle.definition.specs.Build as definition
 use Rattle.definition.specs.Machine.{State, begin, Gives, run}
 use Rattle.definition.specs.Run.{Answers, Reason, stopped}
 use Rattle.definition.specs.BlockRun.{blockRun}
-use Rattle.definition.specs.Plain.{paper-01, with-switch, Plain}
+use Rattle.definition.specs.Plain.{Width, paper-01, with-switch, Plain}
 use Rattle.definition.specs.Reading.{OneTree, TreeOf, JumpsWithin}
 use Rattle.definition.specs.Index.{lines}
 use Rattle.definition.proofs.Preview.{never-41}
@@ -37,11 +45,14 @@ use Rattle.definition.proofs.Never.{target-known, never-already-scheduled, neve
 use Rattle.definition.proofs.Simulation.{machine-builds}
 use Rattle.definition.proofs.Invariant.{Reached, contextOf, framesOf, Small, sound-small, reached-going, stack-bound, machine-turns}
 use Rattle.definition.proofs.Enough.{blocks-enough}
-use Rattle.definition.proofs.PlainEnough.{PlainEnough}
-use Rattle.definition.proofs.Law.{run-law-enough, switch-law, more-steps, one-tree}
+use Rattle.definition.specs.PlainLoops.{PlainLoops}
+use Rattle.definition.specs.LoopLaw.{LawOfLoops, LawOfLoopsAndSwitches}
+use Rattle.definition.proofs.PlainEnough.{plain-enough}
+use Rattle.definition.proofs.Law.{switch-law, loops-law as law-of-loops, loops-and-switches-law, more-steps, one-tree}
 use Rattle.definition.proofs.Crossed.{Found, break-found, continue-found}
 use Rattle.definition.proofs.JumpRows.{built-within}
 use Rattle.definition.proofs.Example.{W, loops, picks, W-law, loops-law, picks-law, not-for-rust}
+use Rattle.definition.proofs.LoopLawExample.{counts, counts-law}
 use Rattle.definition.proofs.Samples.{Sample, samples, builtFor, the-samples}
 use Rattle.definition.specs.Tree.{Row}
 use Rattle.definition.specs.Reading.{ReadAs}
@@ -55,6 +66,9 @@ use Rattle.treerows.specs.declared.TreeChecked.{TreeChecked}
 use Rattle.treerows.proofs.check_tree.Statement as tree-stated
 use Rattle.treerows.proofs.check_tree.Met as tree-proved
 use Rattle.treerows.proofs.check_tree.Reads as check-tree
+use Rattle.treerows.proofs.tree_check.Statement as tree-export-stated
+use Rattle.treerows.proofs.tree_check.Met as tree-export-proved
+use Rattle.treerows.proofs.tree_check.Reads as tree-export
 use Rattle.text.specs.Ascii.{ascii}
 use Rattle.text.specs.Decimal.{digitsOf, decimal}
 use Rattle.text.specs.declared.write.Written.{Written}
@@ -156,6 +170,31 @@ pub the-language-export-gives-the-definition : (κs : Lfts 7) (before after : Le
     } ≡ built language (now (before .0)) (length (now (before .1 .0))) (length (now (before .1 .1 .0)))
 the-language-export-gives-the-definition κs before after code learnt = learnt
 
+-- the table's check gives the definition's verdict
+pub check-meets-its-contract : {M : Type 1} → check-stated.statement M
+check-meets-its-contract = check-proved.met
+
+pub check-asks-nothing : (κs : Lfts 1) (before : RefT (List ℕ) × Unit {0}) → check-entry.Asked κs before
+check-asks-nothing κs before = tt
+
+pub check-gives-the-definition : (κs : Lfts 1) (before after : RefT (List ℕ) × Unit {0}) (answer : Checked) → check-entry.Learnt κs before answer after
+    → table.verdictOf answer ≡ checked (now (before .0))
+check-gives-the-definition κs before after answer learnt = learnt
+
+-- and its export the verdict's code, with its place by reference
+pub table-check-meets-its-contract : {M : Type 1} → check-export-stated.statement M
+table-check-meets-its-contract = check-export-proved.met
+
+abbrev pub WordsAndPlace : Type 0
+WordsAndPlace = RefT (List ℕ) × (RefT ℕ × Unit {0})
+
+pub table-check-asks-nothing : (κs : Lfts 2) (before : WordsAndPlace) → check-export.Asked κs before
+table-check-asks-nothing κs before = tt
+
+pub table-check-gives-the-definition : (κs : Lfts 2) (before after : WordsAndPlace) (code : ℕ) → check-export.Learnt κs before code after
+    → (code ≡ table.codeOf (checked (now (before .0)))) × (now (after .1 .0) ≡ table.placeOf (checked (now (before .0))))
+table-check-gives-the-definition κs before after code learnt = learnt
+
 -- ---- what every answer shows (demand 1)
 
 -- a call of either entry: `ensured` is what it learns, as `build-gives-the-definition` and `the-language-entry-gives-the-definition` have it
@@ -200,10 +239,17 @@ module _ (rule : Rule) (words buffer index buffer′ index′ : List ℕ) (answe
   pub the-runs-of-a-plain-table-agree : answer .code ≡ 0 → Plain paper-01 (tableOf words) → RunLaw words (outcome answer buffer′ index′)
   the-runs-of-a-plain-table-agree h plain = entry-law rule words buffer index buffer′ index′ answer ensured h plain
 
--- the same from less than the paper's plainness: no use is made of "one While" naming each Branch block
-pub the-runs-agree-from-less : (rule : Rule) (words : List ℕ) (lent lentIndex : ℕ) → built rule words lent lentIndex .code ≡ 0 → PlainEnough paper-01 (tableOf words)
-    → RunLaw words (built rule words lent lentIndex)
-the-runs-agree-from-less = run-law-enough
+  -- beyond the papers: the same with DoWhile and For, and with ends that are not reached (definition/specs/PlainLoops)
+  pub the-runs-of-a-plain-table-with-loops-agree : answer .code ≡ 0 → PlainLoops paper-01 (tableOf words) → RunLaw words (outcome answer buffer′ index′)
+  the-runs-of-a-plain-table-with-loops-agree = carried (λ o. o .code ≡ 0 → PlainLoops paper-01 (tableOf words) → RunLaw words o) (law-of-loops rule words (length buffer) (length index))
+
+-- beyond the papers: the same from less than the paper's plainness, which allows DoWhile and For
+pub the-runs-with-loops-agree : LawOfLoops
+the-runs-with-loops-agree = law-of-loops
+
+-- paper 01's plain tables, and M-113's, are among those
+pub a-plain-table-is-plain-with-loops : (width : Width) (t : Table) → Plain width t → PlainLoops width t
+a-plain-table-is-plain-with-loops width t = plain-enough t
 
 -- it is not empty: W with instructions, and two loops of which the inner continues the outer
 pub the-runs-of-W-agree : (rule : Rule) → RunLaw W (built rule W 600 300)
@@ -211,6 +257,10 @@ the-runs-of-W-agree = W-law
 
 pub the-runs-of-two-loops-agree : (rule : Rule) → RunLaw loops (built rule loops 600 300)
 the-runs-of-two-loops-agree = loops-law
+
+-- nor is that with loops: a For whose init is its loop block
+pub the-runs-of-a-for-agree : (rule : Rule) → RunLaw counts (built rule counts 600 300)
+the-runs-of-a-for-agree = counts-law
 
 -- M-113: the same of plain tables with switches, in the language entry, over every list whose answers name existing cases. The runner on them: Requests
 pub the-runs-with-switches-agree : LawOfSwitches
@@ -221,6 +271,17 @@ pub the-runs-with-switches-agree-for-a-caller : (words buffer index buffer′ in
     → outcome answer buffer′ index′ ≡ built language words (length buffer) (length index)
     → answer .code ≡ 0 → Plain with-switch (tableOf words) → SwitchLaw words (outcome answer buffer′ index′)
 the-runs-with-switches-agree-for-a-caller = language-law
+
+-- beyond the papers: the same of plain tables with DoWhile, For and Switch, whose last cases may be its own fallthrough, and one case may go on into the next
+pub the-runs-with-loops-and-switches-agree : LawOfLoopsAndSwitches
+the-runs-with-loops-and-switches-agree = loops-and-switches-law
+
+pub the-runs-with-loops-and-switches-agree-for-a-caller : (words buffer index buffer′ index′ : List ℕ) (answer : Outcome)
+    → outcome answer buffer′ index′ ≡ built language words (length buffer) (length index)
+    → answer .code ≡ 0 → PlainLoops with-switch (tableOf words) → SwitchLaw words (outcome answer buffer′ index′)
+the-runs-with-loops-and-switches-agree-for-a-caller words buffer index buffer′ index′ answer ensured =
+    carried language words buffer index buffer′ index′ answer ensured (λ o. o .code ≡ 0 → PlainLoops with-switch (tableOf words) → SwitchLaw words o)
+    (loops-and-switches-law words (length buffer) (length index))
 
 -- it is not empty: a loop with a switch of three cases, one of which leaves the loop; and it is not so for the first entry
 pub the-runs-of-a-switch-agree : SwitchLaw picks (built language picks 900 300)
@@ -284,6 +345,17 @@ check-tree-asks-nothing κs before = tt
 pub check-tree-gives-the-grammars-answer : (κs : Lfts 1) (before after : RefT (List ℕ) × Unit {0}) (answer : TreeChecked) → check-tree.Learnt κs before answer after
     → Answer (now (before .0)) (answer .code) (answer .at)
 check-tree-gives-the-grammars-answer κs before after answer learnt = let promised : TreeAnswered _ _ _ = learnt in promised .answer
+
+-- its export, the place by reference
+pub tree-check-meets-its-contract : {M : Type 1} → tree-export-stated.statement M
+tree-check-meets-its-contract = tree-export-proved.met
+
+pub tree-check-asks-nothing : (κs : Lfts 2) (before : WordsAndPlace) → tree-export.Asked κs before
+tree-check-asks-nothing κs before = tt
+
+pub tree-check-gives-the-grammars-answer : (κs : Lfts 2) (before after : WordsAndPlace) (code : ℕ) → tree-export.Learnt κs before code after
+    → Answer (now (before .0)) code (now (after .1 .0))
+tree-check-gives-the-grammars-answer κs before after code learnt = let promised : TreeAnswered _ _ _ = learnt in promised .answer
 
 -- any words have an answer, and no other
 pub any-words-have-an-answer : (words : List ℕ) → Answer words (codeOf (treeVerdict words)) (atOf (treeVerdict words))

@@ -3,7 +3,7 @@ use Prim.Native.Nat.{_-_, _<_}
 use native.Mathlib.Omega.{arith}
 use lib.Dec.{lit<}
 use borrow.Author.Needs.{needs, scaled-fits}
-use Rattle.control_turns.proofs.Turn.{Turn, size-new, named-entered, size-entered, one-more, named-left, size-left, loop-added}
+use Rattle.control_turns.proofs.Turn.{Turn, size-new, size-entered, one-more, size-left, loop-added}
 use Rattle.control_turns.proofs.control_turns_schedule_loop.Statement.{statement}
 use Rattle.control_turns.proofs.control_turns_schedule_loop.Tie as tie
 
@@ -23,9 +23,8 @@ loop-holds c =
       all = refl;
       most = omega arith;
       empty = c .new .ensures .len;
-      settled = c .new .ensures .settled;
       ids = omega (arith, c .new .ensures .id);
-      size = size-new _ (c .new .ensures .context) (c .new .ensures .settled);
+      size = size-new _ (c .new .ensures .context);
       bounded = c .new .ensures .bounded;
     }
 
@@ -46,7 +45,6 @@ schedule-requires c κs =
       (at-loop .loop .inv .named, at-next-block .next-block .ensures, c .next-block2 .ensures),
       record {
         len = omega (arith, at-loop .loop .inv .empty);
-        settled = at-loop .loop .inv .settled;
         id = omega (arith, at-loop .loop .inv .ids, in-loop .loop-test .taken, start .fits .turns);
       },
     )
@@ -68,14 +66,6 @@ element-set-from-entry c =
     let at-loop : tie.At-loop Inv-loop μ-loop = search in
     omega (arith, at-schedule .schedule .ensures .len, at-loop .loop .inv .empty)
 
-add-target-requires : tie.Need-add-target-requires Inv-loop μ-loop
-add-target-requires c κs =
-    let begun : tie.After-schedule Inv-loop μ-loop = search in
-    let at-next-block2 : tie.After-next-block2 Inv-loop μ-loop = search in
-    let at-next-block : tie.After-next-block Inv-loop μ-loop = search in
-    let at-loop : tie.At-loop Inv-loop μ-loop = search in
-    named-entered (begun .schedule .ensures) (at-loop .loop .inv .named, at-next-block .next-block .ensures, at-next-block2 .next-block2 .ensures)
-
 is-scheduled-requires : tie.Need-is-scheduled-requires Inv-loop μ-loop
 is-scheduled-requires c κs =
     let at-next-block2 : tie.After-next-block2 Inv-loop μ-loop = search in
@@ -94,30 +84,27 @@ count-requires c κs =
       start .fits .turns,
     )
 
-unschedule-requires : tie.Need-unschedule-requires Inv-loop μ-loop
-unschedule-requires c κs =
-    let at-schedule : tie.After-schedule Inv-loop μ-loop = search in
-    record { nonempty = omega (arith, at-schedule .schedule .ensures .len); settled = refl }
-
-mul-left : tie.Need-mul-left Inv-loop μ-loop
-mul-left c =
+mul-last : tie.Need-mul-last Inv-loop μ-loop
+mul-last c =
     let at-schedule : tie.After-schedule Inv-loop μ-loop = search in
     let at-loop : tie.At-loop Inv-loop μ-loop = search in
     scaled-fits _ 1152 _ (omega (arith, at-schedule .schedule .ensures .len, at-loop .loop .inv .empty)) (lit< tt)
 
-element-copy-out-left : tie.Need-element-copy-out-left Inv-loop μ-loop
-element-copy-out-left c =
+element-copy-out-last : tie.Need-element-copy-out-last Inv-loop μ-loop
+element-copy-out-last c =
     let at-schedule : tie.After-schedule Inv-loop μ-loop = search in
     let at-loop : tie.At-loop Inv-loop μ-loop = search in
     omega (arith, at-schedule .schedule .ensures .len, at-loop .loop .inv .empty)
 
-remove-target-requires : tie.Need-remove-target-requires Inv-loop μ-loop
-remove-target-requires c κs =
-    let ended : tie.After-unschedule Inv-loop μ-loop = search in
-    let added : tie.After-add-target Inv-loop μ-loop = search in
-    let begun : tie.After-schedule Inv-loop μ-loop = search in
+unschedule-requires : tie.Need-unschedule-requires Inv-loop μ-loop
+unschedule-requires c κs =
+    let at-schedule : tie.After-schedule Inv-loop μ-loop = search in
     let at-loop : tie.At-loop Inv-loop μ-loop = search in
-    named-left (ended .unschedule .ensures) _ (omega (arith, begun .schedule .ensures .len)) (rw (added .add-target .ensures .1) (begun .schedule .ensures .bounded (at-loop .loop .inv .bounded)))
+    record {
+      nonempty = omega (arith, at-schedule .schedule .ensures .len);
+      read = refl;
+      named = at-schedule .schedule .ensures .bounded (at-loop .loop .inv .bounded) .named (at-schedule .schedule .result .len - 1) (omega (arith, at-schedule .schedule .ensures .len));
+    }
 
 add-turn : tie.Need-add-turn Inv-loop μ-loop
 add-turn c =
@@ -142,24 +129,21 @@ loop-again c =
     let told : tie.After-count Inv-loop μ-loop = search in
     let asked : tie.After-is-scheduled Inv-loop μ-loop = search in
     let begun : tie.After-schedule Inv-loop μ-loop = search in
-    let added : tie.After-add-target Inv-loop μ-loop = search in
-    let removed : tie.After-remove-target Inv-loop μ-loop = search in
     let second : tie.After-next-block2 Inv-loop μ-loop = search in
     let named : tie.After-next-block Inv-loop μ-loop = search in
     let round : tie.In-loop Inv-loop μ-loop = search in
     let head : tie.At-loop Inv-loop μ-loop = search in
     let inv = head .loop .inv in
-    let seen = one-more (begun .schedule .ensures) (added .add-target .ensures .0) _ _ _ _ _ (loop-added (head .loop .cx .scheduled) _ _ _ (inv .size) (second .next-block2 .ensures))
+    let seen = one-more (begun .schedule .ensures) _ _ _ _ _ (loop-added (head .loop .cx .scheduled) _ _ _ (inv .size) (second .next-block2 .ensures))
     (asked .is-scheduled .ensures) (told .count .ensures) in
     record {
       named = named .next-block .ensures;
       all = omega (arith, inv .all, seen);
       most = omega (arith, round .loop-test .taken);
-      settled = refl;
       empty = omega (arith, inv .empty, begun .schedule .ensures .len, ended .unschedule .ensures .len);
       ids = omega (arith, inv .ids, begun .schedule .ensures .id, ended .unschedule .ensures .id);
-      size = size-left (ended .unschedule .ensures) _ _ (removed .remove-target .ensures) (size-entered (begun .schedule .ensures) (added .add-target .ensures .0) (inv .size));
-      bounded = ended .unschedule .ensures .bounded (rw (added .add-target .ensures .1) (begun .schedule .ensures .bounded (inv .bounded)));
+      size = size-left (ended .unschedule .ensures) (size-entered (begun .schedule .ensures) (inv .size));
+      bounded = ended .unschedule .ensures .bounded (begun .schedule .ensures .bounded (inv .bounded));
     }
 
 returns : tie.Need-returns Inv-loop μ-loop
@@ -179,15 +163,13 @@ control-turns-schedule-loop-spec =
     next-block-requires-2
     schedule-requires
     sub-at
-    add-target-requires
     mul-entry
     element-set-from-entry
     is-scheduled-requires
     count-requires
+    mul-last
+    element-copy-out-last
     unschedule-requires
-    mul-left
-    element-copy-out-left
-    remove-target-requires
     add-turn
     loop-less
     loop-again

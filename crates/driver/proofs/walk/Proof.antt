@@ -1,42 +1,43 @@
-use Prim.Native.Nat.{ℕ, _-_, _<_, _≤_}
+use Prim.Native.Nat.{ℕ, _-_, _*_, _<_, _≤_}
 use native.Mathlib.Omega.{arith}
 use mathlib.Core.Path.{_≡_, refl, sym, ap, _∙_, subst}
 use mathlib.Core.List.{List}
 use mathlib.Core.Bool.{false}
-use lib.ListN.{length, getD, set}
+use lib.ListN.{length, getD, set, length-replicate}
 use mathlib.Core.Logic.{⊎-elim}
 use borrow.Author.Needs.{needs}
 use Rattle.control.specs.Abstraction.{contextOf, resolvedOf}
 use Rattle.plan.specs.declared.Plan.{Plan}
 use Rattle.plan.specs.declared.Change.{Change}
-use Rattle.plan.specs.declared.Change.the-variants.{Schedule, ScheduleBriefly, Unschedule}
+use Rattle.plan.specs.declared.Change.the-variants.{Schedule, Unschedule}
 use Rattle.table.specs.Words.{blockCount}
 use Rattle.table.specs.Table.{tableOf}
 use Rattle.definition.specs.Around.{Rule}
 use Rattle.definition.specs.Machine.{aroundOf}
-use Rattle.survey.specs.Abstraction.{ruleOf, surveyOf, aimOf, FoundBelow, AimBelow}
+use Rattle.survey.specs.Abstraction.{ruleOf, aimOf, FoundBelow}
 use Rattle.plan.specs.Plans.{noFrame, framesOf}
 use Rattle.definition.specs.Build.{report}
 use Rattle.jumps.specs.Search.{foundBy, goalBy}
 use Rattle.driver.specs.Driver.{visitedBlock, planEnds, blockedBy, Reported}
 use Rattle.driver.proofs.ApplyLaws.{marks-as, withMarks, Whole, Changeable, Changed, Blocked, Applicable, Applied, nothing-changed, schedule-changed}
-use Rattle.driver.proofs.ApplyLaws.{schedule-blocked, unschedule-changed, briefly-changed, briefly-blocked, changeable-marked}
-use Rattle.driver.proofs.ApplyLaws.{settledBy, releasedBy, settled-by, released-by, named-entered, named-left}
-use Rattle.driver.proofs.ApplyLaws.{whole-marked, plan-applied, last-entry}
+use Rattle.driver.proofs.ApplyLaws.{schedule-blocked, unschedule-changed, changeable-marked, whole-marked, plan-applied, last-entry}
+use Rattle.control.specs.Abstraction as control
 use Rattle.control.specs.declared.Context.{Context}
 use Rattle.plan.specs.declared.Position.{Position}
 use Rattle.plan.specs.declared.Frame.{Frame}
-use Rattle.driver.proofs.DriverLaws.{Walking, turnsLeft, walking-start, frame-read, found-jump, found-below, ready, shallow, few-lines, visit-below, beyond, frame-block, frame-at, AtTurn}
+use Rattle.driver.proofs.DriverLaws.{Walking, turnsLeft, walking-start, found-jump, found-below, ready, shallow, few-lines, visit-below, frame-block, AtTurn}
 use Rattle.driver.proofs.DriverLaws.{storedBy, stored-kept, stored-not, turn-ends, turn-applicable, turn-shallow, turn-blocked, turn-again, turn-lower}
 use denote.Ref.{now}
-use Rattle.jumps.proofs.AroundLaws.{Surveying, passed-most, survey-start, survey-known, survey-on, survey-done, aim-below}
+use Rattle.driver.specs.FrameWords.{frameIn, framesIn}
+use Rattle.driver.proofs.FrameLaws.{frames-count, frame-in, frame-kept, stored-long}
 use Rattle.driver.proofs.CheckedLaws.{checked-table}
 use Rattle.jumps.proofs.SearchLaws.{Searching, search-start, search-on, search-none, search-found}
 use Rattle.driver.proofs.walk.Statement.{statement}
 use Rattle.driver.proofs.walk.Tie as tie
 
-record Inv (rule : Rule) (words tree₀ index₀ tree index : List ℕ) (cx : Context) (frames : List Frame) (p : Position) (lines : ℕ) : Type 0 where
-  walking : Walking rule words (record { tree = tree; index = index; lines = lines }) cx frames p
+record Inv (rule : Rule) (words tree₀ index₀ tree index : List ℕ) (cx : Context) (frames : List ℕ) (p : Position) (lines : ℕ) : Type 0 where
+  walking : Walking rule words (record { tree = tree; index = index; lines = lines }) cx (framesIn frames) p
+  full : length frames ≡ 1032
   long : length tree ≡ length tree₀
   wide : length index ≡ length index₀
 
@@ -48,121 +49,110 @@ abbrev μ-loop2 : tie.MeasureT-loop2
 μ-loop2 rule words tree index cx frames p lines frame jump at₀ loops₀ at loops =
     at
 
-abbrev Inv-loop3 : tie.InvT-loop3
-Inv-loop3 rule words tree index cx frames p lines frame jump at loops found target left₀ seen₀ left seen =
-    Surveying jump (ruleOf rule) words frames (p .depth) (resolvedOf found) left (surveyOf seen)
-
-abbrev μ-loop3 : tie.MeasureT-loop3
-μ-loop3 rule words tree index cx frames p lines frame jump at loops found target left₀ seen₀ left seen = left
-
 abbrev Inv-loop : tie.InvT-loop
 Inv-loop rule words tree₀ index₀ cx₀ frames₀ p₀ lines₀ tree index cx frames p lines = Inv (ruleOf rule) words tree₀ index₀ tree index cx frames p lines
 
 abbrev μ-loop : tie.MeasureT-loop
-μ-loop rule words tree₀ index₀ cx₀ frames₀ p₀ lines₀ tree index cx frames p lines = turnsLeft p frames cx
+μ-loop rule words tree₀ index₀ cx₀ frames₀ p₀ lines₀ tree index cx frames p lines = turnsLeft p (framesIn frames) cx
 
-new-requires : tie.Need-new-requires Inv-loop2 μ-loop2 Inv-loop3 μ-loop3 Inv-loop μ-loop
+-- the innermost frame, as the code reads it
+frame-read : (words : List ℕ) (i depth : ℕ) (frame : Frame) → i ≡ depth - 1 → depth ≤ 128 → frame ≡ frameIn words (i * 8) → frame ≡ getD (framesIn words) (depth - 1) noFrame
+frame-read words i depth frame e few read = read ∙ frame-in words i (omega (arith, e, few)) ∙ ap (λ (k : ℕ). getD (framesIn words) k noFrame) e
+
+new-requires : tie.Need-new-requires Inv-loop2 μ-loop2 Inv-loop μ-loop
 new-requires c κs = tt
 
-no-frame-requires : tie.Need-no-frame-requires Inv-loop2 μ-loop2 Inv-loop3 μ-loop3 Inv-loop μ-loop
-no-frame-requires c κs = tt
-
-start-requires : tie.Need-start-requires Inv-loop2 μ-loop2 Inv-loop3 μ-loop3 Inv-loop μ-loop
+start-requires : tie.Need-start-requires Inv-loop2 μ-loop2 Inv-loop μ-loop
 start-requires c κs = search needs
 
-loop-holds : tie.Need-loop-holds Inv-loop2 μ-loop2 Inv-loop3 μ-loop3 Inv-loop μ-loop
+loop-holds : tie.Need-loop-holds Inv-loop2 μ-loop2 Inv-loop μ-loop
 loop-holds c =
-    let at-new : tie.After-new Inv-loop2 μ-loop2 Inv-loop3 μ-loop3 Inv-loop μ-loop = search in
-    let start : tie.Start Inv-loop2 μ-loop2 Inv-loop3 μ-loop3 Inv-loop μ-loop = search in
-    record { walking = walking-start _ _ (start .pre) (checked-table _ (start .pre)) _ refl _ _ _ (at-new .new .ensures) refl (c .start .ensures); long = refl; wide = refl }
+    let at-new : tie.After-new Inv-loop2 μ-loop2 Inv-loop μ-loop = search in
+    let start : tie.Start Inv-loop2 μ-loop2 Inv-loop μ-loop = search in
+    record { walking = walking-start _ _ (start .pre) (checked-table _ (start .pre)) _ refl _ _ _ (at-new .new .ensures) (frames-count _) (c .start .ensures); full = length-replicate {A = ℕ} 1032 0; long = refl; wide = refl }
 
-innermost-requires : tie.Need-innermost-requires Inv-loop2 μ-loop2 Inv-loop3 μ-loop3 Inv-loop μ-loop
+innermost-requires : tie.Need-innermost-requires Inv-loop2 μ-loop2 Inv-loop μ-loop
 innermost-requires c κs = tt
 
-mul-frame : tie.Need-mul-frame Inv-loop2 μ-loop2 Inv-loop3 μ-loop3 Inv-loop μ-loop
-mul-frame c =
-    let at-loop : tie.At-loop Inv-loop2 μ-loop2 Inv-loop3 μ-loop3 Inv-loop μ-loop = search in
-    let start : tie.Start Inv-loop2 μ-loop2 Inv-loop3 μ-loop3 Inv-loop μ-loop = search in
-    omega (arith, c .innermost .ensures, shallow _ _ (start .pre) (checked-table _ (start .pre)) _ _ _ _ (at-loop .loop .inv .walking))
+frame-at-requires : tie.Need-frame-at-requires Inv-loop2 μ-loop2 Inv-loop μ-loop
+frame-at-requires c κs =
+    let inner : tie.After-innermost Inv-loop2 μ-loop2 Inv-loop μ-loop = search in
+    let at-loop : tie.At-loop Inv-loop2 μ-loop2 Inv-loop μ-loop = search in
+    let start : tie.Start Inv-loop2 μ-loop2 Inv-loop μ-loop = search in
+    omega (arith, inner .innermost .ensures, shallow _ _ (start .pre) (checked-table _ (start .pre)) _ _ _ _ (at-loop .loop .inv .walking))
 
-array-copy-out-frame : tie.Need-array-copy-out-frame Inv-loop2 μ-loop2 Inv-loop3 μ-loop3 Inv-loop μ-loop
-array-copy-out-frame c =
-    let at-loop : tie.At-loop Inv-loop2 μ-loop2 Inv-loop3 μ-loop3 Inv-loop μ-loop = search in
-    let start : tie.Start Inv-loop2 μ-loop2 Inv-loop3 μ-loop3 Inv-loop μ-loop = search in
-    omega (arith, c .innermost .ensures, shallow _ _ (start .pre) (checked-table _ (start .pre)) _ _ _ _ (at-loop .loop .inv .walking))
-
-jump-at-requires : tie.Need-jump-at-requires Inv-loop2 μ-loop2 Inv-loop3 μ-loop3 Inv-loop μ-loop
+jump-at-requires : tie.Need-jump-at-requires Inv-loop2 μ-loop2 Inv-loop μ-loop
 jump-at-requires c κs =
-    let at-loop : tie.At-loop Inv-loop2 μ-loop2 Inv-loop3 μ-loop3 Inv-loop μ-loop = search in
-    let start : tie.Start Inv-loop2 μ-loop2 Inv-loop3 μ-loop3 Inv-loop μ-loop = search in
+    let at-loop : tie.At-loop Inv-loop2 μ-loop2 Inv-loop μ-loop = search in
+    let start : tie.Start Inv-loop2 μ-loop2 Inv-loop μ-loop = search in
     ((start .pre), visit-below _ _ (start .pre) (checked-table _ (start .pre)) _ _ _ _ (at-loop .loop .inv .walking))
 
-search-from-requires : tie.Need-search-from-requires Inv-loop2 μ-loop2 Inv-loop3 μ-loop3 Inv-loop μ-loop
+search-from-requires : tie.Need-search-from-requires Inv-loop2 μ-loop2 Inv-loop μ-loop
 search-from-requires c κs = tt
 
-loop2-holds : tie.Need-loop2-holds Inv-loop2 μ-loop2 Inv-loop3 μ-loop3 Inv-loop μ-loop
+loop2-holds : tie.Need-loop2-holds Inv-loop2 μ-loop2 Inv-loop μ-loop
 loop2-holds c =
-    let at-loop : tie.At-loop Inv-loop2 μ-loop2 Inv-loop3 μ-loop3 Inv-loop μ-loop = search in
-    search-start _ _ _ (at-loop .loop .inv .walking .whole .settled) (c .search-from .ensures)
+    let at-loop : tie.At-loop Inv-loop2 μ-loop2 Inv-loop μ-loop = search in
+    search-start _ _ _ (c .search-from .ensures)
 
-sub-at : tie.Need-sub-at Inv-loop2 μ-loop2 Inv-loop3 μ-loop3 Inv-loop μ-loop
+sub-at : tie.Need-sub-at Inv-loop2 μ-loop2 Inv-loop μ-loop
 sub-at c = search needs
 
-mul-entry : tie.Need-mul-entry Inv-loop2 μ-loop2 Inv-loop3 μ-loop3 Inv-loop μ-loop
+mul-entry : tie.Need-mul-entry Inv-loop2 μ-loop2 Inv-loop μ-loop
 mul-entry c =
-    let at-loop2 : tie.At-loop2 Inv-loop2 μ-loop2 Inv-loop3 μ-loop3 Inv-loop μ-loop = search in
-    let at-frame : tie.After-frame Inv-loop2 μ-loop2 Inv-loop3 μ-loop3 Inv-loop μ-loop = search in
-    let at-loop : tie.At-loop Inv-loop2 μ-loop2 Inv-loop3 μ-loop3 Inv-loop μ-loop = search in
+    let at-loop2 : tie.At-loop2 Inv-loop2 μ-loop2 Inv-loop μ-loop = search in
+    let at-frame : tie.After-frame-at Inv-loop2 μ-loop2 Inv-loop μ-loop = search in
+    let at-loop : tie.At-loop Inv-loop2 μ-loop2 Inv-loop μ-loop = search in
     omega (arith, at-loop2 .loop2 .inv .within, at-loop .loop .inv .walking .whole .bounded .most)
 
-element-copy-out-entry : tie.Need-element-copy-out-entry Inv-loop2 μ-loop2 Inv-loop3 μ-loop3 Inv-loop μ-loop
+element-copy-out-entry : tie.Need-element-copy-out-entry Inv-loop2 μ-loop2 Inv-loop μ-loop
 element-copy-out-entry c =
-    let at-loop2 : tie.At-loop2 Inv-loop2 μ-loop2 Inv-loop3 μ-loop3 Inv-loop μ-loop = search in
-    let at-frame : tie.After-frame Inv-loop2 μ-loop2 Inv-loop3 μ-loop3 Inv-loop μ-loop = search in
-    let at-loop : tie.At-loop Inv-loop2 μ-loop2 Inv-loop3 μ-loop3 Inv-loop μ-loop = search in
+    let at-loop2 : tie.At-loop2 Inv-loop2 μ-loop2 Inv-loop μ-loop = search in
+    let at-frame : tie.After-frame-at Inv-loop2 μ-loop2 Inv-loop μ-loop = search in
+    let at-loop : tie.At-loop Inv-loop2 μ-loop2 Inv-loop μ-loop = search in
     omega (arith, c .if1 .left, at-loop2 .loop2 .inv .within, at-loop .loop .inv .walking .whole .bounded .most)
 
-meets-requires : tie.Need-meets-requires Inv-loop2 μ-loop2 Inv-loop3 μ-loop3 Inv-loop μ-loop
+meets-requires : tie.Need-meets-requires Inv-loop2 μ-loop2 Inv-loop μ-loop
 meets-requires c κs = tt
 
-resolve-requires : tie.Need-resolve-requires Inv-loop2 μ-loop2 Inv-loop3 μ-loop3 Inv-loop μ-loop
+resolve-requires : tie.Need-resolve-requires Inv-loop2 μ-loop2 Inv-loop μ-loop
 resolve-requires c κs = tt
 
-count-loop-requires : tie.Need-count-loop-requires Inv-loop2 μ-loop2 Inv-loop3 μ-loop3 Inv-loop μ-loop
+count-loop-requires : tie.Need-count-loop-requires Inv-loop2 μ-loop2 Inv-loop μ-loop
 count-loop-requires c κs =
-    let else1 : tie.Else1 Inv-loop2 μ-loop2 Inv-loop3 μ-loop3 Inv-loop μ-loop = search in
-    let at-loop2 : tie.At-loop2 Inv-loop2 μ-loop2 Inv-loop3 μ-loop3 Inv-loop μ-loop = search in
-    let at-frame : tie.After-frame Inv-loop2 μ-loop2 Inv-loop3 μ-loop3 Inv-loop μ-loop = search in
-    let at-loop : tie.At-loop Inv-loop2 μ-loop2 Inv-loop3 μ-loop3 Inv-loop μ-loop = search in
+    let else1 : tie.Else1 Inv-loop2 μ-loop2 Inv-loop μ-loop = search in
+    let at-loop2 : tie.At-loop2 Inv-loop2 μ-loop2 Inv-loop μ-loop = search in
+    let at-frame : tie.After-frame-at Inv-loop2 μ-loop2 Inv-loop μ-loop = search in
+    let at-loop : tie.At-loop Inv-loop2 μ-loop2 Inv-loop μ-loop = search in
     omega (arith, else1 .if1 .left, at-loop2 .loop2 .inv .within, at-loop .loop .inv .walking .whole .bounded .most)
 
-loop2-less : tie.Need-loop2-less Inv-loop2 μ-loop2 Inv-loop3 μ-loop3 Inv-loop μ-loop
+loop2-less : tie.Need-loop2-less Inv-loop2 μ-loop2 Inv-loop μ-loop
 loop2-less c = search needs
 
-loop2-again : tie.Need-loop2-again Inv-loop2 μ-loop2 Inv-loop3 μ-loop3 Inv-loop μ-loop
+loop2-again : tie.Need-loop2-again Inv-loop2 μ-loop2 Inv-loop μ-loop
 loop2-again c =
-    let else2 : tie.Else2 Inv-loop2 μ-loop2 Inv-loop3 μ-loop3 Inv-loop μ-loop = search in
-    let at-meets : tie.After-meets Inv-loop2 μ-loop2 Inv-loop3 μ-loop3 Inv-loop μ-loop = search in
-    let else1 : tie.Else1 Inv-loop2 μ-loop2 Inv-loop3 μ-loop3 Inv-loop μ-loop = search in
-    let at-loop2 : tie.At-loop2 Inv-loop2 μ-loop2 Inv-loop3 μ-loop3 Inv-loop μ-loop = search in
+    let else2 : tie.Else2 Inv-loop2 μ-loop2 Inv-loop μ-loop = search in
+    let at-meets : tie.After-meets Inv-loop2 μ-loop2 Inv-loop μ-loop = search in
+    let else1 : tie.Else1 Inv-loop2 μ-loop2 Inv-loop μ-loop = search in
+    let at-loop2 : tie.At-loop2 Inv-loop2 μ-loop2 Inv-loop μ-loop = search in
     search-on _ _ _ _ (at-loop2 .loop2 .inv) (else1 .if1 .left) (sym (at-meets .meets .ensures) ∙ else2 .if2 .left) (c .count-loop .ensures)
 
 -- where the search has ended
-module _ (c : tie.Joined1 Inv-loop2 μ-loop2 Inv-loop3 μ-loop3 Inv-loop μ-loop) where
-  abbrev asked-jump : tie.After-jump-at Inv-loop2 μ-loop2 Inv-loop3 μ-loop3 Inv-loop μ-loop
+module _ (c : tie.Joined1 Inv-loop2 μ-loop2 Inv-loop μ-loop) where
+  abbrev asked-jump : tie.After-jump-at Inv-loop2 μ-loop2 Inv-loop μ-loop
   asked-jump = search
 
-  abbrev stack-search : tie.At-loop2 Inv-loop2 μ-loop2 Inv-loop3 μ-loop3 Inv-loop μ-loop
+  abbrev stack-search : tie.At-loop2 Inv-loop2 μ-loop2 Inv-loop μ-loop
   stack-search = search
 
-  abbrev head : tie.At-loop Inv-loop2 μ-loop2 Inv-loop3 μ-loop3 Inv-loop μ-loop
+  abbrev head : tie.At-loop Inv-loop2 μ-loop2 Inv-loop μ-loop
   head =
-      let asked : tie.After-jump-at Inv-loop2 μ-loop2 Inv-loop3 μ-loop3 Inv-loop μ-loop = asked-jump in
+      let asked : tie.After-jump-at Inv-loop2 μ-loop2 Inv-loop μ-loop = asked-jump in
       search
 
-  abbrev started : tie.Start Inv-loop2 μ-loop2 Inv-loop3 μ-loop3 Inv-loop μ-loop
+  abbrev started : tie.Start Inv-loop2 μ-loop2 Inv-loop μ-loop
   started =
-      let looping : tie.At-loop Inv-loop2 μ-loop2 Inv-loop3 μ-loop3 Inv-loop μ-loop = head in
+      let looping : tie.At-loop Inv-loop2 μ-loop2 Inv-loop μ-loop = head in
       search
 
   found : (visits : ℕ) → resolvedOf (c .if1 .found) ≡ foundBy (asked-jump .jump-at .result) (contextOf visits (head .loop .cx))
@@ -174,301 +164,173 @@ module _ (c : tie.Joined1 Inv-loop2 μ-loop2 Inv-loop3 μ-loop3 Inv-loop μ-loop
   below : FoundBelow (c .if1 .found)
   below = found-below _ (asked-jump .jump-at .result) (c .if1 .found) (head .loop .inv .walking .whole) found
 
-target-of-requires : tie.Need-target-of-requires Inv-loop2 μ-loop2 Inv-loop3 μ-loop3 Inv-loop μ-loop
-target-of-requires c κs = below c
-
-asks-around-requires : tie.Need-asks-around-requires Inv-loop2 μ-loop2 Inv-loop3 μ-loop3 Inv-loop μ-loop
-asks-around-requires c κs = tt
-
-pass-from-requires : tie.Need-pass-from-requires Inv-loop2 μ-loop2 Inv-loop3 μ-loop3 Inv-loop μ-loop
-pass-from-requires c κs = tt
-
-unseen-requires : tie.Need-unseen-requires Inv-loop2 μ-loop2 Inv-loop3 μ-loop3 Inv-loop μ-loop
-unseen-requires c κs = tt
-
-likely-owner-requires : tie.Need-likely-owner-requires Inv-loop2 μ-loop2 Inv-loop3 μ-loop3 Inv-loop μ-loop
-likely-owner-requires c κs = c .if3 .taken
-
--- the frame that is looked at first
-module _ (c : tie.After-likely-owner Inv-loop2 μ-loop2 Inv-loop3 μ-loop3 Inv-loop μ-loop) where
-  abbrev counted-at : tie.After-pass-from Inv-loop2 μ-loop2 Inv-loop3 μ-loop3 Inv-loop μ-loop
-  counted-at = search
-
-  abbrev asked-at : tie.After-asks-around Inv-loop2 μ-loop2 Inv-loop3 μ-loop3 Inv-loop μ-loop
-  asked-at = search
-
-  abbrev resolved-by : tie.Joined1 Inv-loop2 μ-loop2 Inv-loop3 μ-loop3 Inv-loop μ-loop
-  resolved-by = search
-
-  owner-in-use : c .likely-owner .result < head resolved-by .loop .p .depth
-  owner-in-use =
-      omega (arith, c .likely-owner .ensures, passed-most (asked-at .asks-around .result) (head resolved-by .loop .p .depth) (counted-at .pass-from .result) (counted-at .pass-from .ensures))
-
-  owner-reads : getD (head resolved-by .loop .frames) (c .likely-owner .result) beyond ≡ getD (head resolved-by .loop .frames) (c .likely-owner .result) noFrame
-  owner-reads =
-      frame-at _ _ (started resolved-by .pre) (checked-table _ (started resolved-by .pre)) _ _ _ _ (head resolved-by .loop .inv .walking) _ owner-in-use
-
-  owner-in-table : getD (head resolved-by .loop .frames) (c .likely-owner .result) noFrame .block < blockCount (now (started resolved-by .args .words))
-  owner-in-table =
-      frame-block _ _ (started resolved-by .pre) (checked-table _ (started resolved-by .pre)) _ _ _ _ (head resolved-by .loop .inv .walking) _ owner-in-use
-
-  owner-few : head resolved-by .loop .p .depth ≤ 128
-  owner-few = shallow _ _ (started resolved-by .pre) (checked-table _ (started resolved-by .pre)) _ _ _ _ (head resolved-by .loop .inv .walking)
-
-mul-owner : tie.Need-mul-owner Inv-loop2 μ-loop2 Inv-loop3 μ-loop3 Inv-loop μ-loop
-mul-owner c = omega (arith, owner-in-use c, owner-few c)
-
-array-copy-out-owner : tie.Need-array-copy-out-owner Inv-loop2 μ-loop2 Inv-loop3 μ-loop3 Inv-loop μ-loop
-array-copy-out-owner c = omega (arith, owner-in-use c, owner-few c)
-
-pass-requires : tie.Need-pass-requires Inv-loop2 μ-loop2 Inv-loop3 μ-loop3 Inv-loop μ-loop
-pass-requires c κs =
-    let owner : tie.After-likely-owner Inv-loop2 μ-loop2 Inv-loop3 μ-loop3 Inv-loop μ-loop = search in
-    let sought : tie.After-target-of Inv-loop2 μ-loop2 Inv-loop3 μ-loop3 Inv-loop μ-loop = search in
-    (started (resolved-by owner) .pre, (rw (owner-reads owner) (owner-in-table owner), sought .target-of .ensures .1))
-
-knows-requires : tie.Need-knows-requires Inv-loop2 μ-loop2 Inv-loop3 μ-loop3 Inv-loop μ-loop
-knows-requires c κs = tt
-
-loop3-holds : tie.Need-loop3-holds Inv-loop2 μ-loop2 Inv-loop3 μ-loop3 Inv-loop μ-loop
-loop3-holds c =
-    let unseen-at : tie.After-unseen Inv-loop2 μ-loop2 Inv-loop3 μ-loop3 Inv-loop μ-loop = search in
-    let counted : tie.After-pass-from Inv-loop2 μ-loop2 Inv-loop3 μ-loop3 Inv-loop μ-loop = search in
-    let asked : tie.After-asks-around Inv-loop2 μ-loop2 Inv-loop3 μ-loop3 Inv-loop μ-loop = search in
-    let sought : tie.After-target-of Inv-loop2 μ-loop2 Inv-loop3 μ-loop3 Inv-loop μ-loop = search in
-    let begun = survey-start _ _ _ _ _ _ _ _ _ (asked .asks-around .ensures) (counted .pass-from .ensures) (unseen-at .unseen .ensures) in
-    ⊎-elim
-    (λ w.
-    let owner : tie.After-likely-owner Inv-loop2 μ-loop2 Inv-loop3 μ-loop3 Inv-loop μ-loop = record { before = record { before = unseen-at; if3 = w .0 }; likely-owner = w .1 } in
-    rw (w .6, w .7) (survey-known _ _ _ _ _ _ _ _ _ (owner-in-use owner) (unseen-at .unseen .ensures)
-    (rw (sought .target-of .ensures .0, owner-reads owner) at (w .3 .ensures)) (sym (w .4 .ensures) ∙ w .5 .taken)))
-    (λ v. ⊎-elim (λ w. rw (w .6, w .7) begun) (λ w. rw (w .1, w .2) begun) v)
-    (c .if3 .came)
-
-sub-left : tie.Need-sub-left Inv-loop2 μ-loop2 Inv-loop3 μ-loop3 Inv-loop μ-loop
-sub-left c = search needs
-
--- the pass over the frames: the one that is read
-module _ (c : tie.In-loop3 Inv-loop2 μ-loop2 Inv-loop3 μ-loop3 Inv-loop μ-loop) where
-  abbrev passing : tie.At-loop3 Inv-loop2 μ-loop2 Inv-loop3 μ-loop3 Inv-loop μ-loop
-  passing = search
-
-  abbrev resolved-at : tie.Joined1 Inv-loop2 μ-loop2 Inv-loop3 μ-loop3 Inv-loop μ-loop
-  resolved-at =
-      let at-passing : tie.At-loop3 Inv-loop2 μ-loop2 Inv-loop3 μ-loop3 Inv-loop μ-loop = passing in
-      search
-
-  abbrev top-of : tie.At-loop Inv-loop2 μ-loop2 Inv-loop3 μ-loop3 Inv-loop μ-loop
-  top-of = head resolved-at
-
-  abbrev entered : tie.Start Inv-loop2 μ-loop2 Inv-loop3 μ-loop3 Inv-loop μ-loop
-  entered = started resolved-at
-
-  in-use : passing .loop3 .left - 1 < top-of .loop .p .depth
-  in-use = omega (arith, c .loop3-test .taken, passing .loop3 .inv .most)
-
-  reads : getD (top-of .loop .frames) (passing .loop3 .left - 1) beyond ≡ getD (top-of .loop .frames) (passing .loop3 .left - 1) noFrame
-  reads = frame-at _ _ (entered .pre) (checked-table _ (entered .pre)) _ _ _ _ (top-of .loop .inv .walking) _ in-use
-
-  in-table : getD (top-of .loop .frames) (passing .loop3 .left - 1) noFrame .block < blockCount (now (entered .args .words))
-  in-table = frame-block _ _ (entered .pre) (checked-table _ (entered .pre)) _ _ _ _ (top-of .loop .inv .walking) _ in-use
-
-  few : top-of .loop .p .depth ≤ 128
-  few = shallow _ _ (entered .pre) (checked-table _ (entered .pre)) _ _ _ _ (top-of .loop .inv .walking)
-
-mul-around : tie.Need-mul-around Inv-loop2 μ-loop2 Inv-loop3 μ-loop3 Inv-loop μ-loop
-mul-around c =
-    let tested : tie.In-loop3 Inv-loop2 μ-loop2 Inv-loop3 μ-loop3 Inv-loop μ-loop = search in
-    omega (arith, in-use tested, few tested)
-
-array-copy-out-around : tie.Need-array-copy-out-around Inv-loop2 μ-loop2 Inv-loop3 μ-loop3 Inv-loop μ-loop
-array-copy-out-around c =
-    let tested : tie.In-loop3 Inv-loop2 μ-loop2 Inv-loop3 μ-loop3 Inv-loop μ-loop = search in
-    omega (arith, in-use tested, few tested)
-
-pass-requires-2 : tie.Need-pass-requires-2 Inv-loop2 μ-loop2 Inv-loop3 μ-loop3 Inv-loop μ-loop
-pass-requires-2 c κs =
-    let tested : tie.In-loop3 Inv-loop2 μ-loop2 Inv-loop3 μ-loop3 Inv-loop μ-loop = search in
-    let sought : tie.After-target-of Inv-loop2 μ-loop2 Inv-loop3 μ-loop3 Inv-loop μ-loop = search in
-    (entered tested .pre, (rw (reads tested) (in-table tested), sought .target-of .ensures .1))
-
-loop3-less : tie.Need-loop3-less Inv-loop2 μ-loop2 Inv-loop3 μ-loop3 Inv-loop μ-loop
-loop3-less c = search needs
-
-loop3-again : tie.Need-loop3-again Inv-loop2 μ-loop2 Inv-loop3 μ-loop3 Inv-loop μ-loop
-loop3-again c =
-    let tested : tie.In-loop3 Inv-loop2 μ-loop2 Inv-loop3 μ-loop3 Inv-loop μ-loop = search in
-    let sought : tie.After-target-of Inv-loop2 μ-loop2 Inv-loop3 μ-loop3 Inv-loop μ-loop = search in
-    survey-on _ _ _ _ _ _ _ _ _ (passing tested .loop3 .inv) (tested .loop3-test .taken) (rw (sought .target-of .ensures .0, reads tested) at (c .pass2 .ensures))
-
-aim-at-requires : tie.Need-aim-at-requires Inv-loop2 μ-loop2 Inv-loop3 μ-loop3 Inv-loop μ-loop
-aim-at-requires c κs = tt
+aim-around-requires : tie.Need-aim-around-requires Inv-loop2 μ-loop2 Inv-loop μ-loop
+aim-around-requires c κs =
+    let searched : tie.Joined1 Inv-loop2 μ-loop2 Inv-loop μ-loop = search in
+    let start = started searched in
+    let walking = head searched .loop .inv .walking in (
+      start .pre,
+      (shallow _ _ (start .pre) (checked-table _ (start .pre)) _ _ _ _ walking, (frame-block _ _ (start .pre) (checked-table _ (start .pre)) _ _ _ _ walking, below searched)),
+    )
 
 -- where the jump goes
-module _ (c : tie.After-aim-at Inv-loop2 μ-loop2 Inv-loop3 μ-loop3 Inv-loop μ-loop) where
-  abbrev searched : tie.Joined1 Inv-loop2 μ-loop2 Inv-loop3 μ-loop3 Inv-loop μ-loop
+module _ (c : tie.After-aim-around Inv-loop2 μ-loop2 Inv-loop μ-loop) where
+  abbrev searched : tie.Joined1 Inv-loop2 μ-loop2 Inv-loop μ-loop
   searched = search
 
-  abbrev tested : tie.After-loop3 Inv-loop2 μ-loop2 Inv-loop3 μ-loop3 Inv-loop μ-loop
-  tested = search
-
-  abbrev surveyed : tie.At-loop3 Inv-loop2 μ-loop2 Inv-loop3 μ-loop3 Inv-loop μ-loop
-  surveyed =
-      let after : tie.After-loop3 Inv-loop2 μ-loop2 Inv-loop3 μ-loop3 Inv-loop μ-loop = tested in
-      search
-
-  aimed : (visits : ℕ) → aimOf (c .aim-at .result) ≡ goalBy (asked-jump searched .jump-at .result)
+  aimed : (visits : ℕ) → aimOf (c .aim-around .result) ≡ goalBy (asked-jump searched .jump-at .result)
       (aroundOf (ruleOf (started searched .args .rule))
-      (tableOf (now (started searched .args .words))) (framesOf (head searched .loop .frames) (head searched .loop .p .depth)))
+      (tableOf (now (started searched .args .words))) (framesOf (framesIn (head searched .loop .frames)) (head searched .loop .p .depth)))
       (foundBy (asked-jump searched .jump-at .result) (contextOf visits (head searched .loop .cx)))
-  aimed visits = c .aim-at .ensures ∙ survey-done (asked-jump searched .jump-at .result) _ _ _ _ _ _ _ (surveyed .loop3 .inv) (tested .loop3-test .left)
-      ∙ ap (goalBy (asked-jump searched .jump-at .result) _) (found searched visits)
-
-  aims-below : AimBelow (c .aim-at .result)
-  aims-below = aim-below (asked-jump searched .jump-at .result) (ruleOf (started searched .args .rule))
-      (surveyOf (surveyed .loop3 .seen)) (searched .if1 .found) (c .aim-at .result) (c .aim-at .ensures) (below searched)
+  aimed visits = c .aim-around .ensures .0 ∙ ap (goalBy (asked-jump searched .jump-at .result) _) (found searched visits)
 
 -- where the turn is planned, and its line is written
-module _ (d : tie.After-put-line Inv-loop2 μ-loop2 Inv-loop3 μ-loop3 Inv-loop μ-loop) where
-  abbrev planning : tie.After-plan-turn Inv-loop2 μ-loop2 Inv-loop3 μ-loop3 Inv-loop μ-loop
+module _ (d : tie.After-put-line Inv-loop2 μ-loop2 Inv-loop μ-loop) where
+  abbrev planning : tie.After-plan-turn Inv-loop2 μ-loop2 Inv-loop μ-loop
   planning = search
 
-  abbrev at-aim : tie.After-aim-at Inv-loop2 μ-loop2 Inv-loop3 μ-loop3 Inv-loop μ-loop
+  abbrev at-aim : tie.After-aim-around Inv-loop2 μ-loop2 Inv-loop μ-loop
   at-aim =
-      let after : tie.After-plan-turn Inv-loop2 μ-loop2 Inv-loop3 μ-loop3 Inv-loop μ-loop = planning in
-      let at-cx2 : tie.After-cx2 Inv-loop2 μ-loop2 Inv-loop3 μ-loop3 Inv-loop μ-loop = search in
+      let after : tie.After-plan-turn Inv-loop2 μ-loop2 Inv-loop μ-loop = planning in
+      let at-cx2 : tie.After-cx2 Inv-loop2 μ-loop2 Inv-loop μ-loop = search in
       search
 
-  abbrev at-head : tie.At-loop Inv-loop2 μ-loop2 Inv-loop3 μ-loop3 Inv-loop μ-loop
+  abbrev at-head : tie.At-loop Inv-loop2 μ-loop2 Inv-loop μ-loop
   at-head = head (searched at-aim)
 
-  abbrev begun : tie.Start Inv-loop2 μ-loop2 Inv-loop3 μ-loop3 Inv-loop μ-loop
+  abbrev begun : tie.Start Inv-loop2 μ-loop2 Inv-loop μ-loop
   begun = started (searched at-aim)
 
-  abbrev innermost-at : tie.After-innermost Inv-loop2 μ-loop2 Inv-loop3 μ-loop3 Inv-loop μ-loop
+  abbrev innermost-at : tie.After-innermost Inv-loop2 μ-loop2 Inv-loop μ-loop
   innermost-at =
-      let asked : tie.After-jump-at Inv-loop2 μ-loop2 Inv-loop3 μ-loop3 Inv-loop μ-loop = asked-jump (searched at-aim) in
+      let asked : tie.After-jump-at Inv-loop2 μ-loop2 Inv-loop μ-loop = asked-jump (searched at-aim) in
+      search
+
+  abbrev frame-read-at : tie.After-frame-at Inv-loop2 μ-loop2 Inv-loop μ-loop
+  frame-read-at =
+      let asked : tie.After-jump-at Inv-loop2 μ-loop2 Inv-loop μ-loop = asked-jump (searched at-aim) in
       search
 
   turn : AtTurn (ruleOf (begun .args .rule)) (now (begun .args .words))
-      (record { tree = at-head .loop .tree; index = at-head .loop .index; lines = at-head .loop .lines }) (at-head .loop .cx) (at-head .loop .frames) (at-head .loop .p)
+      (record { tree = at-head .loop .tree; index = at-head .loop .index; lines = at-head .loop .lines }) (at-head .loop .cx) (framesIn (at-head .loop .frames)) (at-head .loop .p)
       (record { tree = planning .plan-turn .last .1 .0; index = d .put-line .last .0; lines = d .put-line .result }) (planning .plan-turn .result)
   turn =
       record {
         promise = begun .pre;
         walking = at-head .loop .inv .walking;
-        frame = _;
-        read = frame-read _ _ (begun .pre) (checked-table _ (begun .pre)) _ _ _ _ (at-head .loop .inv .walking) _ (innermost-at .innermost .ensures);
-        aim = at-aim .aim-at .result;
+        frame = frame-read-at .frame-at .result;
+        read = frame-read (at-head .loop .frames) (innermost-at .innermost .result) (at-head .loop .p .depth) (frame-read-at .frame-at .result) (innermost-at .innermost .ensures) (shallow _ _ (begun .pre) (checked-table _ (begun .pre)) _ _ _ _ (at-head .loop .inv .walking)) (frame-read-at .frame-at .ensures);
+        aim = at-aim .aim-around .result;
         planned = planning .plan-turn .ensures;
         put = d .put-line .ensures;
-        jump = found-jump _ _ _ _ (at-head .loop .p) _ (at-aim .aim-at .result) (at-head .loop .inv .walking .whole .settled) (asked-jump (searched at-aim) .jump-at .ensures) (aimed at-aim);
+        jump = found-jump _ _ _ _ (at-head .loop .p) _ (at-aim .aim-around .result) (asked-jump (searched at-aim) .jump-at .ensures) (aimed at-aim);
       }
 
-plan-turn-requires : tie.Need-plan-turn-requires Inv-loop2 μ-loop2 Inv-loop3 μ-loop3 Inv-loop μ-loop
+plan-turn-requires : tie.Need-plan-turn-requires Inv-loop2 μ-loop2 Inv-loop μ-loop
 plan-turn-requires c κs =
-    let at-aim : tie.After-aim-at Inv-loop2 μ-loop2 Inv-loop3 μ-loop3 Inv-loop μ-loop = search in
+    let at-aim : tie.After-aim-around Inv-loop2 μ-loop2 Inv-loop μ-loop = search in
     let at-head = head (searched at-aim) in
     let start = started (searched at-aim) in
-    let at-jump-at : tie.After-jump-at Inv-loop2 μ-loop2 Inv-loop3 μ-loop3 Inv-loop μ-loop = asked-jump (searched at-aim) in
-    let at-innermost : tie.After-innermost Inv-loop2 μ-loop2 Inv-loop3 μ-loop3 Inv-loop μ-loop = search in (
-      ready _ _ (start .pre) (checked-table _ (start .pre)) _ _ _ _ (at-head .loop .inv .walking) _ (frame-read _ _ (start .pre) (checked-table _ (start .pre)) _ _ _
-          _ (at-head .loop .inv .walking) _ (at-innermost .innermost .ensures)),
-      aims-below at-aim,
+    let at-jump-at : tie.After-jump-at Inv-loop2 μ-loop2 Inv-loop μ-loop = asked-jump (searched at-aim) in
+    let at-frame : tie.After-frame-at Inv-loop2 μ-loop2 Inv-loop μ-loop = search in
+    let at-innermost : tie.After-innermost Inv-loop2 μ-loop2 Inv-loop μ-loop = search in (
+      ready _ _ (start .pre) (checked-table _ (start .pre)) _ _ _ _ (at-head .loop .inv .walking) (at-frame .frame-at .result)
+          (frame-read (at-head .loop .frames) (at-innermost .innermost .result) (at-head .loop .p .depth) (at-frame .frame-at .result) (at-innermost .innermost .ensures) (shallow _ _ (start .pre) (checked-table _ (start .pre)) _ _ _ _ (at-head .loop .inv .walking)) (at-frame .frame-at .ensures)),
+      at-aim .aim-around .ensures .1,
     )
 
-put-line-requires : tie.Need-put-line-requires Inv-loop2 μ-loop2 Inv-loop3 μ-loop3 Inv-loop μ-loop
+put-line-requires : tie.Need-put-line-requires Inv-loop2 μ-loop2 Inv-loop μ-loop
 put-line-requires c κs =
-    let planned-at : tie.After-plan-turn Inv-loop2 μ-loop2 Inv-loop3 μ-loop3 Inv-loop μ-loop = search in
-    let at-cx2 : tie.After-cx2 Inv-loop2 μ-loop2 Inv-loop3 μ-loop3 Inv-loop μ-loop = search in
-    let at-aim : tie.After-aim-at Inv-loop2 μ-loop2 Inv-loop3 μ-loop3 Inv-loop μ-loop = search in
+    let planned-at : tie.After-plan-turn Inv-loop2 μ-loop2 Inv-loop μ-loop = search in
+    let at-cx2 : tie.After-cx2 Inv-loop2 μ-loop2 Inv-loop μ-loop = search in
+    let at-aim : tie.After-aim-around Inv-loop2 μ-loop2 Inv-loop μ-loop = search in
     let start = started (searched at-aim) in
     few-lines _ _ (start .pre) (checked-table _ (start .pre)) _ _ _ _ (head (searched at-aim) .loop .inv .walking)
 
-ends-requires : tie.Need-ends-requires Inv-loop2 μ-loop2 Inv-loop3 μ-loop3 Inv-loop μ-loop
+ends-requires : tie.Need-ends-requires Inv-loop2 μ-loop2 Inv-loop μ-loop
 ends-requires c κs = tt
 
-answer-requires : tie.Need-answer-requires Inv-loop2 μ-loop2 Inv-loop3 μ-loop3 Inv-loop μ-loop
+answer-requires : tie.Need-answer-requires Inv-loop2 μ-loop2 Inv-loop μ-loop
 answer-requires c κs = tt
 
-same-length : tie.Need-same-length Inv-loop2 μ-loop2 Inv-loop3 μ-loop3 Inv-loop μ-loop
+same-length : tie.Need-same-length Inv-loop2 μ-loop2 Inv-loop μ-loop
 same-length c =
-    let at-plan-turn : tie.After-put-line Inv-loop2 μ-loop2 Inv-loop3 μ-loop3 Inv-loop μ-loop = search in
+    let at-plan-turn : tie.After-put-line Inv-loop2 μ-loop2 Inv-loop μ-loop = search in
     omega (arith, planning at-plan-turn .plan-turn .kept .1 .0, at-head at-plan-turn .loop .inv .long)
 
-same-length-2 : tie.Need-same-length-2 Inv-loop2 μ-loop2 Inv-loop3 μ-loop3 Inv-loop μ-loop
+same-length-2 : tie.Need-same-length-2 Inv-loop2 μ-loop2 Inv-loop μ-loop
 same-length-2 c =
-    let at-plan-turn : tie.After-put-line Inv-loop2 μ-loop2 Inv-loop3 μ-loop3 Inv-loop μ-loop = search in
+    let at-plan-turn : tie.After-put-line Inv-loop2 μ-loop2 Inv-loop μ-loop = search in
     omega (arith, at-plan-turn .put-line .kept .0, at-head at-plan-turn .loop .inv .wide)
 
-returns : tie.Need-returns Inv-loop2 μ-loop2 Inv-loop3 μ-loop3 Inv-loop μ-loop
+returns : tie.Need-returns Inv-loop2 μ-loop2 Inv-loop μ-loop
 returns c =
-    let then3 : tie.Then5 Inv-loop2 μ-loop2 Inv-loop3 μ-loop3 Inv-loop μ-loop = search in
-    let at-ends : tie.After-ends Inv-loop2 μ-loop2 Inv-loop3 μ-loop3 Inv-loop μ-loop = search in
-    let at-plan-turn : tie.After-put-line Inv-loop2 μ-loop2 Inv-loop3 μ-loop3 Inv-loop μ-loop = search in
-    rw (c .answer .ensures) (turn-ends (turn (at-plan-turn)) (sym (at-ends .ends .ensures) ∙ then3 .if5 .taken))
+    let then3 : tie.Then3 Inv-loop2 μ-loop2 Inv-loop μ-loop = search in
+    let at-ends : tie.After-ends Inv-loop2 μ-loop2 Inv-loop μ-loop = search in
+    let at-plan-turn : tie.After-put-line Inv-loop2 μ-loop2 Inv-loop μ-loop = search in
+    rw (c .answer .ensures) (turn-ends (turn (at-plan-turn)) (sym (at-ends .ends .ensures) ∙ then3 .if3 .taken))
 
-visited-block-requires : tie.Need-visited-block-requires Inv-loop2 μ-loop2 Inv-loop3 μ-loop3 Inv-loop μ-loop
+visited-block-requires : tie.Need-visited-block-requires Inv-loop2 μ-loop2 Inv-loop μ-loop
 visited-block-requires c κs = tt
 
-mark-requires : tie.Need-mark-requires Inv-loop2 μ-loop2 Inv-loop3 μ-loop3 Inv-loop μ-loop
+mark-requires : tie.Need-mark-requires Inv-loop2 μ-loop2 Inv-loop μ-loop
 mark-requires c κs =
-    let else3 : tie.Else5 Inv-loop2 μ-loop2 Inv-loop3 μ-loop3 Inv-loop μ-loop = search in
-    let at-ends : tie.After-ends Inv-loop2 μ-loop2 Inv-loop3 μ-loop3 Inv-loop μ-loop = search in
-    let at-plan-turn : tie.After-put-line Inv-loop2 μ-loop2 Inv-loop3 μ-loop3 Inv-loop μ-loop = search in
-    rw (c .visited-block .ensures) (turn-applicable (turn (at-plan-turn)) (sym (at-ends .ends .ensures) ∙ else3 .if5 .left) .block)
+    let else3 : tie.Else3 Inv-loop2 μ-loop2 Inv-loop μ-loop = search in
+    let at-ends : tie.After-ends Inv-loop2 μ-loop2 Inv-loop μ-loop = search in
+    let at-plan-turn : tie.After-put-line Inv-loop2 μ-loop2 Inv-loop μ-loop = search in
+    rw (c .visited-block .ensures) (turn-applicable (turn (at-plan-turn)) (sym (at-ends .ends .ensures) ∙ else3 .if3 .left) .block)
 
-mark-requires-2 : tie.Need-mark-requires-2 Inv-loop2 μ-loop2 Inv-loop3 μ-loop3 Inv-loop μ-loop
+mark-requires-2 : tie.Need-mark-requires-2 Inv-loop2 μ-loop2 Inv-loop μ-loop
 mark-requires-2 c κs =
-    let else3 : tie.Else5 Inv-loop2 μ-loop2 Inv-loop3 μ-loop3 Inv-loop μ-loop = search in
-    let at-ends : tie.After-ends Inv-loop2 μ-loop2 Inv-loop3 μ-loop3 Inv-loop μ-loop = search in
-    let at-plan-turn : tie.After-put-line Inv-loop2 μ-loop2 Inv-loop3 μ-loop3 Inv-loop μ-loop = search in
-    turn-applicable (turn (at-plan-turn)) (sym (at-ends .ends .ensures) ∙ else3 .if5 .left) .handler
+    let else3 : tie.Else3 Inv-loop2 μ-loop2 Inv-loop μ-loop = search in
+    let at-ends : tie.After-ends Inv-loop2 μ-loop2 Inv-loop μ-loop = search in
+    let at-plan-turn : tie.After-put-line Inv-loop2 μ-loop2 Inv-loop μ-loop = search in
+    turn-applicable (turn (at-plan-turn)) (sym (at-ends .ends .ensures) ∙ else3 .if3 .left) .handler
 
-mark-requires-3 : tie.Need-mark-requires-3 Inv-loop2 μ-loop2 Inv-loop3 μ-loop3 Inv-loop μ-loop
+mark-requires-3 : tie.Need-mark-requires-3 Inv-loop2 μ-loop2 Inv-loop μ-loop
 mark-requires-3 c κs =
-    let else3 : tie.Else5 Inv-loop2 μ-loop2 Inv-loop3 μ-loop3 Inv-loop μ-loop = search in
-    let at-ends : tie.After-ends Inv-loop2 μ-loop2 Inv-loop3 μ-loop3 Inv-loop μ-loop = search in
-    let at-plan-turn : tie.After-put-line Inv-loop2 μ-loop2 Inv-loop3 μ-loop3 Inv-loop μ-loop = search in
-    turn-applicable (turn (at-plan-turn)) (sym (at-ends .ends .ensures) ∙ else3 .if5 .left) .scope
+    let else3 : tie.Else3 Inv-loop2 μ-loop2 Inv-loop μ-loop = search in
+    let at-ends : tie.After-ends Inv-loop2 μ-loop2 Inv-loop μ-loop = search in
+    let at-plan-turn : tie.After-put-line Inv-loop2 μ-loop2 Inv-loop μ-loop = search in
+    turn-applicable (turn (at-plan-turn)) (sym (at-ends .ends .ensures) ∙ else3 .if3 .left) .scope
 
-innermost-requires-2 : tie.Need-innermost-requires-2 Inv-loop2 μ-loop2 Inv-loop3 μ-loop3 Inv-loop μ-loop
+innermost-requires-2 : tie.Need-innermost-requires-2 Inv-loop2 μ-loop2 Inv-loop μ-loop
 innermost-requires-2 c κs = tt
 
 -- where the sets are marked: the change of the stack is left
-module _ (c : tie.After-mark3 Inv-loop2 μ-loop2 Inv-loop3 μ-loop3 Inv-loop μ-loop) where
-  abbrev marked3 : tie.After-mark3 Inv-loop2 μ-loop2 Inv-loop3 μ-loop3 Inv-loop μ-loop
+module _ (c : tie.After-mark3 Inv-loop2 μ-loop2 Inv-loop μ-loop) where
+  abbrev marked3 : tie.After-mark3 Inv-loop2 μ-loop2 Inv-loop μ-loop
   marked3 = c
 
-  abbrev marked2 : tie.After-mark2 Inv-loop2 μ-loop2 Inv-loop3 μ-loop3 Inv-loop μ-loop
+  abbrev marked2 : tie.After-mark2 Inv-loop2 μ-loop2 Inv-loop μ-loop
   marked2 = search
 
-  abbrev marked : tie.After-mark Inv-loop2 μ-loop2 Inv-loop3 μ-loop3 Inv-loop μ-loop
+  abbrev marked : tie.After-mark Inv-loop2 μ-loop2 Inv-loop μ-loop
   marked =
-      let after : tie.After-mark2 Inv-loop2 μ-loop2 Inv-loop3 μ-loop3 Inv-loop μ-loop = marked2 in
+      let after : tie.After-mark2 Inv-loop2 μ-loop2 Inv-loop μ-loop = marked2 in
       search
 
-  abbrev visited-at : tie.After-visited-block Inv-loop2 μ-loop2 Inv-loop3 μ-loop3 Inv-loop μ-loop
+  abbrev visited-at : tie.After-visited-block Inv-loop2 μ-loop2 Inv-loop μ-loop
   visited-at =
-      let after : tie.After-mark Inv-loop2 μ-loop2 Inv-loop3 μ-loop3 Inv-loop μ-loop = marked in
+      let after : tie.After-mark Inv-loop2 μ-loop2 Inv-loop μ-loop = marked in
       search
 
-  abbrev left-at : tie.Else5 Inv-loop2 μ-loop2 Inv-loop3 μ-loop3 Inv-loop μ-loop
+  abbrev left-at : tie.Else3 Inv-loop2 μ-loop2 Inv-loop μ-loop
   left-at =
-      let after : tie.After-mark Inv-loop2 μ-loop2 Inv-loop3 μ-loop3 Inv-loop μ-loop = marked in
+      let after : tie.After-mark Inv-loop2 μ-loop2 Inv-loop μ-loop = marked in
       search
 
-  abbrev ended : tie.After-ends Inv-loop2 μ-loop2 Inv-loop3 μ-loop3 Inv-loop μ-loop
+  abbrev ended : tie.After-ends Inv-loop2 μ-loop2 Inv-loop μ-loop
   ended =
-      let after : tie.Else5 Inv-loop2 μ-loop2 Inv-loop3 μ-loop3 Inv-loop μ-loop = left-at in
+      let after : tie.Else3 Inv-loop2 μ-loop2 Inv-loop μ-loop = left-at in
       search
 
-  abbrev written : tie.After-put-line Inv-loop2 μ-loop2 Inv-loop3 μ-loop3 Inv-loop μ-loop
+  abbrev written : tie.After-put-line Inv-loop2 μ-loop2 Inv-loop μ-loop
   written =
-      let after : tie.After-ends Inv-loop2 μ-loop2 Inv-loop3 μ-loop3 Inv-loop μ-loop = ended in
+      let after : tie.After-ends Inv-loop2 μ-loop2 Inv-loop μ-loop = ended in
       search
 
-  abbrev planned : tie.After-plan-turn Inv-loop2 μ-loop2 Inv-loop3 μ-loop3 Inv-loop μ-loop
+  abbrev planned : tie.After-plan-turn Inv-loop2 μ-loop2 Inv-loop μ-loop
   planned = planning written
 
   abbrev plan : Plan
@@ -493,13 +355,13 @@ module _ (c : tie.After-mark3 Inv-loop2 μ-loop2 Inv-loop3 μ-loop3 Inv-loop μ-
             cx .len;
         scheduled = cx .scheduled;
         pushed = cx .pushed;
-        pending = cx .pending;
+        refused = cx .refused;
         «next_schedule_id» = cx .«next_schedule_id»;
         stack = cx .stack;
       }
 
   goes-on : planEnds plan ≡ false
-  goes-on = sym (ended .ends .ensures) ∙ left-at .if5 .left
+  goes-on = sym (ended .ends .ensures) ∙ left-at .if3 .left
 
   marks-made : with-marks ≡ withMarks visited (plan .handler) (plan .scope) cx
   marks-made =
@@ -529,324 +391,184 @@ module _ (c : tie.After-mark3 Inv-loop2 μ-loop2 Inv-loop3 μ-loop3 Inv-loop μ-
       changed = plan-applied visited plan cx with-marks r marks-made (subst (λ (z : Change). Changed z with-marks r) (sym e) E)
 
 -- where the frame is kept, if it is
-module _ (c : tie.Joined6 Inv-loop2 μ-loop2 Inv-loop3 μ-loop3 Inv-loop μ-loop) where
-  abbrev marks-at : tie.After-mark3 Inv-loop2 μ-loop2 Inv-loop3 μ-loop3 Inv-loop μ-loop
+module _ (c : tie.Joined4 Inv-loop2 μ-loop2 Inv-loop μ-loop) where
+  abbrev marks-at : tie.After-mark3 Inv-loop2 μ-loop2 Inv-loop μ-loop
   marks-at = search
 
-  stored : c .if6 .frames ≡ storedBy (plan marks-at .keep) (plan marks-at .position .depth) (plan marks-at .frame) (at-head (written marks-at) .loop .frames)
+  abbrev words₀ : List ℕ
+  words₀ = at-head (written marks-at) .loop .frames
+
+  full₀ : length words₀ ≡ 1032
+  full₀ = at-head (written marks-at) .loop .inv .full
+
+  inside : {i : ℕ} → i ≡ plan marks-at .position .depth - 1 → i < 129
+  inside e = omega (arith, e, turn-shallow (turn (written marks-at)) (goes-on marks-at))
+
+  stored : framesIn (c .if4 .frames) ≡ storedBy (plan marks-at .keep) (plan marks-at .position .depth) (plan marks-at .frame) (framesIn words₀)
   stored =
       ⊎-elim
-      (λ w. stored-kept (plan marks-at .keep) _ (plan marks-at .position .depth) (plan marks-at .frame) (at-head (written marks-at) .loop .frames) _ (w .0 .taken) (w .2 .ensures) (w .3))
-      (λ w. stored-not (plan marks-at .keep) (plan marks-at .position .depth) (plan marks-at .frame) (at-head (written marks-at) .loop .frames) _ (w .0 .left) (w .1))
-      (c .if6 .came)
+      (λ w. stored-kept (plan marks-at .keep) _ (plan marks-at .position .depth) (plan marks-at .frame) (framesIn words₀) _ (w .0 .taken) (w .3 .ensures)
+      (ap framesIn (w .5 ∙ w .4 .ensures) ∙ frame-kept words₀ _ (plan marks-at .frame) (inside (w .3 .ensures)) full₀))
+      (λ w. stored-not (plan marks-at .keep) (plan marks-at .position .depth) (plan marks-at .frame) (framesIn words₀) _ (w .0 .left) (ap framesIn (w .1)))
+      (c .if4 .came)
+
+  full-again : length (c .if4 .frames) ≡ 1032
+  full-again =
+      ⊎-elim
+      (λ w. ap (length {A = ℕ}) (w .5 ∙ w .4 .ensures) ∙ stored-long words₀ _ (plan marks-at .frame) ∙ full₀)
+      (λ w. ap (length {A = ℕ}) (w .1) ∙ full₀)
+      (c .if4 .came)
 
   module _ (change : Change) (e : plan marks-at .change ≡ change) (r : Context) (E : Changed change (with-marks marks-at) r) where
     next : Inv (ruleOf (begun (written marks-at) .args .rule)) (now (begun (written marks-at) .args .words)) (now (begun (written marks-at) .args .tree))
-        (now (begun (written marks-at) .args .index)) (planned marks-at .plan-turn .last .1 .0) (written marks-at .put-line .last .0) r (c .if6 .frames) (plan marks-at .position)
+        (now (begun (written marks-at) .args .index)) (planned marks-at .plan-turn .last .1 .0) (written marks-at .put-line .last .0) r (c .if4 .frames) (plan marks-at .position)
         (written marks-at .put-line .result)
     next = record {
       walking = turn-again (turn (written marks-at)) (goes-on marks-at) (changed marks-at change e r E) stored;
+      full = full-again;
       long = omega (arith, planned marks-at .plan-turn .kept .1 .0, at-head (written marks-at) .loop .inv .long);
       wide = omega (arith, written marks-at .put-line .kept .0, at-head (written marks-at) .loop .inv .wide);
     }
 
-    lower : turnsLeft (plan marks-at .position) (c .if6 .frames) r < turnsLeft (p marks-at) (at-head (written marks-at) .loop .frames) (cx marks-at)
+    lower : turnsLeft (plan marks-at .position) (framesIn (c .if4 .frames)) r < turnsLeft (p marks-at) (framesIn words₀) (cx marks-at)
     lower = turn-lower (turn (written marks-at)) (goes-on marks-at) (changed marks-at change e r E) stored
 
 -- ---- what each change leaves
 
-module _ (c : tie.After-schedule Inv-loop2 μ-loop2 Inv-loop3 μ-loop3 Inv-loop μ-loop) where
-  abbrev slotted : tie.After-mark3 Inv-loop2 μ-loop2 Inv-loop3 μ-loop3 Inv-loop μ-loop
+module _ (c : tie.After-schedule Inv-loop2 μ-loop2 Inv-loop μ-loop) where
+  abbrev slotted : tie.After-mark3 Inv-loop2 μ-loop2 Inv-loop μ-loop
   slotted = search
 
-  abbrev asked : tie.After-change Inv-loop2 μ-loop2 Inv-loop3 μ-loop3 Inv-loop μ-loop
+  abbrev asked : tie.After-change Inv-loop2 μ-loop2 Inv-loop μ-loop
   asked = search
 
   schedulable : Changeable (Schedule (asked .change .given .0 .0)) (with-marks slotted)
   schedulable = changeable slotted _ (asked .change .given .1)
 
-module _ (c : tie.After-add-target Inv-loop2 μ-loop2 Inv-loop3 μ-loop3 Inv-loop μ-loop) where
-  abbrev begun-by : tie.After-schedule Inv-loop2 μ-loop2 Inv-loop3 μ-loop3 Inv-loop μ-loop
+module _ (c : tie.Else5 Inv-loop2 μ-loop2 Inv-loop μ-loop) where
+  abbrev begun-by : tie.After-schedule Inv-loop2 μ-loop2 Inv-loop μ-loop
   begun-by = search
 
-  abbrev else4 : tie.Else7 Inv-loop2 μ-loop2 Inv-loop3 μ-loop3 Inv-loop μ-loop
-  else4 = search
-
-  abbrev asked-blocked : tie.After-is-blocked Inv-loop2 μ-loop2 Inv-loop3 μ-loop3 Inv-loop μ-loop
-  asked-blocked = search
-
-  by-schedule : Changed (Schedule (asked begun-by .change .given .0 .0)) (with-marks (slotted begun-by)) (settledBy (c .add-target .last .0) (c .add-target .result) (begun-by .schedule .result))
+  by-schedule : Changed (Schedule (asked begun-by .change .given .0 .0)) (with-marks (slotted begun-by)) (control.stored (begun-by .schedule .result))
   by-schedule =
-      schedule-changed _ _ _ (begun-by .schedule .ensures) (schedulable begun-by .0) (whole (slotted begun-by)) _ (sym (asked-blocked .is-blocked .ensures) ∙ else4 .if7 .left)
-      (settled-by _ _ _ (c .add-target .ensures .0) (c .add-target .ensures .1)) (schedulable begun-by .1 .len)
+      schedule-changed _ _ _ (begun-by .schedule .ensures) (whole (slotted begun-by)) (c .if5 .left) (schedulable begun-by .1 .len)
 
-module _ (c : tie.After-schedule2 Inv-loop2 μ-loop2 Inv-loop3 μ-loop3 Inv-loop μ-loop) where
-  abbrev slotted2 : tie.After-mark3 Inv-loop2 μ-loop2 Inv-loop3 μ-loop3 Inv-loop μ-loop
-  slotted2 = search
-
-  abbrev asked2 : tie.After-change2 Inv-loop2 μ-loop2 Inv-loop3 μ-loop3 Inv-loop μ-loop
-  asked2 = search
-
-  briefly : Changeable (ScheduleBriefly (asked2 .change2 .given .0 .0)) (with-marks slotted2)
-  briefly = changeable slotted2 _ (asked2 .change2 .given .1)
-
-module _ (c : tie.After-add-target2 Inv-loop2 μ-loop2 Inv-loop3 μ-loop3 Inv-loop μ-loop) where
-  abbrev scheduled2 : tie.After-schedule2 Inv-loop2 μ-loop2 Inv-loop3 μ-loop3 Inv-loop μ-loop
-  scheduled2 = search
-
-  abbrev else5 : tie.Else8 Inv-loop2 μ-loop2 Inv-loop3 μ-loop3 Inv-loop μ-loop
-  else5 = search
-
-  abbrev asked-blocked2 : tie.After-is-blocked2 Inv-loop2 μ-loop2 Inv-loop3 μ-loop3 Inv-loop μ-loop
-  asked-blocked2 = search
-
-  pushed-first : Changed (Schedule (asked2 scheduled2 .change2 .given .0 .0)) (with-marks (slotted2 scheduled2))
-      (settledBy (c .add-target2 .last .0) (c .add-target2 .result) (scheduled2 .schedule2 .result))
-  pushed-first =
-      schedule-changed _ _ _ (scheduled2 .schedule2 .ensures) (briefly scheduled2 .0) (whole (slotted2 scheduled2)) _ (sym (asked-blocked2 .is-blocked2 .ensures) ∙ else5 .if8 .left)
-      (settled-by _ _ _ (c .add-target2 .ensures .0) (c .add-target2 .ensures .1)) (briefly scheduled2 .1 .len)
-
-module _ (c : tie.After-remove-target Inv-loop2 μ-loop2 Inv-loop3 μ-loop3 Inv-loop μ-loop) where
-  abbrev added2 : tie.After-add-target2 Inv-loop2 μ-loop2 Inv-loop3 μ-loop3 Inv-loop μ-loop
-  added2 = search
-
-  abbrev popped-at : tie.After-unschedule Inv-loop2 μ-loop2 Inv-loop3 μ-loop3 Inv-loop μ-loop
-  popped-at = search
-
-  by-briefly : Changed (ScheduleBriefly (asked2 (scheduled2 added2) .change2 .given .0 .0)) (with-marks (slotted2 (scheduled2 added2))) (releasedBy (c .remove-target .last .0) (popped-at .unschedule .result))
-  by-briefly = briefly-changed _ _ _ _ _ (pushed-first added2) (popped-at .unschedule .ensures) (released-by _ _ (c .remove-target .ensures))
-
-module _ (c : tie.After-unschedule2 Inv-loop2 μ-loop2 Inv-loop3 μ-loop3 Inv-loop μ-loop) where
-  abbrev slotted3 : tie.After-mark3 Inv-loop2 μ-loop2 Inv-loop3 μ-loop3 Inv-loop μ-loop
+module _ (c : tie.After-enum-told2 Inv-loop2 μ-loop2 Inv-loop μ-loop) where
+  abbrev slotted3 : tie.After-mark3 Inv-loop2 μ-loop2 Inv-loop μ-loop
   slotted3 = search
 
-  abbrev told : tie.After-enum-told2 Inv-loop2 μ-loop2 Inv-loop3 μ-loop3 Inv-loop μ-loop
+  some-entry : 0 < with-marks slotted3 .len
+  some-entry = changeable slotted3 _ (c .enum-told2 .given .1)
+
+module _ (c : tie.After-unschedule Inv-loop2 μ-loop2 Inv-loop μ-loop) where
+  abbrev told : tie.After-enum-told2 Inv-loop2 μ-loop2 Inv-loop μ-loop
   told = search
 
-  some-entry : 0 < with-marks slotted3 .len
-  some-entry = changeable slotted3 _ (told .enum-told2 .given .1)
+  by-unschedule : Changed Unschedule (with-marks (slotted3 told)) (c .unschedule .result)
+  by-unschedule = unschedule-changed _ _ _ (c .unschedule .ensures) (whole (slotted3 told))
 
-module _ (c : tie.After-remove-target2 Inv-loop2 μ-loop2 Inv-loop3 μ-loop3 Inv-loop μ-loop) where
-  abbrev popped2 : tie.After-unschedule2 Inv-loop2 μ-loop2 Inv-loop3 μ-loop3 Inv-loop μ-loop
-  popped2 = search
+keep-frame-requires : tie.Need-keep-frame-requires Inv-loop2 μ-loop2 Inv-loop μ-loop
+keep-frame-requires c κs =
+    let inner : tie.After-innermost2 Inv-loop2 μ-loop2 Inv-loop μ-loop = search in
+    let at-marks : tie.After-mark3 Inv-loop2 μ-loop2 Inv-loop μ-loop = search in
+    omega (arith, inner .innermost2 .ensures, turn-shallow (turn (written at-marks)) (goes-on at-marks))
 
-  by-unschedule : Changed Unschedule (with-marks (slotted3 popped2)) (releasedBy (c .remove-target2 .last .0) (popped2 .unschedule2 .result))
-  by-unschedule = unschedule-changed _ _ _ (popped2 .unschedule2 .ensures) (released-by _ _ (c .remove-target2 .ensures)) (whole (slotted3 popped2))
-
-mul-frames : tie.Need-mul-frames Inv-loop2 μ-loop2 Inv-loop3 μ-loop3 Inv-loop μ-loop
-mul-frames c =
-    let at-marks : tie.After-mark3 Inv-loop2 μ-loop2 Inv-loop3 μ-loop3 Inv-loop μ-loop = search in
-    omega (arith, c .innermost2 .ensures, turn-shallow (turn (written at-marks)) (goes-on at-marks))
-
-array-set-from-frames : tie.Need-array-set-from-frames Inv-loop2 μ-loop2 Inv-loop3 μ-loop3 Inv-loop μ-loop
-array-set-from-frames c =
-    let at-marks : tie.After-mark3 Inv-loop2 μ-loop2 Inv-loop3 μ-loop3 Inv-loop μ-loop = search in
-    omega (arith, c .innermost2 .ensures, turn-shallow (turn (written at-marks)) (goes-on at-marks))
-
-enum-told : tie.Need-enum-told Inv-loop2 μ-loop2 Inv-loop3 μ-loop3 Inv-loop μ-loop
+enum-told : tie.Need-enum-told Inv-loop2 μ-loop2 Inv-loop μ-loop
 enum-told c = search needs
 
-loop-less : tie.Need-loop-less Inv-loop2 μ-loop2 Inv-loop3 μ-loop3 Inv-loop μ-loop
+loop-less : tie.Need-loop-less Inv-loop2 μ-loop2 Inv-loop μ-loop
 loop-less c =
-    let at-kept : tie.Joined6 Inv-loop2 μ-loop2 Inv-loop3 μ-loop3 Inv-loop μ-loop = search in
+    let at-kept : tie.Joined4 Inv-loop2 μ-loop2 Inv-loop μ-loop = search in
     lower at-kept _ (c .enum-told .given .1) _ (nothing-changed _ (whole (marks-at at-kept)))
 
-loop-again : tie.Need-loop-again Inv-loop2 μ-loop2 Inv-loop3 μ-loop3 Inv-loop μ-loop
+loop-again : tie.Need-loop-again Inv-loop2 μ-loop2 Inv-loop μ-loop
 loop-again c =
-    let at-kept : tie.Joined6 Inv-loop2 μ-loop2 Inv-loop3 μ-loop3 Inv-loop μ-loop = search in
+    let at-kept : tie.Joined4 Inv-loop2 μ-loop2 Inv-loop μ-loop = search in
     next at-kept _ (c .enum-told .given .1) _ (nothing-changed _ (whole (marks-at at-kept)))
 
-enum-known-change : tie.Need-enum-known-change Inv-loop2 μ-loop2 Inv-loop3 μ-loop3 Inv-loop μ-loop
+enum-known-change : tie.Need-enum-known-change Inv-loop2 μ-loop2 Inv-loop μ-loop
 enum-known-change c = search needs
 
-schedule-requires : tie.Need-schedule-requires Inv-loop2 μ-loop2 Inv-loop3 μ-loop3 Inv-loop μ-loop
+schedule-requires : tie.Need-schedule-requires Inv-loop2 μ-loop2 Inv-loop μ-loop
 schedule-requires c κs =
-    let at-change : tie.After-change Inv-loop2 μ-loop2 Inv-loop3 μ-loop3 Inv-loop μ-loop = search in
-    let at-marks : tie.After-mark3 Inv-loop2 μ-loop2 Inv-loop3 μ-loop3 Inv-loop μ-loop = search in
+    let at-change : tie.After-change Inv-loop2 μ-loop2 Inv-loop μ-loop = search in
+    let at-marks : tie.After-mark3 Inv-loop2 μ-loop2 Inv-loop μ-loop = search in
     changeable at-marks _ (at-change .change .given .1)
 
-is-blocked-requires : tie.Need-is-blocked-requires Inv-loop2 μ-loop2 Inv-loop3 μ-loop3 Inv-loop μ-loop
-is-blocked-requires c κs =
-    let at-schedule : tie.After-schedule Inv-loop2 μ-loop2 Inv-loop3 μ-loop3 Inv-loop μ-loop = search in
-    named-entered _ _ _ (at-schedule .schedule .ensures) (schedulable at-schedule .0)
-
-blocked-requires : tie.Need-blocked-requires Inv-loop2 μ-loop2 Inv-loop3 μ-loop3 Inv-loop μ-loop
+blocked-requires : tie.Need-blocked-requires Inv-loop2 μ-loop2 Inv-loop μ-loop
 blocked-requires c κs = tt
 
-same-length-3 : tie.Need-same-length-3 Inv-loop2 μ-loop2 Inv-loop3 μ-loop3 Inv-loop μ-loop
+same-length-3 : tie.Need-same-length-3 Inv-loop2 μ-loop2 Inv-loop μ-loop
 same-length-3 c =
-    let at-marks : tie.After-mark3 Inv-loop2 μ-loop2 Inv-loop3 μ-loop3 Inv-loop μ-loop = search in
+    let at-marks : tie.After-mark3 Inv-loop2 μ-loop2 Inv-loop μ-loop = search in
     omega (arith, planned at-marks .plan-turn .kept .1 .0, at-head (written at-marks) .loop .inv .long)
 
-same-length-4 : tie.Need-same-length-4 Inv-loop2 μ-loop2 Inv-loop3 μ-loop3 Inv-loop μ-loop
+same-length-4 : tie.Need-same-length-4 Inv-loop2 μ-loop2 Inv-loop μ-loop
 same-length-4 c =
-    let at-marks : tie.After-mark3 Inv-loop2 μ-loop2 Inv-loop3 μ-loop3 Inv-loop μ-loop = search in
+    let at-marks : tie.After-mark3 Inv-loop2 μ-loop2 Inv-loop μ-loop = search in
     omega (arith, written at-marks .put-line .kept .0, at-head (written at-marks) .loop .inv .wide)
 
-returns-2 : tie.Need-returns-2 Inv-loop2 μ-loop2 Inv-loop3 μ-loop3 Inv-loop μ-loop
+returns-2 : tie.Need-returns-2 Inv-loop2 μ-loop2 Inv-loop μ-loop
 returns-2 c =
-    let then4 : tie.Then7 Inv-loop2 μ-loop2 Inv-loop3 μ-loop3 Inv-loop μ-loop = search in
-    let at-blocked : tie.After-is-blocked Inv-loop2 μ-loop2 Inv-loop3 μ-loop3 Inv-loop μ-loop = search in
-    let at-schedule : tie.After-schedule Inv-loop2 μ-loop2 Inv-loop3 μ-loop3 Inv-loop μ-loop = search in
-    let at-change : tie.After-change Inv-loop2 μ-loop2 Inv-loop3 μ-loop3 Inv-loop μ-loop = search in
-    let at-marks : tie.After-mark3 Inv-loop2 μ-loop2 Inv-loop3 μ-loop3 Inv-loop μ-loop = search in
-    rw (c .blocked .ensures) (blocks at-marks _ (at-change .change .given .1) (schedule-blocked _ _ _ (at-schedule .schedule .ensures) (schedulable at-schedule .0) (whole (slotted at-schedule)) (sym (at-blocked .is-blocked .ensures) ∙ then4 .if7 .taken)))
+    let then4 : tie.Then5 Inv-loop2 μ-loop2 Inv-loop μ-loop = search in
+    let at-schedule : tie.After-schedule Inv-loop2 μ-loop2 Inv-loop μ-loop = search in
+    let at-change : tie.After-change Inv-loop2 μ-loop2 Inv-loop μ-loop = search in
+    let at-marks : tie.After-mark3 Inv-loop2 μ-loop2 Inv-loop μ-loop = search in
+    rw (c .blocked .ensures) (blocks at-marks _ (at-change .change .given .1) (schedule-blocked _ _ _ (at-schedule .schedule .ensures) (whole (slotted at-schedule)) (then4 .if5 .taken)))
 
-sub-entry : tie.Need-sub-entry Inv-loop2 μ-loop2 Inv-loop3 μ-loop3 Inv-loop μ-loop
+sub-entry : tie.Need-sub-entry Inv-loop2 μ-loop2 Inv-loop μ-loop
 sub-entry c =
-    let at-schedule : tie.After-schedule Inv-loop2 μ-loop2 Inv-loop3 μ-loop3 Inv-loop μ-loop = search in
+    let at-schedule : tie.After-schedule Inv-loop2 μ-loop2 Inv-loop μ-loop = search in
     omega (arith, at-schedule .schedule .ensures .len)
 
-mul-entry-2 : tie.Need-mul-entry-2 Inv-loop2 μ-loop2 Inv-loop3 μ-loop3 Inv-loop μ-loop
+mul-entry-2 : tie.Need-mul-entry-2 Inv-loop2 μ-loop2 Inv-loop μ-loop
 mul-entry-2 c =
-    let at-schedule : tie.After-schedule Inv-loop2 μ-loop2 Inv-loop3 μ-loop3 Inv-loop μ-loop = search in
+    let at-schedule : tie.After-schedule Inv-loop2 μ-loop2 Inv-loop μ-loop = search in
     omega (arith, at-schedule .schedule .ensures .len, schedulable at-schedule .1 .len)
 
-element-set-from-entry : tie.Need-element-set-from-entry Inv-loop2 μ-loop2 Inv-loop3 μ-loop3 Inv-loop μ-loop
+element-set-from-entry : tie.Need-element-set-from-entry Inv-loop2 μ-loop2 Inv-loop μ-loop
 element-set-from-entry c =
-    let at-schedule : tie.After-schedule Inv-loop2 μ-loop2 Inv-loop3 μ-loop3 Inv-loop μ-loop = search in
+    let at-schedule : tie.After-schedule Inv-loop2 μ-loop2 Inv-loop μ-loop = search in
     omega (arith, at-schedule .schedule .ensures .len, schedulable at-schedule .1 .len)
 
-add-target-requires : tie.Need-add-target-requires Inv-loop2 μ-loop2 Inv-loop3 μ-loop3 Inv-loop μ-loop
-add-target-requires c κs =
-    let at-schedule : tie.After-schedule Inv-loop2 μ-loop2 Inv-loop3 μ-loop3 Inv-loop μ-loop = search in
-    named-entered _ _ _ (at-schedule .schedule .ensures) (schedulable at-schedule .0)
-
-loop-less-2 : tie.Need-loop-less-2 Inv-loop2 μ-loop2 Inv-loop3 μ-loop3 Inv-loop μ-loop
+loop-less-2 : tie.Need-loop-less-2 Inv-loop2 μ-loop2 Inv-loop μ-loop
 loop-less-2 c =
-    let at-kept : tie.Joined6 Inv-loop2 μ-loop2 Inv-loop3 μ-loop3 Inv-loop μ-loop = search in
-    let at-added : tie.After-add-target Inv-loop2 μ-loop2 Inv-loop3 μ-loop3 Inv-loop μ-loop = search in
-    lower at-kept _ (asked (begun-by at-added) .change .given .1) _ (by-schedule at-added)
+    let at-kept : tie.Joined4 Inv-loop2 μ-loop2 Inv-loop μ-loop = search in
+    let free : tie.Else5 Inv-loop2 μ-loop2 Inv-loop μ-loop = search in
+    unfold control.stored in lower at-kept _ (asked (begun-by free) .change .given .1) _ (by-schedule free)
 
-loop-again-2 : tie.Need-loop-again-2 Inv-loop2 μ-loop2 Inv-loop3 μ-loop3 Inv-loop μ-loop
+loop-again-2 : tie.Need-loop-again-2 Inv-loop2 μ-loop2 Inv-loop μ-loop
 loop-again-2 c =
-    let at-kept : tie.Joined6 Inv-loop2 μ-loop2 Inv-loop3 μ-loop3 Inv-loop μ-loop = search in
-    let at-added : tie.After-add-target Inv-loop2 μ-loop2 Inv-loop3 μ-loop3 Inv-loop μ-loop = search in
-    next at-kept _ (asked (begun-by at-added) .change .given .1) _ (by-schedule at-added)
+    let at-kept : tie.Joined4 Inv-loop2 μ-loop2 Inv-loop μ-loop = search in
+    let free : tie.Else5 Inv-loop2 μ-loop2 Inv-loop μ-loop = search in
+    unfold control.stored in next at-kept _ (asked (begun-by free) .change .given .1) _ (by-schedule free)
 
-enum-known-change-2 : tie.Need-enum-known-change-2 Inv-loop2 μ-loop2 Inv-loop3 μ-loop3 Inv-loop μ-loop
-enum-known-change-2 c = search needs
-
-schedule-requires-2 : tie.Need-schedule-requires-2 Inv-loop2 μ-loop2 Inv-loop3 μ-loop3 Inv-loop μ-loop
-schedule-requires-2 c κs =
-    let at-change2 : tie.After-change2 Inv-loop2 μ-loop2 Inv-loop3 μ-loop3 Inv-loop μ-loop = search in
-    let at-marks : tie.After-mark3 Inv-loop2 μ-loop2 Inv-loop3 μ-loop3 Inv-loop μ-loop = search in
-    changeable at-marks _ (at-change2 .change2 .given .1)
-
-is-blocked-requires-2 : tie.Need-is-blocked-requires-2 Inv-loop2 μ-loop2 Inv-loop3 μ-loop3 Inv-loop μ-loop
-is-blocked-requires-2 c κs =
-    let at-schedule2 : tie.After-schedule2 Inv-loop2 μ-loop2 Inv-loop3 μ-loop3 Inv-loop μ-loop = search in
-    named-entered _ _ _ (at-schedule2 .schedule2 .ensures) (briefly at-schedule2 .0)
-
-blocked-requires-2 : tie.Need-blocked-requires-2 Inv-loop2 μ-loop2 Inv-loop3 μ-loop3 Inv-loop μ-loop
-blocked-requires-2 c κs = tt
-
-same-length-5 : tie.Need-same-length-5 Inv-loop2 μ-loop2 Inv-loop3 μ-loop3 Inv-loop μ-loop
-same-length-5 c =
-    let at-marks : tie.After-mark3 Inv-loop2 μ-loop2 Inv-loop3 μ-loop3 Inv-loop μ-loop = search in
-    omega (arith, planned at-marks .plan-turn .kept .1 .0, at-head (written at-marks) .loop .inv .long)
-
-same-length-6 : tie.Need-same-length-6 Inv-loop2 μ-loop2 Inv-loop3 μ-loop3 Inv-loop μ-loop
-same-length-6 c =
-    let at-marks : tie.After-mark3 Inv-loop2 μ-loop2 Inv-loop3 μ-loop3 Inv-loop μ-loop = search in
-    omega (arith, written at-marks .put-line .kept .0, at-head (written at-marks) .loop .inv .wide)
-
-returns-3 : tie.Need-returns-3 Inv-loop2 μ-loop2 Inv-loop3 μ-loop3 Inv-loop μ-loop
-returns-3 c =
-    let then5 : tie.Then8 Inv-loop2 μ-loop2 Inv-loop3 μ-loop3 Inv-loop μ-loop = search in
-    let at-blocked : tie.After-is-blocked2 Inv-loop2 μ-loop2 Inv-loop3 μ-loop3 Inv-loop μ-loop = search in
-    let at-schedule2 : tie.After-schedule2 Inv-loop2 μ-loop2 Inv-loop3 μ-loop3 Inv-loop μ-loop = search in
-    let at-change2 : tie.After-change2 Inv-loop2 μ-loop2 Inv-loop3 μ-loop3 Inv-loop μ-loop = search in
-    let at-marks : tie.After-mark3 Inv-loop2 μ-loop2 Inv-loop3 μ-loop3 Inv-loop μ-loop = search in
-    rw (c .blocked2 .ensures) (blocks at-marks _ (at-change2 .change2 .given .1) (briefly-blocked _ _ _ (at-schedule2 .schedule2 .ensures) (briefly at-schedule2 .0) (whole (slotted2 at-schedule2)) (sym (at-blocked .is-blocked2 .ensures) ∙ then5 .if8 .taken)))
-
-sub-entry-2 : tie.Need-sub-entry-2 Inv-loop2 μ-loop2 Inv-loop3 μ-loop3 Inv-loop μ-loop
-sub-entry-2 c =
-    let at-schedule2 : tie.After-schedule2 Inv-loop2 μ-loop2 Inv-loop3 μ-loop3 Inv-loop μ-loop = search in
-    omega (arith, at-schedule2 .schedule2 .ensures .len)
-
-mul-entry-3 : tie.Need-mul-entry-3 Inv-loop2 μ-loop2 Inv-loop3 μ-loop3 Inv-loop μ-loop
-mul-entry-3 c =
-    let at-schedule2 : tie.After-schedule2 Inv-loop2 μ-loop2 Inv-loop3 μ-loop3 Inv-loop μ-loop = search in
-    omega (arith, at-schedule2 .schedule2 .ensures .len, briefly at-schedule2 .1 .len)
-
-element-set-from-entry-2 : tie.Need-element-set-from-entry-2 Inv-loop2 μ-loop2 Inv-loop3 μ-loop3 Inv-loop μ-loop
-element-set-from-entry-2 c =
-    let at-schedule2 : tie.After-schedule2 Inv-loop2 μ-loop2 Inv-loop3 μ-loop3 Inv-loop μ-loop = search in
-    omega (arith, at-schedule2 .schedule2 .ensures .len, briefly at-schedule2 .1 .len)
-
-add-target-requires-2 : tie.Need-add-target-requires-2 Inv-loop2 μ-loop2 Inv-loop3 μ-loop3 Inv-loop μ-loop
-add-target-requires-2 c κs =
-    let at-schedule2 : tie.After-schedule2 Inv-loop2 μ-loop2 Inv-loop3 μ-loop3 Inv-loop μ-loop = search in
-    named-entered _ _ _ (at-schedule2 .schedule2 .ensures) (briefly at-schedule2 .0)
-
-unschedule-requires : tie.Need-unschedule-requires Inv-loop2 μ-loop2 Inv-loop3 μ-loop3 Inv-loop μ-loop
-unschedule-requires c κs =
-    let at-schedule2 : tie.After-schedule2 Inv-loop2 μ-loop2 Inv-loop3 μ-loop3 Inv-loop μ-loop = search in
-    record { nonempty = omega (arith, at-schedule2 .schedule2 .ensures .len); settled = refl }
-
-mul-off : tie.Need-mul-off Inv-loop2 μ-loop2 Inv-loop3 μ-loop3 Inv-loop μ-loop
-mul-off c =
-    let at-schedule2 : tie.After-schedule2 Inv-loop2 μ-loop2 Inv-loop3 μ-loop3 Inv-loop μ-loop = search in
-    let at-unschedule : tie.After-unschedule Inv-loop2 μ-loop2 Inv-loop3 μ-loop3 Inv-loop μ-loop = search in
-    omega (arith, at-unschedule .unschedule .ensures .len, at-schedule2 .schedule2 .ensures .len, briefly at-schedule2 .1 .len)
-
-element-copy-out-off : tie.Need-element-copy-out-off Inv-loop2 μ-loop2 Inv-loop3 μ-loop3 Inv-loop μ-loop
-element-copy-out-off c =
-    let at-schedule2 : tie.After-schedule2 Inv-loop2 μ-loop2 Inv-loop3 μ-loop3 Inv-loop μ-loop = search in
-    let at-unschedule : tie.After-unschedule Inv-loop2 μ-loop2 Inv-loop3 μ-loop3 Inv-loop μ-loop = search in
-    omega (arith, at-unschedule .unschedule .ensures .len, at-schedule2 .schedule2 .ensures .len, briefly at-schedule2 .1 .len)
-
-remove-target-requires : tie.Need-remove-target-requires Inv-loop2 μ-loop2 Inv-loop3 μ-loop3 Inv-loop μ-loop
-remove-target-requires c κs =
-    let at-unschedule : tie.After-unschedule Inv-loop2 μ-loop2 Inv-loop3 μ-loop3 Inv-loop μ-loop = search in
-    let at-added2 : tie.After-add-target2 Inv-loop2 μ-loop2 Inv-loop3 μ-loop3 Inv-loop μ-loop = search in
-    let at-schedule2 : tie.After-schedule2 Inv-loop2 μ-loop2 Inv-loop3 μ-loop3 Inv-loop μ-loop = search in
-    named-left _ _ (at-unschedule .unschedule .ensures) (omega (arith, at-schedule2 .schedule2 .ensures .len)) (pushed-first at-added2 .whole)
-
-loop-less-3 : tie.Need-loop-less-3 Inv-loop2 μ-loop2 Inv-loop3 μ-loop3 Inv-loop μ-loop
-loop-less-3 c =
-    let at-kept : tie.Joined6 Inv-loop2 μ-loop2 Inv-loop3 μ-loop3 Inv-loop μ-loop = search in
-    lower at-kept _ (asked2 (scheduled2 (added2 c)) .change2 .given .1) _ (by-briefly c)
-
-loop-again-3 : tie.Need-loop-again-3 Inv-loop2 μ-loop2 Inv-loop3 μ-loop3 Inv-loop μ-loop
-loop-again-3 c =
-    let at-kept : tie.Joined6 Inv-loop2 μ-loop2 Inv-loop3 μ-loop3 Inv-loop μ-loop = search in
-    next at-kept _ (asked2 (scheduled2 (added2 c)) .change2 .given .1) _ (by-briefly c)
-
-enum-told-2 : tie.Need-enum-told-2 Inv-loop2 μ-loop2 Inv-loop3 μ-loop3 Inv-loop μ-loop
+enum-told-2 : tie.Need-enum-told-2 Inv-loop2 μ-loop2 Inv-loop μ-loop
 enum-told-2 c = search needs
 
-unschedule-requires-2 : tie.Need-unschedule-requires-2 Inv-loop2 μ-loop2 Inv-loop3 μ-loop3 Inv-loop μ-loop
-unschedule-requires-2 c κs =
-    let at-enum-told2 : tie.After-enum-told2 Inv-loop2 μ-loop2 Inv-loop3 μ-loop3 Inv-loop μ-loop = search in
-    let at-marks : tie.After-mark3 Inv-loop2 μ-loop2 Inv-loop3 μ-loop3 Inv-loop μ-loop = search in
-    last-entry _ (changeable at-marks _ (at-enum-told2 .enum-told2 .given .1)) (whole at-marks)
+sub-last : tie.Need-sub-last Inv-loop2 μ-loop2 Inv-loop μ-loop
+sub-last c = some-entry c
 
-mul-off-2 : tie.Need-mul-off-2 Inv-loop2 μ-loop2 Inv-loop3 μ-loop3 Inv-loop μ-loop
-mul-off-2 c =
-    let at-unschedule2 : tie.After-unschedule2 Inv-loop2 μ-loop2 Inv-loop3 μ-loop3 Inv-loop μ-loop = search in
-    omega (arith, at-unschedule2 .unschedule2 .ensures .len, whole (slotted3 at-unschedule2) .bounded .most)
+mul-last : tie.Need-mul-last Inv-loop2 μ-loop2 Inv-loop μ-loop
+mul-last c = omega (arith, whole (slotted3 c) .bounded .most)
 
-element-copy-out-off-2 : tie.Need-element-copy-out-off-2 Inv-loop2 μ-loop2 Inv-loop3 μ-loop3 Inv-loop μ-loop
-element-copy-out-off-2 c =
-    let at-unschedule2 : tie.After-unschedule2 Inv-loop2 μ-loop2 Inv-loop3 μ-loop3 Inv-loop μ-loop = search in
-    omega (arith, at-unschedule2 .unschedule2 .ensures .len, some-entry at-unschedule2, whole (slotted3 at-unschedule2) .bounded .most)
+element-copy-out-last : tie.Need-element-copy-out-last Inv-loop2 μ-loop2 Inv-loop μ-loop
+element-copy-out-last c = omega (arith, some-entry c, whole (slotted3 c) .bounded .most)
 
-remove-target-requires-2 : tie.Need-remove-target-requires-2 Inv-loop2 μ-loop2 Inv-loop3 μ-loop3 Inv-loop μ-loop
-remove-target-requires-2 c κs =
-    let at-unschedule2 : tie.After-unschedule2 Inv-loop2 μ-loop2 Inv-loop3 μ-loop3 Inv-loop μ-loop = search in
-    named-left _ _ (at-unschedule2 .unschedule2 .ensures) (some-entry at-unschedule2) (whole (slotted3 at-unschedule2))
+unschedule-requires : tie.Need-unschedule-requires Inv-loop2 μ-loop2 Inv-loop μ-loop
+unschedule-requires c κs =
+    let told : tie.After-enum-told2 Inv-loop2 μ-loop2 Inv-loop μ-loop = search in
+    last-entry _ _ (some-entry told) refl (whole (slotted3 told))
 
-loop-less-4 : tie.Need-loop-less-4 Inv-loop2 μ-loop2 Inv-loop3 μ-loop3 Inv-loop μ-loop
-loop-less-4 c =
-    let at-kept : tie.Joined6 Inv-loop2 μ-loop2 Inv-loop3 μ-loop3 Inv-loop μ-loop = search in
-    lower at-kept _ (told (popped2 c) .enum-told2 .given .1) _ (by-unschedule c)
+loop-less-3 : tie.Need-loop-less-3 Inv-loop2 μ-loop2 Inv-loop μ-loop
+loop-less-3 c =
+    let at-kept : tie.Joined4 Inv-loop2 μ-loop2 Inv-loop μ-loop = search in
+    lower at-kept _ (told c .enum-told2 .given .1) _ (by-unschedule c)
 
-loop-again-4 : tie.Need-loop-again-4 Inv-loop2 μ-loop2 Inv-loop3 μ-loop3 Inv-loop μ-loop
-loop-again-4 c =
-    let at-kept : tie.Joined6 Inv-loop2 μ-loop2 Inv-loop3 μ-loop3 Inv-loop μ-loop = search in
-    next at-kept _ (told (popped2 c) .enum-told2 .given .1) _ (by-unschedule c)
+loop-again-3 : tie.Need-loop-again-3 Inv-loop2 μ-loop2 Inv-loop μ-loop
+loop-again-3 c =
+    let at-kept : tie.Joined4 Inv-loop2 μ-loop2 Inv-loop μ-loop = search in
+    next at-kept _ (told c .enum-told2 .given .1) _ (by-unschedule c)
 
 pub walk-spec : {M : Type 1} → statement M
 walk-spec =
@@ -854,17 +576,13 @@ walk-spec =
     (tie.spec
     Inv-loop2
     μ-loop2
-    Inv-loop3
-    μ-loop3
     Inv-loop
     μ-loop
     new-requires
-    no-frame-requires
     start-requires
     loop-holds
     innermost-requires
-    mul-frame
-    array-copy-out-frame
+    frame-at-requires
     jump-at-requires
     search-from-requires
     loop2-holds
@@ -876,23 +594,7 @@ walk-spec =
     count-loop-requires
     loop2-less
     loop2-again
-    target-of-requires
-    asks-around-requires
-    pass-from-requires
-    unseen-requires
-    likely-owner-requires
-    mul-owner
-    array-copy-out-owner
-    pass-requires
-    knows-requires
-    loop3-holds
-    sub-left
-    mul-around
-    array-copy-out-around
-    pass-requires-2
-    loop3-less
-    loop3-again
-    aim-at-requires
+    aim-around-requires
     plan-turn-requires
     put-line-requires
     ends-requires
@@ -905,45 +607,25 @@ walk-spec =
     mark-requires-2
     mark-requires-3
     innermost-requires-2
-    mul-frames
-    array-set-from-frames
+    keep-frame-requires
     enum-told
     loop-less
     loop-again
     enum-known-change
     schedule-requires
-    is-blocked-requires
     blocked-requires
     same-length-3
     same-length-4
     returns-2
-    add-target-requires
     sub-entry
     mul-entry-2
     element-set-from-entry
     loop-less-2
     loop-again-2
-    enum-known-change-2
-    schedule-requires-2
-    is-blocked-requires-2
-    blocked-requires-2
-    same-length-5
-    same-length-6
-    returns-3
-    add-target-requires-2
-    sub-entry-2
-    mul-entry-3
-    element-set-from-entry-2
-    unschedule-requires
-    mul-off
-    element-copy-out-off
-    remove-target-requires
-    loop-less-3
-    loop-again-3
     enum-told-2
-    unschedule-requires-2
-    mul-off-2
-    element-copy-out-off-2
-    remove-target-requires-2
-    loop-less-4
-    loop-again-4)
+    sub-last
+    mul-last
+    element-copy-out-last
+    unschedule-requires
+    loop-less-3
+    loop-again-3)

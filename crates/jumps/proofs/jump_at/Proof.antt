@@ -3,7 +3,7 @@ use native.Mathlib.Omega.{arith}
 use mathlib.Core.Path.{ap}
 use mathlib.Core.Path.{_≡_}
 use Rattle.plan.specs.declared.Stage.{Stage}
-use Rattle.plan.specs.declared.Stage.the-variants.{Visit, Ended, Choose, Pop, Halt}
+use Rattle.plan.specs.declared.Stage.the-variants.{Visit, Ended, Choose, Pop, Values, Halt}
 use borrow.Author.Needs.{needs}
 use Rattle.jumps.proofs.jump_at.Statement.{statement}
 use Rattle.jumps.proofs.jump_at.Tie as tie
@@ -13,6 +13,7 @@ other Visit = 0
 other Ended = 1
 other Choose = 1
 other Pop = 1
+other Values = 1
 other Halt = 1
 
 other-stage : (s : Stage) → s ≡ Visit → other s ≡ 1 → ⊥
@@ -38,6 +39,9 @@ enum-told-4 c = search needs
 enum-told-5 : tie.Need-enum-told-5
 enum-told-5 c = search needs
 
+enum-told-6 : tie.Need-enum-told-6
+enum-told-6 c = search needs
+
 returns : tie.Need-returns
 returns c = search needs
 
@@ -53,6 +57,9 @@ returns-4 c e = absurd (other-stage _ e (ap other (c .enum-told4 .given .1)))
 returns-5 : tie.Need-returns-5
 returns-5 c e = absurd (other-stage _ e (ap other (c .enum-told5 .given .1)))
 
+returns-6 : tie.Need-returns-6
+returns-6 c e = absurd (other-stage _ e (ap other (c .enum-told6 .given .1)))
+
 pub jump-at-spec : {M : Type 1} → statement M
 jump-at-spec =
     tie.close
@@ -63,8 +70,10 @@ jump-at-spec =
     enum-told-3
     enum-told-4
     enum-told-5
+    enum-told-6
     returns
     returns-2
     returns-3
     returns-4
-    returns-5)
+    returns-5
+    returns-6)

@@ -2,11 +2,11 @@ use borrow.Author.Needs.{needs}
 use Rattle.plan.proofs.accept.Statement.{statement}
 use Rattle.plan.proofs.accept.Tie as tie
 
-no-frame-requires : tie.Need-no-frame-requires
-no-frame-requires c κs = search needs
+go-on-requires : tie.Need-go-on-requires
+go-on-requires c κs = search needs
 
 returns : tie.Need-returns
 returns c = cc
 
 pub accept-spec : {M : Type 1} → statement M
-accept-spec = tie.close (tie.spec no-frame-requires returns)
+accept-spec = tie.close (tie.spec go-on-requires returns)

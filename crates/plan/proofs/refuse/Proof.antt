@@ -1,12 +1,15 @@
+use mathlib.Core.Path.{refl}
 use borrow.Author.Needs.{needs}
 use Rattle.plan.proofs.refuse.Statement.{statement}
 use Rattle.plan.proofs.refuse.Tie as tie
 
-no-frame-requires : tie.Need-no-frame-requires
-no-frame-requires c κs = search needs
+go-on-requires : tie.Need-go-on-requires
+go-on-requires c κs = search needs
 
 returns : tie.Need-returns
-returns c = cc
+returns c =
+    let went : tie.After-go-on = search in
+    rw (went .go-on .ensures) refl
 
 pub refuse-spec : {M : Type 1} → statement M
-refuse-spec = tie.close (tie.spec no-frame-requires returns)
+refuse-spec = tie.close (tie.spec go-on-requires returns)

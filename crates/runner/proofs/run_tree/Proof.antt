@@ -2,6 +2,7 @@ use mathlib.Core.Path.{refl}
 use native.Mathlib.Omega.{arith}
 use lib.ListN.{length}
 use borrow.Author.Needs.{needs}
+use Rattle.running.proofs.OneOutcome.{given-is}
 use Rattle.runner.specs.Abstraction.{linksOf}
 use Rattle.runner.proofs.EntryLaws.{accepted, check-refused, begun, rows-most, rows-least, run-other, walks, run-refused, run-fits, run-given}
 use borrow.Author.Needs.{needs}
@@ -24,7 +25,7 @@ returns c =
     let read : tie.After-read-tree = search in
     let start : tie.Start = search in
     let a = start .args in
-    check-refused (a .tree .now) (a .answers .now) (length (a .performed .now)) (read .read-tree .ensures) (bad .if1 .taken) (refused .refuse .ensures)
+    given-is _ _ _ (check-refused (a .tree .now) (a .answers .now) (length (a .performed .now)) (read .read-tree .ensures) (bad .if1 .taken) (refused .refuse .ensures))
 
 cast-rows : tie.Need-cast-rows
 cast-rows c =
@@ -54,7 +55,7 @@ returns-2 c =
     let start : tie.Start = search in
     let a = start .args in
     let tree-read = accepted (a .tree .now) (read .read-tree .ensures) (good .if1 .left) in
-    run-other (a .tree .now) tree-read (a .answers .now) (length (a .performed .now)) (first .first-not-run .ensures) (other .if2 .taken) (refused .refuse2 .ensures)
+    given-is _ _ _ (run-other (a .tree .now) tree-read (a .answers .now) (length (a .performed .now)) (first .first-not-run .ensures) (other .if2 .taken) (refused .refuse2 .ensures))
 
 link-rows-requires : tie.Need-link-rows-requires
 link-rows-requires c κs =
@@ -112,8 +113,8 @@ returns-3 c =
     let tree-read = accepted (a .tree .now) (read .read-tree .ensures) (good .if1 .left) in
     let t = linksOf (read .read-tree .result .begin) (linked .link-rows .result .parent) (linked .link-rows .result .next) (linked .link-rows .result .child) in
     let all-linked = linked .link-rows .ensures (a .tree .now) (begun (a .tree .now) (read .read-tree .ensures) (good .if1 .left)) in
-    run-refused (a .tree .now) tree-read t refl all-linked (a .answers .now) (first .first-not-run .ensures) (none .if2 .left) (walked .walk .ensures)
-    (length (a .performed .now)) (omega (arith, walked .walk .kept .1 .1 .1 .1 .1 .1 .0)) (bad .if3 .taken) (refused .refuse3 .ensures)
+    given-is _ _ _ (run-refused (a .tree .now) tree-read t refl all-linked (a .answers .now) (first .first-not-run .ensures) (none .if2 .left) (walked .walk .ensures)
+    (length (a .performed .now)) (omega (arith, walked .walk .kept .1 .1 .1 .1 .1 .1 .0)) (bad .if3 .taken) (refused .refuse3 .ensures))
 
 clear-requires : tie.Need-clear-requires
 clear-requires c κs =
@@ -155,8 +156,8 @@ returns-4 c =
     let tree-read = accepted (a .tree .now) (read .read-tree .ensures) (good .if1 .left) in
     let t = linksOf (read .read-tree .result .begin) (linked .link-rows .result .parent) (linked .link-rows .result .next) (linked .link-rows .result .child) in
     let all-linked = linked .link-rows .ensures (a .tree .now) (begun (a .tree .now) (read .read-tree .ensures) (good .if1 .left)) in
-    run-given (a .tree .now) tree-read t refl all-linked (a .answers .now) (first .first-not-run .ensures) (none .if2 .left) (walked .walk .ensures)
-    (length (a .performed .now)) (omega (arith, walked .walk .kept .1 .1 .1 .1 .1 .1 .0)) (run .if3 .left) (cleared .clear .ensures)
+    given-is _ _ _ (run-given (a .tree .now) tree-read t refl all-linked (a .answers .now) (first .first-not-run .ensures) (none .if2 .left) (walked .walk .ensures)
+    (length (a .performed .now)) (omega (arith, walked .walk .kept .1 .1 .1 .1 .1 .1 .0)) (run .if3 .left) (cleared .clear .ensures))
 
 pub run-tree-spec : {M : Type 1} → statement M
 run-tree-spec =

@@ -1,5 +1,6 @@
 use Rattle.planner.proofs.TerminalLaws.{visits-ready, shown-seen, not-halted}
 use Rattle.resume.proofs.ResumeLaws.{turn-on, popped, closing-at-pop}
+use Rattle.planner.proofs.ValuesLaws.{making, valued}
 use borrow.Author.Needs.{needs}
 use Rattle.planner.proofs.turn.plan_turn.Statement.{statement}
 use Rattle.planner.proofs.turn.plan_turn.Tie as tie
@@ -36,6 +37,15 @@ close-statement-requires c κs =
 
 enum-told-5 : tie.Need-enum-told-5
 enum-told-5 c = search needs
+
+visit-values-requires : tie.Need-visit-values-requires
+visit-values-requires c κs =
+    let at-enum-told5 : tie.After-enum-told5 = search in
+    let at-entry : tie.Start = search in
+    making _ _ _ (at-entry .pre .0) (at-enum-told5 .enum-told5 .given .1)
+
+enum-told-6 : tie.Need-enum-told-6
+enum-told-6 c = search needs
 
 refuse-requires : tie.Need-refuse-requires
 refuse-requires c κs = search needs
@@ -74,11 +84,21 @@ returns-4 c around =
     let at-entry : tie.Start = search in
     turn-on _ _ _ (λ C o. o .visits) (popped _ _ _ (at-entry .pre .0) (at-enum-told4 .enum-told4 .given .1) (at-close-statement .close-statement .ensures))
 
+same-length-5 : tie.Need-same-length-5
+same-length-5 c = search needs
+
 returns-5 : tie.Need-returns-5
 returns-5 c around =
+    let at-values : tie.After-visit-values = search in
     let at-enum-told5 : tie.After-enum-told5 = search in
     let at-entry : tie.Start = search in
-    absurd (not-halted _ _ _ (at-entry .pre .0) (at-enum-told5 .enum-told5 .given .1))
+    turn-on _ _ _ (λ C o. o .visits) (valued _ _ _ (at-entry .pre .0) (at-enum-told5 .enum-told5 .given .1) (at-values .visit-values .ensures))
+
+returns-6 : tie.Need-returns-6
+returns-6 c around =
+    let at-enum-told6 : tie.After-enum-told6 = search in
+    let at-entry : tie.Start = search in
+    absurd (not-halted _ _ _ (at-entry .pre .0) (at-enum-told6 .enum-told6 .given .1))
 
 pub plan-turn-spec : {M : Type 1} → statement M
 plan-turn-spec =
@@ -93,6 +113,8 @@ plan-turn-spec =
     enum-told-4
     close-statement-requires
     enum-told-5
+    visit-values-requires
+    enum-told-6
     refuse-requires
     same-length
     returns
@@ -102,4 +124,6 @@ plan-turn-spec =
     returns-3
     same-length-4
     returns-4
-    returns-5)
+    same-length-5
+    returns-5
+    returns-6)

@@ -1,6 +1,7 @@
 use mathlib.Core.Path.{refl, sym, ap, _∙_}
 use native.Mathlib.Omega.{arith}
 use Rattle.loops.specs.Loops.{valueFallthrough}
+use Rattle.loops.proofs.LoopLaws.{fallthrough-few, value-scheduled}
 use Rattle.planner.proofs.VisitLaws.{unreachable-left}
 use Rattle.plan.proofs.PlannedLaws.{planned-as}
 use Rattle.planner.proofs.TerminalLaws.{goto-seen, branch-seen, elsewhere, missed-past}
@@ -54,29 +55,29 @@ visit-for-in-requires c κs = search needs
 logical-at-requires : tie.Need-logical-at-requires
 logical-at-requires c κs = search needs
 
-visit-value-requires : tie.Need-visit-value-requires
-visit-value-requires c κs =
+schedule-value-requires : tie.Need-schedule-value-requires
+schedule-value-requires c κs =
     let read : tie.After-logical-at = search in
     let start : tie.Start = search in
-    (start .pre .0, ap valueFallthrough (read .logical-at .ensures .is))
+    (start .pre .0 .depth, fallthrough-few (start .pre .0) (ap valueFallthrough (read .logical-at .ensures .is)))
 
 ternary-at-requires : tie.Need-ternary-at-requires
 ternary-at-requires c κs = search needs
 
-visit-value-requires-2 : tie.Need-visit-value-requires-2
-visit-value-requires-2 c κs =
+schedule-value-requires-2 : tie.Need-schedule-value-requires-2
+schedule-value-requires-2 c κs =
     let read : tie.After-ternary-at = search in
     let start : tie.Start = search in
-    (start .pre .0, ap valueFallthrough (read .ternary-at .ensures .is))
+    (start .pre .0 .depth, fallthrough-few (start .pre .0) (ap valueFallthrough (read .ternary-at .ensures .is)))
 
 optional-at-requires : tie.Need-optional-at-requires
 optional-at-requires c κs = search needs
 
-visit-value-requires-3 : tie.Need-visit-value-requires-3
-visit-value-requires-3 c κs =
+schedule-value-requires-3 : tie.Need-schedule-value-requires-3
+schedule-value-requires-3 c κs =
     let read : tie.After-optional-at = search in
     let start : tie.Start = search in
-    (start .pre .0, ap valueFallthrough (read .optional-at .ensures .is))
+    (start .pre .0 .depth, fallthrough-few (start .pre .0) (ap valueFallthrough (read .optional-at .ensures .is)))
 
 visit-label-requires : tie.Need-visit-label-requires
 visit-label-requires c κs = search needs
@@ -84,11 +85,11 @@ visit-label-requires c κs = search needs
 sequence-at-requires : tie.Need-sequence-at-requires
 sequence-at-requires c κs = search needs
 
-visit-value-requires-4 : tie.Need-visit-value-requires-4
-visit-value-requires-4 c κs =
+schedule-value-requires-4 : tie.Need-schedule-value-requires-4
+schedule-value-requires-4 c κs =
     let read : tie.After-sequence-at = search in
     let start : tie.Start = search in
-    (start .pre .0, ap valueFallthrough (read .sequence-at .ensures .is))
+    (start .pre .0 .depth, fallthrough-few (start .pre .0) (ap valueFallthrough (read .sequence-at .ensures .is)))
 
 visit-maybe-throw-requires : tie.Need-visit-maybe-throw-requires
 visit-maybe-throw-requires c κs = search needs
@@ -179,82 +180,57 @@ returns-9 c around =
     let start : tie.Start = search in
     elsewhere around (start .pre .0) (at-code-at .code-at .ensures) (at-match .match .keys9) refl (λ C o. o .seen) (c .visit-do-while .ensures _)
 
-same-length-5 : tie.Need-same-length-5
-same-length-5 c = search needs
-
 returns-10 : tie.Need-returns-10
 returns-10 c around =
-    let at-visit-while : tie.After-visit-while = search in
     let at-match : tie.At-match-keys10 = search in
     let at-code-at : tie.After-code-at = search in
     let start : tie.Start = search in
-    elsewhere around (start .pre .0) (at-code-at .code-at .ensures) (at-match .match .keys10) refl (λ C o. o .seen) (at-visit-while .visit-while .ensures)
-
-same-length-6 : tie.Need-same-length-6
-same-length-6 c = search needs
+    elsewhere around (start .pre .0) (at-code-at .code-at .ensures) (at-match .match .keys10) refl (λ C o. o .seen) (c .visit-while .ensures _)
 
 returns-11 : tie.Need-returns-11
 returns-11 c around =
-    let at-visit-for : tie.After-visit-for = search in
     let at-match : tie.At-match-keys11 = search in
     let at-code-at : tie.After-code-at = search in
     let start : tie.Start = search in
-    elsewhere around (start .pre .0) (at-code-at .code-at .ensures) (at-match .match .keys11) refl (λ C o. o .seen) (at-visit-for .visit-for .ensures)
-
-same-length-7 : tie.Need-same-length-7
-same-length-7 c = search needs
+    elsewhere around (start .pre .0) (at-code-at .code-at .ensures) (at-match .match .keys11) refl (λ C o. o .seen) (c .visit-for .ensures _)
 
 returns-12 : tie.Need-returns-12
 returns-12 c around =
-    let at-visit-for-of : tie.After-visit-for-of = search in
     let at-match : tie.At-match-keys12 = search in
     let at-code-at : tie.After-code-at = search in
     let start : tie.Start = search in
-    elsewhere around (start .pre .0) (at-code-at .code-at .ensures) (at-match .match .keys12) refl (λ C o. o .seen) (at-visit-for-of .visit-for-of .ensures)
-
-same-length-8 : tie.Need-same-length-8
-same-length-8 c = search needs
+    elsewhere around (start .pre .0) (at-code-at .code-at .ensures) (at-match .match .keys12) refl (λ C o. o .seen) (c .visit-for-of .ensures _)
 
 returns-13 : tie.Need-returns-13
 returns-13 c around =
-    let at-visit-for-in : tie.After-visit-for-in = search in
     let at-match : tie.At-match-keys13 = search in
     let at-code-at : tie.After-code-at = search in
     let start : tie.Start = search in
-    elsewhere around (start .pre .0) (at-code-at .code-at .ensures) (at-match .match .keys13) refl (λ C o. o .seen) (at-visit-for-in .visit-for-in .ensures)
-
-same-length-9 : tie.Need-same-length-9
-same-length-9 c = search needs
+    elsewhere around (start .pre .0) (at-code-at .code-at .ensures) (at-match .match .keys13) refl (λ C o. o .seen) (c .visit-for-in .ensures _)
 
 returns-14 : tie.Need-returns-14
 returns-14 c around =
-    let at-visit-value : tie.After-visit-value = search in
+    let read : tie.After-logical-at = search in
     let at-match : tie.At-match-keys14 = search in
     let at-code-at : tie.After-code-at = search in
     let start : tie.Start = search in
-    elsewhere around (start .pre .0) (at-code-at .code-at .ensures) (at-match .match .keys14) refl (λ C o. o .seen) (at-visit-value .visit-value .ensures)
-
-same-length-10 : tie.Need-same-length-10
-same-length-10 c = search needs
+    elsewhere around (start .pre .0) (at-code-at .code-at .ensures) (at-match .match .keys14) refl (λ C o. o .seen) (value-scheduled (start .pre .0) (ap valueFallthrough (read .logical-at .ensures .is)) (c .schedule-value .ensures) _)
 
 returns-15 : tie.Need-returns-15
 returns-15 c around =
-    let at-visit-value2 : tie.After-visit-value2 = search in
+    let read : tie.After-ternary-at = search in
     let at-match : tie.At-match-keys15 = search in
     let at-code-at : tie.After-code-at = search in
     let start : tie.Start = search in
-    elsewhere around (start .pre .0) (at-code-at .code-at .ensures) (at-match .match .keys15) refl (λ C o. o .seen) (at-visit-value2 .visit-value2 .ensures)
-
-same-length-11 : tie.Need-same-length-11
-same-length-11 c = search needs
+    elsewhere around (start .pre .0) (at-code-at .code-at .ensures) (at-match .match .keys15) refl (λ C o. o .seen) (value-scheduled (start .pre .0) (ap valueFallthrough (read .ternary-at .ensures .is)) (c .schedule-value2 .ensures) _)
 
 returns-16 : tie.Need-returns-16
 returns-16 c around =
-    let at-visit-value3 : tie.After-visit-value3 = search in
+    let read : tie.After-optional-at = search in
     let at-match : tie.At-match-keys16 = search in
     let at-code-at : tie.After-code-at = search in
     let start : tie.Start = search in
-    elsewhere around (start .pre .0) (at-code-at .code-at .ensures) (at-match .match .keys16) refl (λ C o. o .seen) (at-visit-value3 .visit-value3 .ensures)
+    elsewhere around (start .pre .0) (at-code-at .code-at .ensures) (at-match .match .keys16) refl (λ C o. o .seen) (value-scheduled (start .pre .0) (ap valueFallthrough (read .optional-at .ensures .is)) (c .schedule-value3 .ensures) _)
 
 returns-17 : tie.Need-returns-17
 returns-17 c around =
@@ -263,16 +239,13 @@ returns-17 c around =
     let start : tie.Start = search in
     elsewhere around (start .pre .0) (at-code-at .code-at .ensures) (at-match .match .keys17) refl (λ C o. o .seen) (c .visit-label .ensures _)
 
-same-length-12 : tie.Need-same-length-12
-same-length-12 c = search needs
-
 returns-18 : tie.Need-returns-18
 returns-18 c around =
-    let at-visit-value4 : tie.After-visit-value4 = search in
+    let read : tie.After-sequence-at = search in
     let at-match : tie.At-match-keys18 = search in
     let at-code-at : tie.After-code-at = search in
     let start : tie.Start = search in
-    elsewhere around (start .pre .0) (at-code-at .code-at .ensures) (at-match .match .keys18) refl (λ C o. o .seen) (at-visit-value4 .visit-value4 .ensures)
+    elsewhere around (start .pre .0) (at-code-at .code-at .ensures) (at-match .match .keys18) refl (λ C o. o .seen) (value-scheduled (start .pre .0) (ap valueFallthrough (read .sequence-at .ensures .is)) (c .schedule-value4 .ensures) _)
 
 returns-19 : tie.Need-returns-19
 returns-19 c around =
@@ -328,14 +301,14 @@ visit-terminal-spec =
     visit-for-of-requires
     visit-for-in-requires
     logical-at-requires
-    visit-value-requires
+    schedule-value-requires
     ternary-at-requires
-    visit-value-requires-2
+    schedule-value-requires-2
     optional-at-requires
-    visit-value-requires-3
+    schedule-value-requires-3
     visit-label-requires
     sequence-at-requires
-    visit-value-requires-4
+    schedule-value-requires-4
     visit-maybe-throw-requires
     visit-try-requires
     visit-scope-requires
@@ -354,22 +327,14 @@ visit-terminal-spec =
     returns-7
     returns-8
     returns-9
-    same-length-5
     returns-10
-    same-length-6
     returns-11
-    same-length-7
     returns-12
-    same-length-8
     returns-13
-    same-length-9
     returns-14
-    same-length-10
     returns-15
-    same-length-11
     returns-16
     returns-17
-    same-length-12
     returns-18
     returns-19
     returns-20
