@@ -24,7 +24,7 @@ use Rattle.definition.specs.TreeRun.{runStatements, reasonOf, treeRun}
 use Rattle.definition.specs.Plain.{Width, paper-01, with-switch, plainCodes, Plain}
 use Rattle.definition.specs.RunLaw.{Agree, RunLaw, Spoken, SwitchLaw, LawOfSwitches}
 use Rattle.definition.specs.LoopLaw.{LawOfLoops, LawOfLoopsAndSwitches}
-use Rattle.definition.specs.PlainLoops.{enoughCodes}
+use Rattle.definition.specs.PlainLoops.{loopCodes}
 use Rattle.definition.proofs.PlainEnough.{PlainEnough, plain-enough}
 use Rattle.definition.proofs.Semantics.{Built, LeadsOn, runs, runnable}
 use Rattle.definition.proofs.State.{start-ok}
@@ -127,7 +127,7 @@ answer-within x y [] = refl
 answer-within x y (zero ∷ a) = refl
 answer-within x y (suc n ∷ a) = refl
 
-move-within : (t : Table) (m : Terminal) (i : ℕ) (answers : Answers) → contains (enoughCodes paper-01) (codeOf m) ≡ true → movesBeyond (move t m i answers) ≡ false
+move-within : (t : Table) (m : Terminal) (i : ℕ) (answers : Answers) → contains (loopCodes paper-01) (codeOf m) ≡ true → movesBeyond (move t m i answers) ≡ false
 unfolding move
 move-within t absent i a h = refl
 move-within t unreachable i a h = refl

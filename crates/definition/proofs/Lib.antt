@@ -35,7 +35,7 @@ pub mod Structure
 pub mod Law
 pub mod JumpRows
 pub mod PlainTest
+pub mod LoopTest
 pub mod Example
-pub mod LoopExample
 pub mod LoopLawExample
 pub mod Samples

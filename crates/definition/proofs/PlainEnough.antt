@@ -12,7 +12,7 @@ use Rattle.table.specs.Table.{Table, Case, Operation, other, load-local, store-
 use Rattle.table.specs.Table.{ternary, optional, label, sequence, maybe-throw, try, scope, Variant, Try, codeOf, isUnreachable, terminalAt, instructionAt, instructionRowsAt}
 use Rattle.definition.specs.Completion.{contains}
 use Rattle.definition.specs.Plain.{Width, paper-01, with-switch, Plain, IsCase, blocksOf, caseBlocksOf, paperCodes, plainCodes, fallthroughOf, otherNames, isBranch, isStore, endsInStore, NotBranch, All}
-use Rattle.definition.specs.PlainLoops.{Loop, aLoop, loopOf, endsInUnnamed, endsInOwnLoad, enoughCodes, dropOwn, properBlocksOf, IsProper, Reached, enteredBy, PlainLoops}
+use Rattle.definition.specs.PlainLoops.{Loop, aLoop, loopOf, endsInUnnamed, endsInOwnLoad, loopCodes, dropOwn, properBlocksOf, IsProper, Reached, enteredBy, PlainLoops}
 use Rattle.definition.specs.Value.{storedToNamed}
 use Rattle.definition.specs.BlockRun.{caseList}
 use Rattle.definition.specs.Statement.{casesLastFirst}
@@ -51,10 +51,10 @@ plain-widens t pl = record {
 
 -- ---- what is used
 
-pub wide-enough : (width : Width) (code : ℕ) → contains (enoughCodes width) code ≡ true → contains (enoughCodes with-switch) code ≡ true
+pub wide-enough : (width : Width) (code : ℕ) → contains (loopCodes width) code ≡ true → contains (loopCodes with-switch) code ≡ true
 wide-enough paper-01 code h = or (eqb 7 code)
   where
-    or : (y : Bool) → y || contains (enoughCodes paper-01) code ≡ true
+    or : (y : Bool) → y || contains (loopCodes paper-01) code ≡ true
     or true = refl
     or false = h
 wide-enough with-switch code h = h
@@ -194,7 +194,7 @@ ends-no-unnamed t [] h = refl
 ends-no-unnamed t (row ∷ []) h = no-unnamed t (instructionAt t row .operation) h
 ends-no-unnamed t (row ∷ next ∷ rows) h = ends-no-unnamed t (next ∷ rows) h
 
-pub more-codes : (width : Width) (code : ℕ) → contains (plainCodes width) code ≡ true → contains (enoughCodes width) code ≡ true
+pub more-codes : (width : Width) (code : ℕ) → contains (plainCodes width) code ≡ true → contains (loopCodes width) code ≡ true
 more-codes paper-01 code h = or (eqb 8 code) (eqb 10 code) (eqb 1 code)
   where
     or : (x y z : Bool) → x || (y || (z || contains paperCodes code)) ≡ true

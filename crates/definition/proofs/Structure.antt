@@ -37,7 +37,7 @@ use Rattle.definition.proofs.Semantics.{Frame, in-label, in-scope, in-l
 use Rattle.definition.proofs.Semantics.{built-switch, built-return, built-throw, built-jump, built-if, built-if-only, built-label, built-scope}
 use Rattle.definition.proofs.Semantics.{built-switch-open, built-if-open, built-label-open, built-while, built-do-while, built-for, Onward, onward-here, onward-go}
 use Rattle.definition.proofs.Ranged.{Ranged}
-use Rattle.definition.specs.PlainLoops.{dropOwn, properBlocksOf, IsProper, enoughCodes, aLoop, loopOf, endsInUnnamed, endsInOwnLoad, Reached, enteredBy, mayBeOpen}
+use Rattle.definition.specs.PlainLoops.{dropOwn, properBlocksOf, IsProper, loopCodes, aLoop, loopOf, endsInUnnamed, endsInOwnLoad, Reached, enteredBy, mayBeOpen}
 use Rattle.definition.proofs.PlainEnough.{PlainEnough, wide-enough}
 use Rattle.definition.proofs.Runnable.{Straight, StraightAll, StraightUpdate, Runnable}
 use Rattle.definition.proofs.Steps.{true-false, refused-ok, ok-eq, bind-ok, unless-ok}
@@ -997,8 +997,8 @@ module _ (t : Table) where
     -- ---- every end
 
     -- a terminal that no plain table has
-    not-plain : {m : Terminal} (b : ℕ) → terminalAt t b ≡ m → contains (enoughCodes with-switch) (codeOf m) ≡ false → ⊥
-    not-plain b e h = true-false (sym (wide-enough width (codeOf (terminalAt t b)) (pl .ends b)) ∙ ap (λ (m : Terminal). contains (enoughCodes with-switch) (codeOf m)) e ∙ h)
+    not-plain : {m : Terminal} (b : ℕ) → terminalAt t b ≡ m → contains (loopCodes with-switch) (codeOf m) ≡ false → ⊥
+    not-plain b e h = true-false (sym (wide-enough width (codeOf (terminalAt t b)) (pl .ends b)) ∙ ap (λ (m : Terminal). contains (loopCodes with-switch) (codeOf m)) e ∙ h)
 
     terminal-ok : {F : List Frame} {c₀ c : Context} (o : Around) → Suits rule o F → (b : ℕ) (m : Terminal) (s : TerminalResult) → Entered t b F c₀ c → Fit b → terminalAt t b ≡ m
         → visitTerminal t values inner o m b (blockAt t b) c ≡ ok s → StepOk F b (c .stack) s
