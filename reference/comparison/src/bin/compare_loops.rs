@@ -1,6 +1,6 @@
-//! `compare_loops [TABLES [SEED [BLOCKS [REUSED]]]]`: beyond the papers, the run law with DoWhile and For, with switches as compilers make them, and with ends
+//! `compare_loops [TABLES [SEED [BLOCKS [REUSED [CASES]]]]]`: beyond the papers, the run law with DoWhile and For, with switches as compilers make them, and with ends
 //! that are not reached. As `compare_switches`: every small table with these conditions that is accepted, of so many blocks (5; with REUSED 1 a statement may also
-//! name blocks that were named before) and three cases a Switch, with every list of up to five answers; so many larger ones, lowered as a compiler does it, with
+//! name blocks that were named before) and so many cases a Switch (3), with every list of up to five answers; so many larger ones, lowered as a compiler does it, with
 //! random lists. Of a table without Switch the first entry's tree is held to the runs too. Then it prints what share of the generator's programs each law speaks of.
 //! The status is not 0 if anything differs, or if something was not met.
 
@@ -24,7 +24,9 @@ const WIDTHS: [Width; 3] = [Width::Paper01, Width::WithSwitch, Width::Loops];
 fn main() -> ExitCode {
     let (tables, seed, mut more) = arguments();
     let blocks = more.next().unwrap_or(5) as u32;
-    let bound = Bound { width: Width::Loops, blocks, cases: CASES, reused: more.next() == Some(1) };
+    let reused = more.next() == Some(1);
+    let cases = more.next().map_or(CASES, |cases| cases as u32);
+    let bound = Bound { width: Width::Loops, blocks, cases, reused };
 
     let mut small = Met::default();
     let counted = each(bound, |draft| {
@@ -33,7 +35,7 @@ fn main() -> ExitCode {
         small.every_list(&with_bare_tests(draft), same);
     });
     println!(
-        "small: {} accepted tables of up to {blocks} blocks and {CASES} cases a Switch, {} of them with For or DoWhile, {} with a Switch ({} refused on the way), {}",
+        "small: {} accepted tables of up to {blocks} blocks and {cases} cases a Switch, {} of them with For or DoWhile, {} with a Switch ({} refused on the way), {}",
         counted.accepted, counted.with_loops, counted.with_switch, counted.refused, small.summary(),
     );
 
