@@ -1,5 +1,5 @@
 -- For the reader: the law beyond the papers is not empty. The corners that it adds, each as a table: a For with update and continue; a For whose init is its loop block,
--- or its update; a DoWhile; a do inside a for, continued and left from within; ends that are not reached; a switch without default in a for; a case that goes on into
+-- or its update; a DoWhile; a do inside a for, continued and left from within; ends that are not reached, of an If and of a scope; a switch without default in a for; a case that goes on into
 -- the next. Each has the conditions (by the test), is accepted and runs as it should (by computation), and the law holds of it. A switch in a loop shows that the law
 -- with switches is not one of the first entry. `loop-edges`: each condition's smallest table on which the law fails, which does not pass the test.
 -- Block n has one instruction, row n, so that the rows performed are the numbers of the blocks.
@@ -138,6 +138,10 @@ nested = table (aFor 1 2 3 4 5 ∷ aBreak 2 ∷ aBranch 4 5 ∷ aBreak 2 ∷ aDo
 abbrev pub ends : List ℕ
 ends = table (aWhile 1 2 3 ∷ aBranch 2 3 ∷ anIf 4 5 6 ∷ aReturn ∷ aReturn ∷ aContinue 1 ∷ anUnreachable ∷ []) []
 
+-- a scope whose end is not reached
+abbrev pub scoped : List ℕ
+scoped = table ((20 ∷ 1 ∷ 2 ∷ 5 ∷ 0 ∷ 0 ∷ []) ∷ anIf 3 4 4 ∷ anUnreachable ∷ aReturn ∷ aThrow ∷ []) []
+
 -- a switch in a for, with no default: its last case is its fallthrough. Case 7 leaves the for
 abbrev pub switches : List ℕ
 switches = table (aFor 1 2 3 4 5 ∷ aBreak 2 ∷ aBranch 4 5 ∷ aBreak 2 ∷ aSwitch 3 8 ∷ aReturn ∷ aContinue 3 ∷ aBreak 5 ∷ aContinue 3 ∷ []) (6 ∷ 7 ∷ 8 ∷ [])
@@ -155,6 +159,7 @@ pub all-plain : PlainLoops without-switch (tableOf updates)
     × PlainLoops without-switch (tableOf once)
     × PlainLoops without-switch (tableOf nested)
     × PlainLoops without-switch (tableOf ends)
+    × PlainLoops without-switch (tableOf scoped)
     × PlainLoops with-switch (tableOf switches)
     × PlainLoops with-switch (tableOf falls)
 unfolding word entryWord blockCount instructionCount caseCount placeCount identifierCount blocksBegin instructionsBegin casesBegin placesBegin identifiersBegin
@@ -168,6 +173,7 @@ all-plain = (
   is-plain-loops (tableOf once) without-switch refl,
   is-plain-loops (tableOf nested) without-switch refl,
   is-plain-loops (tableOf ends) without-switch refl,
+  is-plain-loops (tableOf scoped) without-switch refl,
   is-plain-loops (tableOf switches) with-switch refl,
   is-plain-loops (tableOf falls) with-switch refl,
 )
@@ -176,20 +182,22 @@ all-plain = (
 
 abbrev LoopRuns : Rule → Type 0
 LoopRuns rule =
-    Both rule updates ([]) (stopped (0 ∷ 1 ∷ 2 ∷ []) [] no-answer-left)
+    Both rule updates [] (stopped (0 ∷ 1 ∷ 2 ∷ []) [] no-answer-left)
     × Both rule updates (0 ∷ []) (stopped (0 ∷ 1 ∷ 2 ∷ 5 ∷ []) [] (returned 0 6))
     × Both rule updates (1 ∷ 1 ∷ 0 ∷ []) (stopped (0 ∷ 1 ∷ 2 ∷ 4 ∷ 6 ∷ 3 ∷ 2 ∷ 5 ∷ []) [] (returned 0 6))
     × Both rule updates (1 ∷ 0 ∷ 1 ∷ 1 ∷ []) (stopped (0 ∷ 1 ∷ 2 ∷ 4 ∷ 7 ∷ 3 ∷ 2 ∷ 4 ∷ 6 ∷ 3 ∷ 2 ∷ []) [] no-answer-left)
     × Both rule counts (1 ∷ 1 ∷ 0 ∷ []) (stopped (0 ∷ 1 ∷ 2 ∷ 1 ∷ 2 ∷ 1 ∷ 2 ∷ 3 ∷ []) [] (returned 0 4))
     × Both rule again (1 ∷ 0 ∷ []) (stopped (0 ∷ 1 ∷ 2 ∷ 3 ∷ 1 ∷ 2 ∷ 4 ∷ []) [] (returned 0 5))
-    × Both rule does ([]) (stopped (0 ∷ 1 ∷ []) [] no-answer-left)
+    × Both rule does [] (stopped (0 ∷ 1 ∷ []) [] no-answer-left)
     × Both rule does (1 ∷ []) (stopped (0 ∷ 1 ∷ 4 ∷ 2 ∷ []) [] no-answer-left)
     × Both rule does (0 ∷ 1 ∷ 1 ∷ 0 ∷ []) (stopped (0 ∷ 1 ∷ 5 ∷ 2 ∷ 1 ∷ 4 ∷ 2 ∷ 3 ∷ []) [] (threw 0 4))
-    × Both rule once ([]) (stopped (0 ∷ 1 ∷ 3 ∷ []) [] (returned 0 4))
+    × Both rule once [] (stopped (0 ∷ 1 ∷ 3 ∷ []) [] (returned 0 4))
     × Both rule nested (1 ∷ 1 ∷ 0 ∷ []) (stopped (0 ∷ 1 ∷ 2 ∷ 4 ∷ 6 ∷ 9 ∷ 3 ∷ 2 ∷ 5 ∷ []) [] (returned 0 6))
     × Both rule nested (1 ∷ 0 ∷ 1 ∷ []) (stopped (0 ∷ 1 ∷ 2 ∷ 4 ∷ 6 ∷ 10 ∷ 11 ∷ 5 ∷ []) [] (returned 0 6))
     × Both rule ends (1 ∷ 0 ∷ 0 ∷ []) (stopped (0 ∷ 1 ∷ 2 ∷ 5 ∷ 1 ∷ 3 ∷ []) [] (returned 0 4))
     × Both rule ends (1 ∷ 1 ∷ []) (stopped (0 ∷ 1 ∷ 2 ∷ 4 ∷ []) [] (returned 0 5))
+    × Both rule scoped (1 ∷ []) (stopped (0 ∷ 1 ∷ 3 ∷ []) [] (returned 0 4))
+    × Both rule scoped (0 ∷ []) (stopped (0 ∷ 1 ∷ 4 ∷ []) [] (threw 0 5))
 
 -- In the language entry; in the first entry the tree's break of case 7 acts on the switch
 abbrev SwitchRuns : Rule → Type 0
@@ -213,6 +221,7 @@ AllAccepted rule =
     × (built rule once 600 300 .code ≡ 0)
     × (built rule nested 600 300 .code ≡ 0)
     × (built rule ends 600 300 .code ≡ 0)
+    × (built rule scoped 600 300 .code ≡ 0)
     × (built rule switches 600 300 .code ≡ 0)
     × (built rule falls 600 300 .code ≡ 0)
 
@@ -231,8 +240,8 @@ unfolding word entryWord blockCount instructionCount caseCount placeCount identi
     instructionStatements thenNext visitBlock traverseBlock buildTree reported report refusal wordsOf inList lines lineWords placed outcomeOf afterCheck built performing move byAnswer
     caseList atPlace byPlace blockRun loopContinues breakable labelled completed completing prefix thenOn then choose afterBody whileRounds whileLoop forLoop doWhileLoop loop
     switchEnds entryAt choosePlace jumpCompletion runStatement reasonOf treeRun
-computed rust = (((refl, refl), (refl, refl), (refl, refl), (refl, refl), (refl, refl), (refl, refl), (refl, refl), (refl, refl), (refl, refl), (refl, refl), (refl, refl), (refl, refl), (refl, refl), (refl, refl)), (refl, refl), (refl, refl, refl, refl, refl, refl, refl, refl, refl))
-computed language = (((refl, refl), (refl, refl), (refl, refl), (refl, refl), (refl, refl), (refl, refl), (refl, refl), (refl, refl), (refl, refl), (refl, refl), (refl, refl), (refl, refl), (refl, refl), (refl, refl)), ((refl, refl), (refl, refl), (refl, refl), (refl, refl), (refl, refl), (refl, refl)), (refl, refl, refl, refl, refl, refl, refl, refl, refl))
+computed rust = (((refl, refl), (refl, refl), (refl, refl), (refl, refl), (refl, refl), (refl, refl), (refl, refl), (refl, refl), (refl, refl), (refl, refl), (refl, refl), (refl, refl), (refl, refl), (refl, refl), (refl, refl), (refl, refl)), (refl, refl), (refl, refl, refl, refl, refl, refl, refl, refl, refl, refl))
+computed language = (((refl, refl), (refl, refl), (refl, refl), (refl, refl), (refl, refl), (refl, refl), (refl, refl), (refl, refl), (refl, refl), (refl, refl), (refl, refl), (refl, refl), (refl, refl), (refl, refl), (refl, refl), (refl, refl)), ((refl, refl), (refl, refl), (refl, refl), (refl, refl), (refl, refl), (refl, refl)), (refl, refl, refl, refl, refl, refl, refl, refl, refl, refl))
 
 -- ---- the law
 
@@ -257,11 +266,14 @@ nested-law rule = loops-law rule nested 600 300 (computed rule .2 .5) (all-plain
 pub ends-law : (rule : Rule) → RunLaw ends (built rule ends 600 300)
 ends-law rule = loops-law rule ends 600 300 (computed rule .2 .6) (all-plain .6)
 
+pub scoped-law : (rule : Rule) → RunLaw scoped (built rule scoped 600 300)
+scoped-law rule = loops-law rule scoped 600 300 (computed rule .2 .7) (all-plain .7)
+
 pub switches-law : SwitchLaw switches (built language switches 600 300)
-switches-law = loops-and-switches-law switches 600 300 (computed language .2 .7) (all-plain .7)
+switches-law = loops-and-switches-law switches 600 300 (computed language .2 .8) (all-plain .8)
 
 pub falls-law : SwitchLaw falls (built language falls 600 300)
-falls-law = loops-and-switches-law falls 600 300 (computed language .2 .8) (all-plain .8)
+falls-law = loops-and-switches-law falls 600 300 (computed language .2 .9) (all-plain .9)
 
 -- ---- the first entry
 
@@ -270,7 +282,7 @@ switches-spoken = spoken-of (tableOf switches) (1 ∷ 1 ∷ []) 40 (0 ∷ 1 ∷ 
 
 switches-tree : (law : SwitchLaw switches (built rust switches 600 300)) → law .one .tree ≡ treeOf (buildTree rust (tableOf switches))
 switches-tree law =
-    let a : Accepted rust switches 600 300 = accepted-of rust switches 600 300 (computed rust .2 .7) in
+    let a : Accepted rust switches 600 300 = accepted-of rust switches 600 300 (computed rust .2 .8) in
     tree-is-built rust switches 600 300 a (law .one) ∙ sym (ap treeOf (a .builds))
 
 -- the table has the conditions and is accepted, and the law does not hold of what the first entry gave
@@ -311,8 +323,8 @@ loop-edges :
     × Edge (table (aSwitch 2 1 ∷ aReturn ∷ aReturn ∷ []) (1 ∷ 2 ∷ []))
     -- an Unreachable entry
     × Edge (table (anUnreachable ∷ []) [])
-    -- an Unreachable end of a scope: the runs agree, and the law does not speak of it
-    × Edge (table ((20 ∷ 1 ∷ 2 ∷ 5 ∷ 0 ∷ 0 ∷ []) ∷ aReturn ∷ anUnreachable ∷ []) [])
+    -- an Unreachable block that a Goto names
+    × Edge (table ((20 ∷ 1 ∷ 2 ∷ 5 ∷ 0 ∷ 0 ∷ []) ∷ aBreak 2 ∷ anUnreachable ∷ []) [])
 unfolding word entryWord blockCount instructionCount caseCount placeCount identifierCount blocksBegin instructionsBegin casesBegin placesBegin identifiersBegin
     blockWord instructionWord caseWord placeWord identifierWord unlessNone variantOf terminalOf blockOf operationOf instructionOf caseOf tabulate tableOf caseList
     casesLastFirst storedToNamed sameIdentifier

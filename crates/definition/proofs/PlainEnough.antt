@@ -92,15 +92,15 @@ not-branch t pl k c = at (terminalAt t k) refl
     at (scope true x f n) e = refl
 
 -- a proper case is a case
-or-left : (x y : Bool) → x ≡ true → x || y ≡ true
+pub or-left : (x y : Bool) → x ≡ true → x || y ≡ true
 or-left true y h = refl
 or-left false y h = absurd (true-false (sym h))
 
-or-right : (x y : Bool) → y ≡ true → x || y ≡ true
+pub or-right : (x y : Bool) → y ≡ true → x || y ≡ true
 or-right true y h = refl
 or-right false y h = h
 
-either-or : {P : Type 0} (x y : Bool) → x || y ≡ true → (x ≡ true → P) → (y ≡ true → P) → P
+pub either-or : {P : Type 0} (x y : Bool) → x || y ≡ true → (x ≡ true → P) → (y ≡ true → P) → P
 either-or true y h f g = f refl
 either-or false y h f g = g h
 
@@ -113,7 +113,7 @@ from-drop f (c ∷ ks) k h = at (eqb (c .block) f) (λ e. from-drop f ks k e) h
     at true ih e = or-right (eqb (c .block) k) (contains (blocksOf ks) k) (ih e)
     at false ih e = e
 
-from-reverse : (ks later : List Case) (k : ℕ) → contains (blocksOf (reverseAux ks later)) k ≡ true → contains (blocksOf ks) k || contains (blocksOf later) k ≡ true
+pub from-reverse : (ks later : List Case) (k : ℕ) → contains (blocksOf (reverseAux ks later)) k ≡ true → contains (blocksOf ks) k || contains (blocksOf later) k ≡ true
 from-reverse [] later k h = h
 from-reverse (c ∷ ks) later k h =
     either-or (contains (blocksOf ks) k) (eqb (c .block) k || contains (blocksOf later) k) (from-reverse ks (c ∷ later) k h)
@@ -122,7 +122,7 @@ from-reverse (c ∷ ks) later k h =
     (λ e₁. or-left (eqb (c .block) k || contains (blocksOf ks) k) (contains (blocksOf later) k) (or-left (eqb (c .block) k) (contains (blocksOf ks) k) e₁))
     (λ e₁. or-right (eqb (c .block) k || contains (blocksOf ks) k) (contains (blocksOf later) k) e₁))
 
-or-false : (x : Bool) → x || false ≡ true → x ≡ true
+pub or-false : (x : Bool) → x || false ≡ true → x ≡ true
 or-false true h = refl
 or-false false h = h
 

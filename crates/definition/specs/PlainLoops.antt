@@ -107,15 +107,15 @@ pub record IsProper (t : Table) (block : ℕ) : Type 0 where
 abbrev pub Reached : Table → ℕ → Type 0
 Reached t block = isUnreachable (terminalAt t block) ≡ false
 
--- the blocks that a terminal enters otherwise than as a fallthrough or a case
+-- the blocks that a terminal enters otherwise than as a fallthrough, a case, a loop's test, or a For's init or update, which are a Branch and Gotos
 abbrev pub enteredBy : Terminal → List ℕ
 enteredBy absent = []
 enteredBy unreachable = []
 enteredBy (throw value) = []
 enteredBy (return value) = []
-enteredBy (goto block variant) = []
+enteredBy (goto block variant) = block ∷ []
 enteredBy (if test consequent alternate fallthrough) = consequent ∷ alternate ∷ []
-enteredBy (branch test consequent alternate) = []
+enteredBy (branch test consequent alternate) = consequent ∷ alternate ∷ []
 enteredBy (switch test first number fallthrough) = []
 enteredBy (do-while loop test fallthrough) = loop ∷ []
 enteredBy (while test loop fallthrough) = loop ∷ []
@@ -131,7 +131,7 @@ enteredBy (maybe-throw continuation) = []
 enteredBy (try block handler fallthrough binding) = []
 enteredBy (scope pruned block fallthrough number) = block ∷ []
 
--- an If, a Switch or a Label, which ask whether their fallthrough is reachable
+-- an If, a Switch, a Label or a scope
 abbrev pub mayBeOpen : Terminal → Bool
 mayBeOpen absent = false
 mayBeOpen unreachable = false
@@ -153,7 +153,7 @@ mayBeOpen (label block fallthrough) = true
 mayBeOpen (sequence block fallthrough) = false
 mayBeOpen (maybe-throw continuation) = false
 mayBeOpen (try block handler fallthrough binding) = false
-mayBeOpen (scope pruned block fallthrough number) = false
+mayBeOpen (scope pruned block fallthrough number) = true
 
 pub record PlainLoops (width : Width) (t : Table) : Type 0 where
   -- "Every present block ends in If, While, DoWhile, For, Label, Scope, PrunedScope, Goto Break or Continue, Return, Throw, Branch or Unreachable (with switches: or
@@ -201,10 +201,10 @@ pub record PlainLoops (width : Width) (t : Table) : Type 0 where
   pub case-fallthrough : (block case : ℕ) → fallthroughOf (terminalAt t block) ≡ some case → IsProper t case → ⊥
   -- "An Unreachable block is not the entry"
   pub entry-reached : Reached t (t .entry)
-  -- "and, Gotos apart, is named only as the ft": a terminal enters none otherwise, and no case block is one. (A Goto that names one and is reached is refused.)
+  -- "and is named only as the ft": a terminal enters none otherwise, and no case block is one
   pub entered : (block : ℕ) → All (Reached t) (enteredBy (terminalAt t block))
   pub case-reached : (case : ℕ) → IsProper t case → Reached t case
-  -- "of an If, a Switch or a Label,"
+  -- "of an If, a Switch, a Label, a Scope or a PrunedScope,"
   pub open-ends : (block fallthrough : ℕ) → fallthroughOf (terminalAt t block) ≡ some fallthrough → isUnreachable (terminalAt t fallthrough) ≡ true
       → mayBeOpen (terminalAt t block) ≡ true
   -- "and no case of that Switch is its own ft."
