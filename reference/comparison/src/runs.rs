@@ -209,12 +209,13 @@ fn is_plain_with_loops(table: &Table) -> bool {
     });
     let cases_are_no_ends = cases.iter().all(|case| !ends.contains(case));
     let entered = present.iter().flat_map(|row| match row[2] {
-        5 => row[4..6].to_vec(),
+        4 => vec![row[3]],
+        5 | 6 => row[4..6].to_vec(),
         16 | 20 | 21 => vec![row[3]],
         _ => loop_of(row).map_or(Vec::new(), |found| vec![found.body]),
     });
     let open_ends = present.iter().all(|row| match fallthrough_of(row) {
-        Some(end) if is_open(end) => [5, 16].contains(&row[2]) || row[2] == 7 && proper_cases(table, row).len() as u32 == row[5],
+        Some(end) if is_open(end) => [5, 16, 20, 21].contains(&row[2]) || row[2] == 7 && proper_cases(table, row).len() as u32 == row[5],
         _ => true,
     });
     let reached = !is_open(entry) && !entered.chain(cases.iter().copied()).any(is_open) && open_ends;

@@ -96,7 +96,7 @@ impl Plain<'_> {
         self.end_of(fallthrough, alternate != fallthrough, after);
     }
 
-    /// What follows an If or a Switch. Where nothing leads there, it may be Unreachable.
+    /// What follows an If, a Switch, a Label or a scope. Where nothing leads there, it may be Unreachable.
     fn end_of(&mut self, fallthrough: u32, may_be_open: bool, after: Option<(u32, u32)>) {
         let named = |row: &[u32; BLOCK_WORDS]| row[2] == 4 && row[3] == fallthrough;
         if self.width == Width::Loops && may_be_open && !self.draft.blocks.iter().any(named) {
@@ -172,6 +172,6 @@ impl Plain<'_> {
         self.end(block, code, if code == 16 { &operands[..2] } else { &operands });
         let out = (fallthrough, BREAK);
         self.body(body, out, &[out]);
-        self.statements(fallthrough, after);
+        self.end_of(fallthrough, true, after);
     }
 }
