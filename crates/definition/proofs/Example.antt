@@ -37,7 +37,8 @@ use Rattle.definition.specs.TreeRun.{completed, completing, prefix, then
 use Rattle.definition.specs.TreeRun.{choosePlace, jumpCompletion, runStatement, reasonOf, treeRun}
 use Rattle.definition.specs.Plain.{paper-01, with-switch, Plain}
 use Rattle.definition.specs.RunLaw.{Agree, RunLaw, Spoken, SwitchLaw}
-use Rattle.definition.proofs.PlainTest.{isPlain, is-plain}
+use Rattle.definition.specs.PlainTest.{isPlain}
+use Rattle.definition.proofs.PlainTest.{is-plain}
 use Rattle.definition.proofs.Accepted.{Accepted, accepted-of}
 use Rattle.definition.proofs.Steps.{true-false}
 use Rattle.definition.proofs.Law.{more-steps, spoken-of, tree-is-built, run-law, switch-law}
@@ -139,12 +140,12 @@ beyond-edges = (refl, refl, refl, refl, refl, refl, refl, refl, refl, refl)
 -- ---- the runs, by computation
 
 -- the tree of an accepted table
-abbrev treeOf : Result BlockResult → Statements
+abbrev pub treeOf : Result BlockResult → Statements
 treeOf (ok root) = root .statements
 treeOf (refused code at visits) = done
 
 -- over these answers, both runs
-abbrev Both : Rule → (words : List ℕ) → Answers → Run → Type 0
+abbrev pub Both : Rule → (words : List ℕ) → Answers → Run → Type 0
 Both rule words answers run = (blockRun (tableOf words) 40 (tableOf words .entry) answers ≡ run) × (treeRun (treeOf (buildTree rule (tableOf words))) answers ≡ run)
 
 abbrev WRuns : Rule → Type 0
@@ -217,13 +218,13 @@ picks-agree = picks-law .agree (1 ∷ 0 ∷ 1 ∷ 2 ∷ 1 ∷ 1 ∷ 5 ∷ []) (p
 -- ---- the first entry
 
 -- runs that agree stop alike
-stop-alike : (t : Table) (root : Statements) (answers : Answers) (n : ℕ) (run run′ : Run) (performed : List ℕ) (left : Answers) (r : Reason) → run ≡ stopped performed left r
+pub stop-alike : (t : Table) (root : Statements) (answers : Answers) (n : ℕ) (run run′ : Run) (performed : List ℕ) (left : Answers) (r : Reason) → run ≡ stopped performed left r
     → Agree t root answers → blockRun t n (t .entry) answers ≡ run → treeRun root answers ≡ run′ → run ≡ run′
 stop-alike t root answers n run run′ performed left r k a e e′ =
     let q : n + a .steps ≡ a .steps + n = omega arith in
     k ∙ sym (more-steps t (a .steps) n (t .entry) answers performed left r (e ∙ k)) ∙ ap (λ (m : ℕ). blockRun t m (t .entry) answers) (sym q) ∙ a .block-run n ∙ sym (a .tree-run) ∙ e′
 
-abbrev returns : Run → Bool
+abbrev pub returns : Run → Bool
 returns unfinished = false
 returns (stopped performed left (returned value id)) = true
 returns (stopped performed left (threw value id)) = false

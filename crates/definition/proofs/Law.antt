@@ -24,9 +24,10 @@ use Rattle.definition.specs.TreeRun.{runStatements, reasonOf, treeRun}
 use Rattle.definition.specs.Plain.{Width, paper-01, with-switch, plainCodes, Plain}
 use Rattle.definition.specs.RunLaw.{Agree, RunLaw, Spoken, SwitchLaw, LawOfSwitches}
 use Rattle.definition.specs.LoopLaw.{LawOfLoops, LawOfLoopsAndSwitches}
-use Rattle.definition.specs.PlainLoops.{enoughCodes}
+use Rattle.definition.specs.PlainLoops.{loopCodes, Reached}
 use Rattle.definition.proofs.PlainEnough.{PlainEnough, plain-enough}
-use Rattle.definition.proofs.Semantics.{Built, LeadsOn, runs, runnable}
+use Rattle.definition.proofs.Semantics.{Built, LeadsOn, NoneLost, Beyond, no-case, lost, runs, runnable}
+use Rattle.definition.proofs.NoneLost.{none-lost}
 use Rattle.definition.proofs.State.{start-ok}
 use Rattle.definition.proofs.Structure.{BlockOk, WalkOk, Covers, walk-ok}
 use Rattle.definition.proofs.Resolve.{fits-none}
@@ -90,9 +91,13 @@ agree-on t s answers (stop r) h (g, p) = record {
   good = g;
 }
 
-built-agrees : (t : Table) (s : Statements) → Built t [] (t .entry) s → (answers : Answers) → Spoken t answers → Agree t s answers
-built-agrees t s b answers spoken = elim (runs t b answers) [
-  | inl z ↦ absurd (spoken (z .comes .steps) (z .rows) (z .left) (z .comes .runs))
+not-beyond : (t : Table) (answers : Answers) → NoneLost t → Reached t (t .entry) → Spoken t answers → Beyond t (t .entry) answers → ⊥
+not-beyond t answers w h spoken (no-case rows left s) = spoken (s .steps) rows left (s .runs)
+not-beyond t answers w h spoken (lost f) = f w h
+
+built-agrees : (t : Table) (s : Statements) → NoneLost t → Reached t (t .entry) → Built t [] (t .entry) s → (answers : Answers) → Spoken t answers → Agree t s answers
+built-agrees t s w h b answers spoken = elim (runs t b answers) [
+  | inl z ↦ absurd (not-beyond t answers w h spoken z)
   | inr z ↦ agree-on t s answers (runStatements s answers .completion) refl z
 ]
 
@@ -127,7 +132,7 @@ answer-within x y [] = refl
 answer-within x y (zero ∷ a) = refl
 answer-within x y (suc n ∷ a) = refl
 
-move-within : (t : Table) (m : Terminal) (i : ℕ) (answers : Answers) → contains (enoughCodes paper-01) (codeOf m) ≡ true → movesBeyond (move t m i answers) ≡ false
+move-within : (t : Table) (m : Terminal) (i : ℕ) (answers : Answers) → contains (loopCodes paper-01) (codeOf m) ≡ true → movesBeyond (move t m i answers) ≡ false
 unfolding move
 move-within t absent i a h = refl
 move-within t unreachable i a h = refl
@@ -220,7 +225,7 @@ module _ (rule : Rule) {width : Width} (words : List ℕ) (lent lentIndex : ℕ)
   unfolding one-tree tree-one
   root-agrees =
       let a : Accepted rule words lent lentIndex = accepted-of rule words lent lentIndex h in
-      built-agrees (tableOf words) (a .root .statements) (tree-built rule (tableOf words) covers pl (ranged words (a .checks)) (a .root) (a .builds))
+      built-agrees (tableOf words) (a .root .statements) (none-lost (tableOf words) pl) (pl .entry-reached) (tree-built rule (tableOf words) covers pl (ranged words (a .checks)) (a .root) (a .builds))
 
   -- M-103 runs such a tree: nothing in it is refused 64
   pub tree-runnable : (one : OneTree (built rule words lent lentIndex)) → Runnable (one .tree)

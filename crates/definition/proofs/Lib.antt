@@ -32,10 +32,12 @@ pub mod Semantics
 pub mod Resolve
 pub mod State
 pub mod Structure
+pub mod NoneLost
 pub mod Law
 pub mod JumpRows
 pub mod PlainTest
+pub mod LoopTest
+pub mod Plainness
 pub mod Example
-pub mod LoopExample
 pub mod LoopLawExample
 pub mod Samples

@@ -12,7 +12,7 @@ use Rattle.table.specs.Table.{Table, Case, Operation, other, load-local, store-
 use Rattle.table.specs.Table.{ternary, optional, label, sequence, maybe-throw, try, scope, Variant, Try, codeOf, isUnreachable, terminalAt, instructionAt, instructionRowsAt}
 use Rattle.definition.specs.Completion.{contains}
 use Rattle.definition.specs.Plain.{Width, paper-01, with-switch, Plain, IsCase, blocksOf, caseBlocksOf, paperCodes, plainCodes, fallthroughOf, otherNames, isBranch, isStore, endsInStore, NotBranch, All}
-use Rattle.definition.specs.PlainLoops.{Loop, aLoop, loopOf, endsInUnnamed, endsInOwnLoad, enoughCodes, dropOwn, properBlocksOf, IsProper, Reached, enteredBy, PlainLoops}
+use Rattle.definition.specs.PlainLoops.{Loop, aLoop, loopOf, endsInUnnamed, endsInOwnLoad, loopCodes, dropOwn, properBlocksOf, IsProper, Reached, enteredBy, PlainLoops}
 use Rattle.definition.specs.Value.{storedToNamed}
 use Rattle.definition.specs.BlockRun.{caseList}
 use Rattle.definition.specs.Statement.{casesLastFirst}
@@ -51,10 +51,10 @@ plain-widens t pl = record {
 
 -- ---- what is used
 
-pub wide-enough : (width : Width) (code : ℕ) → contains (enoughCodes width) code ≡ true → contains (enoughCodes with-switch) code ≡ true
+pub wide-enough : (width : Width) (code : ℕ) → contains (loopCodes width) code ≡ true → contains (loopCodes with-switch) code ≡ true
 wide-enough paper-01 code h = or (eqb 7 code)
   where
-    or : (y : Bool) → y || contains (enoughCodes paper-01) code ≡ true
+    or : (y : Bool) → y || contains (loopCodes paper-01) code ≡ true
     or true = refl
     or false = h
 wide-enough with-switch code h = h
@@ -92,15 +92,15 @@ not-branch t pl k c = at (terminalAt t k) refl
     at (scope true x f n) e = refl
 
 -- a proper case is a case
-or-left : (x y : Bool) → x ≡ true → x || y ≡ true
+pub or-left : (x y : Bool) → x ≡ true → x || y ≡ true
 or-left true y h = refl
 or-left false y h = absurd (true-false (sym h))
 
-or-right : (x y : Bool) → y ≡ true → x || y ≡ true
+pub or-right : (x y : Bool) → y ≡ true → x || y ≡ true
 or-right true y h = refl
 or-right false y h = h
 
-either-or : {P : Type 0} (x y : Bool) → x || y ≡ true → (x ≡ true → P) → (y ≡ true → P) → P
+pub either-or : {P : Type 0} (x y : Bool) → x || y ≡ true → (x ≡ true → P) → (y ≡ true → P) → P
 either-or true y h f g = f refl
 either-or false y h f g = g h
 
@@ -113,7 +113,7 @@ from-drop f (c ∷ ks) k h = at (eqb (c .block) f) (λ e. from-drop f ks k e) h
     at true ih e = or-right (eqb (c .block) k) (contains (blocksOf ks) k) (ih e)
     at false ih e = e
 
-from-reverse : (ks later : List Case) (k : ℕ) → contains (blocksOf (reverseAux ks later)) k ≡ true → contains (blocksOf ks) k || contains (blocksOf later) k ≡ true
+pub from-reverse : (ks later : List Case) (k : ℕ) → contains (blocksOf (reverseAux ks later)) k ≡ true → contains (blocksOf ks) k || contains (blocksOf later) k ≡ true
 from-reverse [] later k h = h
 from-reverse (c ∷ ks) later k h =
     either-or (contains (blocksOf ks) k) (eqb (c .block) k || contains (blocksOf later) k) (from-reverse ks (c ∷ later) k h)
@@ -122,7 +122,7 @@ from-reverse (c ∷ ks) later k h =
     (λ e₁. or-left (eqb (c .block) k || contains (blocksOf ks) k) (contains (blocksOf later) k) (or-left (eqb (c .block) k) (contains (blocksOf ks) k) e₁))
     (λ e₁. or-right (eqb (c .block) k || contains (blocksOf ks) k) (contains (blocksOf later) k) e₁))
 
-or-false : (x : Bool) → x || false ≡ true → x ≡ true
+pub or-false : (x : Bool) → x || false ≡ true → x ≡ true
 or-false true h = refl
 or-false false h = h
 
@@ -194,7 +194,7 @@ ends-no-unnamed t [] h = refl
 ends-no-unnamed t (row ∷ []) h = no-unnamed t (instructionAt t row .operation) h
 ends-no-unnamed t (row ∷ next ∷ rows) h = ends-no-unnamed t (next ∷ rows) h
 
-pub more-codes : (width : Width) (code : ℕ) → contains (plainCodes width) code ≡ true → contains (enoughCodes width) code ≡ true
+pub more-codes : (width : Width) (code : ℕ) → contains (plainCodes width) code ≡ true → contains (loopCodes width) code ≡ true
 more-codes paper-01 code h = or (eqb 8 code) (eqb 10 code) (eqb 1 code)
   where
     or : (x y z : Bool) → x || (y || (z || contains paperCodes code)) ≡ true

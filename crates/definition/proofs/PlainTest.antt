@@ -1,4 +1,4 @@
--- A Boolean test of plainness, and that it holds exactly of the plain tables: a table is shown plain by computation. For proofs/Example.
+-- The Boolean test of plainness (specs/PlainTest, `isPlain`) holds exactly of the plain tables: a table is shown plain by computation. For proofs/Example.
 use mathlib.Core.Path.{_≡_, refl, sym, ap, _∙_, subst}
 use mathlib.Core.Logic.{_↔_}
 use Prim.Native.Nat.{ℕ, zero, suc}
@@ -13,177 +13,57 @@ use Rattle.table.specs.Table.{for-in, logical, ternary, optional, label, sequen
 use Rattle.table.specs.Table.{instructionRowsAt}
 use Rattle.definition.specs.Completion.{contains}
 use Rattle.definition.specs.Plain.{Width, paper-01, with-switch, Plain, plainCodes, caseBlocksOf, different, IsCase, isBranch, fallthroughOf, otherNames, endsInStore, NotBranch, All}
+use Rattle.definition.specs.PlainTest.{everyOf, someOf, allOf, shapeOf, isWhile, isBranchTo, notOfLoop, gotoBlock, notNamed, noBranches, shapeTest, onlyOf, fallthroughTest, casesTest}
+use Rattle.definition.specs.PlainTest.{blockTest, isPlain}
 use Rattle.definition.specs.Value.{isFallthrough}
 use Rattle.definition.proofs.Steps.{true-false, none-some, some-eq}
 
--- ---- the test
-
--- of every block, and of some block: its number and its terminal
-abbrev pub everyOf : List Block → (ℕ → Terminal → Bool) → Bool
-everyOf [] test = true
-everyOf (block ∷ blocks) test = test 0 (block .terminal) && everyOf blocks (λ n. test (suc n))
-
-abbrev pub someOf : List Block → (ℕ → Terminal → Bool) → Bool
-someOf [] test = false
-someOf (block ∷ blocks) test = test 0 (block .terminal) || someOf blocks (λ n. test (suc n))
-
--- the terminals that the conditions speak of
-pub data Shape : Type 0 where
-  a-while : (test loop fallthrough : ℕ) → Shape
-  a-branch : (place consequent alternate : ℕ) → Shape
-  a-goto-try : Shape
-  another : Shape
-
-abbrev pub shapeOf : Terminal → Shape
-shapeOf absent = another
-shapeOf unreachable = another
-shapeOf (throw v) = another
-shapeOf (return v) = another
-shapeOf (goto g Break) = another
-shapeOf (goto g Continue) = another
-shapeOf (goto g Try) = a-goto-try
-shapeOf (if x y z f) = another
-shapeOf (branch x y z) = a-branch x y z
-shapeOf (switch x i n f) = another
-shapeOf (do-while l x f) = another
-shapeOf (while x l f) = a-while x l f
-shapeOf (for i x u l f) = another
-shapeOf (for-of i x l f) = another
-shapeOf (for-in i l f) = another
-shapeOf (logical o x f) = another
-shapeOf (ternary x f) = another
-shapeOf (optional o x f) = another
-shapeOf (label x f) = another
-shapeOf (sequence x f) = another
-shapeOf (maybe-throw n) = another
-shapeOf (try x k f n) = another
-shapeOf (scope p x f n) = another
-
-abbrev pub isWhile : (test loop fallthrough : ℕ) → Shape → Bool
-isWhile x l f (a-while x′ l′ f′) = eqb x′ x && eqb l′ l && eqb f′ f
-isWhile x l f (a-branch p c a) = false
-isWhile x l f a-goto-try = false
-isWhile x l f another = false
-
-abbrev pub isBranchTo : (consequent alternate : ℕ) → Shape → Bool
-isBranchTo c a (a-while x l f) = false
-isBranchTo c a (a-branch p c′ a′) = eqb c′ c && eqb a′ a
-isBranchTo c a a-goto-try = false
-isBranchTo c a another = false
-
-abbrev pub notOfLoop : ℕ → Shape → Bool
-notOfLoop f (a-while x l g) = not (eqb f l) && not (eqb f x)
-notOfLoop f (a-branch p c a) = true
-notOfLoop f a-goto-try = true
-notOfLoop f another = true
-
--- the block that a Goto names
-abbrev pub gotoBlock : Terminal → Option ℕ
-gotoBlock absent = none
-gotoBlock unreachable = none
-gotoBlock (throw v) = none
-gotoBlock (return v) = none
-gotoBlock (goto g v) = some g
-gotoBlock (if x y z f) = none
-gotoBlock (branch x y z) = none
-gotoBlock (switch x i n f) = none
-gotoBlock (do-while l x f) = none
-gotoBlock (while x l f) = none
-gotoBlock (for i x u l f) = none
-gotoBlock (for-of i x l f) = none
-gotoBlock (for-in i l f) = none
-gotoBlock (logical o x f) = none
-gotoBlock (ternary x f) = none
-gotoBlock (optional o x f) = none
-gotoBlock (label x f) = none
-gotoBlock (sequence x f) = none
-gotoBlock (maybe-throw n) = none
-gotoBlock (try x k f n) = none
-gotoBlock (scope p x f n) = none
-
--- of each of some numbers
-abbrev pub allOf : List ℕ → (ℕ → Bool) → Bool
-allOf [] test = true
-allOf (n ∷ ns) test = test n && allOf ns test
-
--- a terminal whose fallthrough, loop block and test, or Goto's block a case block is not
-abbrev pub notNamed : ℕ → Terminal → Bool
-notNamed k m = not (isFallthrough (fallthroughOf m) k) && (notOfLoop k (shapeOf m) && not (isFallthrough (gotoBlock m) k))
-
-module _ (t : Table) where
-  abbrev pub noBranches : List ℕ → Bool
-  noBranches [] = true
-  noBranches (n ∷ ns) = not (isBranch (terminalAt t n)) && noBranches ns
-
-  -- a While's test goes to its loop and its fallthrough; a Branch is some While's test, and does not end in a store
-  abbrev pub shapeTest : ℕ → Shape → Bool
-  shapeTest b (a-while x l f) = isBranchTo l f (shapeOf (terminalAt t x))
-  shapeTest b (a-branch p c a) = someOf (t .blocks) (λ w m. isWhile b c a (shapeOf m)) && not (endsInStore t (instructionRowsAt t b))
-  shapeTest b a-goto-try = false
-  shapeTest b another = true
-
-  -- a fallthrough is no other block's, and no loop's
-  abbrev pub fallthroughTest : ℕ → Option ℕ → Bool
-  fallthroughTest b none = true
-  fallthroughTest b (some f) = everyOf (t .blocks) (λ c m. eqb b c || not (isFallthrough (fallthroughOf m) f)) && everyOf (t .blocks) (λ w m. notOfLoop f (shapeOf m))
-
-  -- a Switch's case blocks differ, and nothing else names them
-  abbrev pub casesTest : List ℕ → Bool
-  casesTest ks = different ks && allOf ks (λ k. everyOf (t .blocks) (λ w m. notNamed k m))
-
-  abbrev pub blockTest : Width → ℕ → Terminal → Bool
-  blockTest width b m =
-      contains (plainCodes width) (codeOf m) && (noBranches (otherNames m) && (shapeTest b (shapeOf m) && (fallthroughTest b (fallthroughOf m) && casesTest (caseBlocksOf t m))))
-
-  abbrev pub isPlain : Width → Bool
-  isPlain width = not (isBranch (terminalAt t (t .entry))) && everyOf (t .blocks) (λ b m. blockTest width b m)
-
 -- ---- Booleans
 
-and-left : (a b : Bool) → a && b ≡ true → a ≡ true
+pub and-left : (a b : Bool) → a && b ≡ true → a ≡ true
 and-left true b h = refl
 and-left false b h = h
 
-and-right : (a b : Bool) → a && b ≡ true → b ≡ true
+pub and-right : (a b : Bool) → a && b ≡ true → b ≡ true
 and-right true b h = h
 and-right false b h = absurd (true-false (sym h))
 
-and-both : (a b : Bool) → a ≡ true → b ≡ true → a && b ≡ true
+pub and-both : (a b : Bool) → a ≡ true → b ≡ true → a && b ≡ true
 and-both true b h k = k
 and-both false b h k = h
 
-or-else : (a b : Bool) → a || b ≡ true → (a ≡ false → b ≡ true)
+pub or-else : (a b : Bool) → a || b ≡ true → (a ≡ false → b ≡ true)
 or-else true b h e = absurd (true-false e)
 or-else false b h e = h
 
-or-left : (a b : Bool) → a ≡ true → a || b ≡ true
+pub or-left : (a b : Bool) → a ≡ true → a || b ≡ true
 or-left true b h = refl
 or-left false b h = absurd (true-false (sym h))
 
-or-right : (a b : Bool) → b ≡ true → a || b ≡ true
+pub or-right : (a b : Bool) → b ≡ true → a || b ≡ true
 or-right true b h = refl
 or-right false b h = h
 
-not-is : (a : Bool) → not a ≡ true → a ≡ false
+pub not-is : (a : Bool) → not a ≡ true → a ≡ false
 not-is true h = sym h
 not-is false h = refl
 
-is-not : (a : Bool) → a ≡ false → not a ≡ true
+pub is-not : (a : Bool) → a ≡ false → not a ≡ true
 is-not true h = sym h
 is-not false h = refl
 
-by-cases : {P : Type 0} (a : Bool) → (a ≡ true → P) → (a ≡ false → P) → P
+pub by-cases : {P : Type 0} (a : Bool) → (a ≡ true → P) → (a ≡ false → P) → P
 by-cases true f g = f refl
 by-cases false f g = g refl
 
 -- ---- every block and some block
 
-every-at : (bs : List Block) (p : ℕ → Terminal → Bool) → ((c : ℕ) → p c absent ≡ true) → everyOf bs p ≡ true → (c : ℕ) → p c (getD bs c noBlock .terminal) ≡ true
+pub every-at : (bs : List Block) (p : ℕ → Terminal → Bool) → ((c : ℕ) → p c absent ≡ true) → everyOf bs p ≡ true → (c : ℕ) → p c (getD bs c noBlock .terminal) ≡ true
 every-at [] p q h c = q c
 every-at (k ∷ ks) p q h zero = and-left (p 0 (k .terminal)) (everyOf ks (λ n. p (suc n))) h
 every-at (k ∷ ks) p q h (suc c) = every-at ks (λ n. p (suc n)) (λ n. q (suc n)) (and-right (p 0 (k .terminal)) (everyOf ks (λ n. p (suc n))) h) c
 
-every-of : (bs : List Block) (p : ℕ → Terminal → Bool) → ((c : ℕ) → p c (getD bs c noBlock .terminal) ≡ true) → everyOf bs p ≡ true
+pub every-of : (bs : List Block) (p : ℕ → Terminal → Bool) → ((c : ℕ) → p c (getD bs c noBlock .terminal) ≡ true) → everyOf bs p ≡ true
 every-of [] p h = refl
 every-of (k ∷ ks) p h = and-both (p 0 (k .terminal)) (everyOf ks (λ n. p (suc n))) (h 0) (every-of ks (λ n. p (suc n)) (λ c. h (suc c)))
 
@@ -198,13 +78,13 @@ some-of [] p q c h = absurd (true-false (sym h ∙ q c))
 some-of (k ∷ ks) p q zero h = or-left (p 0 (k .terminal)) (someOf ks (λ n. p (suc n))) h
 some-of (k ∷ ks) p q (suc c) h = or-right (p 0 (k .terminal)) (someOf ks (λ n. p (suc n))) (some-of ks (λ n. p (suc n)) (λ n. q (suc n)) c h)
 
-all-at : (ns : List ℕ) (p : ℕ → Bool) (k : ℕ) → allOf ns p ≡ true → contains ns k ≡ true → p k ≡ true
+pub all-at : (ns : List ℕ) (p : ℕ → Bool) (k : ℕ) → allOf ns p ≡ true → contains ns k ≡ true → p k ≡ true
 all-at [] p k h q = absurd (true-false (sym q))
 all-at (n ∷ ns) p k h q =
     by-cases (eqb n k) (λ e. subst (λ (z : ℕ). p z ≡ true) (eqb-true n k e) (and-left (p n) (allOf ns p) h))
     (λ e. all-at ns p k (and-right (p n) (allOf ns p) h) (or-else (eqb n k) (contains ns k) q e))
 
-all-of : (ns : List ℕ) (p : ℕ → Bool) → ((k : ℕ) → contains ns k ≡ true → p k ≡ true) → allOf ns p ≡ true
+pub all-of : (ns : List ℕ) (p : ℕ → Bool) → ((k : ℕ) → contains ns k ≡ true → p k ≡ true) → allOf ns p ≡ true
 all-of [] p h = refl
 all-of (n ∷ ns) p h =
     and-both (p n) (allOf ns p) (h n (or-left (eqb n n) (contains ns n) (eq-eqb n n refl))) (all-of ns p (λ k q. h k (or-right (eqb n k) (contains ns k) q)))
@@ -246,7 +126,7 @@ is-while x l f m e =
     ap (λ (z : Terminal). isWhile x l f (shapeOf z)) e
     ∙ and-both (eqb x x && eqb l l) (eqb f f) (and-both (eqb x x) (eqb l l) (eq-eqb x x refl) (eq-eqb l l refl)) (eq-eqb f f refl)
 
-branch-of : (c a : ℕ) (m : Terminal) → isBranchTo c a (shapeOf m) ≡ true → (p : ℕ) × (m ≡ branch p c a)
+pub branch-of : (c a : ℕ) (m : Terminal) → isBranchTo c a (shapeOf m) ≡ true → (p : ℕ) × (m ≡ branch p c a)
 branch-of c′ a′ absent h = absurd (true-false (sym h))
 branch-of c′ a′ unreachable h = absurd (true-false (sym h))
 branch-of c′ a′ (throw v) h = absurd (true-false (sym h))
@@ -271,7 +151,7 @@ branch-of c′ a′ (maybe-throw n) h = absurd (true-false (sym h))
 branch-of c′ a′ (try x k f n) h = absurd (true-false (sym h))
 branch-of c′ a′ (scope p x f n) h = absurd (true-false (sym h))
 
-is-branch-to : (p c a : ℕ) (m : Terminal) → m ≡ branch p c a → isBranchTo c a (shapeOf m) ≡ true
+pub is-branch-to : (p c a : ℕ) (m : Terminal) → m ≡ branch p c a → isBranchTo c a (shapeOf m) ≡ true
 is-branch-to p c a m e = ap (λ (z : Terminal). isBranchTo c a (shapeOf z)) e ∙ and-both (eqb c c) (eqb a a) (eq-eqb c c refl) (eq-eqb a a refl)
 
 not-of-loop : (g : ℕ) (m : Terminal) → ((x l f : ℕ) → m ≡ while x l f → g ≡ l → ⊥) → ((x l f : ℕ) → m ≡ while x l f → g ≡ x → ⊥) → notOfLoop g (shapeOf m) ≡ true
@@ -300,14 +180,14 @@ not-of-loop g′ (maybe-throw n) no-l no-x = refl
 not-of-loop g′ (try x k f n) no-l no-x = refl
 not-of-loop g′ (scope p x f n) no-l no-x = refl
 
-fallthrough-is : (f : ℕ) (o : Option ℕ) → isFallthrough o f ≡ true → o ≡ some f
+pub fallthrough-is : (f : ℕ) (o : Option ℕ) → isFallthrough o f ≡ true → o ≡ some f
 fallthrough-is f none h = absurd (true-false (sym h))
 fallthrough-is f (some g) h = ap some (eqb-true g f h)
 
-is-fallthrough : (f : ℕ) (o : Option ℕ) → o ≡ some f → isFallthrough o f ≡ true
+pub is-fallthrough : (f : ℕ) (o : Option ℕ) → o ≡ some f → isFallthrough o f ≡ true
 is-fallthrough f o e = ap (λ (z : Option ℕ). isFallthrough z f) e ∙ eq-eqb f f refl
 
-goto-of : (k : ℕ) (m : Terminal) → gotoBlock m ≡ some k → (v : Variant) × (m ≡ goto k v)
+pub goto-of : (k : ℕ) (m : Terminal) → gotoBlock m ≡ some k → (v : Variant) × (m ≡ goto k v)
 goto-of b absent e = absurd (none-some e)
 goto-of b unreachable e = absurd (none-some e)
 goto-of b (throw v) e = absurd (none-some e)
@@ -331,16 +211,34 @@ goto-of b (try x k f n) e = absurd (none-some e)
 goto-of b (scope p x f n) e = absurd (none-some e)
 
 module _ (t : Table) where
-  branches-none : (ns : List ℕ) → noBranches t ns ≡ true → All (NotBranch t) ns
+  pub branches-none : (ns : List ℕ) → noBranches t ns ≡ true → All (NotBranch t) ns
   branches-none [] h = tt
   branches-none (n ∷ ns) h = (
     not-is (isBranch (terminalAt t n)) (and-left (not (isBranch (terminalAt t n))) (noBranches t ns) h),
     branches-none ns (and-right (not (isBranch (terminalAt t n))) (noBranches t ns) h),
   )
 
-  none-branches : (ns : List ℕ) → All (NotBranch t) ns → noBranches t ns ≡ true
+  pub none-branches : (ns : List ℕ) → All (NotBranch t) ns → noBranches t ns ≡ true
   none-branches [] h = refl
   none-branches (n ∷ ns) (h, k) = and-both (not (isBranch (terminalAt t n))) (noBranches t ns) (is-not (isBranch (terminalAt t n)) h) (none-branches ns k)
+
+  -- a fallthrough of one block only
+  pub only-at : (b f : ℕ) → onlyOf t b f ≡ true → (c : ℕ) → fallthroughOf (terminalAt t c) ≡ some f → b ≡ c
+  only-at b f h c e =
+      let named : Bool = isFallthrough (fallthroughOf (terminalAt t c)) f in
+      let other : eqb b c || not named ≡ true
+      = every-at (t .blocks) (λ c m. eqb b c || not (isFallthrough (fallthroughOf m) f)) (λ c. or-right (eqb b c) true refl) h c in
+      by-cases (eqb b c) (eqb-true b c)
+      (λ n. absurd (true-false (sym (is-fallthrough f (fallthroughOf (terminalAt t c)) e) ∙ not-is named (or-else (eqb b c) (not named) other n))))
+
+  pub only-of : (b f : ℕ) → ((c : ℕ) → fallthroughOf (terminalAt t c) ≡ some f → b ≡ c) → onlyOf t b f ≡ true
+  only-of b f h = every-of (t .blocks) (λ c m. eqb b c || not (isFallthrough (fallthroughOf m) f)) at
+    where
+      at : (c : ℕ) → eqb b c || not (isFallthrough (fallthroughOf (terminalAt t c)) f) ≡ true
+      at c =
+          let named : Bool = isFallthrough (fallthroughOf (terminalAt t c)) f in
+          by-cases named (λ q. or-left (eqb b c) (not named) (eq-eqb b c (h c (fallthrough-is f (fallthroughOf (terminalAt t c)) q))))
+          (λ q. or-right (eqb b c) (not named) (is-not named q))
 
   -- ---- what passes the test is plain
 
@@ -400,21 +298,13 @@ module _ (t : Table) where
         (w, while-of b c a (terminalAt t w) q)
 
     one-fallthrough : (b c f : ℕ) → fallthroughOf (terminalAt t b) ≡ some f → fallthroughOf (terminalAt t c) ≡ some f → b ≡ c
-    one-fallthrough b c f e e′ =
-        by-cases (eqb b c) (eqb-true b c)
-        (λ n. absurd (true-false (sym (is-fallthrough f (fallthroughOf (terminalAt t c)) e′) ∙ not-is (isFallthrough (fallthroughOf (terminalAt t c)) f)
-        (or-else (eqb b c) (not (isFallthrough (fallthroughOf (terminalAt t c)) f)) other n))))
-      where
-        other : eqb b c || not (isFallthrough (fallthroughOf (terminalAt t c)) f) ≡ true
-        other =
-            every-at (t .blocks) (λ c m. eqb b c || not (isFallthrough (fallthroughOf m) f)) (λ c. or-right (eqb b c) true refl)
-            (and-left (everyOf (t .blocks) (λ c m. eqb b c || not (isFallthrough (fallthroughOf m) f))) (everyOf (t .blocks) (λ w m. notOfLoop f (shapeOf m))) (fallthrough-at b f e)) c
+    one-fallthrough b c f e e′ = only-at b f (and-left (onlyOf t b f) (everyOf (t .blocks) (λ w m. notOfLoop f (shapeOf m))) (fallthrough-at b f e)) c e′
 
     no-loop-at : (b f w x l g : ℕ) → fallthroughOf (terminalAt t b) ≡ some f → terminalAt t w ≡ while x l g → not (eqb f l) && not (eqb f x) ≡ true
     no-loop-at b f w x l g e e′ =
         subst (λ (m : Terminal). notOfLoop f (shapeOf m) ≡ true) e′
         (every-at (t .blocks) (λ w m. notOfLoop f (shapeOf m)) (λ c. refl)
-        (and-right (everyOf (t .blocks) (λ c m. eqb b c || not (isFallthrough (fallthroughOf m) f))) (everyOf (t .blocks) (λ w m. notOfLoop f (shapeOf m))) (fallthrough-at b f e)) w)
+        (and-right (onlyOf t b f) (everyOf (t .blocks) (λ w m. notOfLoop f (shapeOf m))) (fallthrough-at b f e)) w)
 
     -- two Whiles with one test have one fallthrough, as their test has one alternate; so they are one
     same-alternate : (p l f p′ l′ f′ : ℕ) → branch p l f ≡ branch p′ l′ f′ → f ≡ f′
@@ -509,16 +399,10 @@ module _ (t : Table) where
     fallthrough-passes : (b : ℕ) (o : Option ℕ) → fallthroughOf (terminalAt t b) ≡ o → fallthroughTest t b o ≡ true
     fallthrough-passes b none e = refl
     fallthrough-passes b (some f) e =
-        and-both (everyOf (t .blocks) (λ c m. eqb b c || not (isFallthrough (fallthroughOf m) f))) (everyOf (t .blocks) (λ w m. notOfLoop f (shapeOf m)))
-        (every-of (t .blocks) (λ c m. eqb b c || not (isFallthrough (fallthroughOf m) f)) only)
+        and-both (onlyOf t b f) (everyOf (t .blocks) (λ w m. notOfLoop f (shapeOf m)))
+        (only-of b f (λ c e′. pl .one-fallthrough b c f e e′))
         (every-of (t .blocks) (λ w m. notOfLoop f (shapeOf m))
         (λ w. not-of-loop f (terminalAt t w) (λ x l g q. pl .no-loop b f w x l g e q) (λ x l g q. pl .no-test b f w x l g e q)))
-      where
-        only : (c : ℕ) → eqb b c || not (isFallthrough (fallthroughOf (terminalAt t c)) f) ≡ true
-        only c =
-            by-cases (isFallthrough (fallthroughOf (terminalAt t c)) f)
-            (λ h. or-left (eqb b c) (not (isFallthrough (fallthroughOf (terminalAt t c)) f)) (eq-eqb b c (pl .one-fallthrough b c f e (fallthrough-is f (fallthroughOf (terminalAt t c)) h))))
-            (λ h. or-right (eqb b c) (not (isFallthrough (fallthroughOf (terminalAt t c)) f)) (is-not (isFallthrough (fallthroughOf (terminalAt t c)) f) h))
 
     named-passes : (k : ℕ) → IsCase t k → (w : ℕ) → notNamed k (terminalAt t w) ≡ true
     named-passes k c w =

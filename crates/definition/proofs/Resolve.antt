@@ -16,7 +16,7 @@ use Rattle.definition.specs.Completion.{contains, break, continue}
 use Rattle.definition.specs.TreeRun.{jumpCompletion}
 use Rattle.definition.specs.Tree.{Kind, implicit, labeled, unlabeled, kindNumber}
 use Rattle.definition.proofs.Semantics.{Frame, in-label, in-scope, in-loop, in-switch, in-open, in-case, exit, breakOut, breakAt, continueOut, continueAt, target}
-use Rattle.definition.specs.PlainLoops.{IsProper, properBlocksOf, enoughCodes, Loop, aLoop, loopOf}
+use Rattle.definition.specs.PlainLoops.{IsProper, properBlocksOf, loopCodes, Loop, aLoop, loopOf}
 use Rattle.definition.proofs.PlainEnough.{PlainEnough}
 use Rattle.definition.proofs.Steps.{true-false, none-some, some-eq}
 
@@ -71,7 +71,7 @@ module _ (t : Table) where
 
   -- a table as paper 01 has it has no switch, and so no frame of one
   no-switch : (w x k n f : ℕ) → PlainEnough paper-01 t → terminalAt t w ≡ switch x k n f → ⊥
-  no-switch w x k n f pl e = true-false (sym (pl .ends w) ∙ ap (λ (m : Terminal). contains (enoughCodes paper-01) (codeOf m)) e)
+  no-switch w x k n f pl e = true-false (sym (pl .ends w) ∙ ap (λ (m : Terminal). contains (loopCodes paper-01) (codeOf m)) e)
 
   pub clear-paper : {scopes : Flags} {F : List Frame} {S : List Entry} → Framed scopes F S → PlainEnough paper-01 t → Clear F
   clear-paper no-frame pl = tt
@@ -124,7 +124,7 @@ module _ (t : Table) where
   named-at (fits-case k p) g h = named-at p g h
 
   -- without a Switch there is no case
-  no-case-of : (m : Terminal) → contains (enoughCodes paper-01) (codeOf m) ≡ true → (k : ℕ) → contains (properBlocksOf t m) k ≡ true → ⊥
+  no-case-of : (m : Terminal) → contains (loopCodes paper-01) (codeOf m) ≡ true → (k : ℕ) → contains (properBlocksOf t m) k ≡ true → ⊥
   no-case-of absent h k e = true-false (sym e)
   no-case-of unreachable h k e = true-false (sym e)
   no-case-of (throw v) h k e = true-false (sym e)

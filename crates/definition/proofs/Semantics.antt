@@ -8,7 +8,7 @@ use mathlib.Core.Option.{Option, none, some}
 use mathlib.Core.Bool.{Bool, true, false, _||_, cond}
 use lib.ListN.{length, take, drop}
 use lib.Dec.{eqb}
-use Rattle.table.specs.Table.{Table, Case, Terminal, throw, return, goto, if, branch, switch, do-while, while, for, label, scope, Variant, blockAt, terminalAt, instructionRowsAt}
+use Rattle.table.specs.Table.{Table, Case, Terminal, throw, return, goto, if, branch, switch, do-while, while, for, label, scope, Variant, isUnreachable, blockAt, terminalAt, instructionRowsAt}
 use Rattle.definition.specs.Tree.{Value, IF, SWITCH, DOWHILE, WHILE, FOR, LABEL, SCOPE, RETURN, THROW, Statements, done, _▸_, Cases, no-cases, CASE}
 use Rattle.definition.specs.Statement.{casesLastFirst, instructionStatements}
 use Rattle.definition.specs.Run.{Answers, Reason, returned, threw, no-answer-left, no-such-case, isGood, Run, stopped}
@@ -17,8 +17,8 @@ use Rattle.definition.specs.Completion.{Completion, normal, break, conti
 use Rattle.definition.specs.TreeRun.{Completed, completed, completing, prefix, thenOn, then, choose, performs, afterBody, whileRounds, whileLoop, forLoop, doWhileLoop, performsUpdate, loop}
 use Rattle.definition.specs.TreeRun.{switchEnds, entryAt, choosePlace, runStatements, entriesFrom}
 use Rattle.definition.proofs.Runnable.{Straight, StraightUpdate, Runnable, RunnableCases}
-use Rattle.definition.proofs.Steps.{none-some, some-eq}
-use Rattle.definition.specs.PlainLoops.{dropOwn}
+use Rattle.definition.proofs.Steps.{true-false, none-some, some-eq}
+use Rattle.definition.specs.PlainLoops.{dropOwn, Reached}
 use borrow.Author.Tests.{eqb-true}
 
 -- ---- where a completion leads: the statements around, from the innermost
@@ -109,15 +109,19 @@ module _ (t : Table) where
     pub steps : ℕ
     pub runs : blockRun t steps b answers ≡ stopped rows left r
 
-  -- the block run comes to an answer that is the place of no case: such a list is not spoken of
-  pub record Beyond (b : ℕ) (answers : Answers) : Type 0 where
-    pub rows : List ℕ
-    pub left : Answers
-    pub comes : Stops b answers rows left no-such-case
+  -- no block leads to an Unreachable one
+  abbrev pub NoneLost : Type 0
+  NoneLost = (b : ℕ) (answers : Answers) (b′ : ℕ) (left : Answers) → moveAt b answers ≡ go b′ left → Reached t b′
+
+  -- the block run comes to an answer that is the place of no case: such a list is not spoken of; or to an Unreachable block, to which none leads
+  pub data Beyond (b : ℕ) (answers : Answers) : Type 0 where
+    no-case : (rows : List ℕ) (left : Answers) → Stops b answers rows left no-such-case → Beyond b answers
+    lost : (NoneLost → Reached t b → ⊥) → Beyond b answers
 
   pub record Onward (b : ℕ) (answers : Answers) (rows : List ℕ) (b′ : ℕ) (left : Answers) : Type 0 where
     pub fewer : length left ≤ length answers
     pub and-on : (rows′ : List ℕ) (left′ : Answers) (r : Reason) → Stops b′ left rows′ left′ r → Stops b answers (rows ++ rows′) left′ r
+    pub stays : NoneLost → Reached t b → Reached t b′
 
   -- a completion leads to a block, with the answers left, or it is a stop
   abbrev pub LeadsOn : List Frame → ℕ → Answers → List ℕ → Completion → Answers → Type 0
@@ -171,19 +175,22 @@ module _ (t : Table) where
       steps = suc (s .steps);
       runs = run-go (s .steps) b answers b′ answers′ e ∙ performing-stopped (instructionRowsAt t b) rows left r (blockRun t (s .steps) b′ answers′) (s .runs);
     };
+    stays = λ w k. w b answers b′ answers′ e;
   }
 
   pub stops-halt : (b : ℕ) (answers : Answers) (r : Reason) → moveAt b answers ≡ halt r → Stops b answers (instructionRowsAt t b ++ []) answers r
   stops-halt b answers r e = record { steps = 1; runs = run-halt b answers r e }
 
   beyond-after : {b : ℕ} {answers : Answers} {rows : List ℕ} {b₁ : ℕ} {a₁ : Answers} → Onward b answers rows b₁ a₁ → Beyond b₁ a₁ → Beyond b answers
-  beyond-after {rows = rows} p q = record { rows = rows ++ q .rows; left = q .left; comes = p .and-on (q .rows) (q .left) no-such-case (q .comes) }
+  beyond-after {rows = rows} p (no-case rows₁ left s) = no-case (rows ++ rows₁) left (p .and-on rows₁ left no-such-case s)
+  beyond-after p (lost f) = lost (λ w k. f w (p .stays w k))
 
   onward-onward : {b : ℕ} {answers : Answers} {rows : List ℕ} {b₁ : ℕ} {a₁ : Answers} {rows₁ : List ℕ} {b₂ : ℕ} {a₂ : Answers}
       → Onward b answers rows b₁ a₁ → Onward b₁ a₁ rows₁ b₂ a₂ → Onward b answers (rows ++ rows₁) b₂ a₂
   onward-onward {rows} {rows₁} p q = record {
     fewer = le-trans (q .fewer) (p .fewer);
     and-on = λ rows′ left r s. rw append-assoc (p .and-on (rows₁ ++ rows′) left r (q .and-on rows′ left r s));
+    stays = λ w k. q .stays w (p .stays w k);
   }
 
   leads-after : {b : ℕ} {answers : Answers} {rows : List ℕ} {b₁ : ℕ} {a₁ : Answers} (F : List Frame) (rows₁ : List ℕ) (e : Completion) (left : Answers)
@@ -220,7 +227,7 @@ module _ (t : Table) where
   loop-prefix F f o p (inr q) = inr (ends-after F f (o .rows) (labelled (some f) (breakable (o .completion))) (o .left) p q)
 
   pub onward-here : (b : ℕ) (answers : Answers) → Onward b answers [] b answers
-  onward-here b answers = record { fewer = le-refl (length answers); and-on = λ rows left r s. s }
+  onward-here b answers = record { fewer = le-refl (length answers); and-on = λ rows left r s. s; stays = λ w k. k }
 
   -- ---- a statement and what comes after it
 
@@ -376,6 +383,9 @@ module _ (t : Table) where
           → s₀ ≡ instructionStatements t (instructionRowsAt t b) (IF x i none s₁ true s₂ ▸ done) → Built F b s₀
       built-label-open : {F : List Frame} {b : ℕ} {s₀ : Statements} (c f i : ℕ) {s : Statements} → terminalAt t b ≡ label c f → Built F c s
           → s₀ ≡ instructionStatements t (instructionRowsAt t b) (LABEL i none s ▸ done) → Built F b s₀
+      -- a scope visits its fallthrough though it is Unreachable
+      built-unreached : {F : List Frame} {b : ℕ} {s₀ : Statements} → isUnreachable (terminalAt t b) ≡ true
+          → s₀ ≡ instructionStatements t (instructionRowsAt t b) done → Built F b s₀
       built-scope : {F : List Frame} {b : ℕ} {s₀ : Statements} (p : Bool) (c f n : ℕ) {s r : Statements} → terminalAt t b ≡ scope p c f n
           → Built (in-scope f ∷ F) c s → Built F f r → s₀ ≡ instructionStatements t (instructionRowsAt t b) (SCOPE p n s ▸ r) → Built F b s₀
       built-while : {F : List Frame} {b : ℕ} {s₀ : Statements} (x l f y i : ℕ) (v : Value) {s r : Statements} → terminalAt t b ≡ while x l f → terminalAt t x ≡ branch y l f
@@ -567,7 +577,7 @@ module _ (t : Table) where
       → moveAt b (k₀ ∷ a) ≡ atPlace ks k a → ((y : Answers) → Leads F f y (next y))
       → Leads F b (k₀ ∷ a) (prefix (instructionRowsAt t b) (then (switchEnds (some f) (entryAt es k a)) next))
   unfolding atPlace entryAt
-  place-leads F f b k₀ next (no-entries {ks = []} p) k a e q = inl (record { rows = instructionRowsAt t b ++ []; left = k₀ ∷ a; comes = stops-halt b (k₀ ∷ a) no-such-case e })
+  place-leads F f b k₀ next (no-entries {ks = []} p) k a e q = inl (no-case (instructionRowsAt t b ++ []) (k₀ ∷ a) (stops-halt b (k₀ ∷ a) no-such-case e))
   place-leads F f b k₀ next (no-entries {ks = c ∷ ks} (p, ps)) zero a e q =
       leads-part F b f f (k₀ ∷ a) a (switchEnds (some f) (completed [] normal a)) next (e ∙ ap (λ (z : ℕ). go z a) p) (le-step (le-refl (length a)))
       (unfold switchEnds completing completed labelled breakable in inr (onward-here f a)) q
@@ -672,7 +682,7 @@ module _ (t : Table) where
   open-place-leads : (F : List Frame) (b k₀ : ℕ) {ks : List Case} {es : List (Answers → Completed)} → OpenEntries F ks es → (k : ℕ) (a : Answers)
       → moveAt b (k₀ ∷ a) ≡ atPlace ks k a → Leads F b (k₀ ∷ a) (prefix (instructionRowsAt t b) (then (switchEnds none (entryAt es k a)) (λ y. runStatements done y)))
   unfolding atPlace entryAt
-  open-place-leads F b k₀ no-open k a e = inl (record { rows = instructionRowsAt t b ++ []; left = k₀ ∷ a; comes = stops-halt b (k₀ ∷ a) no-such-case e })
+  open-place-leads F b k₀ no-open k a e = inl (no-case (instructionRowsAt t b ++ []) (k₀ ∷ a) (stops-halt b (k₀ ∷ a) no-such-case e))
   open-place-leads F b k₀ (an-open {k} {e = en} p ps) zero a e =
       leads-prefix F (then (switchEnds none (en a)) (λ y. runStatements done y)) (onward-go b (k₀ ∷ a) (k .block) a e (le-step (le-refl (length a))))
       (open-switch-leads F (k .block) a (en a) (p a))
@@ -684,7 +694,7 @@ module _ (t : Table) where
   switch-open-leads F b x i n f es e p [] = wants-open F b (move-of b (switch x i n f) [] (halt no-answer-left) e refl)
   switch-open-leads F b x i n f es e p (k ∷ a) = open-place-leads F b k p k a (move-of b (switch x i n f) (k ∷ a) (atPlace (caseList t i n) k a) e refl)
 
-  in-whole-order : (i n : ℕ) → reverseAux (casesLastFirst t i n) [] ≡ caseList t i n
+  pub in-whole-order : (i n : ℕ) → reverseAux (casesLastFirst t i n) [] ≡ caseList t i n
   unfolding casesLastFirst caseList
   in-whole-order i n = reverse-reverse (take n (drop i (t .cases)))
 
@@ -720,6 +730,7 @@ module _ (t : Table) where
         leads-instructions F b (LABEL i none s ▸ done) answers s₀ q₀
         (leads-prefix F (then (completing (labelled none) (runStatements s answers)) (λ y. runStatements done y))
         (onward-go b answers c answers (move-of b (label c f) answers (go c answers) e refl) (le-refl (length answers))) (open-leads F c answers (runStatements s answers) (runs h₁ answers)))
+    runs {F} {b} (built-unreached e q₀) answers = inl (lost (λ w k. true-false (sym e ∙ k)))
     runs {F} {b} (built-scope {s₀} p c f n {s} {r} e h₁ h₃ q₀) answers =
         leads-instructions F b (SCOPE p n s ▸ r) answers s₀ q₀
         (leads-part F b c f answers answers (runStatements s answers) (λ a′. runStatements r a′) (move-of b (scope p c f n) answers (go c answers) e refl) (le-refl (length answers))
@@ -805,6 +816,7 @@ module _ (t : Table) where
     runnable {F} {b} (built-label {s₀} c f i {s} {r} e h₁ h₃ q₀) = from-block b s₀ (LABEL i (some f) s ▸ r) q₀ (runnable h₁, runnable h₃)
     runnable {F} {b} (built-if-open {s₀} x c a f i {s₁} {s₂} e h₁ h₂ q₀) = from-block b s₀ (IF x i none s₁ true s₂ ▸ done) q₀ ((runnable h₁, runnable h₂), tt)
     runnable {F} {b} (built-label-open {s₀} c f i {s} e h₁ q₀) = from-block b s₀ (LABEL i none s ▸ done) q₀ (runnable h₁, tt)
+    runnable {F} {b} (built-unreached {s₀} e q₀) = from-block b s₀ done q₀ tt
     runnable {F} {b} (built-scope {s₀} p c f n {s} {r} e h₁ h₃ q₀) = from-block b s₀ (SCOPE p n s ▸ r) q₀ (runnable h₁, runnable h₃)
     runnable {F} {b} (built-while {s₀} x l f y i v {s} {r} e e₁ q w h₁ h₃ q₀) = from-block b s₀ (WHILE i (some f) v s ▸ r) q₀ ((w, runnable h₁), runnable h₃)
     runnable {F} {b} (built-do-while {s₀} l x f y i v {s} {r} e e₁ q w h₁ h₃ q₀) = from-block b s₀ (DOWHILE i (some f) s v ▸ r) q₀ ((runnable h₁, w), runnable h₃)

@@ -34,10 +34,10 @@ use Rattle.definition.specs.Value.{visitValueBlock, beginVisit, ValueBlo
 use Rattle.definition.specs.Value.{storedToNamed, allButLast, last, extractValueBlockResult, extractOrRefuse, finalPlace, branchValue, visitValueBlockAt}
 use Rattle.definition.specs.Value.{singleInstruction, appended, sequencedInstructions, innermostValue, loadedBy, loadedPlace, sameIdentifier, unlessSame, valueBlockResultToSequence}
 use Rattle.definition.proofs.Semantics.{Frame, in-label, in-scope, in-loop, in-switch, in-open, in-case, isOpen, breakAt, target, Built, BuiltCases, built-none, built-case}
-use Rattle.definition.proofs.Semantics.{built-switch, built-return, built-throw, built-jump, built-if, built-if-only, built-label, built-scope}
+use Rattle.definition.proofs.Semantics.{built-switch, built-return, built-throw, built-jump, built-if, built-if-only, built-label, built-scope, built-unreached}
 use Rattle.definition.proofs.Semantics.{built-switch-open, built-if-open, built-label-open, built-while, built-do-while, built-for, Onward, onward-here, onward-go}
 use Rattle.definition.proofs.Ranged.{Ranged}
-use Rattle.definition.specs.PlainLoops.{dropOwn, properBlocksOf, IsProper, enoughCodes, aLoop, loopOf, endsInUnnamed, endsInOwnLoad, Reached, enteredBy, mayBeOpen}
+use Rattle.definition.specs.PlainLoops.{dropOwn, properBlocksOf, IsProper, loopCodes, aLoop, loopOf, endsInUnnamed, endsInOwnLoad, Reached, enteredBy, mayBeOpen}
 use Rattle.definition.proofs.PlainEnough.{PlainEnough, wide-enough}
 use Rattle.definition.proofs.Runnable.{Straight, StraightAll, StraightUpdate, Runnable}
 use Rattle.definition.proofs.Steps.{true-false, refused-ok, ok-eq, bind-ok, unless-ok}
@@ -254,13 +254,25 @@ module _ (t : Table) where
     ends-here : s .next ≡ none → Built t F b (instructionStatements t (instructionRowsAt t b) (followedBy (s .statement) done)) → Closed t F S (s .context) → StepOk F b S s
     goes-on : (f : ℕ) → s .next ≡ some f → NotBranch t f × Reached t f → ((r : Statements) → Built t F f r → Built t F b (instructionStatements t (instructionRowsAt t b) (followedBy (s .statement) r)))
         → Closed t F S (s .context) → StepOk F b S s
+    -- it goes on to an Unreachable block, as a scope does
+    goes-out : (f : ℕ) → s .next ≡ some f → isUnreachable (terminalAt t f) ≡ true
+        → ((r : Statements) → Built t F f r → Built t F b (instructionStatements t (instructionRowsAt t b) (followedBy (s .statement) r)))
+        → Closed t F S (s .context) → StepOk F b S s
 
-  next-ok : (F : List Frame) (b : ℕ) (S : List Entry) (again : TraverseBlock) (s : TerminalResult) (r : BlockResult) → BlockOk F again → StepOk F b S s
+  -- the walk at an Unreachable block
+  unfoldable OpenOk : List Frame → TraverseBlock → Type 0
+  OpenOk F inner = (b : ℕ) (c : Context) (r : BlockResult) → StateOk t F c → isUnreachable (terminalAt t b) ≡ true → inner b c ≡ ok r → Made F b (c .stack) r
+
+  next-ok : (F : List Frame) (b : ℕ) (S : List Entry) (again : TraverseBlock) (s : TerminalResult) (r : BlockResult) → BlockOk F again → OpenOk F again → StepOk F b S s
       → thenNext t b again (s .statement) (s .next) (s .context) ≡ ok r → Made F b S r
-  unfolding BlockOk thenNext
-  next-ok F b S again s r w (ends-here h p q) e =
+  unfolding BlockOk OpenOk thenNext
+  next-ok F b S again s r w v (goes-out f h n p q) e =
+      let (r₁, h₁, e₁) = bind-ok (again f (s .context)) _ r (subst (λ (z : Option ℕ). thenNext t b again (s .statement) z (s .context) ≡ ok r) h e) in
+      let m : Made F f (s .context .stack) r₁ = v f (s .context) r₁ (q .state) n h₁ in
+      subst (λ (z : BlockResult). Made F b S z) (ok-eq e₁) (record { tree = p (r₁ .statements) (m .tree); left = record { state = m .left .state; same = m .left .same ∙ q .same } })
+  next-ok F b S again s r w v (ends-here h p q) e =
       subst (λ (z : BlockResult). Made F b S z) (ok-eq (subst (λ (z : Option ℕ). thenNext t b again (s .statement) z (s .context) ≡ ok r) h e)) (record { tree = p; left = q })
-  next-ok F b S again s r w (goes-on f h n p q) e =
+  next-ok F b S again s r w v (goes-on f h n p q) e =
       let (r₁, h₁, e₁) = bind-ok (again f (s .context)) _ r (subst (λ (z : Option ℕ). thenNext t b again (s .statement) z (s .context) ≡ ok r) h e) in
       let m : Made F f (s .context .stack) r₁ = w f (s .context) r₁ (q .state) n h₁ in
       subst (λ (z : BlockResult). Made F b S z) (ok-eq e₁) (record { tree = p (r₁ .statements) (m .tree); left = record { state = m .left .state; same = m .left .same ∙ q .same } })
@@ -459,7 +471,7 @@ module _ (t : Table) where
     -- ---- Label and the scopes
 
     enclosed-ok : {G : Frame} {F : List Frame} {c c₁ : Context} (a : Around) → BlockOk (G ∷ F) (inner a)
-        → (b x code at f : ℕ) (make : Statements → Statement) (s : TerminalResult) → Opened G F c c₁ → Fit x → Fit f
+        → (b x code at f : ℕ) (make : Statements → Statement) (s : TerminalResult) → Opened G F c c₁ → Fit x → Fit f ⊎ (isUnreachable (terminalAt t f) ≡ true)
         → ((s₁ r : Statements) → Built t (G ∷ F) x s₁ → Built t F f r → Built t F b (instructionStatements t (instructionRowsAt t b) (make s₁ ▸ r)))
         → traverseEnclosed (inner a) x code at (some f) c c₁ make ≡ ok s → StepOk F b (c .stack) s
     unfolding traverseEnclosed
@@ -468,7 +480,13 @@ module _ (t : Table) where
         let (c₂, h₂, k₂) = bind-ok (unscheduleIf (some f) (c .nextId) (r .context)) _ s k₁ in
         let m : Made (G ∷ F) x (c₁ .stack) r = unscheduled-ok (inner a) (G ∷ F) w x code at c₁ r (o .state) n h₁ in
         subst (λ (v : TerminalResult). StepOk F b (c .stack) v) (ok-eq k₂)
-        (goes-on f refl nf (λ r′ q. mk (r .statements) r′ (m .tree) q) (closed-ok f o (m .left) h₂))
+        (onto f nf refl (λ r′ q. mk (r .statements) r′ (m .tree) q) (closed-ok f o (m .left) h₂))
+      where
+        onto : {S : List Entry} {v : TerminalResult} (g : ℕ) → Fit g ⊎ (isUnreachable (terminalAt t g) ≡ true) → v .next ≡ some g
+            → ((r : Statements) → Built t F g r → Built t F b (instructionStatements t (instructionRowsAt t b) (followedBy (v .statement) r)))
+            → Closed t F S (v .context) → StepOk F b S v
+        onto g (inl n′) q p l = goes-on g q n′ p l
+        onto g (inr z) q p l = goes-out g q z p l
 
     label-ok : {F : List Frame} {c₀ c : Context} (o : Around) → Suits rule o F → (b x f : ℕ) (k : Block) (s : TerminalResult) → Entered t b F c₀ c → terminalAt t b ≡ label x f
         → visitTerminal t values inner o (label x f) b k c ≡ ok s → StepOk F b (c .stack) s
@@ -487,7 +505,7 @@ module _ (t : Table) where
         taken rf h₁ =
             let (c₁, h₂, k₂) = bind-ok (scheduleIf (some f) c) _ s h₁ in
             enclosed-ok (within (another (some f)) o) (inside-label o f su) b x 17 b f (LABEL (k .id) (some f)) s
-            (opened-label f (p .state) (fallthrough-of b (p .new) (ap fallthroughOf e)) h₂) (parts .0, into .0) (parts .1 .0, rf)
+            (opened-label f (p .state) (fallthrough-of b (p .new) (ap fallthroughOf e)) h₂) (parts .0, into .0) (inl (parts .1 .0, rf))
             (λ s₁ r p₁ p₂. built-label x f (k .id) e p₁ p₂ refl) k₂
 
         finish : Reached t f → (g : Option ℕ) → g ≡ some f → (scheduleIf g c >>= λ c₁. traverseEnclosed (inner (within (another g) o)) x 17 b g c c₁ (LABEL (k .id) g)) ≡ ok s → StepOk F b (c .stack) s
@@ -524,7 +542,7 @@ module _ (t : Table) where
         taken h₁ =
             let (c₁, h₂, k₂) = bind-ok (scheduleIf (some f) c) _ s h₁ in
             enclosed-ok (within (another none) o) (inside-scope o f su) b x 18 b f (SCOPE pr n) s
-            (opened-scope f (omega (arith, rg .fallthroughs b f (ap fallthroughOf e), rg .few)) (p .state) (fallthrough-of b (p .new) (ap fallthroughOf e)) h₂) (parts .0, into .0) (parts .1 .0, end-reached pl b f (scope pr x f n) e refl refl)
+            (opened-scope f (omega (arith, rg .fallthroughs b f (ap fallthroughOf e), rg .few)) (p .state) (fallthrough-of b (p .new) (ap fallthroughOf e)) h₂) (parts .0, into .0) (by-reach f (λ z. inl (parts .1 .0, z)) (λ z. inr z))
             (λ s₁ r p₁ p₂. built-scope pr x f n e p₁ p₂ refl) k₂
 
         finish : (g : Option ℕ) → g ≡ some f → (scheduleIf g c >>= λ c₁. traverseEnclosed (inner (within (another none) o)) x 18 b g c
@@ -997,8 +1015,8 @@ module _ (t : Table) where
     -- ---- every end
 
     -- a terminal that no plain table has
-    not-plain : {m : Terminal} (b : ℕ) → terminalAt t b ≡ m → contains (enoughCodes with-switch) (codeOf m) ≡ false → ⊥
-    not-plain b e h = true-false (sym (wide-enough width (codeOf (terminalAt t b)) (pl .ends b)) ∙ ap (λ (m : Terminal). contains (enoughCodes with-switch) (codeOf m)) e ∙ h)
+    not-plain : {m : Terminal} (b : ℕ) → terminalAt t b ≡ m → contains (loopCodes with-switch) (codeOf m) ≡ false → ⊥
+    not-plain b e h = true-false (sym (wide-enough width (codeOf (terminalAt t b)) (pl .ends b)) ∙ ap (λ (m : Terminal). contains (loopCodes with-switch) (codeOf m)) e ∙ h)
 
     terminal-ok : {F : List Frame} {c₀ c : Context} (o : Around) → Suits rule o F → (b : ℕ) (m : Terminal) (s : TerminalResult) → Entered t b F c₀ c → Fit b → terminalAt t b ≡ m
         → visitTerminal t values inner o m b (blockAt t b) c ≡ ok s → StepOk F b (c .stack) s
@@ -1027,6 +1045,49 @@ module _ (t : Table) where
     terminal-ok o su b (try x h′ f n) s p nb e h = absurd (not-plain b e refl)
     terminal-ok o su b (scope pr x f n) s p nb e h = scope-ok o su b pr x f n (blockAt t b) s p e h
 
+    -- at an Unreachable block the list ends
+    open-end : (o : Around) (b : ℕ) (m : Terminal) (k : Block) (c : Context) (s : TerminalResult) → isUnreachable m ≡ true → visitTerminal t values inner o m b k c ≡ ok s
+        → record { statement = none; next = none; context = c } ≡ s
+    unfolding visitTerminal
+    open-end o b absent k c s z e = absurd (true-false (sym z))
+    open-end o b unreachable k c s z e = ok-eq e
+    open-end o b (throw v) k c s z e = absurd (true-false (sym z))
+    open-end o b (return v) k c s z e = absurd (true-false (sym z))
+    open-end o b (goto g v) k c s z e = absurd (true-false (sym z))
+    open-end o b (if x y a f) k c s z e = absurd (true-false (sym z))
+    open-end o b (branch x y a) k c s z e = absurd (true-false (sym z))
+    open-end o b (switch x i n f) k c s z e = absurd (true-false (sym z))
+    open-end o b (do-while l x f) k c s z e = absurd (true-false (sym z))
+    open-end o b (while x l f) k c s z e = absurd (true-false (sym z))
+    open-end o b (for i x u l f) k c s z e = absurd (true-false (sym z))
+    open-end o b (for-of i x l f) k c s z e = absurd (true-false (sym z))
+    open-end o b (for-in i l f) k c s z e = absurd (true-false (sym z))
+    open-end o b (logical op x f) k c s z e = absurd (true-false (sym z))
+    open-end o b (ternary x f) k c s z e = absurd (true-false (sym z))
+    open-end o b (optional g x f) k c s z e = absurd (true-false (sym z))
+    open-end o b (label x f) k c s z e = absurd (true-false (sym z))
+    open-end o b (sequence x f) k c s z e = absurd (true-false (sym z))
+    open-end o b (maybe-throw n) k c s z e = absurd (true-false (sym z))
+    open-end o b (try x y f n) k c s z e = absurd (true-false (sym z))
+    open-end o b (scope false x f n) k c s z e = absurd (true-false (sym z))
+    open-end o b (scope true x f n) k c s z e = absurd (true-false (sym z))
+
+    visit-open-ok : (o : Around) (F : List Frame) (n : ℕ) → OpenOk F (visitBlock t values inner o n)
+    unfolding OpenOk visitBlock thenNext
+    visit-open-ok o F zero b c r p z e = absurd (refused-ok e)
+    visit-open-ok o F (suc n) b c r p z e =
+        let (c₁, h₁, k₁) = bind-ok (enterBlock t b c) _ r e in
+        let (s, h₂, k₂) = bind-ok (visitTerminal t values inner o (terminalAt t b) b (blockAt t b) c₁) _ r k₁ in
+        let q : Entered t b F c c₁ = enter-ok t rg b c₁ p h₁ in
+        ended c₁ s q (open-end o b (terminalAt t b) (blockAt t b) c₁ s z h₂) k₂
+      where
+        ended : (c₁ : Context) (s : TerminalResult) → Entered t b F c c₁ → record { statement = none; next = none; context = c₁ } ≡ s
+            → thenNext t b (visitBlock t values inner o n) (s .statement) (s .next) (s .context) ≡ ok r → Made F b (c .stack) r
+        ended c₁ s q u k =
+            subst (λ (v : BlockResult). Made F b (c .stack) v)
+            (ok-eq (subst (λ (v : TerminalResult). thenNext t b (visitBlock t values inner o n) (v .statement) (v .next) (v .context) ≡ ok r) (sym u) k))
+            (record { tree = built-unreached z refl; left = record { state = q .state; same = q .same } })
+
     visit-block-ok : (o : Around) (F : List Frame) → Suits rule o F → (n : ℕ) → BlockOk F (visitBlock t values inner o n)
     unfolding BlockOk visitBlock
     visit-block-ok o F su zero b c r p nb e = absurd (refused-ok e)
@@ -1034,7 +1095,7 @@ module _ (t : Table) where
         let (c₁, h₁, k₁) = bind-ok (enterBlock t b c) _ r e in
         let (s, h₂, k₂) = bind-ok (visitTerminal t values inner o (terminalAt t b) b (blockAt t b) c₁) _ r k₁ in
         let q : Entered t b F c c₁ = enter-ok t rg b c₁ p h₁ in
-        let m : Made F b (c₁ .stack) r = next-ok F b (c₁ .stack) (visitBlock t values inner o n) s r (visit-block-ok o F su n) (terminal-ok o su b (terminalAt t b) s q nb refl h₂) k₂ in
+        let m : Made F b (c₁ .stack) r = next-ok F b (c₁ .stack) (visitBlock t values inner o n) s r (visit-block-ok o F su n) (visit-open-ok o F n) (terminal-ok o su b (terminalAt t b) s q nb refl h₂) k₂ in
         record { tree = m .tree; left = and-then (m .left) (q .same) }
 
   module _ (rule : Rule) {width : Width} (covers : Covers rule width) (pl : PlainEnough width t) (rg : Ranged t) where

@@ -17,6 +17,7 @@ pub mod Completion
 pub mod TreeRun
 pub mod Plain
 pub mod PlainLoops
+pub mod PlainTest
 pub mod Machine
 pub mod Framed
 pub mod RunLaw

@@ -1,5 +1,6 @@
--- Beyond the papers: plain tables with DoWhile and For, and with Switch as a compiler makes it. The run law holds of them (proofs/Law, `loops-law`).
--- Each field of `PlainLoops` stands below the sentence that it states. A loop is a While, a DoWhile or a For.
+-- Beyond the papers: plain tables with DoWhile and For, with Switch as a compiler makes it, and with ends that are not reached. The run law holds of them
+-- (specs/LoopLaw; proofs/Law, `loops-law` and `loops-and-switches-law`). Paper 01's plain tables and M-113's (specs/Plain) are among them (proofs/PlainEnough).
+-- A loop is a While, a DoWhile or a For. Each field of `PlainLoops` stands below the sentence that it states; the sentences in quotes are ours, in paper 01's style.
 use mathlib.Core.Path.{_≡_}
 use Prim.Native.Nat.{ℕ}
 use mathlib.Core.List.{List, [], _∷_}
@@ -12,10 +13,14 @@ use Rattle.definition.specs.Statement.{continueBlockOf, casesLastFirst}
 use Rattle.definition.specs.Value.{storedToNamed, sameIdentifier, loadedBy}
 use Rattle.definition.specs.Plain.{Width, paper-01, with-switch, paperCodes, blocksOf, fallthroughOf, otherNames, NotBranch, All}
 
+-- no block ends in Switch; the other width is `with-switch`
+abbrev pub without-switch : Width
+without-switch = paper-01
+
 -- paper 01's terminals with DoWhile, For and Unreachable, and with Switch
-abbrev pub enoughCodes : Width → List ℕ
-enoughCodes paper-01 = 8 ∷ 10 ∷ 1 ∷ paperCodes
-enoughCodes with-switch = 7 ∷ 8 ∷ 10 ∷ 1 ∷ paperCodes
+abbrev pub loopCodes : Width → List ℕ
+loopCodes paper-01 = 8 ∷ 10 ∷ 1 ∷ paperCodes
+loopCodes with-switch = 7 ∷ 8 ∷ 10 ∷ 1 ∷ paperCodes
 
 -- ---- loops: While, DoWhile and For
 
@@ -102,15 +107,15 @@ pub record IsProper (t : Table) (block : ℕ) : Type 0 where
 abbrev pub Reached : Table → ℕ → Type 0
 Reached t block = isUnreachable (terminalAt t block) ≡ false
 
--- the blocks that a terminal enters otherwise than as a fallthrough or a case
+-- the blocks that a terminal enters otherwise than as a fallthrough, a case, a loop's test, or a For's init or update, which are a Branch and Gotos
 abbrev pub enteredBy : Terminal → List ℕ
 enteredBy absent = []
 enteredBy unreachable = []
 enteredBy (throw value) = []
 enteredBy (return value) = []
-enteredBy (goto block variant) = []
+enteredBy (goto block variant) = block ∷ []
 enteredBy (if test consequent alternate fallthrough) = consequent ∷ alternate ∷ []
-enteredBy (branch test consequent alternate) = []
+enteredBy (branch test consequent alternate) = consequent ∷ alternate ∷ []
 enteredBy (switch test first number fallthrough) = []
 enteredBy (do-while loop test fallthrough) = loop ∷ []
 enteredBy (while test loop fallthrough) = loop ∷ []
@@ -126,7 +131,7 @@ enteredBy (maybe-throw continuation) = []
 enteredBy (try block handler fallthrough binding) = []
 enteredBy (scope pruned block fallthrough number) = block ∷ []
 
--- an If, a Switch or a Label, which ask whether their fallthrough is reachable
+-- an If, a Switch, a Label or a scope
 abbrev pub mayBeOpen : Terminal → Bool
 mayBeOpen absent = false
 mayBeOpen unreachable = false
@@ -148,48 +153,60 @@ mayBeOpen (label block fallthrough) = true
 mayBeOpen (sequence block fallthrough) = false
 mayBeOpen (maybe-throw continuation) = false
 mayBeOpen (try block handler fallthrough binding) = false
-mayBeOpen (scope pruned block fallthrough number) = false
+mayBeOpen (scope pruned block fallthrough number) = true
 
--- `paper-01`: without Switch
 pub record PlainLoops (width : Width) (t : Table) : Type 0 where
-  -- "Every present block ends in If, While, DoWhile, For, Label, Scope, PrunedScope, Goto Break or Continue, Return, Throw or Branch" (or Switch).
-  pub ends : (block : ℕ) → contains (enoughCodes width) (codeOf (terminalAt t block)) ≡ true
+  -- "Every present block ends in If, While, DoWhile, For, Label, Scope, PrunedScope, Goto Break or Continue, Return, Throw, Branch or Unreachable (with switches: or
+  -- Switch)."
+  pub ends : (block : ℕ) → contains (loopCodes width) (codeOf (terminalAt t block)) ≡ true
   pub no-goto-try : (block target : ℕ) → terminalAt t block ≡ goto target Try → ⊥
   -- "Each loop's test is a Branch block; its consequent is that loop's loop block, its alternate that loop's ft."
   pub tests : (block test body fallthrough again : ℕ) → loopOf (terminalAt t block) ≡ some (aLoop test body fallthrough again)
       → (place : ℕ) × (terminalAt t test ≡ branch place body fallthrough)
-  -- "A For's init, and its update if any, end in a Goto to its test."
+  -- "A For's init ends in a Goto to its test,"
   pub inits : (block init test : ℕ) (update : Option ℕ) (loop fallthrough : ℕ) → terminalAt t block ≡ for init test update loop fallthrough
       → (variant : Variant) × (terminalAt t init ≡ goto test variant)
+  -- "and so does its update, if any."
   pub updates : (block init test update loop fallthrough : ℕ) → terminalAt t block ≡ for init test (some update) loop fallthrough
       → (variant : Variant) × (terminalAt t update ≡ goto test variant)
-  -- "A Branch block is not the entry and is named only by loops as their test, and by Gotos": nothing else names one, no case block is one
+  -- "A Branch block is not the entry"
   pub entry : NotBranch t (t .entry)
+  -- "and is named only by loops as their test, and by Gotos": no other name of a terminal (a DoWhile's and a For's stand in `bodies`, a For's init and update end in
+  -- a Goto), no loop block and no loop's ft, and no case block is one
   pub names : (block : ℕ) → All (NotBranch t) (otherNames (terminalAt t block))
   pub bodies : (block test body fallthrough again : ℕ) → loopOf (terminalAt t block) ≡ some (aLoop test body fallthrough again) → NotBranch t body × NotBranch t fallthrough
   pub case-not-branch : (case : ℕ) → IsProper t case → NotBranch t case
-  -- "The last instruction of a test, an init or an update is no StoreLocal to an unnamed identifier; that of an init is no LoadLocal of its own lvalue's identifier."
+  -- "The last instruction of a test"
   pub test-store : (block place consequent alternate : ℕ) → terminalAt t block ≡ branch place consequent alternate
       → endsInUnnamed t (instructionRowsAt t block) ≡ false
+  -- ", an init"
   pub init-store : (block init test : ℕ) (update : Option ℕ) (loop fallthrough : ℕ) → terminalAt t block ≡ for init test update loop fallthrough
       → endsInUnnamed t (instructionRowsAt t init) ≡ false
-  pub init-load : (block init test : ℕ) (update : Option ℕ) (loop fallthrough : ℕ) → terminalAt t block ≡ for init test update loop fallthrough
-      → endsInOwnLoad t (instructionRowsAt t init) ≡ false
+  -- "or an update is no StoreLocal to an unnamed identifier;"
   pub update-store : (block init test update loop fallthrough : ℕ) → terminalAt t block ≡ for init test (some update) loop fallthrough
       → endsInUnnamed t (instructionRowsAt t update) ≡ false
-  -- "No block is the ft of two blocks, and no ft is a loop block, or the block that continues a loop: a For's update, if any, else the test."
+  -- "that of an init is no LoadLocal of its own lvalue's identifier."
+  pub init-load : (block init test : ℕ) (update : Option ℕ) (loop fallthrough : ℕ) → terminalAt t block ≡ for init test update loop fallthrough
+      → endsInOwnLoad t (instructionRowsAt t init) ≡ false
+  -- "No block is the ft of two blocks,"
   pub one-fallthrough : (block block′ fallthrough : ℕ) → fallthroughOf (terminalAt t block) ≡ some fallthrough
       → fallthroughOf (terminalAt t block′) ≡ some fallthrough → block ≡ block′
+  -- "and no ft is a loop block,"
   pub no-loop : (block fallthrough loop-of test body fallthrough′ again : ℕ) → fallthroughOf (terminalAt t block) ≡ some fallthrough
       → loopOf (terminalAt t loop-of) ≡ some (aLoop test body fallthrough′ again) → fallthrough ≡ body → ⊥
+  -- "a test or an update": the block that continues a loop, a For's update, if any, else the test (the test of a For with an update is a Branch, so no ft)
   pub no-again : (block fallthrough loop-of test body fallthrough′ again : ℕ) → fallthroughOf (terminalAt t block) ≡ some fallthrough
       → loopOf (terminalAt t loop-of) ≡ some (aLoop test body fallthrough′ again) → fallthrough ≡ again → ⊥
   -- "No case block is an ft, except that the last cases of a Switch may be its own."
   pub case-fallthrough : (block case : ℕ) → fallthroughOf (terminalAt t block) ≡ some case → IsProper t case → ⊥
-  -- "An Unreachable block is not the entry, and is named only as the ft of an If, a Switch or a Label": no case of that Switch is it
+  -- "An Unreachable block is not the entry"
   pub entry-reached : Reached t (t .entry)
+  -- "and is named only as the ft": a terminal enters none otherwise, and no case block is one
   pub entered : (block : ℕ) → All (Reached t) (enteredBy (terminalAt t block))
   pub case-reached : (case : ℕ) → IsProper t case → Reached t case
-  pub open-ends : (block fallthrough : ℕ) → fallthroughOf (terminalAt t block) ≡ some fallthrough → isUnreachable (terminalAt t fallthrough) ≡ true → mayBeOpen (terminalAt t block) ≡ true
+  -- "of an If, a Switch, a Label, a Scope or a PrunedScope,"
+  pub open-ends : (block fallthrough : ℕ) → fallthroughOf (terminalAt t block) ≡ some fallthrough → isUnreachable (terminalAt t fallthrough) ≡ true
+      → mayBeOpen (terminalAt t block) ≡ true
+  -- "and no case of that Switch is its own ft."
   pub open-cases : (block test first number fallthrough : ℕ) → terminalAt t block ≡ switch test first number fallthrough → isUnreachable (terminalAt t fallthrough) ≡ true
       → dropOwn fallthrough (casesLastFirst t first number) ≡ casesLastFirst t first number

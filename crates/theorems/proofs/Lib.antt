@@ -1,4 +1,5 @@
 pub mod Language
+pub mod Loops
 pub mod Parting
 pub mod Previews
 pub mod Requests

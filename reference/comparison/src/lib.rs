@@ -6,6 +6,7 @@ pub mod features;
 pub mod generate;
 pub mod harness;
 pub mod language;
+pub mod law;
 pub mod model;
 pub mod parts;
 pub mod reference;

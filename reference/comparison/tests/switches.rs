@@ -2,10 +2,11 @@
 
 use comparison::generate::draft::Draft;
 use comparison::generate::small_plain::{Bound, each};
+use comparison::runs::Width;
 
 fn tables(blocks: u32, reused: bool) -> Vec<Vec<u32>> {
     let mut tables = Vec::new();
-    each(Bound { blocks, cases: 2, reused }, |draft: &Draft| tables.push(draft.words()));
+    each(Bound { width: Width::WithSwitch, blocks, cases: 2, reused }, |draft: &Draft| tables.push(draft.words()));
     tables
 }
 

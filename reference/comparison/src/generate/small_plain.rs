@@ -1,5 +1,5 @@
-//! Every small table that is plain with switches (M-113) and that the language entry accepts, but for
-//! the numbers of its blocks: these are given as they are first named.
+//! Every small table that is plain with switches (M-113), or beyond the papers with loops, and that the
+//! language entry accepts, but for the numbers of its blocks: these are given as they are first named.
 //!
 //! A block has no row of its own until the build visits it: a DoWhile of the block alone stands for it,
 //! which no plain table has and which the build refuses with 15 there. Then the block gets every end
@@ -7,15 +7,18 @@
 //!
 //! A statement names blocks that nothing named before: its parts and its fallthrough are all visited,
 //! once each, and a Goto finds what it names on the stack. With `reused` this is not taken for
-//! granted: the same tables come out, after a longer search.
+//! granted: with switches alone the same tables come out, after a longer search. With loops more come
+//! out: a For's init may be a block that a statement names too.
 
 use super::draft::Draft;
 use crate::model::table::{BLOCK_WORDS, Table};
+use crate::model::columns::NONE;
 use crate::model::{Refusal, Rule, walk_by};
 use crate::runs::{Width, is_plain};
 
 #[derive(Clone, Copy, Debug)]
 pub struct Bound {
+    pub width: Width,
     pub blocks: u32,
     /// The most cases of a Switch.
     pub cases: u32,
@@ -28,6 +31,8 @@ pub struct Counted {
     /// Those with a Switch are apart.
     pub accepted: u64,
     pub with_switch: u64,
+    /// With a For or a DoWhile.
+    pub with_loops: u64,
     pub refused: u64,
 }
 
@@ -67,12 +72,15 @@ const SHAPES: [Shape; 9] = [
     (21, &[], 2, &[7]),
 ];
 
+/// Beyond the papers: Unreachable, DoWhile, and For with update and without.
+const LOOPS: [Shape; 4] = [(1, &[], 0, &[]), (8, &[], 3, &[]), (10, &[], 5, &[]), (10, &[NONE], 4, &[])];
+
 impl Grower<'_> {
     /// Blocks below `named` are named so far.
     fn grow(&mut self, draft: &Draft, named: u32) {
         let words = draft.words();
         let table = Table::of(&words);
-        if !is_plain(&table, Width::WithSwitch) {
+        if !is_plain(&table, self.bound.width) {
             return;
         }
         let is_open = |block: u32| table.block(block)[2] == 0;
@@ -81,18 +89,21 @@ impl Grower<'_> {
             Err(_) => self.counted.refused += 1,
             Ok(_) => {
                 self.counted.accepted += 1;
-                self.counted.with_switch += u64::from(!is_plain(&table, Width::Paper01));
+                let has = |codes: &[u32]| draft.blocks.iter().any(|row| codes.contains(&row[2]));
+                self.counted.with_switch += u64::from(has(&[7]));
+                self.counted.with_loops += u64::from(has(&[8, 10]));
                 (self.visit)(draft);
             }
         }
     }
 
     fn ends(&mut self, draft: &Draft, block: u32, named: u32) {
-        for (code, before, names, after) in SHAPES {
+        let loops: &[Shape] = if self.bound.width == Width::Loops { &LOOPS } else { &[] };
+        for (code, before, names, after) in SHAPES.iter().chain(loops).copied() {
             let from = if code == 4 || self.bound.reused { 0 } else { named };
-            self.choose(names, from, named, &mut Vec::new(), &mut |grower, blocks, named| {
-                let columns = [before, blocks, after].concat();
-                grower.grow(&ended(draft, block, code, &columns), named);
+            self.choose(names, from, named, &mut Vec::new(), &mut |grower, blocks, named| match (code, blocks) {
+                (10, [init, test, rest @ ..]) => grower.fors(draft, block, [*init, *test], before, rest, named),
+                _ => grower.grow(&ended(draft, block, code, &[before, blocks, after].concat()), named),
             });
         }
         let from = if self.bound.reused { 0 } else { named };
@@ -104,6 +115,25 @@ impl Grower<'_> {
                 draft.cases.extend(cases.iter().map(|case| [0, *case]));
                 grower.grow(&ended(&draft, block, 7, &[0, first, count, *fallthrough]), named);
             });
+        }
+    }
+
+    /// A For, whose init and update get their Gotos with it, of either variant, where they have no end yet.
+    fn fors(&mut self, draft: &Draft, block: u32, [init, test]: [u32; 2], no_update: &[u32], rest: &[u32], named: u32) {
+        let columns = [&[init, test][..], no_update, rest].concat();
+        let mut values = vec![init];
+        if no_update.is_empty() && rest[0] != init {
+            values.push(rest[0]);
+        }
+        values.retain(|value| draft.blocks[*value as usize][2] == 0 && *value != block);
+        for variants in 0..1 << values.len() {
+            let mut draft = ended(draft, block, 10, &columns);
+            for (place, value) in values.iter().enumerate() {
+                if draft.blocks[*value as usize][2] == 0 {
+                    draft.blocks[*value as usize] = row(*value, 4, &[test, variants >> place & 1]);
+                }
+            }
+            self.grow(&draft, named);
         }
     }
 
@@ -138,14 +168,20 @@ fn closed(draft: &Draft) -> Draft {
     draft
 }
 
-/// With an end for a block. A While's test must be its Branch, which it gets with it.
+/// With an end for a block. A loop's test must be its Branch, which it gets with it.
 fn ended(draft: &Draft, block: u32, code: u32, columns: &[u32]) -> Draft {
     let mut draft = draft.clone();
     draft.blocks[block as usize] = row(block, code, columns);
-    if let (9, [test, body, fallthrough]) = (code, columns)
-        && draft.blocks[*test as usize][2] == 0
+    let test = match (code, columns) {
+        (9, [test, body, fallthrough]) | (8, [body, test, fallthrough]) | (10, [_, test, _, body, fallthrough]) => {
+            Some((*test, [0, *body, *fallthrough]))
+        }
+        _ => None,
+    };
+    if let Some((test, columns)) = test
+        && draft.blocks[test as usize][2] == 0
     {
-        draft.blocks[*test as usize] = row(*test, 6, &[0, *body, *fallthrough]);
+        draft.blocks[test as usize] = row(test, 6, &columns);
     }
     draft
 }
