@@ -250,16 +250,16 @@ find-gives-the-definition κs before after answer learnt = learnt
 pub lookup-meets-its-contract : {M : Type 1} → lookup-stated.statement M
 lookup-meets-its-contract = lookup-proved.met
 
--- and the code, which is lent
+-- and the code and at, which are lent
 abbrev pub SearchedWithCode : Type 0
-SearchedWithCode = RefT (List ℕ) × (ℕ × (ℕ × (RefT (List ℕ) × (RefT ℕ × Unit {0}))))
+SearchedWithCode = RefT (List ℕ) × (ℕ × (ℕ × (RefT (List ℕ) × (RefT ℕ × (RefT ℕ × Unit {0})))))
 
-pub lookup-asks-nothing : (κs : Lfts 3) (before : SearchedWithCode) → lookup-entry.Asked κs before
+pub lookup-asks-nothing : (κs : Lfts 4) (before : SearchedWithCode) → lookup-entry.Asked κs before
 lookup-asks-nothing κs before = tt
 
--- the code, and the words of the part given back
-pub lookup-gives-the-definition : (κs : Lfts 3) (before after : SearchedWithCode) (answer : RefT (List ℕ)) → lookup-entry.Learnt κs before answer after
-    → record { code = now (after .1 .1 .1 .1 .0); words = now answer } ≡ looked (now (before .0)) (before .1 .0) (before .1 .1 .0) (now (before .1 .1 .1 .0))
+-- the code, at, and the words of the part given back
+pub lookup-gives-the-definition : (κs : Lfts 4) (before after : SearchedWithCode) (answer : RefT (List ℕ)) → lookup-entry.Learnt κs before answer after
+    → record { code = now (after .1 .1 .1 .1 .0); at = now (after .1 .1 .1 .1 .1 .0); words = now answer } ≡ looked (now (before .0)) (before .1 .0) (before .1 .1 .0) (now (before .1 .1 .1 .0))
 lookup-gives-the-definition κs before after answer learnt = learnt
 
 pub tree-lookup-meets-its-contract : {M : Type 1} → lookup-export-stated.statement M
