@@ -1,7 +1,7 @@
 -- `runfile::run_file` meets its contract.
 use native.Mathlib.Omega.{arith}
 use mathlib.Core.Path.{sym}
-use Rattle.runfile.proofs.PrintLaws.{number-within, file-run}
+use Rattle.runfile.proofs.PrintLaws.{number-within, run-printed}
 use borrow.Author.Needs.{needs}
 use Rattle.runfile.proofs.run_file.Statement.{statement}
 use Rattle.runfile.proofs.run_file.Tie as tie
@@ -40,7 +40,7 @@ returns c =
     let written : tie.After-write-run = search in
     let ran : tie.After-run-bytes = search in
     let lent : tie.After-lent-rows = search in
-    file-run (sym (lent .lent-rows .ensures)) (ran .run-bytes .ensures) (written .write-run .ensures)
+    run-printed (sym (lent .lent-rows .ensures)) (ran .run-bytes .ensures) (written .write-run .ensures)
 
 pub run-file-spec : {M : Type 1} → statement M
 run-file-spec =
