@@ -58,7 +58,7 @@ module _ (file : List ℕ) where
 
 -- ---- the rows' words
 
-module _ {lentWords : List ℕ} {count : ℕ} {list : List ℕ} (h : Holds lentWords count list) {answers : List ℕ} {lent : ℕ} {o : Outcome} where
+module _ {lentWords : List ℕ} {count : ℕ} {list : List ℕ} (h : Holds lentWords count list) (answers : List ℕ) (lent : ℕ) {o : Outcome} where
   pub words-too-many : length lentWords ≡ 12288 → length lentWords < count → o ≡ refusal 62 0 lent → o ≡ runOf list answers lent
   words-too-many room l q =
       let c : checkedAs list (record { code = 62; at = 0 }) = too-many-words room h l in
@@ -87,7 +87,11 @@ parted : {file : List ℕ} {from : ℕ} → AnswersAt file from → fileGiven fi
 unfolding fileGiven
 parted a = rw (← (a .is))
 
-module _ {file : List ℕ} {lent : ℕ} {o : Outcome} where
+runs-given : (rows answers : List ℕ) (lent : ℕ) → runOf rows answers lent ≡ runGiven (read rows answers) lent
+unfolding runGiven
+runs-given rows answers lent = refl
+
+module _ (file : List ℕ) (lent : ℕ) {o : Outcome} where
   pub file-long : 262144 < length file → o ≡ refusal 51 0 lent → o ≡ fileRun file lent
   unfolding fileRun
   file-long h q = q ∙ rw (lt-leb (length file) 262144 h, fileRun)
@@ -112,5 +116,5 @@ module _ {file : List ℕ} {lent : ℕ} {o : Outcome} where
           let list : List ℕ = p .read good .0 in
           let answers : List ℕ = s .read e .0 in
           let held : take (given .count) lentAnswers ≡ answers = holds-all lentAnswers (given .count) answers (s .read e .2) fits in
-          let ran : o ≡ runGiven (read list answers) lent = unfold runGiven in (h list (p .read good .2) ∙ ap (λ (z : List ℕ). runOf list z lent) held) in
+          let ran : o ≡ runGiven (read list answers) lent = h list (p .read good .2) ∙ ap (λ (z : List ℕ). runOf list z lent) held ∙ runs-given list answers lent in
           of-parts {given = read list answers} (rw (p .read good .1, ← is, s .read e .1)) ran

@@ -87,8 +87,8 @@ file-within file lent = by (leb (length file) 262144)
     by false = refusal-within 51 0 lent
 
 -- no more rows are told than the buffer has words
-pub number-within : {file : List ℕ} {lent : ℕ} {o : Outcome} → o ≡ fileRun file lent → o .number ≤ length (o .buffer)
-number-within {file} {lent} e = subst Within (sym e) (file-within file lent)
+pub number-within : (file : List ℕ) (lent : ℕ) {o : Outcome} → o ≡ fileRun file lent → o .number ≤ length (o .buffer)
+number-within file lent e = subst Within (sym e) (file-within file lent)
 
 -- ---- the lines
 
@@ -141,6 +141,6 @@ run-written o {room} w n few answer bytes =
     }
 
 -- a run into the lent words, and what is written of it
-pub run-printed : {file : List ℕ} {lent room : ℕ} {o : Outcome} {r : Written} {out : List ℕ} → lent ≡ lentRows → o ≡ fileRun file lent
+pub run-printed : (file : List ℕ) {lent room : ℕ} {o : Outcome} {r : Written} {out : List ℕ} → lent ≡ lentRows → o ≡ fileRun file lent
     → WrittenText mostPrinted (printedRun o) room r out → AsPrinted mostPrinted (runText file) room r out
-run-printed {file} e g w = as-printed (ap printedRun (sym (g ∙ ap (fileRun file) e))) w
+run-printed file e g w = as-printed (ap printedRun (sym (g ∙ ap (fileRun file) e))) w
