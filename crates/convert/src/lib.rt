@@ -104,13 +104,13 @@ pub extern "C" fn table_old_to_new(
     file: &[u8],
     text: &mut [u8],
     at: &mut u32,
-    length: &mut usize,
+    size: &mut usize,
 ) -> u32
-    ensures { λ r. ⌜ record { code = r; at = now (at .exit); length = now (length .exit); buffer = now (text .exit) } ≡ oldToNew (now (file .entry)) (lib.ListN.length (now (text .entry))) ⌝ }
+    ensures { λ r. ⌜ record { code = r; at = now (at .exit); length = now (size .exit); buffer = now (text .exit) } ≡ oldToNew (now (file .entry)) (length (now (text .entry))) ⌝ }
 {
     let converted = old_to_new(file, text);
     *at = converted.at;
-    *length = converted.length;
+    *size = converted.length;
     converted.code
 }
 
@@ -119,12 +119,12 @@ pub extern "C" fn table_new_to_old(
     file: &[u8],
     text: &mut [u8],
     at: &mut u32,
-    length: &mut usize,
+    size: &mut usize,
 ) -> u32
-    ensures { λ r. ⌜ record { code = r; at = now (at .exit); length = now (length .exit); buffer = now (text .exit) } ≡ newToOld (now (file .entry)) (lib.ListN.length (now (text .entry))) ⌝ }
+    ensures { λ r. ⌜ record { code = r; at = now (at .exit); length = now (size .exit); buffer = now (text .exit) } ≡ newToOld (now (file .entry)) (length (now (text .entry))) ⌝ }
 {
     let converted = new_to_old(file, text);
     *at = converted.at;
-    *length = converted.length;
+    *size = converted.length;
     converted.code
 }

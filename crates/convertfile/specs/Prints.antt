@@ -1,11 +1,12 @@
--- What the converters print of a file.
-use Prim.Native.Nat.{ℕ, _≤_, _<_}
+-- What the converters print of a file: the text of the answer, or the two lines of its refusal. With 65,542 bytes lent oldtonew never prints 53, with
+-- 32,768 bytes newtoold does not (`convert/proofs/CodeLaws`, `new-fits`, `old-fits`).
+use Prim.Native.Nat.{ℕ}
 use mathlib.Core.List.{List}
-use Rattle.text.specs.Placed.{Placing, printedPlacing}
-use Rattle.text.specs.Prints.{WrittenText}
-use Rattle.text.specs.declared.write.Written.{Written}
+use Rattle.text.specs.Placed.{printedPlacing}
+use Rattle.convert.specs.Convert.{oldToNew, newToOld}
 
--- the text of the answer, or the two lines of its refusal, in the lent bytes; with `most` bytes 53 does not occur
-pub record AnswerPrinted (convert : (file : List ℕ) → (room : ℕ) → Placing) (most : ℕ) (file : List ℕ) (room : ℕ) (r : Written) (lent : List ℕ) : Type 0 where
-  pub written : WrittenText 77 (printedPlacing (convert file room)) room r lent
-  pub fits : most ≤ room → convert file room .code < 53
+abbrev pub newText : (room : ℕ) → (file : List ℕ) → List ℕ
+newText room file = printedPlacing (oldToNew file room)
+
+abbrev pub oldText : (room : ℕ) → (file : List ℕ) → List ℕ
+oldText room file = printedPlacing (newToOld file room)

@@ -30,12 +30,12 @@ pub extern "C" fn blocks_to_dot(
     words: &[u32],
     text: &mut [u8],
     at: &mut u32,
-    length: &mut usize,
+    size: &mut usize,
 ) -> u32
-    ensures { λ r. ⌜ record { code = r; at = now (at .exit); length = now (length .exit); buffer = now (text .exit) } ≡ drawn (now (words .entry)) (lib.ListN.length (now (text .entry))) ⌝ }
+    ensures { λ r. ⌜ record { code = r; at = now (at .exit); length = now (size .exit); buffer = now (text .exit) } ≡ drawn (now (words .entry)) (length (now (text .entry))) ⌝ }
 {
     let drawn = dot(words, text);
     *at = drawn.at;
-    *length = drawn.length;
+    *size = drawn.length;
     drawn.code
 }

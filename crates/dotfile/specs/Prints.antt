@@ -1,11 +1,11 @@
--- What treedot prints of a file. A file has one text (`text`, `file-printed-one`), so that the answer and every lent byte are fixed.
+-- What treedot prints of a file. `Prints` says it with no reader in it.
 use Prim.Native.Nat.{ℕ}
 use mathlib.Core.List.{List}
-use Rattle.text.specs.declared.write.Written.{Written}
 use Rattle.text.specs.Layout.{layout}
 use Rattle.text.specs.declared.version.Version.the-variants.{New}
 use Rattle.text.specs.Placed.{printedPlacing}
-use Rattle.text.specs.Prints.{FilePrinted}
+use Rattle.text.specs.Prints.{fileText, refusalText}
+use Rattle.text.specs.Reading.{reading}
 use Rattle.text.specs.Prints as text
 use Rattle.dot.specs.Dot.{drawn}
 
@@ -13,10 +13,10 @@ use Rattle.dot.specs.Dot.{drawn}
 abbrev pub drawingText : (room : ℕ) → List ℕ → List ℕ
 drawingText room words = printedPlacing (drawn words room)
 
--- a file in the form prints its table's drawing; any other file prints its refusal
-abbrev pub Prints : (file : List ℕ) → (room : ℕ) → (text : List ℕ) → Type 0
-Prints file room printed = text.Prints (layout New) (drawingText room) file printed
+-- what a file prints: its table's drawing, or its refusal
+abbrev pub drawnText : (room : ℕ) → (file : List ℕ) → List ℕ
+drawnText room file = fileText (drawingText room) refusalText (reading (layout New) file)
 
--- the answer of writing that into `room` lent bytes, and what these hold then; 77 bytes are enough for any refusal
-abbrev pub FileDrawn : (file : List ℕ) → (room : ℕ) → (r : Written) → (lent : List ℕ) → Type 0
-FileDrawn file room r lent = FilePrinted (layout New) (drawingText room) 77 file room r lent
+-- the same with no reader in it: it is this text alone (`text/proofs/PrintsLaws`)
+abbrev pub Prints : (file : List ℕ) → (room : ℕ) → (text : List ℕ) → Type 0
+Prints file room printed = text.Prints (layout New) (drawingText room) refusalText file printed

@@ -1,10 +1,12 @@
 // The program treedot as a function: a file's bytes in, the bytes that are printed of it out.
 ghost use mathlib.Core.Path.{_≡_};
 ghost use mathlib.Core.List.{[]};
+ghost use Prim.Native.Nat.{_≤_};
 ghost use lib.ListN.{length};
 ghost use Rattle.text.specs.Printed.{printed};
-ghost use Rattle.text.specs.Prints.{WrittenText};
-ghost use Rattle.dotfile.specs.Prints.{drawingText, FileDrawn};
+ghost use Rattle.text.specs.Prints.{printing, WrittenText};
+ghost use Rattle.text.specs.declared.write.Written.the-variants.{Bytes};
+ghost use Rattle.dotfile.specs.Prints.{drawingText, drawnText};
 use dot::dot;
 use text::read::Answer;
 use text::read::read;
@@ -29,9 +31,10 @@ fn draw_words(words: &[u32], out: &mut [u8]) -> Written
     Written::Bytes(drawn.length)
 }
 
-// Reads a file and draws its table; or writes why the file is refused.
+// Reads a file and draws its table; or writes why the file is refused. 77 bytes are enough for any refusal.
 pub fn draw_file(file: &[u8], out: &mut [u8]) -> Written
-    ensures { λ r. ⌜ FileDrawn (now (file .entry)) (length (now (out .entry))) r (now (out .exit)) ⌝ }
+    ensures { λ r. ⌜ record { answer = r; bytes = now (out .exit) } ≡ printing (length (now (out .entry))) (drawnText (length (now (out .entry))) (now (file .entry))) ⌝ }
+    ensures { λ r. ⌜ (77 ≤ length (now (out .entry)) → r ≡ Bytes (length (drawnText (length (now (out .entry))) (now (file .entry))))) ⌝ }
 {
     let mut words = [0u32; 16384];
     let answer = read(file, &mut words);

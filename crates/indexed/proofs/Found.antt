@@ -200,7 +200,7 @@ module _ (rule : Rule) (words : List ℕ) (lent lentIndex : ℕ) (a : Accepted r
         ∙ drop-at (wordsOf (s .before)) own (entry .first * 6) (omega (arith, words-length (s .before), s .first))
 
     finds : Finds outcome entry
-    finds = ap (partFound (outcome .buffer)) found-there ∙ ap (λ (z : List ℕ). record { code = 0; words = z }) part
+    finds = ap (partFound (outcome .buffer)) found-there ∙ ap (λ (z : List ℕ). record { code = 0; at = 0; words = z }) part
 
   finds-each : FindsLabelled outcome (a .root .statements)
   finds-each = each-at (Finds outcome) entries (λ i h. finds i (omega (arith, h, number)) (each-get (Sits 0 (rows (a .root .statements))) entries (tree-sits (a .root .statements)) i h))

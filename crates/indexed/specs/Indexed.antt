@@ -15,10 +15,10 @@ OneLineEach outcome = (i j : ℕ) → i < outcome .lines → j < outcome .lines 
 abbrev pub InOrder : Outcome → Type 0
 InOrder outcome = (i j : ℕ) → i < j → j < outcome .lines → lineWord (outcome .index) i 2 < lineWord (outcome .index) j 2
 
--- "gives back the statement's own rows as a part of the caller's tree buffer": code 0 and just its rows
+-- "gives back the statement's own rows as a part of the caller's tree buffer": code 0, at 0 and just its rows
 abbrev pub Finds : Outcome → Labelled → Type 0
 Finds outcome entry =
-    looked (outcome .index) (outcome .lines) (entry .label) (outcome .buffer) ≡ record { code = 0; words = wordsOf (statementRows (entry .statement) []) }
+    looked (outcome .index) (outcome .lines) (entry .label) (outcome .buffer) ≡ record { code = 0; at = 0; words = wordsOf (statementRows (entry .statement) []) }
 
 -- so it is with each labelled statement of a tree
 abbrev pub FindsLabelled : Outcome → (root : Statements) → Type 0

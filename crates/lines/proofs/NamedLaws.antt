@@ -7,27 +7,27 @@ use native.Mathlib.Omega.{arith}
 use lib.ListN.{length, getD, take, drop, length-append, length-drop, List·getD-append}
 use lib.Seq.{length-take-le, getD-take, getD-drop, getD-append-add}
 use Rattle.table.specs.Words.{blockCount, codeAt}
-use Rattle.table.specs.Table.{Case, switch, for, tableOf, terminalOf}
+use Rattle.table.specs.Table.{Case, switch, for, tableOf, terminalOf, terminalAt}
 use Rattle.table.specs.Promise.{Promise, Ends, Chooses}
 use Rattle.table.proofs.TableLaws.{length-cases}
 use Rattle.table.proofs.BlockLaws.{end-at}
 use Rattle.lines.specs.Lines.{caseBlocks, namedBy, namedAt}
-use Rattle.lines.specs.Named.{AllBelow, Names, Target, noCase, casesThen, forNames}
+use Rattle.lines.specs.Named.{AllBelow, Names, Target, noCase, casesThen, forNames, namesOf}
 use Rattle.lines.specs.declared.Named.{Named}
 
 module _ {ws : List ℕ} {row : ℕ} {r : Named} where
   -- those of a terminal with no case
-  pub names-first : {count : ℕ} {blocks : List ℕ} → r ≡ noCase count blocks → namedAt (tableOf ws) row ≡ take count blocks → count ≤ 5 → length blocks ≡ 5 → AllBelow (blockCount ws) blocks → Names ws row r
-  names-first e are few five below = rw e (record { are = are; within = omega arith; few = few; five = five; below = below })
+  pub names-first : {count : ℕ} {blocks : List ℕ} → r ≡ noCase count blocks → noCase count blocks ≡ namesOf (terminalAt (tableOf ws) row) → namedAt (tableOf ws) row ≡ take count blocks → count ≤ 5 → length blocks ≡ 5 → AllBelow (blockCount ws) blocks → Names ws row r
+  names-first e is are few five below = rw e (record { is = is; are = are; within = omega arith; few = few; five = five; below = below })
 
   pub names-cases : {test first number fallthrough : ℕ} → r ≡ casesThen first number fallthrough → Ends ws row (switch test first number fallthrough) → row < blockCount ws → Names ws row r
   unfolding namedBy
-  names-cases e h inside = rw e (record { are = rw (h .is); within = h .named .1; few = omega arith; five = refl; below = omega (arith, h .named) })
+  names-cases e h inside = rw e (record { is = rw (h .is); are = rw (h .is); within = h .named .1; few = omega arith; five = refl; below = omega (arith, h .named) })
 
   pub names-for : {init test : ℕ} (update : Option ℕ) {loop fallthrough : ℕ} → r ≡ forNames init test update loop fallthrough → Ends ws row (for init test update loop fallthrough) → row < blockCount ws → Names ws row r
   unfolding namedBy
-  names-for none e h inside = names-first e (rw (h .is)) (omega arith) refl (omega (arith, h .named))
-  names-for (some update) e h inside = names-first e (rw (h .is)) (omega arith) refl (omega (arith, h .named))
+  names-for none e h inside = names-first e (rw (h .is)) (rw (h .is)) (omega arith) refl (omega (arith, h .named))
+  names-for (some update) e h inside = names-first e (rw (h .is)) (rw (h .is)) (omega arith) refl (omega (arith, h .named))
 
 -- codes 0 to 3
 no-block : (ws : List ℕ) (code a b c d e : ℕ) → code < 4 → namedBy (tableOf ws) (terminalOf code a b c d e) ≡ []
@@ -38,9 +38,17 @@ no-block ws (suc (suc zero)) a b c d e h = refl
 no-block ws (suc (suc (suc zero))) a b c d e h = refl
 no-block ws (suc (suc (suc (suc code)))) a b c d e h = absurd (omega arith)
 
+no-names : (code a b c d e : ℕ) → code < 4 → noCase 0 (0 ∷ 0 ∷ 0 ∷ 0 ∷ 0 ∷ []) ≡ namesOf (terminalOf code a b c d e)
+unfolding terminalOf
+no-names zero a b c d e h = refl
+no-names (suc zero) a b c d e h = refl
+no-names (suc (suc zero)) a b c d e h = refl
+no-names (suc (suc (suc zero))) a b c d e h = refl
+no-names (suc (suc (suc (suc code)))) a b c d e h = absurd (omega arith)
+
 pub names-none : {ws : List ℕ} {row : ℕ} {r : Named} {code : ℕ} → r ≡ noCase 0 (0 ∷ 0 ∷ 0 ∷ 0 ∷ 0 ∷ []) → code ≡ codeAt ws row → code < 4 → row < blockCount ws → Names ws row r
 names-none {ws} {row} e known low inside =
-    names-first e (rw (end-at ws row inside) (no-block ws (codeAt ws row) _ _ _ _ _ (omega arith))) (omega arith) refl (omega arith)
+    names-first e (rw (end-at ws row inside) (no-names (codeAt ws row) _ _ _ _ _ (omega arith))) (rw (end-at ws row inside) (no-block ws (codeAt ws row) _ _ _ _ _ (omega arith))) (omega arith) refl (omega arith)
 
 -- ---- the block that a line goes to
 

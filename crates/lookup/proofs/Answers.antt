@@ -141,7 +141,7 @@ range-slice (suc f) (suc t) (x ∷ l) h =
     ap (λ (n : ℕ). take n (drop f l)) less ∙ range-slice f t l (omega (arith, h))
 
 pub part-found : (index : List ℕ) (number label : ℕ) (tree : List ℕ) {given : Found} → given ≡ found index number label (length tree)
-    → record { code = given .code; words = take (given .end - given .begin) (drop (given .begin) tree) } ≡ looked index number label tree
+    → record { code = given .code; at = given .at; words = take (given .end - given .begin) (drop (given .begin) tree) } ≡ looked index number label tree
 part-found index number label tree {given} e =
-    ap (λ (words : List ℕ). record { code = given .code; words = words }) (range-slice (given .begin) (given .end) tree (found-within index number label e .order))
+    ap (λ (words : List ℕ). record { code = given .code; at = given .at; words = words }) (range-slice (given .begin) (given .end) tree (found-within index number label e .order))
     ∙ ap (partFound tree) e

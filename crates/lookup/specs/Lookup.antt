@@ -46,10 +46,11 @@ found index number label tree = foundAt index tree (firstWith index label 0 (lin
 -- "gives back the statement's own rows as a part of the caller's tree buffer"
 pub record Part : Type 0 where
   pub code : ℕ
+  pub at : ℕ
   pub words : List ℕ
 
 abbrev pub partFound : (tree : List ℕ) → Found → Part
-partFound tree found = record { code = found .code; words = slice (found .begin) (found .end) tree }
+partFound tree found = record { code = found .code; at = found .at; words = slice (found .begin) (found .end) tree }
 
 abbrev pub looked : (index : List ℕ) → (number label : ℕ) → (tree : List ℕ) → Part
 looked index number label tree = partFound tree (found index number label (length tree))

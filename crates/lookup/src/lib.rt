@@ -93,10 +93,12 @@ pub fn lookup<'a>(
     label: u32,
     tree: &'a [u32],
     code: &mut u32,
+    at: &mut u32,
 ) -> &'a [u32]
-    ensures { λ r. ⌜ record { code = now (code .exit); words = now r } ≡ looked (now (index .entry)) lines label (now (tree .entry)) ⌝ }
+    ensures { λ r. ⌜ record { code = now (code .exit); at = now (at .exit); words = now r } ≡ looked (now (index .entry)) lines label (now (tree .entry)) ⌝ }
 {
     let found = find(index, lines, label, tree);
+    *at = found.at;
     *code = found.code;
     let begin = found.begin;
     let end = found.end;

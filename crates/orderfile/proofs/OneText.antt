@@ -10,6 +10,7 @@ use Rattle.table.proofs.PromiseLaws.{promised}
 use Rattle.text.specs.Layout.{layout}
 use Rattle.text.specs.Answer.{Accepted}
 use Rattle.text.specs.declared.version.Version.the-variants.{New}
+use Rattle.text.specs.Prints.{refusalText}
 use Rattle.text.proofs.PrintsLaws.{prints-one}
 use Rattle.renaming.specs.Renaming.{Renaming, renamed}
 use Rattle.renaming.specs.Order.{newNumber, oldNumber, walkingOrder, rearranged}
@@ -22,7 +23,7 @@ use Rattle.orderfile.specs.Prints.{unlessRefused, orderedText, Prints}
 
 -- what a file in the form prints is its words' text
 prints-words : (file words text : List ℕ) → Accepted (layout New) file words → Prints file text → text ≡ orderedText words
-prints-words file words text a p = prints-one (layout New) orderedText file text (orderedText words) p (inl (record { words = words; accepted = a; lines = refl }))
+prints-words file words text a p = prints-one (layout New) orderedText refusalText file text (orderedText words) p (inl (record { words = words; accepted = a; lines = refl }))
 
 -- a file whose table is accepted prints the file of its rearranged words
 pub prints-the-file : (words file file′ text : List ℕ) → checked words ≡ accepted → Accepted (layout New) file words → Accepted (layout New) file′ (rearranged words)

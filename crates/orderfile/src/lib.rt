@@ -5,10 +5,11 @@ ghost use Prim.Native.Nat.{_≤_};
 ghost use lib.ListN.{length};
 ghost use Rattle.table.specs.Promise.{Promise};
 ghost use Rattle.text.specs.Printed.{printed};
-ghost use Rattle.text.specs.Prints.{WrittenText};
+ghost use Rattle.text.specs.Prints.{printing, WrittenText};
+ghost use Rattle.text.specs.declared.write.Written.the-variants.{Bytes};
 ghost use Rattle.renaming.specs.Order.{rearranged};
 ghost use Rattle.writer.specs.Write.{tableText};
-ghost use Rattle.orderfile.specs.Prints.{orderedText, FileOrdered};
+ghost use Rattle.orderfile.specs.Prints.{orderedText, orderText};
 use order::rearrange;
 use table::words::block_count;
 use table_check::check;
@@ -73,9 +74,10 @@ fn order_words(words: &[u32], out: &mut [u8]) -> Written
     write_refusal(out, checked.code(), checked.place())
 }
 
-// Reads a file and prints its table with the blocks in walking order; or prints why the file is refused.
+// Reads a file and prints its table with the blocks in walking order; or prints why the file is refused. 180,368 bytes are enough.
 pub fn order_file(file: &[u8], out: &mut [u8]) -> Written
-    ensures { λ r. ⌜ FileOrdered (now (file .entry)) (length (now (out .entry))) r (now (out .exit)) ⌝ }
+    ensures { λ r. ⌜ record { answer = r; bytes = now (out .exit) } ≡ printing (length (now (out .entry))) (orderText (now (file .entry))) ⌝ }
+    ensures { λ r. ⌜ (180368 ≤ length (now (out .entry)) → r ≡ Bytes (length (orderText (now (file .entry))))) ⌝ }
 {
     let mut words = lent_words();
     let answer = read(file, &mut words);

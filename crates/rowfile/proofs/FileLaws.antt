@@ -13,12 +13,13 @@ use Rattle.text.specs.Form.{ending}
 use Rattle.text.specs.Lent.{Holds}
 use Rattle.text.specs.Line.{line}
 use Rattle.text.specs.Printed.{treeNames, writtenOf, lentOf}
+use Rattle.text.specs.Prints.{WrittenText}
 use Rattle.text.specs.declared.write.Written.{Written}
 use Rattle.text.proofs.LentLaws.{holds-none, holds-put, holds-all}
 use Rattle.text.proofs.WriteLaws.{line-most, text-fits}
 use Rattle.definition.proofs.Steps.{true-false}
 use Rattle.reading.specs.Needs.{treeVerdict, codeOf, atOf}
-use Rattle.treerows.specs.Found.{treeRead, noList, TreeAnswered}
+use Rattle.treerows.specs.Found.{treeRead, noList, treeChecked}
 use Rattle.treerows.proofs.ReadLaws.{part-of-row, too-many}
 use Rattle.treerows.proofs.Simulation.{read-answers}
 use Rattle.treerows.specs.declared.TreeChecked.{TreeChecked}
@@ -26,7 +27,7 @@ use Rattle.treerows.specs.declared.TreeRead.{TreeRead}
 use Rattle.rowfile.specs.declared.Rows.{Rows}
 use Rattle.rowfile.specs.declared.scan.Scan.{Scan}
 use Rattle.rowfile.specs.Scan.{Scanned, stopped, words, follows, digitOf, nextColumn, refusedScan, firstDigit, inNumber, stepped, withWords, endedWord, scanned, startScan, alike, tableWords, fileWords}
-use Rattle.rowfile.specs.Prints.{scanChecked, fileChecked, checkNames, printedCheck, WrittenCheck}
+use Rattle.rowfile.specs.Prints.{scanChecked, fileChecked, checkNames, printedCheck}
 use Rattle.rowfile.specs.Read.{NamesEnd, Kept, rowsRefused, scanEnd, RowsRead, checkedAs}
 
 -- ---- the line of names
@@ -223,12 +224,8 @@ module _ {lent : List ℕ} (room : length lent ≡ 12288) {count : ℕ} {list : 
       by true e l = let w : length list ≡ length list / 6 * 6 = eqb-true (length list) (length list / 6 * 6) e in too-many list w (λ z. omega arith) (omega arith)
       by false e l = part-of-row list (eqb-false (length list) (length list / 6 * 6) e)
 
-  pub words-checked : count ≤ length lent → {r : TreeChecked} → TreeAnswered (take count lent) (r .code) (r .at) → checkedAs list r
-  words-checked l {r} a =
-      let e : take count lent ≡ list = holds-all lent count list h l in
-      let code : r .code ≡ codeOf (treeVerdict list) = a .code-is ∙ ap (λ (z : List ℕ). codeOf (treeVerdict z)) e in
-      let at : r .at ≡ atOf (treeVerdict list) = a .at-is ∙ ap (λ (z : List ℕ). atOf (treeVerdict z)) e in
-      rw (← code, ← at)
+  pub words-checked : count ≤ length lent → {r : TreeChecked} → r ≡ treeChecked (take count lent) → checkedAs list r
+  words-checked l e = e ∙ ap treeChecked (holds-all lent count list h l)
 
 module _ (file : List ℕ) where
   pub file-long : 262144 < length file → record { code = 51; at = 0 } ≡ fileChecked file
@@ -254,7 +251,7 @@ module _ (file : List ℕ) where
 -- 30 bytes are enough
 pub check-written : (code at : ℕ) {room : ℕ} {r : Written} {lent : List ℕ} → code < 2 ^ 32 → at < 2 ^ 32
     → r ≡ writtenOf room (printedCheck (record { code = code; at = at })) → lent ≡ lentOf room (printedCheck (record { code = code; at = at }))
-    → WrittenCheck (record { code = code; at = at }) room r lent
+    → WrittenText 30 (printedCheck (record { code = code; at = at })) room r lent
 unfolding printedCheck
 check-written code at {room} p q answer bytes = record {
   answer = answer;

@@ -6,10 +6,8 @@ use lib.ListN.{length}
 use lib.Dec.{leb}
 use Rattle.text.specs.Ascii.{ascii}
 use Rattle.text.specs.Line.{line}
-use Rattle.text.specs.Prints.{WrittenText}
-use Rattle.text.specs.declared.write.Written.{Written}
-use Rattle.reading.specs.Needs.{treeVerdict, codeOf, atOf}
 use Rattle.treerows.specs.declared.TreeChecked.{TreeChecked}
+use Rattle.treerows.specs.Found.{treeChecked}
 use Rattle.rowfile.specs.Scan.{Scanned, stopped, words, fileWords}
 
 abbrev pub mostBytes : ℕ
@@ -17,7 +15,7 @@ mostBytes = 262144
 
 abbrev pub scanChecked : Scanned → TreeChecked
 scanChecked (stopped at) = record { code = 50; at = at }
-scanChecked (words list) = record { code = codeOf (treeVerdict list); at = atOf (treeVerdict list) }
+scanChecked (words list) = treeChecked list
 
 -- "51 over .. bytes, at 0; then 50 not in the form"; then the check of the rows
 unfoldable pub fileChecked : List ℕ → TreeChecked
@@ -29,6 +27,6 @@ checkNames = ascii "code at\n"
 unfoldable pub printedCheck : TreeChecked → List ℕ
 printedCheck checked = checkNames ++ line (checked .code ∷ checked .at ∷ [])
 
--- the answer of writing that into `room` lent bytes, and what these hold then; 30 bytes are enough
-abbrev pub WrittenCheck : (checked : TreeChecked) → (room : ℕ) → (r : Written) → (lent : List ℕ) → Type 0
-WrittenCheck checked room r lent = WrittenText 30 (printedCheck checked) room r lent
+-- what a file prints
+abbrev pub checkText : (file : List ℕ) → List ℕ
+checkText file = printedCheck (fileChecked file)

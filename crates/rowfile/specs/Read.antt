@@ -6,8 +6,8 @@ use mathlib.Core.Bool.{Bool, true, false, cond}
 use lib.ListN.{length}
 use lib.Dec.{eqb}
 use Rattle.text.specs.Lent.{Holds}
-use Rattle.reading.specs.Needs.{treeVerdict, codeOf, atOf}
 use Rattle.treerows.specs.declared.TreeChecked.{TreeChecked}
+use Rattle.treerows.specs.Found.{treeChecked}
 use Rattle.rowfile.specs.declared.Rows.{Rows}
 use Rattle.rowfile.specs.declared.scan.Scan.{Scan}
 use Rattle.rowfile.specs.Scan.{stopped, words, alike, tableWords}
@@ -38,4 +38,4 @@ pub record RowsRead (names : List ℕ) (last : ℕ) (file lent : List ℕ) (r : 
   pub read : r .refused ≡ false → (list : List ℕ) × (tableWords names last file ≡ words list) × Holds lent (r .count) list
 
 abbrev pub checkedAs : List ℕ → TreeChecked → Type 0
-checkedAs list r = r ≡ record { code = codeOf (treeVerdict list); at = atOf (treeVerdict list) }
+checkedAs list r = r ≡ treeChecked list

@@ -14,7 +14,9 @@ ghost use mathlib.Core.List.{List};
 ghost use Prim.Native.Nat.{ℕ, _+_, _≤_, _<_};
 ghost use lib.ListN.{length};
 ghost use Rattle.text.specs.Lent.{Holds};
-ghost use Rattle.rowfile.specs.Prints.{fileChecked, WrittenCheck};
+ghost use Rattle.text.specs.Prints.{printing, WrittenText};
+ghost use Rattle.text.specs.declared.write.Written.the-variants.{Bytes};
+ghost use Rattle.rowfile.specs.Prints.{fileChecked, printedCheck, checkText};
 ghost use Rattle.rowfile.specs.Read.{NamesEnd, Kept, rowsRefused, scanEnd, RowsRead, checkedAs};
 
 mod scan;
@@ -134,7 +136,7 @@ fn check_rows(file: &[u8]) -> TreeChecked
 }
 
 fn write_check(out: &mut [u8], code: u32, at: u32) -> Written
-    ensures { λ r. ⌜ WrittenCheck (record { code = code; at = at }) (length (now (out .entry))) r (now (out .exit)) ⌝ }
+    ensures { λ r. ⌜ WrittenText 30 (printedCheck (record { code = code; at = at })) (length (now (out .entry))) r (now (out .exit)) ⌝ }
 {
     let names = write_names(out, 0, b"code at\n");
     let numbers = [code, at];
@@ -144,7 +146,8 @@ fn write_check(out: &mut [u8], code: u32, at: u32) -> Written
 
 // Reads a file of rows, checks them and writes the answer; 30 bytes are enough.
 pub fn check_file(file: &[u8], out: &mut [u8]) -> Written
-    ensures { λ r. ⌜ WrittenCheck (fileChecked (now (file .entry))) (length (now (out .entry))) r (now (out .exit)) ⌝ }
+    ensures { λ r. ⌜ record { answer = r; bytes = now (out .exit) } ≡ printing (length (now (out .entry))) (checkText (now (file .entry))) ⌝ }
+    ensures { λ r. ⌜ (30 ≤ length (now (out .entry)) → r ≡ Bytes (length (checkText (now (file .entry))))) ⌝ }
 {
     let checked = check_rows(file);
     write_check(out, checked.code, checked.at)

@@ -7,6 +7,7 @@ use mathlib.Core.List.{List}
 use mathlib.Core.Bool.{Bool, true, false}
 use lib.ListN.{length, getD, take, drop, drop-of-length-le, length-take, length-drop}
 use lib.Seq.{drop-cons, take-all}
+use borrow.Author.Tests.{le-leb, lt-leb}
 use Rattle.text.specs.Lent.{Holds}
 use Rattle.text.specs.Printed.{treeNames}
 use Rattle.text.proofs.LentLaws.{holds-all}
@@ -18,8 +19,9 @@ use Rattle.rowfile.specs.declared.Rows.{Rows}
 use Rattle.rowfile.specs.Read.{RowsRead, checkedAs}
 use Rattle.rowfile.proofs.FileLaws.{too-many-words}
 use Rattle.running.specs.Ran.{Outcome, refusal}
-use Rattle.running.specs.Given.{Gives, refused}
-use Rattle.runfile.specs.Given.{answerNames, opensAnswers, answersFrom, givenFrom, fileGiven, FileGives, long, misread, runs}
+use Rattle.running.specs.Given.{refused, runOf}
+use Rattle.running.proofs.OneOutcome.{given-is}
+use Rattle.runfile.specs.Given.{Given, stopped, read, answerNames, opensAnswers, answersFrom, givenFrom, fileGiven, runGiven, fileRun}
 use Rattle.runfile.specs.Prints.{AnswersAt}
 
 -- ---- where the answers begin
@@ -56,18 +58,18 @@ module _ (file : List ℕ) where
 
 -- ---- the rows' words
 
-module _ {lentWords : List ℕ} {count : ℕ} {list : List ℕ} (h : Holds lentWords count list) {answers : List ℕ} {lent : ℕ} {o : Outcome} where
-  pub words-too-many : length lentWords ≡ 12288 → length lentWords < count → o ≡ refusal 62 0 lent → Gives list answers lent o
+module _ {lentWords : List ℕ} {count : ℕ} {list : List ℕ} (h : Holds lentWords count list) (answers : List ℕ) (lent : ℕ) {o : Outcome} where
+  pub words-too-many : length lentWords ≡ 12288 → length lentWords < count → o ≡ refusal 62 0 lent → o ≡ runOf list answers lent
   words-too-many room l q =
       let c : checkedAs list (record { code = 62; at = 0 }) = too-many-words room h l in
       let code : 62 ≡ codeOf (treeVerdict list) = ap (λ (r : TreeChecked). r .code) c in
       let at : 0 ≡ atOf (treeVerdict list) = ap (λ (r : TreeChecked). r .at) c in
       let answered : Answer list 62 0 =
       subst (λ (n : ℕ). Answer list n 0) (sym code) (subst (λ (n : ℕ). Answer list (codeOf (treeVerdict list)) n) (sym at) (words-answered list)) in
-      rw q (refused 62 0 answered (λ z. omega (arith, z)))
+      q ∙ given-is list answers lent (refused 62 0 answered (λ z. omega (arith, z)))
 
-  pub words-run : count ≤ length lentWords → Gives (take count lentWords) answers lent o → Gives list answers lent o
-  words-run l g = subst (λ (z : List ℕ). Gives z answers lent o) (holds-all lentWords count list h l) g
+  pub words-run : count ≤ length lentWords → o ≡ runOf (take count lentWords) answers lent → o ≡ runOf list answers lent
+  words-run l g = g ∙ ap (λ (z : List ℕ). runOf z answers lent) (holds-all lentWords count list h l)
 
 -- ---- the file
 
@@ -85,22 +87,34 @@ parted : {file : List ℕ} {from : ℕ} → AnswersAt file from → fileGiven fi
 unfolding fileGiven
 parted a = rw (← (a .is))
 
-module _ {file : List ℕ} {lent : ℕ} {o : Outcome} where
-  pub file-long : 262144 < length file → o ≡ refusal 51 0 lent → FileGives file lent o
-  file-long h q = rw q (long h)
+runs-given : (rows answers : List ℕ) (lent : ℕ) → runOf rows answers lent ≡ runGiven (read rows answers) lent
+unfolding runGiven
+runs-given rows answers lent = refl
+
+module _ (file : List ℕ) (lent : ℕ) {o : Outcome} where
+  pub file-long : 262144 < length file → o ≡ refusal 51 0 lent → o ≡ fileRun file lent
+  unfolding fileRun
+  file-long h q = q ∙ rw (lt-leb (length file) 262144 h, fileRun)
 
   module _ (short : length file ≤ 262144) {from : ℕ} (a : AnswersAt file from) {lentWords : List ℕ} {rows : Rows} (p : RowsRead treeNames 5 (take from file) lentWords rows) where
-    pub rows-refused : rows .refused ≡ true → o ≡ refusal 50 (rows .at) lent → FileGives file lent o
-    rows-refused e q = rw q (misread short (rows .at) (parted a ∙ rw (p .stop e)))
+    -- a file within the limit gives what its two parts give
+    of-parts : {given : Given} → givenFrom from file ≡ given → o ≡ runGiven given lent → o ≡ fileRun file lent
+    of-parts {given} e q =
+        let within : fileRun file lent ≡ runGiven (fileGiven file) lent = unfold fileRun in rw (le-leb (length file) 262144 short, fileRun) in
+        q ∙ sym (within ∙ ap (λ (g : Given). runGiven g lent) (parted a ∙ e))
+
+    pub rows-refused : rows .refused ≡ true → o ≡ refusal 50 (rows .at) lent → o ≡ fileRun file lent
+    rows-refused e q = of-parts {given = stopped (rows .at)} (rw (p .stop e)) (q ∙ unfold runGiven in refl)
 
     module _ (good : rows .refused ≡ false) {part lentAnswers : List ℕ} {given : Rows} (is : part ≡ drop from file) (s : RowsRead answerNames 0 part lentAnswers given) where
-      pub answers-refused : given .refused ≡ true → o ≡ refusal 50 (from + given .at) lent → FileGives file lent o
-      answers-refused e q = rw q (misread short (from + given .at) (parted a ∙ rw (p .read good .1, ← is, s .stop e)))
+      pub answers-refused : given .refused ≡ true → o ≡ refusal 50 (from + given .at) lent → o ≡ fileRun file lent
+      answers-refused e q = of-parts {given = stopped (from + given .at)} (rw (p .read good .1, ← is, s .stop e)) (q ∙ unfold runGiven in refl)
 
       pub file-runs : given .refused ≡ false → given .count ≤ length lentAnswers
-          → ((list : List ℕ) → Holds lentWords (rows .count) list → Gives list (take (given .count) lentAnswers) lent o) → FileGives file lent o
+          → ((list : List ℕ) → Holds lentWords (rows .count) list → o ≡ runOf list (take (given .count) lentAnswers) lent) → o ≡ fileRun file lent
       file-runs e fits h =
           let list : List ℕ = p .read good .0 in
           let answers : List ℕ = s .read e .0 in
           let held : take (given .count) lentAnswers ≡ answers = holds-all lentAnswers (given .count) answers (s .read e .2) fits in
-          runs short list answers (parted a ∙ rw (p .read good .1, ← is, s .read e .1)) (subst (λ (z : List ℕ). Gives list z lent o) held (h list (p .read good .2)))
+          let ran : o ≡ runGiven (read list answers) lent = h list (p .read good .2) ∙ ap (λ (z : List ℕ). runOf list z lent) held ∙ runs-given list answers lent in
+          of-parts {given = read list answers} (rw (p .read good .1, ← is, s .read e .1)) ran

@@ -1,49 +1,36 @@
--- For any file and any number of words lent there is one outcome; so a file prints one text, and every lent byte is fixed.
-use mathlib.Core.Path.{_≡_, refl, sym, ap, _∙_}
-use Prim.Native.Nat.{ℕ, zero}
+-- The run of a file is the one outcome that `FileGives` allows, where no reader of trees is in the definition.
+use mathlib.Core.Path.{_≡_, refl, sym, ap, _∙_, subst}
+use mathlib.Core.Bool.{Bool, true, false}
+use Prim.Native.Nat.{ℕ, _≤_}
 use native.Mathlib.Omega.{arith}
-use mathlib.Core.List.{List, []}
-use Rattle.text.specs.Printed.{writtenOf, lentOf}
-use Rattle.text.specs.declared.write.Written.{Written}
+use mathlib.Core.List.{List}
+use lib.Dec.{leb}
+use lib.ListN.{length}
+use borrow.Author.Tests.{leb-true, leb-false, le-leb, lt-leb}
 use Rattle.running.specs.Ran.{Outcome, refusal}
-use Rattle.running.specs.Given.{Gives}
-use Rattle.running.proofs.OneOutcome.{one-outcome}
-use Rattle.runfile.specs.Given.{Given, stopped, read, fileGiven, FileGives, long, misread, runs}
-use Rattle.runfile.specs.Prints.{printedRun, FileRun}
-
-placeOf : Given → ℕ
-placeOf (stopped at) = at
-placeOf (read rows answers) = 0
-
-rowsOf : Given → List ℕ
-rowsOf (stopped at) = []
-rowsOf (read rows answers) = rows
-
-answersOf : Given → List ℕ
-answersOf (stopped at) = []
-answersOf (read rows answers) = answers
-
-stopped-read : {at : ℕ} {rows answers : List ℕ} → stopped at ≡ read rows answers → ⊥
-stopped-read e = let z : _≡_ {A = ℕ} 0 1 = cc in omega arith
+use Rattle.running.specs.Given.{RunGives, runOf}
+use Rattle.running.proofs.OneOutcome.{given-is, is-given}
+use Rattle.runfile.specs.Given.{Given, stopped, read, fileGiven, runGiven, fileRun, FileGives, long, misread, runs}
 
 module _ (file : List ℕ) (lent : ℕ) where
-  pub one-run : {o o′ : Outcome} → FileGives file lent o → FileGives file lent o′ → o ≡ o′
-  unfolding placeOf rowsOf answersOf
-  one-run (long h) (long k) = refl
-  one-run (long h) (misread k at e) = absurd (omega arith)
-  one-run (long h) (runs k rows answers e g) = absurd (omega arith)
-  one-run (misread h at e) (long k) = absurd (omega arith)
-  one-run (misread h at e) (misread k at′ e′) = ap (λ (n : ℕ). refusal 50 n lent) (ap placeOf (sym e ∙ e′))
-  one-run (misread h at e) (runs k rows answers e′ g) = absurd (stopped-read (sym e ∙ e′))
-  one-run (runs h rows answers e g) (long k) = absurd (omega arith)
-  one-run (runs h rows answers e g) (misread k at e′) = absurd (stopped-read (sym e′ ∙ e))
-  one-run (runs h rows answers e g) (runs k rows′ answers′ e′ g′) =
-      let r : rows ≡ rows′ = ap rowsOf (sym e ∙ e′) in
-      let a : answers ≡ answers′ = ap answersOf (sym e ∙ e′) in
-      one-outcome rows answers lent g (rw (r, a) g′)
+  within : length file ≤ 262144 → {g : Given} → fileGiven file ≡ g → runGiven g lent ≡ fileRun file lent
+  unfolding fileRun
+  within short e = sym (rw (le-leb (length file) 262144 short, fileRun) (ap (λ (g : Given). runGiven g lent) e))
 
--- one answer, and one content of the lent bytes
-pub one-printed : {file : List ℕ} {room : ℕ} {r s : Written} {l m : List ℕ} → FileRun file room r l → FileRun file room s m → (r ≡ s) × (l ≡ m)
-one-printed {file} {room} h g =
-    let e : printedRun (h .outcome) ≡ printedRun (g .outcome) = ap printedRun (one-run file 65536 (h .gives) (g .gives)) in
-    (h .written .answer ∙ ap (writtenOf room) e ∙ sym (g .written .answer), h .written .bytes ∙ ap (lentOf room) e ∙ sym (g .written .bytes))
+  -- what is allowed is the run
+  pub gives-is : {o : Outcome} → FileGives file lent o → o ≡ fileRun file lent
+  unfolding runGiven
+  gives-is (long h) = unfold fileRun in sym (rw (lt-leb (length file) 262144 h, fileRun))
+  gives-is (misread h at e) = within h e
+  gives-is (runs h rows answers e g) = given-is rows answers lent g ∙ within h e
+
+  -- and the run is allowed
+  pub is-gives : FileGives file lent (fileRun file lent)
+  unfolding fileRun runGiven
+  is-gives = by (leb (length file) 262144) refl (fileGiven file) refl
+    where
+      by : (short : Bool) → leb (length file) 262144 ≡ short → (g : Given) → fileGiven file ≡ g
+          → FileGives file lent (elim short [ true ↦ runGiven g lent | false ↦ refusal 51 0 lent ])
+      by false e g i = long (leb-false (length file) 262144 e)
+      by true e (stopped at) i = misread (leb-true (length file) 262144 e) at i
+      by true e (read rows answers) i = runs (leb-true (length file) 262144 e) rows answers i (is-given rows answers lent refl)

@@ -1,5 +1,5 @@
 -- What is printed of a run: no more rows than the buffer has words, and 720,974 bytes are enough.
-use mathlib.Core.Path.{_≡_, refl, _∙_, subst}
+use mathlib.Core.Path.{_≡_, refl, sym, ap, _∙_, subst}
 use Prim.Native.Nat.{ℕ, zero, suc, _+_, _*_, _≤_}
 use native.Mathlib.Omega.{arith}
 use mathlib.Core.List.{List, [], _∷_, _++_, append-nil}
@@ -12,6 +12,7 @@ use Rattle.text.specs.File.{Words}
 use Rattle.text.specs.Printed.{writtenOf, lentOf, Wrote}
 use Rattle.text.specs.declared.write.Written.{Written}
 use Rattle.text.specs.Prints.{WrittenText}
+use Rattle.text.proofs.PrintsLaws.{AsPrinted, as-printed}
 use Rattle.text.proofs.WriteLaws.{Narrow, narrow-words, narrow-take, narrow-drop, line-most, text-fits, wrote-then}
 use Rattle.writer.specs.Cut.{cut}
 use Rattle.definition.specs.Tree.{Statements, rows}
@@ -19,10 +20,11 @@ use Rattle.definition.specs.Run.{Answers, Reason, returned, threw, no-answer-le
 use Rattle.definition.specs.TreeRun.{treeRun}
 use Rattle.running.specs.Numbered.{numbered}
 use Rattle.running.specs.Ran.{Outcome, refusal, firstNotRun, performedAll, ended, given, afterSorts, ran}
-use Rattle.running.specs.Given.{Gives}
-use Rattle.running.specs.Given as running
-use Rattle.runfile.specs.Given.{FileGives, long, misread, runs}
-use Rattle.runfile.specs.Prints.{runNames, instructionNames, performedLines, printedRun, mostPrinted, lentRows, FileRun}
+use Rattle.running.specs.Given.{rootOf, runBy, runOf}
+use Rattle.reading.specs.Needs.{RowsVerdict, rowsOfWords, treeVerdict}
+use Rattle.reading.specs.Needs as check
+use Rattle.runfile.specs.Given.{Given, stopped as misread, read, fileGiven, runGiven, fileRun}
+use Rattle.runfile.specs.Prints.{runNames, instructionNames, performedLines, printedRun, mostPrinted, lentRows, runText}
 
 -- ---- the number of rows
 
@@ -66,15 +68,27 @@ ran-within : (root : Statements) (answers : Answers) (lent : ℕ) → Within (ra
 unfolding ran
 ran-within root answers lent = sorts-within (firstNotRun (rows root) 0) root answers lent
 
-gives-within : (words answers : List ℕ) (lent : ℕ) {o : Outcome} → Gives words answers lent o → Within o
-gives-within words answers lent (running.refused code at a f) = refusal-within code at lent
-gives-within words answers lent (running.runs list w l m r root d) = ran-within root answers lent
+run-within : (words answers : List ℕ) (lent : ℕ) (v : RowsVerdict) → Within (runBy v words answers lent)
+unfolding runBy
+run-within words answers lent check.accepted = ran-within (rootOf (rowsOfWords words)) answers lent
+run-within words answers lent (check.refused code at) = refusal-within code at lent
+
+given-run-within : (g : Given) (lent : ℕ) → Within (runGiven g lent)
+unfolding runGiven runOf
+given-run-within (misread at) lent = refusal-within 50 at lent
+given-run-within (read rows answers) lent = run-within rows answers lent (treeVerdict rows)
+
+file-within : (file : List ℕ) (lent : ℕ) → Within (fileRun file lent)
+unfolding fileRun
+file-within file lent = by (leb (length file) 262144)
+  where
+    by : (short : Bool) → Within (elim short [ true ↦ runGiven (fileGiven file) lent | false ↦ refusal 51 0 lent ])
+    by true = given-run-within (fileGiven file) lent
+    by false = refusal-within 51 0 lent
 
 -- no more rows are told than the buffer has words
-pub number-within : {file : List ℕ} {lent : ℕ} {o : Outcome} → FileGives file lent o → o .number ≤ length (o .buffer)
-number-within {file} {lent} (long h) = refusal-within 51 0 lent
-number-within {file} {lent} (misread h at e) = refusal-within 50 at lent
-number-within {file} {lent} (runs h words answers e g) = gives-within words answers lent g
+pub number-within : (file : List ℕ) (lent : ℕ) {o : Outcome} → o ≡ fileRun file lent → o .number ≤ length (o .buffer)
+number-within file lent e = subst Within (sym e) (file-within file lent)
 
 -- ---- the lines
 
@@ -127,6 +141,6 @@ run-written o {room} w n few answer bytes =
     }
 
 -- a run into the lent words, and what is written of it
-pub file-run : {file : List ℕ} {lent room : ℕ} {o : Outcome} {r : Written} {out : List ℕ} → lent ≡ lentRows → FileGives file lent o
-    → WrittenText mostPrinted (printedRun o) room r out → FileRun file room r out
-file-run {file} {o = o} e g w = record { outcome = o; gives = subst (λ (n : ℕ). FileGives file n o) e g; written = w }
+pub run-printed : (file : List ℕ) {lent room : ℕ} {o : Outcome} {r : Written} {out : List ℕ} → lent ≡ lentRows → o ≡ fileRun file lent
+    → WrittenText mostPrinted (printedRun o) room r out → AsPrinted mostPrinted (runText file) room r out
+run-printed file e g w = as-printed (ap printedRun (sym (g ∙ ap (fileRun file) e))) w

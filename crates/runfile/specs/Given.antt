@@ -10,7 +10,7 @@ use Rattle.rowfile.specs.Scan.{Scanned, words, tableWords, fileWords}
 use Rattle.rowfile.specs.Scan as scan
 use Rattle.rowfile.specs.Prints.{mostBytes}
 use Rattle.running.specs.Ran.{Outcome, refusal}
-use Rattle.running.specs.Given.{Gives}
+use Rattle.running.specs.Given.{RunGives, runOf}
 
 pub data Given : Type 0 where
   -- 50: the first byte no good file could have there, or the file's length if it is short
@@ -42,8 +42,17 @@ givenFrom from file = joined from (fileWords (take from file)) (tableWords answe
 unfoldable pub fileGiven : (file : List ℕ) → Given
 fileGiven file = givenFrom (answersFrom 0 file) file
 
--- "51 over .. bytes, at 0; then 50 not in the form"; then the run. There is one such outcome (proofs/OneRun)
+-- the run of the rows with the answers, or 50
+unfoldable pub runGiven : Given → (lent : ℕ) → Outcome
+runGiven (stopped at) lent = refusal 50 at lent
+runGiven (read rows answers) lent = runOf rows answers lent
+
+-- "51 over .. bytes, at 0; then 50 not in the form"; then the run
+unfoldable pub fileRun : (file : List ℕ) → (lent : ℕ) → Outcome
+fileRun file lent = elim (leb (length file) mostBytes) [ true ↦ runGiven (fileGiven file) lent | false ↦ refusal 51 0 lent ]
+
+-- the same with no reader of trees in it; this outcome alone is allowed (proofs/OneRun)
 pub data FileGives (file : List ℕ) (lent : ℕ) : Outcome → Type 0 where
   long : mostBytes < length file → FileGives file lent (refusal 51 0 lent)
   misread : length file ≤ mostBytes → (at : ℕ) → fileGiven file ≡ stopped at → FileGives file lent (refusal 50 at lent)
-  runs : length file ≤ mostBytes → (rows answers : List ℕ) → fileGiven file ≡ read rows answers → {o : Outcome} → Gives rows answers lent o → FileGives file lent o
+  runs : length file ≤ mostBytes → (rows answers : List ℕ) → fileGiven file ≡ read rows answers → {o : Outcome} → RunGives rows answers lent o → FileGives file lent o

@@ -6,14 +6,12 @@ use lib.ListN.{length}
 use Rattle.text.specs.Ascii.{ascii}
 use Rattle.text.specs.Lent.{Holds}
 use Rattle.text.specs.Line.{line, lines}
-use Rattle.text.specs.Prints.{WrittenText}
-use Rattle.text.specs.declared.write.Written.{Written}
 use Rattle.writer.specs.Cut.{cut}
 use Rattle.running.specs.Ran.{Outcome}
-use Rattle.running.specs.Given.{Gives}
+use Rattle.running.specs.Given.{runOf}
 use Rattle.runner.specs.declared.Ran.{Ran}
 use Rattle.runner.specs.Holds.{outcomeOf}
-use Rattle.runfile.specs.Given.{answersFrom, FileGives}
+use Rattle.runfile.specs.Given.{answersFrom, fileRun}
 
 abbrev pub runNames : List ℕ
 runNames = ascii "code at number reason\n"
@@ -37,11 +35,9 @@ lentRows = 65536
 abbrev pub mostPrinted : ℕ
 mostPrinted = 720974
 
--- the answer of writing what a file gives into `room` lent bytes, and what these hold then
-pub record FileRun (file : List ℕ) (room : ℕ) (r : Written) (lent : List ℕ) : Type 0 where
-  pub outcome : Outcome
-  pub gives : FileGives file lentRows outcome
-  pub written : WrittenText mostPrinted (printedRun outcome) room r lent
+-- what a file prints
+abbrev pub runText : (file : List ℕ) → List ℕ
+runText file = printedRun (fileRun file lentRows)
 
 -- ---- the contracts of the functions below `run_file`
 
@@ -52,4 +48,4 @@ pub record AnswersAt (file : List ℕ) (r : ℕ) : Type 0 where
 
 -- the run of so many words, of which those past the places lent make the list too long
 abbrev pub RunsWords : (words : List ℕ) → (count : ℕ) → (answers : List ℕ) → (lent : ℕ) → Ran → (performed : List ℕ) → Type 0
-RunsWords words count answers lent r performed = (list : List ℕ) → Holds words count list → Gives list answers lent (outcomeOf r performed)
+RunsWords words count answers lent r performed = (list : List ℕ) → Holds words count list → outcomeOf r performed ≡ runOf list answers lent

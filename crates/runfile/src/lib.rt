@@ -12,10 +12,11 @@ ghost use mathlib.Core.Path.{_≡_};
 ghost use Prim.Native.Nat.{_≤_};
 ghost use lib.ListN.{length};
 ghost use Rattle.text.specs.Printed.{Wrote};
-ghost use Rattle.text.specs.Prints.{WrittenText};
+ghost use Rattle.text.specs.Prints.{printing, WrittenText};
+ghost use Rattle.text.specs.declared.write.Written.the-variants.{Bytes};
 ghost use Rattle.runner.specs.Holds.{outcomeOf};
-ghost use Rattle.runfile.specs.Given.{opensAnswers, FileGives};
-ghost use Rattle.runfile.specs.Prints.{printedRun, mostPrinted, FileRun, AnswersAt, RunsWords};
+ghost use Rattle.runfile.specs.Given.{opensAnswers, fileRun};
+ghost use Rattle.runfile.specs.Prints.{printedRun, mostPrinted, runText, AnswersAt, RunsWords};
 
 // Arrays by functions that tell their length alone: a proof that has the zeros in sight counts them.
 
@@ -77,7 +78,7 @@ fn run_words(words: &[u32], count: usize, answers: &[u32], performed: &mut [u32]
 
 // The run of a file: 51, 50, or what its rows and answers give.
 fn run_bytes(file: &[u8], performed: &mut [u32]) -> Ran
-    ensures { λ r. ⌜ FileGives (now (file .entry)) (length (now (performed .entry))) (outcomeOf r (now (performed .exit))) ⌝ }
+    ensures { λ r. ⌜ outcomeOf r (now (performed .exit)) ≡ fileRun (now (file .entry)) (length (now (performed .entry))) ⌝ }
 {
     if file.len() > 262144 {
         return refuse(51, 0, performed);
@@ -139,9 +140,10 @@ fn write_run(
     finish_text(out, end)
 }
 
-// Reads a file of rows and answers, runs the tree, with 65,536 rows lent, and writes what it gives.
+// Reads a file of rows and answers, runs the tree, with 65,536 rows lent, and writes what it gives. 720,974 bytes are enough.
 pub fn run_file(file: &[u8], out: &mut [u8]) -> Written
-    ensures { λ r. ⌜ FileRun (now (file .entry)) (length (now (out .entry))) r (now (out .exit)) ⌝ }
+    ensures { λ r. ⌜ record { answer = r; bytes = now (out .exit) } ≡ printing (length (now (out .entry))) (runText (now (file .entry))) ⌝ }
+    ensures { λ r. ⌜ (mostPrinted ≤ length (now (out .entry)) → r ≡ Bytes (length (runText (now (file .entry))))) ⌝ }
 {
     let mut performed = lent_rows();
     let ran = run_bytes(file, &mut performed);

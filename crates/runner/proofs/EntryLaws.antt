@@ -25,14 +25,14 @@ use Rattle.reading.proofs.Upto.{and-both}
 use Rattle.reading.proofs.Sound.{in-range}
 use Rattle.treerows.specs.declared.TreeRead.{TreeRead}
 use Rattle.treerows.specs.Found.{wordAt, rowAt, treeRead, Begun}
-use Rattle.treerows.proofs.Simulation.{tree-answered}
+use Rattle.treerows.proofs.Simulation.{tree-answer}
 use Rattle.treerows.proofs.Begins.{begins-found}
 use Rattle.running.specs.Numbered.{endStatements, numbered}
 use Rattle.running.specs.Links.{Links}
 use Rattle.running.specs.Machine.{enter, state}
 use Rattle.running.specs.Machine as machine
 use Rattle.running.specs.Ran.{Outcome, notRun, firstNotRun, refusal, performedAll, ended, fromReached, afterSorts, ran}
-use Rattle.running.specs.Given.{Gives, refused, runs}
+use Rattle.running.specs.Given.{RunGives, refused, runs}
 use Rattle.running.proofs.Lays.{Targets, Stand, at-end, stands, root-laid}
 use Rattle.running.proofs.Images.{instructionAt}
 use Rattle.running.proofs.RowsRun.{rows-run, rows-ran}
@@ -65,11 +65,11 @@ module _ (words : List ℕ) where
   of-answer (of-rows list w l m code at (remainder a r f)) e = absurd (omega (arith, e))
 
   pub accepted : {read : TreeRead} → read ≡ treeRead words → read .code ≡ 0 → Accepted words
-  accepted {read} e z = of-answer (tree-answered words e .answer) z
+  accepted {read} e z = of-answer (tree-answer words e) z
 
   pub check-refused : {read : TreeRead} (answers : Answers) (lent : ℕ) {o : Outcome} → read ≡ treeRead words → (read .code ≡ 0 → ⊥)
-      → o ≡ refusal (read .code) (read .at) lent → Gives words answers lent o
-  check-refused {read} answers lent e f q = rw q (refused (read .code) (read .at) (tree-answered words e .answer) f)
+      → o ≡ refusal (read .code) (read .at) lent → RunGives words answers lent o
+  check-refused {read} answers lent e f q = rw q (refused (read .code) (read .at) (tree-answer words e) f)
 
   pub begun : {read : TreeRead} → read ≡ treeRead words → read .code ≡ 0 → Begun words (read .begin) (length words / 6)
   begun e z = rw e (begins-found words (ap (λ (r : TreeRead). r .code) (sym e) ∙ z))
@@ -261,11 +261,11 @@ module _ (words : List ℕ) (a : Accepted words) where
   other-at : FirstOther (firstNotRun (a .list) 0) 0 (length (a .list)) (notRunFrom words 0 (length words / 6))
   other-at = rw rows-number (first-other words (a .list) 0 all-at)
 
-  gives-run : (answers : Answers) (lent : ℕ) {o : Outcome} → o ≡ ran (a .root) answers lent → Gives words answers lent o
+  gives-run : (answers : Answers) (lent : ℕ) {o : Outcome} → o ≡ ran (a .root) answers lent → RunGives words answers lent o
   gives-run answers lent e = rw e (runs (a .list) (a .same) (a .least) (a .most) (a .ranged) (a .root) (a .reading))
 
   -- 64
-  pub run-other : (answers : Answers) (lent : ℕ) {n : ℕ} {o : Outcome} → n ≡ notRunFrom words 0 (length words / 6) → n < length words / 6 → o ≡ refusal 64 n lent → Gives words answers lent o
+  pub run-other : (answers : Answers) (lent : ℕ) {n : ℕ} {o : Outcome} → n ≡ notRunFrom words 0 (length words / 6) → n < length words / 6 → o ≡ refusal 64 n lent → RunGives words answers lent o
   unfolding ran afterSorts
   run-other answers lent {n} {o} e l q = gives-run answers lent (q ∙ by (firstNotRun (a .list) 0) refl other-at)
     where
@@ -289,7 +289,7 @@ module _ (words : List ℕ) (a : Accepted words) where
     abbrev theEnd : Answers → Completed
     theEnd answers = runStatements (numbered 0 (a .root)) answers
 
-    walked : (answers : Answers) → machine.Gives (layoutAt words t number) (suc (length answers) * suc (3 * number)) (state (enter (number - 1)) [] answers) (theEnd answers)
+    walked : (answers : Answers) → machine.Completes (layoutAt words t number) (suc (length answers) * suc (3 * number)) (state (enter (number - 1)) [] answers) (theEnd answers)
     walked answers =
         let e : suc (endStatements 0 (a .root)) ≡ number = root-laid (rowAt words) t number (a .root) (a .reading .well-formed) stand .2 in
         let z : number - 1 ≡ endStatements 0 (a .root) = omega (arith, e) in
@@ -299,19 +299,19 @@ module _ (words : List ℕ) (a : Accepted words) where
     walks answers = record { end = theEnd answers; gives = walked answers }
 
     module _ (answers : Answers) {n : ℕ} (e : n ≡ notRunFrom words 0 (length words / 6)) (l : length words / 6 ≤ n) {r : Ran} {buffer : List ℕ}
-        (ends : (m : ℕ) (end : Completed) → machine.Gives (layoutAt words t number) m (state (enter (number - 1)) [] answers) end → Ends words buffer r end) where
+        (ends : (m : ℕ) (end : Completed) → machine.Completes (layoutAt words t number) m (state (enter (number - 1)) [] answers) end → Ends words buffer r end) where
       at-end-of : Ends words buffer r (theEnd answers)
       at-end-of = ends _ (theEnd answers) (walked answers)
 
       ran-is : fromReached (instructionAt (rowAt words) t number) (length buffer) (theEnd answers .rows) (reasonOf (theEnd answers .completion)) ≡ ran (a .root) answers (length buffer)
       ran-is = sym (rows-ran (rowAt words) t number (a .root) (a .reading .well-formed) stand (none-other e l) answers (length buffer))
 
-      pub run-refused : {o : Outcome} (lent : ℕ) → length buffer ≡ lent → (r .code ≡ 0 → ⊥) → o ≡ refusal (r .code) (r .at) (length buffer) → Gives words answers lent o
+      pub run-refused : {o : Outcome} (lent : ℕ) → length buffer ≡ lent → (r .code ≡ 0 → ⊥) → o ≡ refusal (r .code) (r .at) (length buffer) → RunGives words answers lent o
       run-refused lent z f q = gives-run answers lent (q ∙ (outcome-refused words t number buffer (theEnd answers) at-end-of f ∙ (ran-is ∙ ap (ran (a .root) answers) z)))
 
       pub run-fits : r .code ≡ 0 → r .number ≤ length buffer
       run-fits z = number-fits words t number buffer (theEnd answers) at-end-of z
 
       pub run-given : {b′ : List ℕ} (lent : ℕ) → length buffer ≡ lent → r .code ≡ 0 → b′ ≡ take (r .number) buffer ++ replicate (length buffer - r .number) 0
-          → Gives words answers lent (outcomeOf r b′)
+          → RunGives words answers lent (outcomeOf r b′)
       run-given lent z c q = gives-run answers lent (outcome-run words t number buffer (theEnd answers) at-end-of c q ∙ (ran-is ∙ ap (ran (a .root) answers) z))

@@ -17,7 +17,7 @@ use Rattle.treerows.specs.Found.{wordAt, rowAt}
 use Rattle.running.specs.Layout.{Layout}
 use Rattle.running.specs.Links.{Links, plains, plainsFrom, parentOf}
 use Rattle.running.specs.Machine as machine
-use Rattle.running.specs.Machine.{enter, leave, State, state, Turn, going, halt, upFrom, leaving, step, Gives, halts, goes, turnsLeft}
+use Rattle.running.specs.Machine.{enter, leave, State, state, Turn, going, halt, upFrom, leaving, step, Completes, halts, goes, turnsLeft}
 use Rattle.running.specs.Acts.{Then, go, ask, pick, Act, act, doThen, doAct}
 use Rattle.running.proofs.Appends.{Begins, performedOf, end-begins}
 use Rattle.running.proofs.Measure.{gives-next, gives-halt, turns-fall}
@@ -37,7 +37,7 @@ true-false e = let z : _≡_ {A = ℕ} 0 1 = cc in omega arith
 
 -- ---- one end
 
-pub gives-one : (L : Layout) {n m : ℕ} {s : State} {end end′ : Completed} → Gives L n s end → Gives L m s end′ → end ≡ end′
+pub gives-one : (L : Layout) {n m : ℕ} {s : State} {end end′ : Completed} → Completes L n s end → Completes L m s end′ → end ≡ end′
 gives-one L {m = m} {s = s} {end = end} {end′ = end′} (halts e) g = sym (gives-halt L m s end′ end g e)
 gives-one L {m = m} {s = s} {end′ = end′} (goes {next = t} e g) h = let k = gives-next L m s t end′ h e in gives-one L g (k .2)
 
@@ -108,11 +108,11 @@ module _ (words : List ℕ) (t : Links) (rows : ℕ) where
     pub record Walking (before buffer : List ℕ) (place : Place) (asked number : ℕ) : Type 0 where
       pub long : length buffer ≡ length before
       end : Completed
-      started : Gives L fuel start end
+      started : Completes L fuel start end
       turns : ℕ
       few : turns ≤ fuel
       reached : List ℕ
-      gives : Gives L turns (state (placeOf place) reached (drop asked answers)) end
+      gives : Completes L turns (state (placeOf place) reached (drop asked answers)) end
       held : Held words buffer number reached
 
     -- the measure of the loop: what was performed does not matter
@@ -145,7 +145,7 @@ module _ (words : List ℕ) (t : Links) (rows : ℕ) where
         turns = J .turns;
         few = J .few;
         reached = J .reached;
-        gives = subst (λ (p : machine.Place). Gives L (J .turns) (state p (J .reached) (drop asked answers)) (J .end)) (at ∙ sym e) (J .gives);
+        gives = subst (λ (p : machine.Place). Completes L (J .turns) (state p (J .reached) (drop asked answers)) (J .end)) (at ∙ sym e) (J .gives);
         held = J .held;
       }
       after-next (moves m) =
@@ -188,7 +188,7 @@ module _ (words : List ℕ) (t : Links) (rows : ℕ) where
 
           module _ {buffer′ : List ℕ} {p : Performed} (did : (P : List ℕ) → Held words buffer number P → Took words buffer′ p (P ++ performs)) where
             -- the buffer can't take a row of it
-            pub walk-full : {ran : Ran} → p .full ≡ true → ran ≡ record { code = 65; at = p .at; number = 0; reason = 0 } → (n : ℕ) (end : Completed) → Gives L n start end
+            pub walk-full : {ran : Ran} → p .full ≡ true → ran ≡ record { code = 65; at = p .at; number = 0; reason = 0 } → (n : ℕ) (end : Completed) → Completes L n start end
                 → Ends words buffer′ ran end
             walk-full {ran} f q n end g = subst (λ (e : Completed). Ends words buffer′ ran e) (gives-one L (I .started) g) (by (did (I .reached) (I .held)))
               where
@@ -232,7 +232,7 @@ module _ (words : List ℕ) (t : Links) (rows : ℕ) where
 
         -- it halts
         pub walk-end : over ≡ true → {ran : Ran} → (place .down ≡ false → ran ≡ told number (reasonOf (completionBy (place .kind) (place .target) (place .jump)))) → (n : ℕ) (end : Completed)
-            → Gives L n start end → Ends words buffer ran end
+            → Completes L n start end → Ends words buffer ran end
         unfolding completed
         walk-end on {ran} tells n end g =
             let h : haltedAt place rows ≡ true = sym is ∙ on in
@@ -262,7 +262,7 @@ module _ (words : List ℕ) (t : Links) (rows : ℕ) where
         unfolding doThen
         goes-out P = refl
 
-        pub instr-full : {ran : Ran} → p .full ≡ true → ran ≡ record { code = 65; at = p .at; number = 0; reason = 0 } → (n : ℕ) (end : Completed) → Gives L n start end
+        pub instr-full : {ran : Ran} → p .full ≡ true → ran ≡ record { code = 65; at = p .at; number = 0; reason = 0 } → (n : ℕ) (end : Completed) → Completes L n start end
             → Ends words buffer′ ran end
         instr-full f q n end g = walk-full is on turn decided performed f q n end g
 

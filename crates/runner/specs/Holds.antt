@@ -10,7 +10,7 @@ use Rattle.definition.specs.Completion.{normal}
 use Rattle.definition.specs.TreeRun.{Completed, reasonOf}
 use Rattle.running.specs.Links.{before}
 use Rattle.running.specs.Layout.{Layout}
-use Rattle.running.specs.Machine.{Gives, enter, leave, state, going, step}
+use Rattle.running.specs.Machine.{Completes, enter, leave, state, going, step}
 use Rattle.running.specs.Ran.{Outcome, notRun}
 use Rattle.runner.specs.declared.Ran.{Ran}
 use Rattle.runner.specs.declared.walk.Performed.{Performed}
@@ -47,7 +47,7 @@ pub data After (L : Layout) (row : ℕ) (place : Place) : Type 0 where
 -- the walk from the root's closing row comes to an end
 pub record Walks (L : Layout) (rows : ℕ) (answers : Answers) : Type 0 where
   pub end : Completed
-  pub gives : Gives L (suc (length answers) * suc (3 * rows)) (state (enter (rows - 1)) [] answers) end
+  pub gives : Completes L (suc (length answers) * suc (3 * rows)) (state (enter (rows - 1)) [] answers) end
 
 -- what is told of a run's reason and the number of rows performed
 abbrev pub told : (number : ℕ) → Reason → Ran

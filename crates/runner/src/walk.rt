@@ -23,7 +23,7 @@ ghost use Rattle.definition.specs.TreeRun.{Completed, reasonOf};
 ghost use Rattle.treerows.specs.Found.{wordAt, rowAt};
 ghost use Rattle.running.specs.Links.{Links, plains, plainsFrom};
 ghost use Rattle.running.specs.Machine as machine;
-ghost use Rattle.running.specs.Machine.{Gives, step, going, enter, state};
+ghost use Rattle.running.specs.Machine.{Completes, step, going, enter, state};
 ghost use Rattle.running.specs.Acts.{doThen, doAct};
 ghost use Rattle.runner.specs.Abstraction.{completionBy, placeOf, linksOf, layoutAt, thenBy, chosenBy, actOf, haltedAt};
 ghost use Rattle.runner.specs.Holds.{Held, Took, backBy, Instructs, After, Ends, Walks, told};
@@ -262,7 +262,7 @@ pub fn walk(
     requires { ⌜ 1 ≤ rows ⌝ }
     requires { ⌜ Walks (layoutAt (now tree) (linksOf (now begin) (now parent) (now next) (now child)) rows) rows (now answers) ⌝ }
     ensures { λ r. ⌜ ((n : ℕ) (end : Completed)
-        → Gives (layoutAt (now (tree .entry)) (linksOf (now (begin .entry)) (now (parent .entry)) (now (next .entry)) (now (child .entry))) rows) n
+        → Completes (layoutAt (now (tree .entry)) (linksOf (now (begin .entry)) (now (parent .entry)) (now (next .entry)) (now (child .entry))) rows) n
         (state (enter (rows - 1)) [] (now (answers .entry))) end
         → Ends (now (tree .entry)) (now (performed .exit)) r end) ⌝ }
 {

@@ -8,7 +8,7 @@ use Rattle.definition.specs.Run.{Answers}
 use Rattle.definition.specs.Completion.{Completion, normal, break, continue, stop, labelSet, loopContinues, breakable, labelled}
 use Rattle.definition.specs.TreeRun.{Completed, completed}
 use Rattle.running.specs.Layout.{Node, an-instr, a-block, an-if, a-case, a-switch, a-loop, a-label, a-scope, a-leaf, Layout}
-use Rattle.running.specs.Machine.{Place, enter, leave, State, state, Turn, going, halt, asked, askedPlace, down, up, upFrom, leaving, step, Gives, halts, goes}
+use Rattle.running.specs.Machine.{Place, enter, leave, State, state, Turn, going, halt, asked, askedPlace, down, up, upFrom, leaving, step, Completes, halts, goes}
 
 abbrev pub performedOf : State → List ℕ
 performedOf (state place performed left) = performed
@@ -88,6 +88,6 @@ module _ (L : Layout) where
   step-begins (state (leave k (continue t i)) P a) = from-begins (L .parent k) k (continue t i) P a
   step-begins (state (leave k (stop r)) P a) = same-rows P
 
-  pub end-begins : {n : ℕ} {s : State} {end : Completed} → Gives L n s end → Begins (performedOf s) (end .rows)
+  pub end-begins : {n : ℕ} {s : State} {end : Completed} → Completes L n s end → Begins (performedOf s) (end .rows)
   end-begins {s = s} (halts e) = subst (λ (z : Turn). TurnBegins (performedOf s) z) e (step-begins s)
   end-begins {s = s} (goes e g) = begins-both (subst (λ (z : Turn). TurnBegins (performedOf s) z) e (step-begins s)) (end-begins g)

@@ -17,7 +17,7 @@ use Rattle.definition.proofs.Law.{loops-and-switches-law, tree-runnable}
 use Rattle.reading.specs.Grammar.{Answer}
 use Rattle.reading.proofs.Words.{words-answer-is}
 use Rattle.running.specs.Ran.{Outcome, ended, ran}
-use Rattle.running.specs.Given.{Gives, refused, runs}
+use Rattle.running.specs.Given.{RunGives, refused, runs}
 use Rattle.running.proofs.OneOutcome.{words-inj}
 use Rattle.running.proofs.SwitchRuns.{RunsAs, runs-as, unless-65, nought-or-65}
 
@@ -41,7 +41,7 @@ module _ (words : List ℕ) (lent lentIndex : ℕ) (h : built language words len
   never-63-64 answers spoken room = nought-or-65 (runner-runs answers spoken room) (the-law .agree answers spoken .good)
 
   pub runner-gives : (answers : Answers) (room at : ℕ) (o : Outcome) → Answer (take (built language words lent lentIndex .rows * 6) (built language words lent lentIndex .buffer)) 0 at
-      → Gives (take (built language words lent lentIndex .rows * 6) (built language words lent lentIndex .buffer)) answers room o → o ≡ ran (the-law .one .tree) answers room
+      → RunGives (take (built language words lent lentIndex .rows * 6) (built language words lent lentIndex .buffer)) answers room o → o ≡ ran (the-law .one .tree) answers room
   runner-gives answers room at o q (refused code at′ p f) =
       absurd (f (words-answer-is (take (built language words lent lentIndex .rows * 6) (built language words lent lentIndex .buffer)) p .0
       ∙ sym (words-answer-is (take (built language words lent lentIndex .rows * 6) (built language words lent lentIndex .buffer)) q .0)))

@@ -5,7 +5,7 @@ use native.Mathlib.Omega.{arith}
 use native.Mathlib.Nat.{le-of-suc-le-suc, not-suc-le-zero}
 use Rattle.definition.specs.TreeRun.{Completed}
 use Rattle.running.specs.Layout.{Layout}
-use Rattle.running.specs.Machine.{State, Turn, going, halt, step, Gives, halts, goes, turnsLeft}
+use Rattle.running.specs.Machine.{State, Turn, going, halt, step, Completes, halts, goes, turnsLeft}
 
 module _ (L : Layout) where
   going-is : {s t : State} → going s ≡ going t → s ≡ t
@@ -21,7 +21,7 @@ module _ (L : Layout) where
   after turn fuel = elim turn [ going next ↦ suc (turnsLeft L fuel next) | halt end ↦ 0 ]
 
   -- enough fuel is as good as more
-  fuel-same : {n : ℕ} {s : State} {end : Completed} → Gives L n s end → (a b : ℕ) → n ≤ a → n ≤ b → turnsLeft L a s ≡ turnsLeft L b s
+  fuel-same : {n : ℕ} {s : State} {end : Completed} → Completes L n s end → (a b : ℕ) → n ≤ a → n ≤ b → turnsLeft L a s ≡ turnsLeft L b s
   unfolding turnsLeft
   fuel-same (halts e) zero b h k = absurd (not-suc-le-zero h)
   fuel-same (halts e) (suc a) zero h k = absurd (not-suc-le-zero k)
@@ -32,16 +32,16 @@ module _ (L : Layout) where
       ap (λ (z : Turn). after z a) e ∙ (ap (λ (z : ℕ). suc z) (fuel-same g a b (le-of-suc-le-suc h) (le-of-suc-le-suc k)) ∙ ap (λ (z : Turn). after z b) (sym e))
 
   -- a turn that goes on: the same end, one turn less
-  pub gives-next : (n : ℕ) (s t : State) (end : Completed) → Gives L n s end → step L s ≡ going t → (m : ℕ) × (suc m ≡ n) × Gives L m t end
+  pub gives-next : (n : ℕ) (s t : State) (end : Completed) → Completes L n s end → step L s ≡ going t → (m : ℕ) × (suc m ≡ n) × Completes L m t end
   gives-next n s t end (halts e) q = absurd (halt-going (sym e ∙ q))
-  gives-next n s t end (goes {n = m} e g) q = (m, refl, subst (λ (z : State). Gives L m z end) (going-is (sym e ∙ q)) g)
+  gives-next n s t end (goes {n = m} e g) q = (m, refl, subst (λ (z : State). Completes L m z end) (going-is (sym e ∙ q)) g)
 
-  pub gives-halt : (n : ℕ) (s : State) (end end′ : Completed) → Gives L n s end → step L s ≡ halt end′ → end ≡ end′
+  pub gives-halt : (n : ℕ) (s : State) (end end′ : Completed) → Completes L n s end → step L s ≡ halt end′ → end ≡ end′
   gives-halt n s end end′ (halts e) q = halt-is (sym e ∙ q)
   gives-halt n s end end′ (goes e g) q = absurd (halt-going (sym q ∙ e))
 
   -- and the measure falls
-  pub turns-fall : (n fuel : ℕ) (s t : State) (end : Completed) → Gives L n s end → n ≤ fuel → step L s ≡ going t → turnsLeft L fuel t < turnsLeft L fuel s
+  pub turns-fall : (n fuel : ℕ) (s t : State) (end : Completed) → Completes L n s end → n ≤ fuel → step L s ≡ going t → turnsLeft L fuel t < turnsLeft L fuel s
   unfolding turnsLeft
   turns-fall n zero s t end g h q = let k = gives-next n s t end g q in let e : suc (k .0) ≡ n = k .1 in absurd (omega (arith, h, e))
   turns-fall n (suc fuel) s t end g h q =

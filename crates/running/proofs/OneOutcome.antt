@@ -12,7 +12,7 @@ use Rattle.reading.specs.Grammar.{Answer, of-rows, no-list, one-tree, out-of-ra
 use Rattle.reading.specs.Needs.{treeVerdict, codeOf, atOf}
 use Rattle.reading.proofs.Words.{words-answer-is}
 use Rattle.running.specs.Ran.{Outcome, refusal, ran}
-use Rattle.running.specs.Given.{Gives, refused, runs, rootIn, rootOf, runBy, runOf}
+use Rattle.running.specs.Given.{RunGives, refused, runs, rootIn, rootOf, runBy, runOf}
 use Prim.Native.Nat.{_≤_}
 use mathlib.Core.Option.{Option, none, some}
 use mathlib.Core.Bool.{true}
@@ -47,7 +47,7 @@ module _ (words : List ℕ) (answers : Answers) (lent : ℕ) where
       let y = words-answer-is words q in
       ap (λ (n : ℕ). refusal n at lent) (x .0 ∙ sym (y .0)) ∙ ap (λ (n : ℕ). refusal code′ n lent) (x .1 ∙ sym (y .1))
 
-  pub one-outcome : {o o′ : Outcome} → Gives words answers lent o → Gives words answers lent o′ → o ≡ o′
+  pub one-outcome : {o o′ : Outcome} → RunGives words answers lent o → RunGives words answers lent o′ → o ≡ o′
   one-outcome (refused code at p f) (refused code′ at′ q g) = refusals code at code′ at′ p q
   one-outcome (refused code at p f) (runs list w l m r root d) =
       absurd (f (words-answer-is words p .0 ∙ sym (words-answer-is words (of-rows list w l m 0 0 (one-tree (record { ranged = r; root = root; reading = d }))) .0)))
@@ -79,24 +79,24 @@ module _ (words : List ℕ) (answers : Answers) (lent : ℕ) where
       let t : root ≡ rootOf (rowsOfWords words) = sym (ap rootOf z ∙ ap rootIn back) in
       ap (λ (k : Statements). ran k answers lent) t ∙ sym (ap (λ (k : RowsVerdict). runBy k words answers lent) v)
 
-  pub given-is : {o : Outcome} → Gives words answers lent o → o ≡ runOf words answers lent
+  pub given-is : {o : Outcome} → RunGives words answers lent o → o ≡ runOf words answers lent
   given-is (refused code at p f) = refused-is code at p f
   given-is (runs list w l m r root d) = runs-is list w l m r root d
 
   -- and the function gives what the relation does
-  by-answer : {code at : ℕ} → Answer words code at → Gives words answers lent (runOf words answers lent)
-  by-answer (no-list f) = subst (Gives words answers lent) (refused-is 62 0 (no-list f) (λ e. omega (arith, e))) (refused 62 0 (no-list f) (λ e. omega (arith, e)))
+  by-answer : {code at : ℕ} → Answer words code at → RunGives words answers lent (runOf words answers lent)
+  by-answer (no-list f) = subst (RunGives words answers lent) (refused-is 62 0 (no-list f) (λ e. omega (arith, e))) (refused 62 0 (no-list f) (λ e. omega (arith, e)))
   by-answer (of-rows list w l m code at (one-tree t)) =
-      subst (Gives words answers lent) (runs-is list w l m (t .ranged) (t .root) (t .reading)) (runs list w l m (t .ranged) (t .root) (t .reading))
+      subst (RunGives words answers lent) (runs-is list w l m (t .ranged) (t .root) (t .reading)) (runs list w l m (t .ranged) (t .root) (t .reading))
   by-answer (of-rows list w l m code at (out-of-range i g f)) =
       let a : Answer words 60 i = of-rows list w l m 60 i (out-of-range i g f) in
-      subst (Gives words answers lent) (refused-is 60 i a (λ e. omega (arith, e))) (refused 60 i a (λ e. omega (arith, e)))
+      subst (RunGives words answers lent) (refused-is 60 i a (λ e. omega (arith, e))) (refused 60 i a (λ e. omega (arith, e)))
   by-answer (of-rows list w l m code at (no-parts i g r f)) =
       let a : Answer words 61 i = of-rows list w l m 61 i (no-parts i g r f) in
-      subst (Gives words answers lent) (refused-is 61 i a (λ e. omega (arith, e))) (refused 61 i a (λ e. omega (arith, e)))
+      subst (RunGives words answers lent) (refused-is 61 i a (λ e. omega (arith, e))) (refused 61 i a (λ e. omega (arith, e)))
   by-answer (of-rows list w l m code at (remainder r q f)) =
       let a : Answer words 62 0 = of-rows list w l m 62 0 (remainder r q f) in
-      subst (Gives words answers lent) (refused-is 62 0 a (λ e. omega (arith, e))) (refused 62 0 a (λ e. omega (arith, e)))
+      subst (RunGives words answers lent) (refused-is 62 0 a (λ e. omega (arith, e))) (refused 62 0 a (λ e. omega (arith, e)))
 
-  pub is-given : {o : Outcome} → o ≡ runOf words answers lent → Gives words answers lent o
-  is-given e = subst (Gives words answers lent) (sym e) (by-answer (words-answered words))
+  pub is-given : {o : Outcome} → o ≡ runOf words answers lent → RunGives words answers lent o
+  is-given e = subst (RunGives words answers lent) (sym e) (by-answer (words-answered words))

@@ -15,7 +15,7 @@ use Rattle.definition.specs.Run.{Answers}
 use Rattle.definition.specs.TreeRun.{Completed, runStatements, reasonOf, treeRun}
 use Rattle.running.specs.Numbered.{endStatements, numbered}
 use Rattle.running.specs.Links.{Links, layoutOf}
-use Rattle.running.specs.Machine.{enter, state, Gives}
+use Rattle.running.specs.Machine.{enter, state, Completes}
 use Rattle.running.proofs.Lays.{Stand, root-laid}
 use Rattle.running.proofs.Walk.{walk-runs}
 use Rattle.running.proofs.Images.{instructionAt, block-alike}
@@ -23,7 +23,7 @@ use Rattle.running.specs.Ran.{Outcome, firstNotRun, ended, refusal, give
 
 -- within three turns and one for each row, and as many more for each answer
 pub rows-run : (rowAt : ℕ → Row) (t : Links) (number : ℕ) (root : Statements) → WellFormed root → Stand rowAt t number 0 (rows root) → (answers : Answers)
-    → Gives (layoutOf rowAt t number) (suc (length answers) * suc (3 * number)) (state (enter (endStatements 0 root)) [] answers) (runStatements (numbered 0 root) answers)
+    → Completes (layoutOf rowAt t number) (suc (length answers) * suc (3 * number)) (state (enter (endStatements 0 root)) [] answers) (runStatements (numbered 0 root) answers)
 rows-run rowAt t number root w h answers =
     let p = root-laid rowAt t number root w h in
     let q : turnsIn (numbered 0 root) + 3 * 0 ≤ 3 * suc (endStatements 0 root) = block-turns root 0 in

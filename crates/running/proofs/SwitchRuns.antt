@@ -32,7 +32,7 @@ use Rattle.reading.specs.Grammar.{Answer}
 use Rattle.reading.proofs.Words.{words-answer-is}
 use Rattle.running.specs.Numbered.{numbered}
 use Rattle.running.specs.Ran.{Outcome, refusal, firstNotRun, performedAll, ended, given, afterSorts, ran}
-use Rattle.running.specs.Given.{Gives, refused, runs}
+use Rattle.running.specs.Given.{RunGives, refused, runs}
 use Rattle.running.proofs.Images.{AlikeEnds, both-normal, both-break, both-continue, both-stop, numbered-alike}
 use Rattle.running.proofs.OneOutcome.{words-inj}
 
@@ -225,7 +225,7 @@ module _ (words : List ℕ) (lent lentIndex : ℕ) (h : built language words len
 
   -- "on trees of such tables that M-100's check accepts": what the runner gives for the words in the buffer is what is said of the tree
   pub runner-gives : (answers : Answers) (room at : ℕ) (o : Outcome) → Answer (take (built language words lent lentIndex .rows * 6) (built language words lent lentIndex .buffer)) 0 at
-      → Gives (take (built language words lent lentIndex .rows * 6) (built language words lent lentIndex .buffer)) answers room o → o ≡ ran (the-law .one .tree) answers room
+      → RunGives (take (built language words lent lentIndex .rows * 6) (built language words lent lentIndex .buffer)) answers room o → o ≡ ran (the-law .one .tree) answers room
   runner-gives answers room at o q (refused code at′ p f) =
       absurd (f (words-answer-is (take (built language words lent lentIndex .rows * 6) (built language words lent lentIndex .buffer)) p .0
       ∙ sym (words-answer-is (take (built language words lent lentIndex .rows * 6) (built language words lent lentIndex .buffer)) q .0)))

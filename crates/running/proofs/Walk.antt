@@ -14,10 +14,10 @@ use Rattle.definition.specs.TreeRun.{entryAt, choosePlace, switchEnds, entriesF
 use Rattle.definition.specs.TreeRun.{performsUpdate, afterBody, whileRounds, whileLoop, forLoop, doWhileLoop, jumpCompletion, loop, runStatement, runStatements}
 use Rattle.definition.proofs.Loops.{Taken, taken-shorter, takes-statements}
 use Rattle.running.specs.Layout.{Node, an-instr, a-block, an-if, a-case, a-switch, a-loop, a-label, a-scope, a-leaf, Layout, Laid, LaidBlock, LaidList, LaidCases, turnsOf, turnsIn, turnsInCases}
-use Rattle.running.specs.Machine.{Place, enter, leave, State, state, Turn, going, halt, orLeave, asked, caseAt, askedPlace, down, onIfNormal, up, upFrom, leaving, step, Gives, halts, goes}
+use Rattle.running.specs.Machine.{Place, enter, leave, State, state, Turn, going, halt, orLeave, asked, caseAt, askedPlace, down, onIfNormal, up, upFrom, leaving, step, Completes, halts, goes}
 
 module _ (L : Layout) where
-  more-turns : {n : ℕ} {s : State} {end : Completed} → Gives L n s end → (m : ℕ) → n ≤ m → Gives L m s end
+  more-turns : {n : ℕ} {s : State} {end : Completed} → Completes L n s end → (m : ℕ) → n ≤ m → Completes L m s end
   more-turns (halts e) zero h = absurd (not-suc-le-zero h)
   more-turns (halts e) (suc m) h = halts e
   more-turns (goes e g) zero h = absurd (not-suc-le-zero h)
@@ -25,7 +25,7 @@ module _ (L : Layout) where
 
   -- whatever the walk from t comes to within y turns, the walk from s comes to within x
   pub record Leads (x : ℕ) (s : State) (y : ℕ) (t : State) : Type 0 where
-    pub on : (end : Completed) → Gives L y t end → Gives L x s end
+    pub on : (end : Completed) → Completes L y t end → Completes L x s end
 
   stays : {x y : ℕ} (s : State) → y ≤ x → Leads x s y s
   stays {x} s h = record { on = λ end g. more-turns g x h }
@@ -54,7 +54,7 @@ module _ (L : Layout) where
   halt-going e = let z : _≡_ {A = ℕ} 0 1 = cc in omega arith
 
   -- where the run stops does not matter
-  stopped-on : (k p : ℕ) (r : Reason) (P : List ℕ) (a : Answers) (x y : ℕ) → y ≤ x → (end : Completed) → Gives L y (state (leave p (stop r)) P a) end → Gives L x (state (leave k (stop r)) P a) end
+  stopped-on : (k p : ℕ) (r : Reason) (P : List ℕ) (a : Answers) (x y : ℕ) → y ≤ x → (end : Completed) → Completes L y (state (leave p (stop r)) P a) end → Completes L x (state (leave k (stop r)) P a) end
   unfolding step leaving
   stopped-on k p r P a x y h end (halts e) = more-turns (halts (ap (λ (z : Completed). halt z) (halt-is e))) x h
   stopped-on k p r P a x y h end (goes e g) = absurd (halt-going e)
@@ -358,7 +358,7 @@ module _ (L : Layout) where
 
   -- ---- the whole tree
 
-  root-end : (k : ℕ) → L .parent k ≡ none → (c : Completion) (P : List ℕ) (a : Answers) (n : ℕ) → Gives L (suc n) (state (leave k c) P a) (completed P c a)
+  root-end : (k : ℕ) → L .parent k ≡ none → (c : Completion) (P : List ℕ) (a : Answers) (n : ℕ) → Completes L (suc n) (state (leave k c) P a) (completed P c a)
   unfolding step leaving upFrom
   root-end k e normal P a n = halts (ap (λ (z : Option ℕ). upFrom L z k normal P a) e)
   root-end k e (break t i) P a n = halts (ap (λ (z : Option ℕ). upFrom L z k (break t i) P a) e)
@@ -375,7 +375,7 @@ module _ (L : Layout) where
 
   -- the walk that begins at the root BLOCK gives the tree run, within W turns for each answer and W more
   pub walk-runs : (root : Statements) (k : ℕ) → LaidBlock L root k → L .parent k ≡ none → (W : ℕ) → suc (turnsIn root) ≤ W → (a : Answers)
-      → Gives L (suc (length a) * W) (state (enter k) [] a) (runStatements root a)
+      → Completes L (suc (length a) * W) (state (enter k) [] a) (runStatements root a)
   unfolding completed
   walk-runs root k h e W w a =
       let u : worth W a ≡ length a * W = worth-length W a in

@@ -17,10 +17,10 @@ use Rattle.reading.specs.Needs as check
 use Rattle.running.specs.Ran.{Outcome, refusal, ran}
 
 -- words that the check refuses get its code and place; rows that read as a tree are run. There is one such outcome (proofs/OneOutcome)
-pub data Gives (words : List ℕ) (answers : Answers) (lent : ℕ) : Outcome → Type 0 where
-  refused : (code at : ℕ) → Answer words code at → (code ≡ 0 → ⊥) → Gives words answers lent (refusal code at lent)
+pub data RunGives (words : List ℕ) (answers : Answers) (lent : ℕ) : Outcome → Type 0 where
+  refused : (code at : ℕ) → Answer words code at → (code ≡ 0 → ⊥) → RunGives words answers lent (refusal code at lent)
   runs : (list : List Row) → wordsOf list ≡ words → 1 ≤ length list → length list ≤ mostRows → allInRange list ≡ true → (root : Statements) → ReadAs list root
-      → Gives words answers lent (ran root answers lent)
+      → RunGives words answers lent (ran root answers lent)
 
 -- ---- the same as a function: the check's verdict, and the tree that the reader reads
 

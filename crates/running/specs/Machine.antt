@@ -91,9 +91,9 @@ module _ (L : Layout) where
   step (state (leave k c) performed left) = leaving k c performed left
 
   -- the walk from this state comes to this end, within so many turns
-  pub data Gives : (turns : ℕ) → State → Completed → Type 0 where
-    halts : {n : ℕ} {s : State} {end : Completed} → step s ≡ halt end → Gives (suc n) s end
-    goes : {n : ℕ} {s next : State} {end : Completed} → step s ≡ going next → Gives n next end → Gives (suc n) s end
+  pub data Completes : (turns : ℕ) → State → Completed → Type 0 where
+    halts : {n : ℕ} {s : State} {end : Completed} → step s ≡ halt end → Completes (suc n) s end
+    goes : {n : ℕ} {s next : State} {end : Completed} → step s ≡ going next → Completes n next end → Completes (suc n) s end
 
   -- the turns until the walk halts, counted with so much fuel: the measure of the code's loop
   unfoldable pub turnsLeft : (fuel : ℕ) → State → ℕ

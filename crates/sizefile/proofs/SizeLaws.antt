@@ -1,23 +1,16 @@
--- From what reading, previewing and writing give to what is printed.
-use mathlib.Core.Path.{_≡_, refl, ap, _∙_}
+-- What is printed of a preview: 81 bytes are enough.
+use mathlib.Core.Path.{_≡_, _∙_}
 use mathlib.Core.List.{List, [], _∷_, _++_}
-use mathlib.Core.Logic.{inl, inr}
 use Prim.Native.Nat.{ℕ, _^_, _≤_, _<_}
 use native.Mathlib.Omega.{arith}
-use lib.ListN.{length, take, length-append}
-use Rattle.text.specs.Answer.{Refusal, Answered}
-use Rattle.text.specs.Layout.{layout}
+use lib.ListN.{length, length-append}
 use Rattle.text.specs.Line.{line}
 use Rattle.text.specs.Printed.{writtenOf, lentOf}
 use Rattle.text.specs.Prints.{WrittenText}
-use Rattle.text.specs.declared.read.Answer.the-variants.{Words}
-use Rattle.text.specs.declared.version.Version.the-variants.{New}
 use Rattle.text.specs.declared.write.Written.{Written}
-use Rattle.text.proofs.PrintsLaws.{words-read}
 use Rattle.text.proofs.WriteLaws.{line-most, text-fits}
-use Rattle.definition.specs.Around.{rust}
-use Rattle.definition.specs.Preview.{Preview, previewed}
-use Rattle.sizefile.specs.Prints.{sizeNames, sizeText, refusedFile, FileSized}
+use Rattle.definition.specs.Preview.{Preview}
+use Rattle.sizefile.specs.Prints.{sizeNames, sizeText}
 
 -- every number has 32 bits
 abbrev pub Narrow : Preview → Type 0
@@ -36,15 +29,3 @@ size-written p {room} n answer bytes = record {
 
     numbers : List ℕ
     numbers = line columns
-
-module _ (file out : List ℕ) (space : ℕ) (r : Written) where
-  pub words-sized : (lent : List ℕ) (room count : ℕ) → Answered (layout New) file room lent (Words count)
-      → WrittenText 81 (sizeText (previewed rust (take count lent))) space r out → FileSized file space r out
-  words-sized lent room count h written = record {
-    preview = previewed rust (take count lent);
-    sized = inl (record { words = h .0; accepted = h .1; told = ap (λ (words : List ℕ). previewed rust words) (words-read (layout New) file lent room count h) });
-    written = written;
-  }
-
-  pub refusal-sized : (code at : ℕ) → Refusal (layout New) file code at → WrittenText 81 (sizeText (refusedFile code at)) space r out → FileSized file space r out
-  refusal-sized code at h written = record { preview = refusedFile code at; sized = inr (record { code = code; at = at; refusal = h; told = refl }); written = written }

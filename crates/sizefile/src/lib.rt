@@ -1,9 +1,12 @@
 // The program treesize as a function: a file's bytes in, the bytes that are printed of it out.
+ghost use mathlib.Core.Path.{_≡_};
+ghost use Prim.Native.Nat.{_≤_};
 ghost use lib.ListN.{length};
-ghost use Rattle.text.specs.Prints.{WrittenText};
+ghost use Rattle.text.specs.Prints.{printing, WrittenText};
+ghost use Rattle.text.specs.declared.write.Written.the-variants.{Bytes};
 ghost use Rattle.definition.specs.Around.{rust};
 ghost use Rattle.definition.specs.Preview.{previewed};
-ghost use Rattle.sizefile.specs.Prints.{sizeText, FileSized};
+ghost use Rattle.sizefile.specs.Prints.{sizeText, sizedText};
 use preview::preview;
 use text::lent::lent_words;
 use text::read::Answer;
@@ -31,9 +34,10 @@ fn size_words(words: &[u32], out: &mut [u8]) -> Written
     write_size(out, told.code, told.at, told.rows, told.visits, told.lines)
 }
 
-// Reads a file and writes what its table's build gives; or writes why the file is refused.
+// Reads a file and writes what its table's build gives; or writes why the file is refused. 81 bytes are enough.
 pub fn size_file(file: &[u8], out: &mut [u8]) -> Written
-    ensures { λ r. ⌜ FileSized (now (file .entry)) (length (now (out .entry))) r (now (out .exit)) ⌝ }
+    ensures { λ r. ⌜ record { answer = r; bytes = now (out .exit) } ≡ printing (length (now (out .entry))) (sizedText (now (file .entry))) ⌝ }
+    ensures { λ r. ⌜ (81 ≤ length (now (out .entry)) → r ≡ Bytes (length (sizedText (now (file .entry))))) ⌝ }
 {
     let mut words = lent_words();
     let answer = read(file, &mut words);

@@ -13,7 +13,7 @@ use Rattle.text.specs.Lent.{Holds}
 use Rattle.text.specs.Layout.{layout}
 use Rattle.text.specs.Form.{Form, byte, field, literal, row, rows, tables, whole, finished, isZero}
 use Rattle.text.specs.Steps.{Reached, Stopped, At, NamesRead, PartRead, RowEnd, RowRead, HeadRead, cursorAt, cursorRefused}
-use Rattle.text.specs.declared.table.Cursor.{Cursor}
+use Rattle.text.specs.declared.parts.Cursor.{Cursor}
 use Rattle.text.specs.declared.version.Version.{Version}
 use Rattle.text.specs.declared.version.Version.the-variants.{New}
 use Rattle.text.proofs.LentLaws.{holds-none}

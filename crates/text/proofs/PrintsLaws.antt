@@ -1,4 +1,5 @@
--- Laws of what is printed of a file: from what reading and writing give; that there is one answer.
+-- Laws of what is printed of a file: from what reading and writing give to the program's answer and bytes; and that `Prints`, which has no reader in it,
+-- allows just the text of what the file reads as.
 use mathlib.Core.Path.{_≡_, refl, sym, ap, ap₂, _∙_}
 use mathlib.Core.List.{List, []}
 use mathlib.Core.Logic.{⊎-elim, inl, inr}
@@ -9,12 +10,14 @@ use lib.Seq.{take-at}
 use Rattle.text.specs.Layout.{Layout}
 use Rattle.text.specs.Answer.{Refusal, Answered}
 use Rattle.text.specs.Printed.{printed, treeLines, writtenOf, lentOf}
-use Rattle.text.specs.Prints.{PrintsWords, PrintsRefusal, Prints, WrittenText, FilePrinted}
+use Rattle.text.specs.Prints.{Printing, printing, fileText, PrintsWords, PrintsRefusal, Prints, WrittenText}
+use Rattle.text.specs.Reading.{Reading, reads, refuses, reading}
 use Rattle.text.specs.declared.read.Answer.the-variants.{Words}
 use Rattle.text.specs.declared.read.Answer.the-variants as read
 use Rattle.text.specs.declared.write.Written.{Written}
 use Rattle.text.specs.declared.write.Written.the-variants.{Bytes}
 use Rattle.text.proofs.AnswerLaws.{good-one, refusal-accepted, refusal-one, room-enough}
+use Rattle.text.proofs.ReadingLaws.{Says, reading-says, accepted-reads, refusal-refuses}
 use Rattle.text.proofs.WriteLaws.{written-fits}
 
 -- ---- what was read
@@ -54,46 +57,57 @@ refusal-written code at tree {room} some p q answer bytes =
     λ long. written-fits room code at 0 0 [] (p, (q, (omega arith, (omega arith, tt)))) (λ i. omega arith) (omega (arith, long)) in
     record { answer = answer ∙ ap (writtenOf room) same; bytes = bytes ∙ ap (lentOf room) same; enough = λ long. answer ∙ ap (writtenOf room) same ∙ fits long }
 
-module _ (f : Layout) (of : List ℕ → List ℕ) (most : ℕ) (file out : List ℕ) (space : ℕ) (r : Written) where
+-- what was written of a text is what `printing` gives, in answer and bytes, and so many bytes are enough
+abbrev pub AsPrinted : (most : ℕ) → (text : List ℕ) → (room : ℕ) → Written → List ℕ → Type 0
+AsPrinted most text room r lent = (record { answer = r; bytes = lent } ≡ printing room text) × (most ≤ room → r ≡ Bytes (length text))
+
+pub as-printed : {most room : ℕ} {r : Written} {lent text text′ : List ℕ} → text′ ≡ text → WrittenText most text room r lent → AsPrinted most text′ room r lent
+as-printed {room = room} e h = (
+  rw e (ap₂ (λ (a : Written) (b : List ℕ). record { answer = a; bytes = b }) (h .answer) (h .bytes)),
+  λ p. rw e (h .enough p),
+)
+
+module _ (f : Layout) (of : List ℕ → List ℕ) (other : (code at : ℕ) → List ℕ) (most : ℕ) (file out : List ℕ) (space : ℕ) (r : Written) where
   pub words-printed : (lent : List ℕ) (room count : ℕ) → Answered f file room lent (Words count) → WrittenText most (of (take count lent)) space r out
-      → FilePrinted f of most file space r out
-  words-printed lent room count h written = record {
-    text = of (take count lent);
-    prints = inl (record { words = h .0; accepted = h .1; lines = ap of (words-read f file lent room count h) });
-    written = written;
-  }
+      → AsPrinted most (fileText of other (reading f file)) space r out
+  unfolding fileText
+  words-printed lent room count h written =
+      as-printed (rw (accepted-reads f file (h .0) (h .1)) (ap of (sym (words-read f file lent room count h)))) written
 
-  pub refusal-printed : (code at : ℕ) → Refusal f file code at → WrittenText most (printed code at 0 0 []) space r out → FilePrinted f of most file space r out
-  refusal-printed code at h written = record { text = printed code at 0 0 []; prints = inr (record { code = code; at = at; refusal = h; lines = refl }); written = written }
+  pub refusal-printed : (code at : ℕ) → Refusal f file code at → WrittenText most (other code at) space r out → AsPrinted most (fileText of other (reading f file)) space r out
+  unfolding fileText
+  refusal-printed code at h written = as-printed (rw (refusal-refuses f file code at h) refl) written
 
-  pub never-short : (lent : List ℕ) (room : ℕ) → 16384 ≤ room → Answered f file room lent read.NoRoom → FilePrinted f of most file space r out
+  pub never-short : (lent : List ℕ) (room : ℕ) → 16384 ≤ room → Answered f file room lent read.NoRoom → AsPrinted most (fileText of other (reading f file)) space r out
   never-short lent room p h = absurd (room-enough f file lent room p h)
 
--- ---- one answer
+-- ---- the text with no reader in it
 
-module _ (f : Layout) (of : List ℕ → List ℕ) (file : List ℕ) where
+module _ (f : Layout) (of : List ℕ → List ℕ) (other : (code at : ℕ) → List ℕ) (file : List ℕ) where
   words-text : (t u : List ℕ) → PrintsWords f of file t → PrintsWords f of file u → t ≡ u
   words-text t u p q = p .lines ∙ ap of (good-one f file (p .words) (q .words) (p .accepted .good) (q .accepted .good)) ∙ sym (q .lines)
 
-  refusal-text : (t u : List ℕ) → PrintsRefusal f file t → PrintsRefusal f file u → t ≡ u
+  refusal-text : (t u : List ℕ) → PrintsRefusal f other file t → PrintsRefusal f other file u → t ≡ u
   refusal-text t u p q =
       let e = refusal-one f file (p .code) (q .code) (p .at) (q .at) (p .refusal) (q .refusal) in
-      p .lines ∙ ap₂ (λ (code at : ℕ). printed code at 0 0 []) (e .0) (e .1) ∙ sym (q .lines)
+      p .lines ∙ ap₂ other (e .0) (e .1) ∙ sym (q .lines)
 
-  not-both : (t u : List ℕ) → PrintsWords f of file t → PrintsRefusal f file u → ⊥
+  not-both : (t u : List ℕ) → PrintsWords f of file t → PrintsRefusal f other file u → ⊥
   not-both t u p q = refusal-accepted f file (p .words) (q .code) (q .at) (q .refusal) (p .accepted)
 
   -- a file prints one text
-  pub prints-one : (t u : List ℕ) → Prints f of file t → Prints f of file u → t ≡ u
+  pub prints-one : (t u : List ℕ) → Prints f of other file t → Prints f of other file u → t ≡ u
   prints-one t u p q =
       ⊎-elim
       (λ a. ⊎-elim (λ b. words-text t u a b) (λ b. absurd (not-both t u a b)) q)
       (λ a. ⊎-elim (λ b. absurd (not-both u t b a)) (λ b. refusal-text t u a b) q)
       p
 
--- for one file and one number of lent bytes there is one answer, and one content of the lent bytes
-pub file-printed-one : (f : Layout) (of : List ℕ → List ℕ) (most : ℕ) (file : List ℕ) (room : ℕ) (r s : Written) (l m : List ℕ)
-    → FilePrinted f of most file room r l → FilePrinted f of most file room s m → (r ≡ s) × (l ≡ m)
-file-printed-one f of most file room r s l m h g =
-    let e = prints-one f of file (h .text) (g .text) (h .prints) (g .prints) in
-    (h .written .answer ∙ ap (writtenOf room) e ∙ sym (g .written .answer), h .written .bytes ∙ ap (lentOf room) e ∙ sym (g .written .bytes))
+  -- and it is the text of what the file reads as
+  pub file-prints : Prints f of other file (fileText of other (reading f file))
+  unfolding fileText
+  file-prints = by (reading f file) (reading-says f file)
+    where
+      by : (r : Reading) → Says f file r → Prints f of other file (fileText of other r)
+      by (reads words) s = inl (record { words = words; accepted = s; lines = refl })
+      by (refuses code at) s = inr (record { code = code; at = at; refusal = s; lines = refl })

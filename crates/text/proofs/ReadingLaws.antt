@@ -7,14 +7,17 @@ use Prim.Native.Nat.{ℕ, suc, _+_, _-_, _*_, _^_, _≤_, _<_}
 use native.Mathlib.Omega.{arith}
 use native.Mathlib.Numerals.{add-one}
 use lib.Dec.{eqb, leb, ltb}
-use lib.ListN.{length, drop, getD, length-drop}
+use lib.ListN.{length, drop, getD, length-drop, replicate}
 use lib.Seq.{drop-cons}
-use borrow.Author.Tests.{eqb-true, eqb-false, leb-true, leb-false, ltb-true, ltb-false}
+use borrow.Author.Tests.{eqb-true, eqb-false, leb-true, leb-false, ltb-true, ltb-false, le-leb, lt-leb}
 use Rattle.text.specs.Layout.{Layout}
 use Rattle.text.specs.Form.{Form, finished, byte, field, digits, ending, whole, Text}
 use Rattle.text.specs.Steps.{Reached, Stopped}
-use Rattle.text.specs.Answer.{Accepted, Refusal}
-use Rattle.text.specs.Reading.{Reading, reads, refuses, Next, on, stuck, isDigit, mayFollow, nextOf, ended, readFrom, reading}
+use Rattle.text.specs.Answer.{Accepted, Refusal, Answered}
+use Rattle.text.specs.Lent.{padded}
+use Rattle.text.specs.Reading.{Reading, reads, refuses, Next, on, stuck, isDigit, mayFollow, nextOf, ended, readFrom, reading, WordsRead, readInto}
+use Rattle.text.specs.declared.read.Answer.{Answer}
+use Rattle.text.specs.declared.read.Answer.the-variants as answer
 use Rattle.text.proofs.StepLaws.{Step, advance, halt, halt-short, reached-none, finished-good, ending-low, true-false}
 use Rattle.text.proofs.FormLaws.{text-good}
 use Rattle.text.proofs.AnswerLaws.{stopped-refused, good-one, refusal-one, refusal-accepted}
@@ -194,3 +197,51 @@ accepted-reads f file words a = says-one f file (reading f file) (reads words) (
 
 pub refusal-refuses : (f : Layout) (file : List ℕ) (code at : ℕ) → Refusal f file code at → reading f file ≡ refuses code at
 refusal-refuses f file code at r = says-one f file (reading f file) (refuses code at) (reading-says f file) r
+
+-- ---- the answer, and the lent words
+
+fits-into : (room : ℕ) (words : List ℕ) → length words ≤ room → readInto room (reads words) ≡ record { answer = answer.Words (length words); lent = padded room words }
+unfolding readInto
+fits-into room words p = rw (le-leb (length words) room p, readInto)
+
+over-into : (room : ℕ) (words : List ℕ) → room < length words → readInto room (reads words) ≡ record { answer = answer.NoRoom; lent = replicate room 0 }
+unfolding readInto
+over-into room words p = rw (lt-leb (length words) room p, readInto)
+
+module _ (f : Layout) (file : List ℕ) (room : ℕ) (lent : List ℕ) where
+  abbrev Reads : Answer → Type 0
+  Reads a = record { answer = a; lent = lent } ≡ readInto room (reading f file)
+
+  -- each answer that `Answered` allows is what the file reads as
+  pub refused-read : (code at : ℕ) → Refusal f file code at → lent ≡ replicate room 0 → Reads (answer.Refused code at)
+  unfolding readInto
+  refused-read code at h e = rw (refusal-refuses f file code at h, e) refl
+
+  pub short-read : (words : List ℕ) → Accepted f file words → room < length words → lent ≡ replicate room 0 → Reads answer.NoRoom
+  short-read words a p e = rw (accepted-reads f file words a, over-into room words p, e) refl
+
+  pub words-read-into : (words : List ℕ) (count : ℕ) → Accepted f file words → length words ≡ count → count ≤ room → lent ≡ padded room words → Reads (answer.Words count)
+  words-read-into words count a l p e =
+      let fits : length words ≤ room = omega arith in
+      rw (accepted-reads f file words a, fits-into room words fits, e, l) refl
+
+-- and what the file reads as is allowed: `Answered` says it with no reader
+module _ (f : Layout) (file : List ℕ) (room : ℕ) where
+  abbrev Allowed : WordsRead → Type 0
+  Allowed w = Answered f file room (w .lent) (w .answer)
+
+  allowed : (r : Reading) → Says f file r → Allowed (readInto room r)
+  unfolding readInto
+  allowed (reads words) s = by (leb (length words) room) refl
+    where
+      by : (fits : Bool) → leb (length words) room ≡ fits
+          → Allowed (elim fits [
+            | true ↦ record { answer = answer.Words (length words); lent = padded room words }
+            | false ↦ record { answer = answer.NoRoom; lent = replicate room 0 }
+          ])
+      by true e = (words, s, refl, leb-true (length words) room e, refl)
+      by false e = (words, s, omega (arith, leb-false (length words) room e), refl)
+  allowed (refuses code at) s = (s, refl)
+
+  pub is-answered : {a : Answer} {lent : List ℕ} → record { answer = a; lent = lent } ≡ readInto room (reading f file) → Answered f file room lent a
+  is-answered e = subst Allowed (sym e) (allowed (reading f file) (reading-says f file))

@@ -1,12 +1,15 @@
--- What a file reads as, a function: its words, or the refusal with its place, byte by byte along the form. `proofs/ReadingLaws` shows that
--- this is what `Answer` says of the file, where no reader is in the definition.
+-- What a file reads as, a function: its words, or the refusal with its place, byte by byte along the form; and what is then handed back and lent.
+-- `proofs/ReadingLaws` shows that this is what `Answer` says of the file, where no reader is in the definition.
 use mathlib.Core.Bool.{Bool, true, false, _&&_}
 use mathlib.Core.List.{List, [], _∷_, _++_}
 use Prim.Native.Nat.{ℕ, _+_, _-_, _*_}
 use lib.Dec.{eqb, leb, ltb}
-use lib.ListN.{length}
+use lib.ListN.{length, replicate}
 use Rattle.text.specs.Layout.{Layout}
+use Rattle.text.specs.Lent.{padded}
 use Rattle.text.specs.Form.{Form, finished, byte, field, digits, ending, whole}
+use Rattle.text.specs.declared.read.Answer.{Answer}
+use Rattle.text.specs.declared.read.Answer.the-variants as answer
 
 pub data Reading : Type 0 where
   reads : (words : List ℕ) → Reading
@@ -49,3 +52,17 @@ readFrom form (c ∷ bytes) at words = elim (nextOf form c) [ on new rest ↦ re
 -- 51, at 0, for a file of over 32,768 bytes; then 50
 unfoldable pub reading : Layout → List ℕ → Reading
 reading f file = elim (ltb 32768 (length file)) [ true ↦ refuses 51 0 | false ↦ readFrom (whole f) file 0 [] ]
+
+-- the answer, and what the lent words hold then
+pub record WordsRead : Type 0 where
+  pub answer : Answer
+  pub lent : List ℕ
+
+-- the words and then zeros in `room` lent words; zeros alone where they are refused or too many
+unfoldable pub readInto : (room : ℕ) → Reading → WordsRead
+readInto room (reads words) =
+    elim (leb (length words) room) [
+      | true ↦ record { answer = answer.Words (length words); lent = padded room words }
+      | false ↦ record { answer = answer.NoRoom; lent = replicate room 0 }
+    ]
+readInto room (refuses code at) = record { answer = answer.Refused code at; lent = replicate room 0 }

@@ -7,7 +7,7 @@ use lib.ListN.{length, take}
 use Rattle.text.specs.Lent.{Holds}
 use Rattle.text.specs.Layout.{Layout, layout}
 use Rattle.text.specs.Form.{Form, field, finished, literal, row, tables, whole, Text}
-use Rattle.text.specs.declared.table.Cursor.{Cursor}
+use Rattle.text.specs.declared.parts.Cursor.{Cursor}
 use Rattle.text.specs.declared.version.Version.{Version}
 use Rattle.text.specs.declared.number.Number.{Number}
 

@@ -1,9 +1,10 @@
+ghost use mathlib.Core.Path.{_≡_};
 ghost use lib.ListN.{length};
 ghost use Rattle.text.specs.Layout.{layout};
-ghost use Rattle.text.specs.Answer.{Answered};
+ghost use Rattle.text.specs.Reading.{reading, readInto};
 ghost use Rattle.text.specs.declared.version.Version.the-variants.{New};
 use crate::lent::clear_words;
-use crate::table::read_file;
+use crate::parts::read_file;
 use crate::version::Version;
 
 // What reading a file gives.
@@ -18,7 +19,7 @@ pub enum Answer {
 
 // Reads a file of this form: its words into the lent ones, then zeros. Where there is no such answer the lent words are all zeros.
 pub fn read_as(file: &[u8], version: Version, words: &mut [u32]) -> Answer
-    ensures { λ r. ⌜ Answered (layout version) (now (file .entry)) (length (now (words .entry))) (now (words .exit)) r ⌝ }
+    ensures { λ r. ⌜ record { answer = r; lent = now (words .exit) } ≡ readInto (length (now (words .entry))) (reading (layout version) (now (file .entry))) ⌝ }
 {
     if 32768 < file.len() {
         clear_words(words, 0);
@@ -42,7 +43,7 @@ pub fn read_as(file: &[u8], version: Version, words: &mut [u32]) -> Answer
 
 // Reads a file of the form of today.
 pub fn read(file: &[u8], words: &mut [u32]) -> Answer
-    ensures { λ r. ⌜ Answered (layout New) (now (file .entry)) (length (now (words .entry))) (now (words .exit)) r ⌝ }
+    ensures { λ r. ⌜ record { answer = r; lent = now (words .exit) } ≡ readInto (length (now (words .entry))) (reading (layout New) (now (file .entry))) ⌝ }
 {
     read_as(file, Version::New, words)
 }

@@ -29,7 +29,7 @@ use Rattle.definition.specs.PlainLoops.{PlainLoops}
 use Rattle.definition.specs.Run.{Answers}
 use Rattle.definition.specs.RunLaw.{Spoken, SwitchLaw}
 use Rattle.reading.specs.Grammar.{Answer}
-use Rattle.running.specs.Given.{Gives, runOf}
+use Rattle.running.specs.Given.{RunGives, runOf}
 use Rattle.running.specs.Ran.{Outcome, ended}
 use Rattle.running.proofs.OneOutcome.{one-outcome, is-given}
 use Rattle.running.proofs.SwitchRuns.{the-law, runner-gives, runner-does, never-63-64}
@@ -250,16 +250,16 @@ find-gives-the-definition κs before after answer learnt = learnt
 pub lookup-meets-its-contract : {M : Type 1} → lookup-stated.statement M
 lookup-meets-its-contract = lookup-proved.met
 
--- and the code, which is lent
+-- and the code and at, which are lent
 abbrev pub SearchedWithCode : Type 0
-SearchedWithCode = RefT (List ℕ) × (ℕ × (ℕ × (RefT (List ℕ) × (RefT ℕ × Unit {0}))))
+SearchedWithCode = RefT (List ℕ) × (ℕ × (ℕ × (RefT (List ℕ) × (RefT ℕ × (RefT ℕ × Unit {0})))))
 
-pub lookup-asks-nothing : (κs : Lfts 3) (before : SearchedWithCode) → lookup-entry.Asked κs before
+pub lookup-asks-nothing : (κs : Lfts 4) (before : SearchedWithCode) → lookup-entry.Asked κs before
 lookup-asks-nothing κs before = tt
 
--- the code, and the words of the part given back
-pub lookup-gives-the-definition : (κs : Lfts 3) (before after : SearchedWithCode) (answer : RefT (List ℕ)) → lookup-entry.Learnt κs before answer after
-    → record { code = now (after .1 .1 .1 .1 .0); words = now answer } ≡ looked (now (before .0)) (before .1 .0) (before .1 .1 .0) (now (before .1 .1 .1 .0))
+-- the code, at, and the words of the part given back
+pub lookup-gives-the-definition : (κs : Lfts 4) (before after : SearchedWithCode) (answer : RefT (List ℕ)) → lookup-entry.Learnt κs before answer after
+    → record { code = now (after .1 .1 .1 .1 .0); at = now (after .1 .1 .1 .1 .1 .0); words = now answer } ≡ looked (now (before .0)) (before .1 .0) (before .1 .1 .0) (now (before .1 .1 .1 .0))
 lookup-gives-the-definition κs before after answer learnt = learnt
 
 pub tree-lookup-meets-its-contract : {M : Type 1} → lookup-export-stated.statement M
@@ -314,11 +314,11 @@ pub tree-run-gives-the-definition : (κs : Lfts 6) (before after : RunWithAnswer
 tree-run-gives-the-definition κs before after code learnt = learnt
 
 -- what that definition gives, with no reader in it: of words that the check refuses its refusal, of any others the run of the tree that they read as
-pub a-run-is-of-the-tree-read : (words : List ℕ) (answers : Answers) (lent : ℕ) → Gives words answers lent (runOf words answers lent)
+pub a-run-is-of-the-tree-read : (words : List ℕ) (answers : Answers) (lent : ℕ) → RunGives words answers lent (runOf words answers lent)
 a-run-is-of-the-tree-read words answers lent = is-given words answers lent refl
 
 -- and any words, answers and length have one such outcome, every lent word of it
-pub a-run-has-one-outcome : (words : List ℕ) (answers : Answers) (lent : ℕ) {o o′ : Outcome} → Gives words answers lent o → Gives words answers lent o′ → o ≡ o′
+pub a-run-has-one-outcome : (words : List ℕ) (answers : Answers) (lent : ℕ) {o o′ : Outcome} → RunGives words answers lent o → RunGives words answers lent o′ → o ≡ o′
 a-run-has-one-outcome = one-outcome
 
 -- ---- M-113: the runner on the trees of plain tables with switches. The law itself stands in Theorems

@@ -61,7 +61,7 @@ use Rattle.reading.specs.Grammar.{Answer}
 use Rattle.reading.specs.Needs.{treeVerdict, codeOf, atOf}
 use Rattle.reading.proofs.Words.{words-answered, words-answer-is}
 use Rattle.reading.proofs.BuiltReads.{built-answered}
-use Rattle.treerows.specs.Found.{TreeAnswered}
+use Rattle.treerows.specs.Found.{treeChecked}
 use Rattle.treerows.specs.declared.TreeChecked.{TreeChecked}
 use Rattle.treerows.proofs.check_tree.Statement as tree-stated
 use Rattle.treerows.proofs.check_tree.Met as tree-proved
@@ -94,9 +94,10 @@ use Rattle.survey.specs.Abstraction.{ruleOf}
 use Rattle.theorems.specs.Parted.{Parted}
 use Rattle.theorems.proofs.Language.{entries-part, first-never-29, LabelsThere, labels-there}
 use Rattle.theorems.proofs.Parting.{Unnamed, AcceptedAlike, where-refused, where-accepted}
-use Rattle.treefile.specs.Prints.{lentWords, lentIndex, Prints, FileBuilt}
+use Rattle.text.specs.Prints.{printing}
+use Rattle.treefile.specs.Prints.{lentWords, lentIndex, builtText, Prints}
 use Rattle.treefile.proofs.OutcomeLaws.{never-41 as file-never-41}
-use Rattle.text.proofs.PrintsLaws.{file-printed-one}
+use Rattle.text.proofs.PrintsLaws.{file-prints, prints-one}
 use Rattle.treefile.proofs.Sample.{sample-prints}
 use Rattle.treefile.proofs.build_file.Statement as file-stated
 use Rattle.treefile.proofs.build_file.Met as file-proved
@@ -341,10 +342,14 @@ check-tree-meets-its-contract = tree-proved.met
 pub check-tree-asks-nothing : (κs : Lfts 1) (before : RefT (List ℕ) × Unit {0}) → check-tree.Asked κs before
 check-tree-asks-nothing κs before = tt
 
+pub check-tree-gives-the-definition : (κs : Lfts 1) (before after : RefT (List ℕ) × Unit {0}) (answer : TreeChecked) → check-tree.Learnt κs before answer after
+    → answer ≡ treeChecked (now (before .0))
+check-tree-gives-the-definition κs before after answer learnt = learnt
+
 -- it gives the grammar's answer: "accepts a list .. exactly when it reads as one tree", 60 and 61 at the first row, 62
 pub check-tree-gives-the-grammars-answer : (κs : Lfts 1) (before after : RefT (List ℕ) × Unit {0}) (answer : TreeChecked) → check-tree.Learnt κs before answer after
     → Answer (now (before .0)) (answer .code) (answer .at)
-check-tree-gives-the-grammars-answer κs before after answer learnt = let promised : TreeAnswered _ _ _ = learnt in promised .answer
+check-tree-gives-the-grammars-answer κs before after answer learnt = subst (λ (c : TreeChecked). Answer (now (before .0)) (c .code) (c .at)) (sym learnt) (words-answered (now (before .0)))
 
 -- its export, the place by reference
 pub tree-check-meets-its-contract : {M : Type 1} → tree-export-stated.statement M
@@ -353,9 +358,15 @@ tree-check-meets-its-contract = tree-export-proved.met
 pub tree-check-asks-nothing : (κs : Lfts 2) (before : WordsAndPlace) → tree-export.Asked κs before
 tree-check-asks-nothing κs before = tt
 
+pub tree-check-gives-the-definition : (κs : Lfts 2) (before after : WordsAndPlace) (code : ℕ) → tree-export.Learnt κs before code after
+    → record { code = code; at = now (after .1 .0) } ≡ treeChecked (now (before .0))
+tree-check-gives-the-definition κs before after code learnt = learnt
+
 pub tree-check-gives-the-grammars-answer : (κs : Lfts 2) (before after : WordsAndPlace) (code : ℕ) → tree-export.Learnt κs before code after
     → Answer (now (before .0)) code (now (after .1 .0))
-tree-check-gives-the-grammars-answer κs before after code learnt = let promised : TreeAnswered _ _ _ = learnt in promised .answer
+tree-check-gives-the-grammars-answer κs before after code learnt =
+    let given : record { code = code; at = now (after .1 .0) } ≡ treeChecked (now (before .0)) = learnt in
+    subst (λ (c : TreeChecked). Answer (now (before .0)) (c .code) (c .at)) (sym given) (words-answered (now (before .0)))
 
 -- any words have an answer, and no other
 pub any-words-have-an-answer : (words : List ℕ) → Answer words (codeOf (treeVerdict words)) (atOf (treeVerdict words))
@@ -447,14 +458,17 @@ Ruled = code.Rule × (RefT (List ℕ) × (RefT (List ℕ) × Unit {0}))
 pub build-file-asks-nothing : (κs : Lfts 2) (before : Ruled) → build-file.Asked κs before
 build-file-asks-nothing κs before = tt
 
--- a file in the form prints the definition's outcome of its words, any other its refusal
+-- the answer and every lent byte: a file in the form prints the definition's outcome of its words, any other its refusal
 pub build-file-prints-the-definition : (κs : Lfts 2) (before after : Ruled) (answer : Written) → build-file.Learnt κs before answer after
-    → FileBuilt (ruleOf (before .0)) (now (before .1 .0)) (length (now (before .1 .1 .0))) answer (now (after .1 .1 .0))
-build-file-prints-the-definition κs before after answer learnt = learnt
+    → record { answer = answer; bytes = now (after .1 .1 .0) } ≡ printing (length (now (before .1 .1 .0))) (builtText (ruleOf (before .0)) (now (before .1 .0)))
+build-file-prints-the-definition κs before after answer learnt = learnt .0
 
--- and that fixes the answer and every lent byte
-pub a-file-has-one-answer : (rule : Rule) (file : List ℕ) (room : ℕ) (r s : Written) (l m : List ℕ) → FileBuilt rule file room r l → FileBuilt rule file room s m → (r ≡ s) × (l ≡ m)
-a-file-has-one-answer rule = file-printed-one _ _ _
+-- the same text with no reader in the definition, and no other
+pub a-file-prints-its-text : (rule : Rule) (file : List ℕ) → Prints rule file (builtText rule file)
+a-file-prints-its-text rule = file-prints _ _ _
+
+pub a-file-prints-one-text : (rule : Rule) (file text text′ : List ℕ) → Prints rule file text → Prints rule file text′ → text ≡ text′
+a-file-prints-one-text rule = prints-one _ _ _
 
 -- ---- the machine, which the code follows turn by turn, gives what the definition gives
 

@@ -1,14 +1,14 @@
--- What treebuild prints of a file (paper 01, "Samples"), and treebuild_language by the other rule (M-102). A file has one text (`text`, `file-printed-one`), so that the answer and every lent byte are fixed.
+-- What treebuild prints of a file (paper 01, "Samples"), and treebuild_language by the other rule (M-102). `Prints` says it with no reader in it.
 use Prim.Native.Nat.{ℕ, _*_}
 use mathlib.Core.List.{List}
 use lib.ListN.{take}
-use Rattle.text.specs.declared.write.Written.{Written}
 use Rattle.definition.specs.Around.{Rule}
 use Rattle.definition.specs.Build.{Outcome, built}
 use Rattle.text.specs.Layout.{layout}
 use Rattle.text.specs.declared.version.Version.the-variants.{New}
 use Rattle.text.specs.Printed.{printed}
-use Rattle.text.specs.Prints.{FilePrinted}
+use Rattle.text.specs.Prints.{fileText, refusalText}
+use Rattle.text.specs.Reading.{reading}
 use Rattle.text.specs.Prints as text
 
 -- "It lends 2,048 rows", of six words each
@@ -27,10 +27,10 @@ printedOutcome outcome = printed (outcome .code) (outcome .at) (outcome .rows) (
 abbrev pub treeText : Rule → List ℕ → List ℕ
 treeText rule words = printedOutcome (built rule words lentWords lentIndex)
 
--- a file in the form prints what its table's words give; any other file prints its refusal
-abbrev pub Prints : Rule → (file text : List ℕ) → Type 0
-Prints rule file printed = text.Prints (layout New) (treeText rule) file printed
+-- what a file prints: what its table's words give, or its refusal
+abbrev pub builtText : Rule → (file : List ℕ) → List ℕ
+builtText rule file = fileText (treeText rule) refusalText (reading (layout New) file)
 
--- the answer of writing that into `room` lent bytes, and what these hold then; 135,245 bytes are enough for any file
-abbrev pub FileBuilt : Rule → (file : List ℕ) → (room : ℕ) → (r : Written) → (lent : List ℕ) → Type 0
-FileBuilt rule file room r lent = FilePrinted (layout New) (treeText rule) 135245 file room r lent
+-- the same with no reader in it: it is this text alone (`text/proofs/PrintsLaws`)
+abbrev pub Prints : Rule → (file text : List ℕ) → Type 0
+Prints rule file printed = text.Prints (layout New) (treeText rule) refusalText file printed

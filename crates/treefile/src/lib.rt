@@ -1,11 +1,12 @@
 // The programs treebuild and treebuild_language as a function: a file's bytes in, the bytes that are printed of it out.
 ghost use mathlib.Core.Path.{_≡_};
-ghost use Prim.Native.Nat.{_+_, _*_, _/_};
+ghost use Prim.Native.Nat.{_+_, _*_, _/_, _≤_};
 ghost use lib.ListN.{length};
 ghost use Rattle.text.specs.Printed.{printed};
-ghost use Rattle.text.specs.Prints.{WrittenText};
+ghost use Rattle.text.specs.Prints.{printing, WrittenText};
+ghost use Rattle.text.specs.declared.write.Written.the-variants.{Bytes};
 ghost use Rattle.survey.specs.Abstraction.{ruleOf};
-ghost use Rattle.treefile.specs.Prints.{treeText, FileBuilt};
+ghost use Rattle.treefile.specs.Prints.{treeText, builtText};
 use build::build;
 use survey::Rule;
 use text::lent::lent_words;
@@ -58,9 +59,10 @@ fn build_words(rule: Rule, words: &[u32], out: &mut [u8]) -> Written
     )
 }
 
-// Reads a file, builds its table's tree and writes the result; or writes why the file is refused.
+// Reads a file, builds its table's tree and writes the result; or writes why the file is refused. 135,245 bytes are enough.
 pub fn build_file(rule: Rule, file: &[u8], out: &mut [u8]) -> Written
-    ensures { λ r. ⌜ FileBuilt (ruleOf rule) (now (file .entry)) (length (now (out .entry))) r (now (out .exit)) ⌝ }
+    ensures { λ r. ⌜ record { answer = r; bytes = now (out .exit) } ≡ printing (length (now (out .entry))) (builtText (ruleOf rule) (now (file .entry))) ⌝ }
+    ensures { λ r. ⌜ (135245 ≤ length (now (out .entry)) → r ≡ Bytes (length (builtText (ruleOf rule) (now (file .entry))))) ⌝ }
 {
     let mut words = lent_words();
     let answer = read(file, &mut words);

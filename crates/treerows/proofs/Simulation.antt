@@ -1,5 +1,5 @@
 -- The check over beginnings answers what the machine over sorts does: the stack of sorts is what stands before the next row, part before part.
-use mathlib.Core.Path.{_≡_, refl, ap, _∙_}
+use mathlib.Core.Path.{_≡_, refl, sym, ap, ap₂, subst, _∙_}
 use Prim.Native.Nat.{ℕ, zero, suc, _+_, _*_, _-_, _/_, _<_, _≤_}
 use native.Mathlib.Omega.{arith}
 use mathlib.Core.List.{List, [], _∷_}
@@ -11,13 +11,15 @@ use lib.Dec.{eqb, leb}
 use borrow.Author.Tests.{eq-eqb, ne-eqb, eqb-true, eqb-false, leb-true}
 use Rattle.definition.specs.Tree.{Row, row}
 use Rattle.definition.proofs.Steps.{none-some}
+use Rattle.reading.specs.Grammar.{Answer}
 use Rattle.reading.specs.Ranges.{inRange}
 use Rattle.reading.specs.Needs.{Sort, a-value, an-instr, a-statement, a-block, a-case, serves, partsOf, madeBy, Sorts, taken, sortStep, RowsVerdict}
 use Rattle.reading.specs.Needs.{refused, codeOf, atOf, remainder, rowsVerdict, rowsOfWords, sizedVerdict, treeVerdict}
 use Rattle.reading.proofs.Upto.{and-both}
 use Rattle.reading.proofs.Words.{words-answered}
+use Rattle.treerows.specs.declared.TreeChecked.{TreeChecked}
 use Rattle.treerows.specs.declared.TreeRead.{TreeRead}
-use Rattle.treerows.specs.Found.{wordAt, rowAt, partsBegin, Ready, remainderCode, readFrom, noBegins, noList, treeRead, TreeAnswered}
+use Rattle.treerows.specs.Found.{wordAt, rowAt, partsBegin, Ready, remainderCode, readFrom, noBegins, noList, treeRead, treeChecked}
 use Rattle.treerows.proofs.SortLaws.{served}
 use Rattle.treerows.proofs.PartLaws.{found-low}
 use Rattle.treerows.proofs.ReadLaws.{set-low, start-ready}
@@ -219,8 +221,12 @@ module _ (words : List ℕ) where
           no-rows none q = q
           no-rows (some list) q = absurd (eqb-false (length words) (length words / 6 * 6) e (omega (arith, row-words words list q)))
 
-  pub tree-answered : {read : TreeRead} → read ≡ treeRead words → TreeAnswered words (read .code) (read .at)
-  tree-answered e =
+  pub tree-checked : {read : TreeRead} → read ≡ treeRead words → record { code = read .code; at = read .at } ≡ treeChecked words
+  tree-checked e =
       let code : _ ≡ codeOf (treeVerdict words) = ap (λ (r : TreeRead). r .code) e ∙ read-answers .0 in
       let at : _ ≡ atOf (treeVerdict words) = ap (λ (r : TreeRead). r .at) e ∙ read-answers .1 in
-      record { answer = rw (code, at) (words-answered words); code-is = code; at-is = at }
+      ap₂ (λ (c a : ℕ). record { code = c; at = a }) code at
+
+  -- which is the grammar's answer
+  pub tree-answer : {read : TreeRead} → read ≡ treeRead words → Answer words (read .code) (read .at)
+  tree-answer e = subst (λ (c : TreeChecked). Answer words (c .code) (c .at)) (sym (tree-checked e)) (words-answered words)

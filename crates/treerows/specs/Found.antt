@@ -9,8 +9,9 @@ use lib.ListN.{length, getD, set, replicate}
 use lib.Dec.{eqb, leb}
 use Rattle.definition.specs.Tree.{Row, row}
 use Rattle.reading.specs.Ranges.{inRange}
-use Rattle.reading.specs.Grammar.{mostRows, Answer}
+use Rattle.reading.specs.Grammar.{mostRows}
 use Rattle.reading.specs.Needs.{Sort, serves, partsOf, madeBy, treeVerdict, codeOf, atOf}
+use Rattle.treerows.specs.declared.TreeChecked.{TreeChecked}
 use Rattle.treerows.specs.declared.TreeRead.{TreeRead}
 
 -- "Six words each: op, a to e"
@@ -77,8 +78,6 @@ pub record Begun (words begins : List ℕ) (rows : ℕ) : Type 0 where
 
 -- ---- the promise of the check
 
--- the grammar's answer, of which there is one, as the machine of reading/specs/Needs computes it
-pub record TreeAnswered (words : List ℕ) (code at : ℕ) : Type 0 where
-  pub answer : Answer words code at
-  pub code-is : code ≡ codeOf (treeVerdict words)
-  pub at-is : at ≡ atOf (treeVerdict words)
+-- code and at as the machine of reading/specs/Needs computes them: the grammar's answer, and there is no other (reading/proofs/Words, `words-answered`, `words-answer-is`)
+abbrev pub treeChecked : (words : List ℕ) → TreeChecked
+treeChecked words = record { code = codeOf (treeVerdict words); at = atOf (treeVerdict words) }

@@ -6,7 +6,7 @@ use crate::words::word;
 ghost use mathlib.Core.Path.{_≡_};
 ghost use Prim.Native.Nat.{_*_, _≤_};
 ghost use lib.ListN.{length};
-ghost use Rattle.treerows.specs.Found.{noBegins, noList, remainderCode, readFrom, treeRead, Ready, TreeAnswered};
+ghost use Rattle.treerows.specs.Found.{noBegins, noList, remainderCode, readFrom, treeRead, Ready, treeChecked};
 
 mod parts;
 mod ranges;
@@ -102,7 +102,7 @@ pub fn read_tree(tree: &[u32]) -> TreeRead
 
 // Whether any words are the rows of one tree.
 pub fn check_tree(tree: &[u32]) -> TreeChecked
-    ensures { λ r. ⌜ TreeAnswered (now (tree .entry)) (r .code) (r .at) ⌝ }
+    ensures { λ r. ⌜ r ≡ treeChecked (now (tree .entry)) ⌝ }
 {
     let read = read_tree(tree);
     TreeChecked {
@@ -114,7 +114,7 @@ pub fn check_tree(tree: &[u32]) -> TreeChecked
 // The same for callers in C or Rust: the code, and its row in `at`.
 #[no_mangle]
 pub extern "C" fn tree_check(tree: &[u32], at: &mut u32) -> u32
-    ensures { λ r. ⌜ TreeAnswered (now (tree .entry)) r (now (at .exit)) ⌝ }
+    ensures { λ r. ⌜ record { code = r; at = now (at .exit) } ≡ treeChecked (now (tree .entry)) ⌝ }
 {
     let checked = check_tree(tree);
     *at = checked.at;

@@ -26,16 +26,11 @@ pub fn write_table(words: &[u32], text: &mut [u8]) -> Placed
 
 // The same for callers in C or Rust: the code, and the other two by reference.
 #[no_mangle]
-pub extern "C" fn table_write(
-    words: &[u32],
-    text: &mut [u8],
-    at: &mut u32,
-    length: &mut usize,
-) -> u32
-    ensures { λ r. ⌜ record { code = r; at = now (at .exit); length = now (length .exit); buffer = now (text .exit) } ≡ tableWritten (now (words .entry)) (lib.ListN.length (now (text .entry))) ⌝ }
+pub extern "C" fn table_write(words: &[u32], text: &mut [u8], at: &mut u32, size: &mut usize) -> u32
+    ensures { λ r. ⌜ record { code = r; at = now (at .exit); length = now (size .exit); buffer = now (text .exit) } ≡ tableWritten (now (words .entry)) (length (now (text .entry))) ⌝ }
 {
     let written = write_table(words, text);
     *at = written.at;
-    *length = written.length;
+    *size = written.length;
     written.code
 }

@@ -1,4 +1,5 @@
 use borrow.Author.Needs.{needs}
+use Rattle.text.proofs.ReadingLaws.{is-answered}
 use native.Mathlib.Omega.{arith}
 use mathlib.Core.Path.{sym}
 use lib.Seq.{length-take-le}
@@ -24,13 +25,13 @@ array-share-prefix-words : tie.Need-array-share-prefix-words
 array-share-prefix-words c =
     let answered : tie.After-answer = search in
     let was-read : tie.After-read-as = search in
-    words-within _ _ _ _ _ (rw (answered .answer .given .1) at (was-read .read-as .ensures))
+    words-within _ _ _ _ _ (rw (answered .answer .given .1) at (is-answered _ _ _ (was-read .read-as .ensures)))
 
 slice-aggregate-convert-new : tie.Need-slice-aggregate-convert-new
 slice-aggregate-convert-new c =
     let answered : tie.After-answer = search in
     let was-read : tie.After-read-as = search in
-    sym (length-take-le _ _ (words-within _ _ _ _ _ (rw (answered .answer .given .1) at (was-read .read-as .ensures))))
+    sym (length-take-le _ _ (words-within _ _ _ _ _ (rw (answered .answer .given .1) at (is-answered _ _ _ (was-read .read-as .ensures)))))
 
 convert-new-requires : tie.Need-convert-new-requires
 convert-new-requires c κs = search needs
@@ -56,7 +57,7 @@ returns c =
     let converted : tie.After-convert-new = search in
     let answered : tie.After-answer = search in
     let was-read : tie.After-read-as = search in
-    of-words _ _ _ _ _ (rw (answered .answer .given .1) at (was-read .read-as .ensures)) oldOfNew _ _ (converted .convert-new .ensures)
+    of-words _ _ _ _ _ (rw (answered .answer .given .1) at (is-answered _ _ _ (was-read .read-as .ensures))) oldOfNew _ _ (converted .convert-new .ensures)
 
 same-length-2 : tie.Need-same-length-2
 same-length-2 c = search needs
@@ -67,7 +68,7 @@ returns-2 c =
     let refused : tie.After-refuse = search in
     let answered : tie.After-answer2 = search in
     let was-read : tie.After-read-as = search in
-    of-refusal _ oldOfNew _ _ _ _ _ ((rw (answered .answer2 .given .1) at (was-read .read-as .ensures)) .0) (refused .refuse .ensures)
+    of-refusal _ oldOfNew _ _ _ _ _ ((rw (answered .answer2 .given .1) at (is-answered _ _ _ (was-read .read-as .ensures))) .0) (refused .refuse .ensures)
 
 same-length-3 : tie.Need-same-length-3
 same-length-3 c = search needs
@@ -78,7 +79,7 @@ returns-3 c =
     let told : tie.After-enum-told = search in
     let was-read : tie.After-read-as = search in
     let lent : tie.After-lent-words = search in
-    never-short _ oldOfNew _ _ _ _ _ (omega (arith, lent .lent-words .ensures)) (rw (told .enum-told .given .1) at (was-read .read-as .ensures))
+    never-short _ oldOfNew _ _ _ _ _ (omega (arith, lent .lent-words .ensures)) (rw (told .enum-told .given .1) at (is-answered _ _ _ (was-read .read-as .ensures)))
 
 pub new-to-old-spec : {M : Type 1} → statement M
 new-to-old-spec =

@@ -1,4 +1,5 @@
 use borrow.Author.Needs.{needs}
+use Rattle.text.proofs.ReadingLaws.{is-answered}
 use native.Mathlib.Omega.{arith}
 use mathlib.Core.Path.{sym}
 use lib.Seq.{length-take-le}
@@ -26,19 +27,19 @@ array-share-prefix-words : tie.Need-array-share-prefix-words
 array-share-prefix-words c =
     let answered : tie.After-answer = search in
     let was-read : tie.After-read-as = search in
-    words-within _ _ _ _ _ (rw (answered .answer .given .1) at (was-read .read-as .ensures))
+    words-within _ _ _ _ _ (rw (answered .answer .given .1) at (is-answered _ _ _ (was-read .read-as .ensures)))
 
 slice-aggregate-convert-old : tie.Need-slice-aggregate-convert-old
 slice-aggregate-convert-old c =
     let answered : tie.After-answer = search in
     let was-read : tie.After-read-as = search in
-    sym (length-take-le _ _ (words-within _ _ _ _ _ (rw (answered .answer .given .1) at (was-read .read-as .ensures))))
+    sym (length-take-le _ _ (words-within _ _ _ _ _ (rw (answered .answer .given .1) at (is-answered _ _ _ (was-read .read-as .ensures)))))
 
 convert-old-requires : tie.Need-convert-old-requires
 convert-old-requires c κs =
     let answered : tie.After-answer = search in
     let was-read : tie.After-read-as = search in
-    let h = rw (answered .answer .given .1) at (was-read .read-as .ensures) in
+    let h = rw (answered .answer .given .1) at (is-answered _ _ _ (was-read .read-as .ensures)) in
     rw (words-read _ _ _ _ _ h) (good-shaped Old _ _ (h .1 .good), words-few _ _ _ _ _ h)
 
 enum-known-answer-2 : tie.Need-enum-known-answer-2
@@ -62,7 +63,7 @@ returns c =
     let converted : tie.After-convert-old = search in
     let answered : tie.After-answer = search in
     let was-read : tie.After-read-as = search in
-    of-words _ _ _ _ _ (rw (answered .answer .given .1) at (was-read .read-as .ensures)) newOfOld _ _ (converted .convert-old .ensures)
+    of-words _ _ _ _ _ (rw (answered .answer .given .1) at (is-answered _ _ _ (was-read .read-as .ensures))) newOfOld _ _ (converted .convert-old .ensures)
 
 same-length-2 : tie.Need-same-length-2
 same-length-2 c = search needs
@@ -73,7 +74,7 @@ returns-2 c =
     let refused : tie.After-refuse = search in
     let answered : tie.After-answer2 = search in
     let was-read : tie.After-read-as = search in
-    of-refusal _ newOfOld _ _ _ _ _ ((rw (answered .answer2 .given .1) at (was-read .read-as .ensures)) .0) (refused .refuse .ensures)
+    of-refusal _ newOfOld _ _ _ _ _ ((rw (answered .answer2 .given .1) at (is-answered _ _ _ (was-read .read-as .ensures))) .0) (refused .refuse .ensures)
 
 same-length-3 : tie.Need-same-length-3
 same-length-3 c = search needs
@@ -84,7 +85,7 @@ returns-3 c =
     let told : tie.After-enum-told = search in
     let was-read : tie.After-read-as = search in
     let lent : tie.After-lent-words = search in
-    never-short _ newOfOld _ _ _ _ _ (omega (arith, lent .lent-words .ensures)) (rw (told .enum-told .given .1) at (was-read .read-as .ensures))
+    never-short _ newOfOld _ _ _ _ _ (omega (arith, lent .lent-words .ensures)) (rw (told .enum-told .given .1) at (is-answered _ _ _ (was-read .read-as .ensures)))
 
 pub old-to-new-spec : {M : Type 1} → statement M
 old-to-new-spec =

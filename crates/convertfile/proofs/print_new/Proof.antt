@@ -1,7 +1,8 @@
+use mathlib.Core.Path.{sym, ap}
 use borrow.Author.Needs.{needs}
-use Rattle.convert.proofs.CodeLaws.{new-fits, new-holding}
-use Rattle.convert.specs.Convert.{oldToNew}
-use Rattle.convertfile.proofs.PrintLaws.{answer-printed}
+use Rattle.convert.proofs.CodeLaws.{new-holding}
+use Rattle.text.specs.Placed.{printedPlacing}
+use Rattle.text.proofs.PrintsLaws.{as-printed}
 use Rattle.convertfile.proofs.print_new.Statement.{statement}
 use Rattle.convertfile.proofs.print_new.Tie as tie
 
@@ -20,7 +21,7 @@ returns : tie.Need-returns
 returns c =
     let printed : tie.After-print = search in
     let converted : tie.After-old-to-new = search in
-    answer-printed oldToNew 65542 _ _ (converted .old-to-new .ensures) (new-fits _ _) (rw (converted .old-to-new .kept .1 .0) at (printed .print .ensures))
+    as-printed (ap printedPlacing (sym (converted .old-to-new .ensures))) (rw (converted .old-to-new .kept .1 .0) at (printed .print .ensures))
 
 pub print-new-spec : {M : Type 1} → statement M
 print-new-spec = tie.close (tie.spec old-to-new-requires print-requires same-length returns)

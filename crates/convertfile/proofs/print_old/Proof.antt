@@ -1,7 +1,8 @@
+use mathlib.Core.Path.{sym, ap}
 use borrow.Author.Needs.{needs}
-use Rattle.convert.proofs.CodeLaws.{old-fits, old-holding}
-use Rattle.convert.specs.Convert.{newToOld}
-use Rattle.convertfile.proofs.PrintLaws.{answer-printed}
+use Rattle.convert.proofs.CodeLaws.{old-holding}
+use Rattle.text.specs.Placed.{printedPlacing}
+use Rattle.text.proofs.PrintsLaws.{as-printed}
 use Rattle.convertfile.proofs.print_old.Statement.{statement}
 use Rattle.convertfile.proofs.print_old.Tie as tie
 
@@ -20,7 +21,7 @@ returns : tie.Need-returns
 returns c =
     let printed : tie.After-print = search in
     let converted : tie.After-new-to-old = search in
-    answer-printed newToOld 32768 _ _ (converted .new-to-old .ensures) (old-fits _ _) (rw (converted .new-to-old .kept .1 .0) at (printed .print .ensures))
+    as-printed (ap printedPlacing (sym (converted .new-to-old .ensures))) (rw (converted .new-to-old .kept .1 .0) at (printed .print .ensures))
 
 pub print-old-spec : {M : Type 1} → statement M
 print-old-spec = tie.close (tie.spec new-to-old-requires print-requires same-length returns)

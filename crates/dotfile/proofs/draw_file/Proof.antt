@@ -1,4 +1,5 @@
 use borrow.Author.Needs.{needs}
+use Rattle.text.proofs.ReadingLaws.{is-answered}
 use Prim.Native.Nat.{ℕ}
 use native.Mathlib.Omega.{arith}
 use mathlib.Core.Path.{sym}
@@ -21,13 +22,13 @@ array-share-prefix-words : tie.Need-array-share-prefix-words
 array-share-prefix-words c =
     let answered : tie.After-answer = search in
     let was-read : tie.After-read = search in
-    words-within _ _ _ _ _ (rw (answered .answer .given .1) at (was-read .read .ensures))
+    words-within _ _ _ _ _ (rw (answered .answer .given .1) at (is-answered _ _ _ (was-read .read .ensures)))
 
 slice-aggregate-draw-words : tie.Need-slice-aggregate-draw-words
 slice-aggregate-draw-words c =
     let answered : tie.After-answer = search in
     let was-read : tie.After-read = search in
-    sym (length-take-le _ _ (words-within _ _ _ _ _ (rw (answered .answer .given .1) at (was-read .read .ensures))))
+    sym (length-take-le _ _ (words-within _ _ _ _ _ (rw (answered .answer .given .1) at (is-answered _ _ _ (was-read .read .ensures)))))
 
 draw-words-requires : tie.Need-draw-words-requires
 draw-words-requires c κs = search needs
@@ -39,7 +40,7 @@ write-refusal-requires : tie.Need-write-refusal-requires
 write-refusal-requires c κs =
     let answered : tie.After-answer2 = search in
     let was-read : tie.After-read = search in
-    refusal-some ((rw (answered .answer2 .given .1) at (was-read .read .ensures)) .0)
+    refusal-some ((rw (answered .answer2 .given .1) at (is-answered _ _ _ (was-read .read .ensures))) .0)
 
 enum-told : tie.Need-enum-told
 enum-told c = search needs
@@ -52,7 +53,7 @@ returns c =
     let drew : tie.After-draw-words = search in
     let answered : tie.After-answer = search in
     let was-read : tie.After-read = search in
-    words-printed _ _ _ _ _ _ _ _ _ _ (rw (answered .answer .given .1) at (was-read .read .ensures)) (drew .draw-words .ensures)
+    words-printed _ _ _ _ _ _ _ _ _ _ _ (rw (answered .answer .given .1) at (is-answered _ _ _ (was-read .read .ensures))) (drew .draw-words .ensures)
 
 same-length-2 : tie.Need-same-length-2
 same-length-2 c = search needs
@@ -62,12 +63,12 @@ returns-2 c =
     let written : tie.After-write-refusal = search in
     let answered : tie.After-answer2 = search in
     let was-read : tie.After-read = search in
-    refusal-printed _ _ _ _ _ _ _ _ _ ((rw (answered .answer2 .given .1) at (was-read .read .ensures)) .0) (written .write-refusal .ensures)
+    refusal-printed _ _ _ _ _ _ _ _ _ _ ((rw (answered .answer2 .given .1) at (is-answered _ _ _ (was-read .read .ensures))) .0) (written .write-refusal .ensures)
 
 returns-3 : tie.Need-returns-3
 returns-3 c =
     let was-read : tie.After-read = search in
-    never-short _ _ _ _ _ _ _ _ _ (omega (arith, length-replicate {A = ℕ} 16384 0)) (rw (c .enum-told .given .1) at (was-read .read .ensures))
+    never-short _ _ _ _ _ _ _ _ _ _ (omega (arith, length-replicate {A = ℕ} 16384 0)) (rw (c .enum-told .given .1) at (is-answered _ _ _ (was-read .read .ensures)))
 
 pub draw-file-spec : {M : Type 1} → statement M
 draw-file-spec =

@@ -168,7 +168,7 @@ returns-5 c =
     let read : tie.After-goto-at = search in
     let start : tie.Start = search in
     let ends = read .goto-at .ensures in
-    names-first (c .first5 .ensures) (rw (ends .is)) (omega arith) refl (omega (arith, ends .named, start .pre .1))
+    names-first (c .first5 .ensures) (rw (ends .is)) (rw (ends .is)) (omega arith) refl (omega (arith, ends .named, start .pre .1))
 
 returns-6 : tie.Need-returns-6
 unfolding namedBy
@@ -176,7 +176,7 @@ returns-6 c =
     let read : tie.After-if-at = search in
     let start : tie.Start = search in
     let ends = read .if-at .ensures in
-    names-first (c .first6 .ensures) (rw (ends .is)) (omega arith) refl (omega (arith, ends .named, start .pre .1))
+    names-first (c .first6 .ensures) (rw (ends .is)) (rw (ends .is)) (omega arith) refl (omega (arith, ends .named, start .pre .1))
 
 returns-7 : tie.Need-returns-7
 unfolding namedBy
@@ -184,7 +184,7 @@ returns-7 c =
     let read : tie.After-branch-at = search in
     let start : tie.Start = search in
     let ends = read .branch-at .ensures in
-    names-first (c .first7 .ensures) (rw (ends .is)) (omega arith) refl (omega (arith, ends .named, start .pre .1))
+    names-first (c .first7 .ensures) (rw (ends .is)) (rw (ends .is)) (omega arith) refl (omega (arith, ends .named, start .pre .1))
 
 returns-8 : tie.Need-returns-8
 returns-8 c =
@@ -198,7 +198,7 @@ returns-9 c =
     let read : tie.After-do-while-at = search in
     let start : tie.Start = search in
     let ends = read .do-while-at .ensures in
-    names-first (c .first8 .ensures) (rw (ends .is)) (omega arith) refl (omega (arith, ends .named, start .pre .1))
+    names-first (c .first8 .ensures) (rw (ends .is)) (rw (ends .is)) (omega arith) refl (omega (arith, ends .named, start .pre .1))
 
 returns-10 : tie.Need-returns-10
 unfolding namedBy
@@ -206,7 +206,7 @@ returns-10 c =
     let read : tie.After-while-at = search in
     let start : tie.Start = search in
     let ends = read .while-at .ensures in
-    names-first (c .first9 .ensures) (rw (ends .is)) (omega arith) refl (omega (arith, ends .named, start .pre .1))
+    names-first (c .first9 .ensures) (rw (ends .is)) (rw (ends .is)) (omega arith) refl (omega (arith, ends .named, start .pre .1))
 
 returns-11 : tie.Need-returns-11
 returns-11 c =
@@ -220,7 +220,7 @@ returns-12 c =
     let read : tie.After-for-of-at = search in
     let start : tie.Start = search in
     let ends = read .for-of-at .ensures in
-    names-first (c .first10 .ensures) (rw (ends .is)) (omega arith) refl (omega (arith, ends .named, start .pre .1))
+    names-first (c .first10 .ensures) (rw (ends .is)) (rw (ends .is)) (omega arith) refl (omega (arith, ends .named, start .pre .1))
 
 returns-13 : tie.Need-returns-13
 unfolding namedBy
@@ -228,7 +228,7 @@ returns-13 c =
     let read : tie.After-for-in-at = search in
     let start : tie.Start = search in
     let ends = read .for-in-at .ensures in
-    names-first (c .first11 .ensures) (rw (ends .is)) (omega arith) refl (omega (arith, ends .named, start .pre .1))
+    names-first (c .first11 .ensures) (rw (ends .is)) (rw (ends .is)) (omega arith) refl (omega (arith, ends .named, start .pre .1))
 
 returns-14 : tie.Need-returns-14
 unfolding namedBy
@@ -236,7 +236,7 @@ returns-14 c =
     let read : tie.After-logical-at = search in
     let start : tie.Start = search in
     let ends = read .logical-at .ensures in
-    names-first (c .first12 .ensures) (rw (ends .is)) (omega arith) refl (omega (arith, ends .named, start .pre .1))
+    names-first (c .first12 .ensures) (rw (ends .is)) (rw (ends .is)) (omega arith) refl (omega (arith, ends .named, start .pre .1))
 
 returns-15 : tie.Need-returns-15
 unfolding namedBy
@@ -244,7 +244,7 @@ returns-15 c =
     let read : tie.After-ternary-at = search in
     let start : tie.Start = search in
     let ends = read .ternary-at .ensures in
-    names-first (c .first13 .ensures) (rw (ends .is)) (omega arith) refl (omega (arith, ends .named, start .pre .1))
+    names-first (c .first13 .ensures) (rw (ends .is)) (rw (ends .is)) (omega arith) refl (omega (arith, ends .named, start .pre .1))
 
 returns-16 : tie.Need-returns-16
 unfolding namedBy
@@ -252,7 +252,7 @@ returns-16 c =
     let read : tie.After-optional-at = search in
     let start : tie.Start = search in
     let ends = read .optional-at .ensures in
-    names-first (c .first14 .ensures) (rw (ends .is)) (omega arith) refl (omega (arith, ends .named, start .pre .1))
+    names-first (c .first14 .ensures) (rw (ends .is)) (rw (ends .is)) (omega arith) refl (omega (arith, ends .named, start .pre .1))
 
 returns-17 : tie.Need-returns-17
 unfolding namedBy
@@ -260,7 +260,7 @@ returns-17 c =
     let read : tie.After-label-at = search in
     let start : tie.Start = search in
     let ends = read .label-at .ensures in
-    names-first (c .first15 .ensures) (rw (ends .is)) (omega arith) refl (omega (arith, ends .named, start .pre .1))
+    names-first (c .first15 .ensures) (rw (ends .is)) (rw (ends .is)) (omega arith) refl (omega (arith, ends .named, start .pre .1))
 
 returns-18 : tie.Need-returns-18
 unfolding namedBy
@@ -268,7 +268,7 @@ returns-18 c =
     let read : tie.After-sequence-at = search in
     let start : tie.Start = search in
     let ends = read .sequence-at .ensures in
-    names-first (c .first16 .ensures) (rw (ends .is)) (omega arith) refl (omega (arith, ends .named, start .pre .1))
+    names-first (c .first16 .ensures) (rw (ends .is)) (rw (ends .is)) (omega arith) refl (omega (arith, ends .named, start .pre .1))
 
 returns-19 : tie.Need-returns-19
 unfolding namedBy
@@ -276,7 +276,7 @@ returns-19 c =
     let read : tie.After-maybe-throw-at = search in
     let start : tie.Start = search in
     let ends = read .maybe-throw-at .ensures in
-    names-first (c .first17 .ensures) (rw (ends .is)) (omega arith) refl (omega (arith, ends .named, start .pre .1))
+    names-first (c .first17 .ensures) (rw (ends .is)) (rw (ends .is)) (omega arith) refl (omega (arith, ends .named, start .pre .1))
 
 returns-20 : tie.Need-returns-20
 unfolding namedBy
@@ -284,7 +284,7 @@ returns-20 c =
     let read : tie.After-try-at = search in
     let start : tie.Start = search in
     let ends = read .try-at .ensures in
-    names-first (c .first18 .ensures) (rw (ends .is)) (omega arith) refl (omega (arith, ends .named, start .pre .1))
+    names-first (c .first18 .ensures) (rw (ends .is)) (rw (ends .is)) (omega arith) refl (omega (arith, ends .named, start .pre .1))
 
 returns-21 : tie.Need-returns-21
 unfolding namedBy
@@ -292,7 +292,7 @@ returns-21 c =
     let read : tie.After-scope-at = search in
     let start : tie.Start = search in
     let ends = read .scope-at .ensures in
-    names-first (c .first19 .ensures) (rw (ends .is)) (omega arith) refl (omega (arith, ends .named, start .pre .1))
+    names-first (c .first19 .ensures) (rw (ends .is)) (rw (ends .is)) (omega arith) refl (omega (arith, ends .named, start .pre .1))
 
 returns-22 : tie.Need-returns-22
 unfolding namedBy
@@ -300,7 +300,7 @@ returns-22 c =
     let read : tie.After-scope-at2 = search in
     let start : tie.Start = search in
     let ends = read .scope-at2 .ensures in
-    names-first (c .first20 .ensures) (rw (ends .is)) (omega arith) refl (omega (arith, ends .named, start .pre .1))
+    names-first (c .first20 .ensures) (rw (ends .is)) (rw (ends .is)) (omega arith) refl (omega (arith, ends .named, start .pre .1))
 
 returns-23 : tie.Need-returns-23
 returns-23 c =

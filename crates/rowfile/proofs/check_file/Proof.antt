@@ -1,4 +1,7 @@
 -- `rowfile::check_file` meets its contract.
+use mathlib.Core.Path.{sym, ap}
+use Rattle.text.proofs.PrintsLaws.{as-printed}
+use Rattle.rowfile.specs.Prints.{printedCheck}
 use borrow.Author.Needs.{needs}
 use Rattle.rowfile.proofs.check_file.Statement.{statement}
 use Rattle.rowfile.proofs.check_file.Tie as tie
@@ -16,7 +19,7 @@ returns : tie.Need-returns
 returns c =
     let written : tie.After-write-check = search in
     let checked : tie.After-check-rows = search in
-    rw (← (checked .check-rows .ensures)) (written .write-check .ensures)
+    as-printed (ap printedCheck (sym (checked .check-rows .ensures))) (written .write-check .ensures)
 
 pub check-file-spec : {M : Type 1} → statement M
 check-file-spec = tie.close (tie.spec check-rows-requires write-check-requires same-length returns)

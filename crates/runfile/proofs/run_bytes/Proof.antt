@@ -17,7 +17,7 @@ returns : tie.Need-returns
 returns c =
     let made : tie.After-refuse = search in
     let over : tie.Then1 = search in
-    file-long (over .if1 .taken) (made .refuse .ensures)
+    file-long _ _ (over .if1 .taken) (made .refuse .ensures)
 
 answers-at-requires : tie.Need-answers-at-requires
 answers-at-requires c κs = search needs
@@ -64,7 +64,7 @@ returns-2 c =
     let read : tie.After-read-table = search in
     let begin : tie.After-answers-at = search in
     let short : tie.Else1 = search in
-    rows-refused (short .if1 .left) (begin .answers-at .ensures) (read .read-table .ensures) (out .if2 .taken) (made .refuse2 .ensures)
+    rows-refused _ _ (short .if1 .left) (begin .answers-at .ensures) (read .read-table .ensures) (out .if2 .taken) (made .refuse2 .ensures)
 
 lent-answers-requires : tie.Need-lent-answers-requires
 lent-answers-requires c κs = search needs
@@ -109,7 +109,7 @@ returns-3 c =
     let begin : tie.After-answers-at = search in
     let short : tie.Else1 = search in
     let start : tie.Start = search in
-    answers-refused (short .if1 .left) (begin .answers-at .ensures) (read .read-table .ensures) (good .if2 .left)
+    answers-refused _ _ (short .if1 .left) (begin .answers-at .ensures) (read .read-table .ensures) (good .if2 .left)
     (part-is (start .args .file .now) (begin .answers-at .result)) (given .read-table2 .ensures) (out .if3 .taken) (made .refuse3 .ensures)
 
 slice-aggregate-run-words : tie.Need-slice-aggregate-run-words
@@ -146,7 +146,7 @@ returns-4 c =
     let short : tie.Else1 = search in
     let start : tie.Start = search in
     let few = part-few (start .args .file .now) (begin .answers-at .result) in
-    file-runs (short .if1 .left) (begin .answers-at .ensures) (read .read-table .ensures) (good .if2 .left)
+    file-runs _ _ (short .if1 .left) (begin .answers-at .ensures) (read .read-table .ensures) (good .if2 .left)
     (part-is (start .args .file .now) (begin .answers-at .result)) (given .read-table2 .ensures) (whole .if3 .left)
     (omega (arith, given .read-table2 .ensures .few, given .read-table2 .kept .1 .1 .1 .0, lent .lent-answers .ensures, few, short .if1 .left)) (ran .run-words .ensures)
 

@@ -1,7 +1,7 @@
 -- `runfile::run_file` meets its contract.
 use native.Mathlib.Omega.{arith}
 use mathlib.Core.Path.{sym}
-use Rattle.runfile.proofs.PrintLaws.{number-within, file-run}
+use Rattle.runfile.proofs.PrintLaws.{number-within, run-printed}
 use borrow.Author.Needs.{needs}
 use Rattle.runfile.proofs.run_file.Statement.{statement}
 use Rattle.runfile.proofs.run_file.Tie as tie
@@ -19,7 +19,7 @@ cast-number : tie.Need-cast-number
 cast-number c =
     let ran : tie.After-run-bytes = search in
     let lent : tie.After-lent-rows = search in
-    let few = number-within (ran .run-bytes .ensures) in
+    let few = number-within _ _ (ran .run-bytes .ensures) in
     omega (arith, few, ran .run-bytes .kept .1 .0, lent .lent-rows .ensures)
 
 slice-aggregate-write-run : tie.Need-slice-aggregate-write-run
@@ -29,7 +29,7 @@ write-run-requires : tie.Need-write-run-requires
 write-run-requires c κs =
     let ran : tie.After-run-bytes = search in
     let lent : tie.After-lent-rows = search in
-    let few = number-within (ran .run-bytes .ensures) in
+    let few = number-within _ _ (ran .run-bytes .ensures) in
     omega (arith, few, ran .run-bytes .kept .1 .0, lent .lent-rows .ensures)
 
 same-length : tie.Need-same-length
@@ -40,7 +40,7 @@ returns c =
     let written : tie.After-write-run = search in
     let ran : tie.After-run-bytes = search in
     let lent : tie.After-lent-rows = search in
-    file-run (sym (lent .lent-rows .ensures)) (ran .run-bytes .ensures) (written .write-run .ensures)
+    run-printed _ (sym (lent .lent-rows .ensures)) (ran .run-bytes .ensures) (written .write-run .ensures)
 
 pub run-file-spec : {M : Type 1} → statement M
 run-file-spec =

@@ -1,5 +1,4 @@
 -- `runfile::run_words` meets its contract.
-use Rattle.running.proofs.OneOutcome.{is-given}
 use mathlib.Core.Path.{sym}
 use lib.Seq.{length-take-le}
 use Rattle.runfile.proofs.FileLaws.{words-too-many, words-run}
@@ -18,7 +17,7 @@ returns c =
     let made : tie.After-refuse = search in
     let many : tie.Then1 = search in
     let start : tie.Start = search in
-    λ list h. words-too-many h (start .pre) (many .if1 .taken) (made .refuse .ensures)
+    λ list h. words-too-many h _ _ (start .pre) (many .if1 .taken) (made .refuse .ensures)
 
 slice-aggregate-run-tree : tie.Need-slice-aggregate-run-tree
 slice-aggregate-run-tree c =
@@ -35,7 +34,7 @@ returns-2 : tie.Need-returns-2
 returns-2 c =
     let ran : tie.After-run-tree = search in
     let fits : tie.Else1 = search in
-    λ list h. words-run h (fits .if1 .left) (is-given _ _ _ (ran .run-tree .ensures))
+    λ list h. words-run h _ _ (fits .if1 .left) (ran .run-tree .ensures)
 
 pub run-words-spec : {M : Type 1} → statement M
 run-words-spec =

@@ -1,10 +1,9 @@
 use native.Mathlib.Omega.{arith}
 use mathlib.Core.Path.{sym}
 use lib.Seq.{length-take-le}
-use Rattle.text.proofs.AnswerLaws.{room-enough}
-use Rattle.text.proofs.PrintsLaws.{words-within}
+use Rattle.text.proofs.PrintsLaws.{words-within, words-printed, refusal-printed, never-short}
 use borrow.Author.Needs.{needs}
-use Rattle.sizefile.proofs.SizeLaws.{words-sized, refusal-sized}
+use Rattle.text.proofs.ReadingLaws.{is-answered}
 use Rattle.sizefile.proofs.size_file.Statement.{statement}
 use Rattle.sizefile.proofs.size_file.Tie as tie
 
@@ -24,13 +23,13 @@ array-share-prefix-words : tie.Need-array-share-prefix-words
 array-share-prefix-words c =
     let answered : tie.After-answer = search in
     let was-read : tie.After-read = search in
-    words-within _ _ _ _ _ (rw (answered .answer .given .1) at (was-read .read .ensures))
+    words-within _ _ _ _ _ (rw (answered .answer .given .1) at (is-answered _ _ _ (was-read .read .ensures)))
 
 slice-aggregate-size-words : tie.Need-slice-aggregate-size-words
 slice-aggregate-size-words c =
     let answered : tie.After-answer = search in
     let was-read : tie.After-read = search in
-    sym (length-take-le _ _ (words-within _ _ _ _ _ (rw (answered .answer .given .1) at (was-read .read .ensures))))
+    sym (length-take-le _ _ (words-within _ _ _ _ _ (rw (answered .answer .given .1) at (is-answered _ _ _ (was-read .read .ensures)))))
 
 size-words-requires : tie.Need-size-words-requires
 size-words-requires c κs = search needs
@@ -52,7 +51,7 @@ returns c =
     let sized : tie.After-size-words = search in
     let answered : tie.After-answer = search in
     let was-read : tie.After-read = search in
-    words-sized _ _ _ _ _ _ _ (rw (answered .answer .given .1) at (was-read .read .ensures)) (sized .size-words .ensures)
+    words-printed _ _ _ _ _ _ _ _ _ _ _ (rw (answered .answer .given .1) at (is-answered _ _ _ (was-read .read .ensures))) (sized .size-words .ensures)
 
 same-length-2 : tie.Need-same-length-2
 same-length-2 c = search needs
@@ -62,13 +61,13 @@ returns-2 c =
     let written : tie.After-write-size = search in
     let answered2 : tie.After-answer2 = search in
     let was-read : tie.After-read = search in
-    refusal-sized _ _ _ _ _ _ ((rw (answered2 .answer2 .given .1) at (was-read .read .ensures)) .0) (written .write-size .ensures)
+    refusal-printed _ _ _ _ _ _ _ _ _ _ ((rw (answered2 .answer2 .given .1) at (is-answered _ _ _ (was-read .read .ensures))) .0) (written .write-size .ensures)
 
 returns-3 : tie.Need-returns-3
 returns-3 c =
     let was-read : tie.After-read = search in
     let lent : tie.After-lent-words = search in
-    absurd (room-enough _ _ _ _ (omega (arith, lent .lent-words .ensures)) (rw (c .enum-told .given .1) at (was-read .read .ensures)))
+    never-short _ _ _ _ _ _ _ _ _ _ (omega (arith, lent .lent-words .ensures)) (rw (c .enum-told .given .1) at (is-answered _ _ _ (was-read .read .ensures)))
 
 pub size-file-spec : {M : Type 1} → statement M
 size-file-spec =

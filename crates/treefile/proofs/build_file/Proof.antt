@@ -3,6 +3,7 @@ use mathlib.Core.Path.{sym}
 use lib.Seq.{length-take-le}
 use Rattle.text.proofs.PrintsLaws.{words-within, refusal-some, refusal-lines, written-as, words-printed, refusal-printed, never-short}
 use borrow.Author.Needs.{needs}
+use Rattle.text.proofs.ReadingLaws.{is-answered}
 use Rattle.treefile.proofs.build_file.Statement.{statement}
 use Rattle.treefile.proofs.build_file.Tie as tie
 
@@ -22,13 +23,13 @@ array-share-prefix-words : tie.Need-array-share-prefix-words
 array-share-prefix-words c =
     let at-answer : tie.After-answer = search in
     let at-read : tie.After-read = search in
-    words-within _ _ _ _ _ (rw (at-answer .answer .given .1) at (at-read .read .ensures))
+    words-within _ _ _ _ _ (rw (at-answer .answer .given .1) at (is-answered _ _ _ (at-read .read .ensures)))
 
 slice-aggregate-build-words : tie.Need-slice-aggregate-build-words
 slice-aggregate-build-words c =
     let at-answer : tie.After-answer = search in
     let at-read : tie.After-read = search in
-    sym (length-take-le _ _ (words-within _ _ _ _ _ (rw (at-answer .answer .given .1) at (at-read .read .ensures))))
+    sym (length-take-le _ _ (words-within _ _ _ _ _ (rw (at-answer .answer .given .1) at (is-answered _ _ _ (at-read .read .ensures)))))
 
 build-words-requires : tie.Need-build-words-requires
 build-words-requires c κs = search needs
@@ -53,7 +54,7 @@ returns c =
     let at-build-words : tie.After-build-words = search in
     let at-answer : tie.After-answer = search in
     let at-read : tie.After-read = search in
-    words-printed _ _ _ _ _ _ _ _ _ _ (rw (at-answer .answer .given .1) at (at-read .read .ensures)) (at-build-words .build-words .ensures)
+    words-printed _ _ _ _ _ _ _ _ _ _ _ (rw (at-answer .answer .given .1) at (is-answered _ _ _ (at-read .read .ensures))) (at-build-words .build-words .ensures)
 
 same-length-2 : tie.Need-same-length-2
 same-length-2 c = search needs
@@ -63,14 +64,14 @@ returns-2 c =
     let at-write-result : tie.After-write-result = search in
     let at-answer2 : tie.After-answer2 = search in
     let at-read : tie.After-read = search in
-    let refused = (rw (at-answer2 .answer2 .given .1) at (at-read .read .ensures)) .0 in
-    refusal-printed _ _ _ _ _ _ _ _ _ refused (written-as (refusal-lines _ _ 0 0 _ _ (refusal-some refused)) (omega arith) (at-write-result .write-result .ensures))
+    let refused = (rw (at-answer2 .answer2 .given .1) at (is-answered _ _ _ (at-read .read .ensures))) .0 in
+    refusal-printed _ _ _ _ _ _ _ _ _ _ refused (written-as (refusal-lines _ _ 0 0 _ _ (refusal-some refused)) (omega arith) (at-write-result .write-result .ensures))
 
 returns-3 : tie.Need-returns-3
 returns-3 c =
     let at-read : tie.After-read = search in
     let at-words : tie.After-lent-words = search in
-    never-short _ _ _ _ _ _ _ _ _ (omega (arith, at-words .lent-words .ensures)) (rw (c .enum-told .given .1) at (at-read .read .ensures))
+    never-short _ _ _ _ _ _ _ _ _ _ (omega (arith, at-words .lent-words .ensures)) (rw (c .enum-told .given .1) at (is-answered _ _ _ (at-read .read .ensures)))
 
 pub build-file-spec : {M : Type 1} → statement M
 build-file-spec =

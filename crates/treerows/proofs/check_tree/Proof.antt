@@ -1,5 +1,5 @@
 -- `treerows::check_tree` meets its contract.
-use Rattle.treerows.proofs.Simulation.{tree-answered}
+use Rattle.treerows.proofs.Simulation.{tree-checked}
 use borrow.Author.Needs.{needs}
 use Rattle.treerows.proofs.check_tree.Statement.{statement}
 use Rattle.treerows.proofs.check_tree.Tie as tie
@@ -8,7 +8,7 @@ read-tree-requires : tie.Need-read-tree-requires
 read-tree-requires c κs = search needs
 
 returns : tie.Need-returns
-returns c = tree-answered _ (c .read-tree .ensures)
+returns c = tree-checked _ (c .read-tree .ensures)
 
 pub check-tree-spec : {M : Type 1} → statement M
 check-tree-spec = tie.close (tie.spec read-tree-requires returns)

@@ -8,8 +8,8 @@ use native.Mathlib.Nat.{add-zero, add-assoc}
 use Rattle.text.specs.Form.{Form, literal}
 use Rattle.text.specs.Steps.{Reached}
 use Rattle.text.proofs.PartLaws.{names-done, name-taken, name-other, name-missing, names-refused, names-at}
-use Rattle.text.proofs.table.read_names.Statement.{statement}
-use Rattle.text.proofs.table.read_names.Tie as tie
+use Rattle.text.proofs.parts.read_names.Statement.{statement}
+use Rattle.text.proofs.parts.read_names.Tie as tie
 
 -- the first i names were found
 record Run (file names : List ℕ) (start i : ℕ) : Type 0 where

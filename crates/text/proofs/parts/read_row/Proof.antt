@@ -10,8 +10,8 @@ use Rattle.text.specs.Form.{Form, row}
 use Rattle.text.specs.Steps.{At}
 use Rattle.text.proofs.LentLaws.{holds-put}
 use Rattle.text.proofs.PartLaws.{row-open, row-done, row-refused, row-at}
-use Rattle.text.proofs.table.read_row.Statement.{statement}
-use Rattle.text.proofs.table.read_row.Tie as tie
+use Rattle.text.proofs.parts.read_row.Statement.{statement}
+use Rattle.text.proofs.parts.read_row.Tie as tie
 
 -- the first i numbers were read
 record Run (file : List ℕ) (width : ℕ) (words₀ : List ℕ) (at₀ count₀ : ℕ) (words : List ℕ) (at count i : ℕ) : Type 0 where

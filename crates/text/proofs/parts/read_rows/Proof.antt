@@ -9,8 +9,8 @@ use Rattle.text.specs.Form.{Form, rows}
 use Rattle.text.specs.Steps.{Near, At, cursorAt}
 use Rattle.text.proofs.StepLaws.{true-false}
 use Rattle.text.proofs.PartLaws.{rows-open, rows-done, part-at}
-use Rattle.text.proofs.table.read_rows.Statement.{statement}
-use Rattle.text.proofs.table.read_rows.Tie as tie
+use Rattle.text.proofs.parts.read_rows.Statement.{statement}
+use Rattle.text.proofs.parts.read_rows.Tie as tie
 
 -- the first i lines were read
 record Run (file : List ℕ) (width lines : ℕ) (words₀ : List ℕ) (at₀ count₀ : ℕ) (words : List ℕ) (at count i : ℕ) : Type 0 where

@@ -1,6 +1,6 @@
 use borrow.Author.Needs.{needs}
-use Rattle.text.proofs.table.read_instructions.Statement.{statement}
-use Rattle.text.proofs.table.read_instructions.Tie as tie
+use Rattle.text.proofs.parts.read_instructions.Statement.{statement}
+use Rattle.text.proofs.parts.read_instructions.Tie as tie
 
 enum-told : tie.Need-enum-told
 enum-told c = search needs

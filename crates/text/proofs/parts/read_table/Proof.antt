@@ -1,8 +1,8 @@
 use borrow.Author.Needs.{needs}
 use Rattle.text.specs.Form.{table}
 use Rattle.text.proofs.PartLaws.{names-part, part-then, part-stops}
-use Rattle.text.proofs.table.read_table.Statement.{statement}
-use Rattle.text.proofs.table.read_table.Tie as tie
+use Rattle.text.proofs.parts.read_table.Statement.{statement}
+use Rattle.text.proofs.parts.read_table.Tie as tie
 
 read-names-requires : tie.Need-read-names-requires
 read-names-requires c κs = search needs

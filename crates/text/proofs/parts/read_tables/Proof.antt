@@ -3,8 +3,8 @@ use native.Mathlib.Omega.{arith}
 use mathlib.Core.Path.{_∙_}
 use Rattle.text.specs.Form.{tables}
 use Rattle.text.proofs.PartLaws.{part-then, part-stops}
-use Rattle.text.proofs.table.read_tables.Statement.{statement}
-use Rattle.text.proofs.table.read_tables.Tie as tie
+use Rattle.text.proofs.parts.read_tables.Statement.{statement}
+use Rattle.text.proofs.parts.read_tables.Tie as tie
 
 shared-slice-read-read-blocks : tie.Need-shared-slice-read-read-blocks
 shared-slice-read-read-blocks c = search needs

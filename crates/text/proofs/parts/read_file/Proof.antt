@@ -5,8 +5,8 @@ use Prim.Native.Nat.{_-_}
 use Rattle.text.specs.Form.{finished}
 use Rattle.text.proofs.StepLaws.{finished-good, finished-more, true-false}
 use Rattle.text.proofs.PartLaws.{stored-too}
-use Rattle.text.proofs.table.read_file.Statement.{statement}
-use Rattle.text.proofs.table.read_file.Tie as tie
+use Rattle.text.proofs.parts.read_file.Statement.{statement}
+use Rattle.text.proofs.parts.read_file.Tie as tie
 
 slice-aggregate-read-head : tie.Need-slice-aggregate-read-head
 slice-aggregate-read-head c = search needs

@@ -3,8 +3,8 @@ use native.Mathlib.Omega.{arith}
 use mathlib.Core.Path.{_∙_}
 use Prim.Native.Nat.{_-_}
 use Rattle.text.proofs.PartLaws.{head-names, head-row}
-use Rattle.text.proofs.table.read_head.Statement.{statement}
-use Rattle.text.proofs.table.read_head.Tie as tie
+use Rattle.text.proofs.parts.read_head.Statement.{statement}
+use Rattle.text.proofs.parts.read_head.Tie as tie
 
 cursor-at-requires : tie.Need-cursor-at-requires
 cursor-at-requires c κs = search needs
