@@ -1,1 +1,4 @@
+pub mod Answered
+pub mod Call
 pub mod Parted
+pub mod Stops
