@@ -50,9 +50,9 @@ use Rattle.writer.proofs.GoodLaws.{text-good, good-is-text}
 use Rattle.writer.proofs.TextLaws.{sized-shaped}
 use Rattle.convert.specs.OldCheck.{oldChecked}
 use Rattle.convert.specs.Widen.{widened}
-use Rattle.convert.specs.Convert.{Converted, newOfOld, oldOfNew, oldToNew, newToOld, spansVerdict, oldText}
+use Rattle.convert.specs.Convert.{Converted, newOfOld, oldOfNew, oldToNew, newToOld, spansVerdict, oldText, textOfAnswer, wholly}
 use Rattle.convert.proofs.OneAnswer.{converted-so, converted-one}
-use Rattle.convert.proofs.RoundTrip.{textOfAnswer, wholly, new-wholly, old-wholly}
+use Rattle.convert.proofs.RoundTrip.{new-wholly, old-wholly}
 use Rattle.convert.proofs.Trips.{old-again, new-again}
 use Rattle.theorems.specs.Stops.{Stops}
 use Rattle.theorems.proofs.RunReasons.{tree-stops, only-before-running}
