@@ -1,3 +1,4 @@
+pub mod Calls
 pub mod Demands
 pub mod Language
 pub mod Parting
