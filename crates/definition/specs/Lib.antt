@@ -1,10 +1,12 @@
 pub mod Tree
 pub mod Index
 pub mod Reading
+pub mod Reader
 pub mod Result
 pub mod Context
 pub mod Around
 pub mod Named
+pub mod Crossed
 pub mod Survey
 pub mod Value
 pub mod Statement
@@ -18,6 +20,7 @@ pub mod TreeRun
 pub mod Plain
 pub mod PlainLoops
 pub mod Machine
+pub mod Reached
 pub mod Framed
 pub mod RunLaw
 pub mod LoopLaw
