@@ -30,6 +30,7 @@ use Rattle.writer.proofs.TextLaws.{sized-shaped}
 use Rattle.writer.proofs.GoodLaws.{old-narrower, tables-formed, text-good, tables-cut, tables-shaped, words-cut, good-shaped, good-is-text, good-narrow, narrow-append, from-cases}
 use Rattle.convert.specs.OldCheck.{oldChecked}
 use Rattle.convert.specs.Widen.{doubled, doubledRows, widened}
+use Rattle.convert.specs.Convert.{wholly, textOfAnswer}
 use Rattle.convert.specs.Convert.{endsAgree, spansVerdict, newOfOld, oldText, oldOfNew, ofReading, oldToNew, newToOld}
 use Rattle.convert.specs.Parts.{oldPlace, moved}
 use Rattle.convert.proofs.SpanLaws.{ends-more}
@@ -233,14 +234,6 @@ moved-back back (refused code at) e = absurd (let z : _≡_ {A = ℕ} 0 1 = cc i
 accepted-moved : (back : ℕ → ℕ) → moved back accepted ≡ accepted
 unfolding moved
 accepted-moved back = refl
-
--- a whole text in a buffer, accepted
-abbrev pub wholly : (lent : ℕ) → (text : List ℕ) → Placing
-wholly lent text = record { code = 0; at = 0; length = length text; buffer = padded lent text }
-
--- the text of an answer
-abbrev pub textOfAnswer : Placing → List ℕ
-textOfAnswer answer = take (answer .length) (answer .buffer)
 
 wholly-text : (lent : ℕ) (text : List ℕ) → textOfAnswer (wholly lent text) ≡ text
 wholly-text lent text = take-at text _ (length text) refl

@@ -14,7 +14,8 @@ use Rattle.writer.specs.Write.{tableText}
 use Rattle.writer.proofs.GoodLaws.{good-shaped}
 use Rattle.convert.specs.Widen.{widened}
 use Rattle.convert.specs.Convert.{newOfOld, oldOfNew, ofReading, oldToNew, newToOld}
-use Rattle.convert.proofs.RoundTrip.{textOfAnswer, wholly, new-wholly, old-new-old, new-old-new}
+use Rattle.convert.proofs.RoundTrip.{new-wholly, old-new-old, new-old-new}
+use Rattle.convert.specs.Convert.{textOfAnswer, wholly}
 use Rattle.convert.proofs.CodeLaws.{new-zero, old-zero}
 
 refused-zero : (of : List ℕ → ℕ → Placing) (lent code at : ℕ) → ofReading of lent (refuses code at) .code ≡ 0 → code ≡ 0

@@ -4,12 +4,14 @@ use mathlib.Core.Path.{_≡_}
 use mathlib.Core.Logic.{_⊎_}
 use mathlib.Core.List.{List}
 use mathlib.Core.Bool.{true, false}
+use lib.ListN.{length, take}
 use lib.Dec.{eqb}
 use Rattle.table.specs.Words.{word, blockCount, instructionCount, blocksBegin, instructionsBegin}
 use Rattle.table.specs.Check.{Verdict, accepted, refused, andThen, checked}
 use Rattle.text.specs.Layout.{Layout, layout}
 use Rattle.text.specs.Answer.{Accepted, Refusal}
 use Rattle.text.specs.Reading.{Reading, reads, refuses, reading}
+use Rattle.text.specs.Lent.{padded}
 use Rattle.text.specs.Placed.{Placing, refusal}
 use Rattle.text.specs.declared.version.Version.the-variants.{Old, New}
 use Rattle.writer.specs.Cut.{textIn}
@@ -65,3 +67,13 @@ pub record OfRefusal (f : Layout) (file : List ℕ) (lent : ℕ) (answer : Placi
 
 abbrev pub Converted : (f : Layout) → (of : List ℕ → ℕ → Placing) → (file : List ℕ) → (lent : ℕ) → (answer : Placing) → Type 0
 Converted f of file lent answer = OfWords f of file lent answer ⊎ OfRefusal f file lent answer
+
+-- ---- the round trips: "Given room, old to new to old gives again any old text"
+
+-- a whole text in a buffer, accepted
+abbrev pub wholly : (lent : ℕ) → (text : List ℕ) → Placing
+wholly lent text = record { code = 0; at = 0; length = length text; buffer = padded lent text }
+
+-- the text of an answer
+abbrev pub textOfAnswer : Placing → List ℕ
+textOfAnswer answer = take (answer .length) (answer .buffer)

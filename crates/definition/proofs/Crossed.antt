@@ -1,4 +1,5 @@
--- M-107: the loops that a jump leaves. What a jump is resolved on, and the number of loops above it. For the reader and proofs/Formed.
+-- M-107: the loops that a jump leaves. Every break and continue is resolved on the innermost entry that fits, with the number of loops above it
+-- (specs/Crossed). For the reader and proofs/Formed.
 use mathlib.Core.Path.{_≡_, refl, sym, ap, _∙_}
 use Prim.Native.Nat.{ℕ, zero, suc, _+_, _≤_, _<_}
 use native.Mathlib.Nat.{zero-add, add-zero}
@@ -11,19 +12,9 @@ use borrow.Author.Tests.{eqb-true}
 use Rattle.definition.specs.Context.{target-if, target-switch, target-case, target-loop, ControlFlowTarget, targetBlock, isLoop, loopsOf, continuesAt}
 use Rattle.definition.specs.Context.{Entry, loopsOn, Context, Resolution, breakKind, breakTargetFrom, getBreakTarget, continueKind, continueTargetFrom}
 use Rattle.definition.specs.Context.{getContinueTarget}
+use Rattle.definition.specs.Crossed.{NoneFits, Found}
 use Rattle.definition.specs.Tree.{Kind, implicit, labeled, unlabeled}
 use Rattle.definition.proofs.Steps.{true-false, none-some, some-eq}
-
--- a jump was resolved on an entry that fits it, and has the number of loops above that. "A jump whose target is a loop is Labeled exactly when the number is above 0."
-pub record Found (fits : ControlFlowTarget → Bool) (stack : List Entry) (found : Resolution) : Type 0 where
-  pub above : List Entry
-  pub entry : Entry
-  pub below : List Entry
-  pub whole : above ++ (entry ∷ below) ≡ stack
-  pub here : fits (entry .target) ≡ true
-  pub number : found .loops ≡ loopsOn above
-  pub if-labeled : isLoop (entry .target) ≡ true → found .kind ≡ labeled → 0 < found .loops
-  pub labeled-if : isLoop (entry .target) ≡ true → 0 < found .loops → found .kind ≡ labeled
 
 -- the same from an entry on, where so many loops are above already
 record From (fits : ControlFlowTarget → Bool) (n : ℕ) (stack : List Entry) (found : Resolution) : Type 0 where
@@ -32,6 +23,7 @@ record From (fits : ControlFlowTarget → Bool) (n : ℕ) (stack : List Entry) (
   below : List Entry
   whole : above ++ (entry ∷ below) ≡ stack
   here : fits (entry .target) ≡ true
+  none-above : NoneFits fits above
   number : found .loops ≡ loopsOn above + n
   if-labeled : isLoop (entry .target) ≡ true → found .kind ≡ labeled → 0 < found .loops
   labeled-if : isLoop (entry .target) ≡ true → 0 < found .loops → found .kind ≡ labeled
@@ -66,13 +58,14 @@ labeled-continue top zero h = absurd (omega (arith, h))
 labeled-continue top (suc n) h = refl
 
 -- one entry further down
-lower : {fits : ControlFlowTarget → Bool} (x : Entry) (n : ℕ) {S : List Entry} {r : Resolution} → From fits (loopsOf (x .target) + n) S r → From fits n (x ∷ S) r
-lower x n f = record {
+lower : {fits : ControlFlowTarget → Bool} (x : Entry) (n : ℕ) {S : List Entry} {r : Resolution} → fits (x .target) ≡ false → From fits (loopsOf (x .target) + n) S r → From fits n (x ∷ S) r
+lower x n passed f = record {
   above = x ∷ f .above;
   entry = f .entry;
   below = f .below;
   whole = ap (λ (z : List Entry). x ∷ z) (f .whole);
   here = f .here;
+  none-above = (passed, f .none-above);
   number = omega (arith, f .number);
   if-labeled = f .if-labeled;
   labeled-if = f .labeled-if;
@@ -96,11 +89,12 @@ break-from (x ∷ S) g top n r e = at (eqb (targetBlock (x .target)) g) refl e (
       below = S;
       whole = refl;
       here = q;
+      none-above = tt;
       number = sym (ap (λ (z : Resolution). z .loops) (some-eq e)) ∙ sym (zero-add n);
       if-labeled = λ l h. rw (sym (ap (λ (z : Resolution). z .loops) (some-eq e))) (break-labeled (isLoop (x .target)) top n l (ap (λ (z : Resolution). z .kind) (some-eq e) ∙ h));
       labeled-if = λ l h. sym (ap (λ (z : Resolution). z .kind) (some-eq e)) ∙ labeled-break (isLoop (x .target)) top n l (rw (ap (λ (z : Resolution). z .loops) (some-eq e)) h);
     }
-    at false q e k = lower x n (k e)
+    at false q e k = lower x n q (k e)
 
 continue-from : (S : List Entry) (g : ℕ) (top : Bool) (n : ℕ) (r : Resolution) → continueTargetFrom S g top n ≡ some r → From (λ target. continuesAt target g) n S r
 unfolding continueTargetFrom
@@ -119,11 +113,12 @@ continue-from (x ∷ S) g top n r e = at (continuesAt (x .target) g) refl e (λ 
       below = S;
       whole = refl;
       here = q;
+      none-above = tt;
       number = sym (ap (λ (z : Resolution). z .loops) (some-eq e)) ∙ sym (zero-add n);
       if-labeled = λ l h. rw (sym (ap (λ (z : Resolution). z .loops) (some-eq e))) (continue-labeled top n (ap (λ (z : Resolution). z .kind) (some-eq e) ∙ h));
       labeled-if = λ l h. sym (ap (λ (z : Resolution). z .kind) (some-eq e)) ∙ labeled-continue top n (rw (ap (λ (z : Resolution). z .loops) (some-eq e)) h);
     }
-    at false q e k = lower x n (k e)
+    at false q e k = lower x n q (k e)
 
 found-of : {fits : ControlFlowTarget → Bool} {S : List Entry} {r : Resolution} → From fits 0 S r → Found fits S r
 found-of f = record {
@@ -132,6 +127,7 @@ found-of f = record {
   below = f .below;
   whole = f .whole;
   here = f .here;
+  none-above = f .none-above;
   number = f .number ∙ add-zero (loopsOn (f .above));
   if-labeled = f .if-labeled;
   labeled-if = f .labeled-if;

@@ -26,6 +26,7 @@ use Rattle.definition.specs.Machine.{statementOut, jumpOut, added, instr
 use Rattle.definition.specs.Machine.{unscheduledOf, opens, frameOf, secondPart, withLeft, caseBuilt, into, bodyUnless, intoBody, closeBy, close, caseAt}
 use Rattle.definition.specs.Machine.{numberOfCases, chooseCase, switchColumns, resumeAt, resume, valueAt, makeAt, branchTurn, scheduleValue, scheduleLoop, terminalTurn, depthLeft}
 use Rattle.definition.specs.Machine.{visitTurn, step, begin, Gives, run}
+use Rattle.definition.specs.Reached.{Reached, at-begin, by-turn, contextOf, framesOf}
 use Rattle.definition.specs.Around.{Rule, Around, breakKindIn}
 use Rattle.definition.specs.Result.{refused, Result, ok, refuseIf}
 use Rattle.definition.specs.Statement.{breakToScope, visitBreak, visitContinue, breakResolved, continueResolved, visitUpdate, OptionalValue}
@@ -1003,27 +1004,9 @@ going-halt rule t s a g e = gives-halt rule t s (report rule t) a (g .gives) e
 
 -- ---- bounds in every state that is reached
 
-pub data Reached (rule : Rule) (t : Table) : State → Type 0 where
-  at-begin : Reached rule t (begin t)
-  by-turn : {state next : State} → Reached rule t state → step rule t state ≡ going next → Reached rule t next
-
 pub reached-going : (rule : Rule) (t : Table) → Checked t → (s : State) → Reached rule t s → Going rule t s
 reached-going rule t ck s at-begin = going-start rule t ck
 reached-going rule t ck s (by-turn {state} h e) = going-step rule t ck state s (reached-going rule t ck state h) e
-
-abbrev pub contextOf : State → Context
-contextOf (visiting block frames out count cx) = cx
-contextOf (ended frames out count cx) = cx
-contextOf (choosing frame frames out cx) = cx
-contextOf (popping frame frames out cx) = cx
-contextOf (making body frame frames out cx) = cx
-
-abbrev pub framesOf : State → List Frame
-framesOf (visiting block frames out count cx) = frames
-framesOf (ended frames out count cx) = frames
-framesOf (choosing frame frames out cx) = frame ∷ frames
-framesOf (popping frame frames out cx) = frame ∷ frames
-framesOf (making body frame frames out cx) = frame ∷ frames
 
 abbrev pub outputOf : State → Output
 outputOf (visiting block frames out count cx) = out

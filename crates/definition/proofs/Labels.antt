@@ -1,6 +1,7 @@
--- Over any table: in the tree that the build makes, the number of a continue counts the loops around it up to its own; and in that of the language
--- entry every Labeled jump names a label around it, and an Unlabeled break stands directly in its loop. For the reader: a printer may write Unlabeled as
--- a bare break and Labeled with its label.
+-- Over any table: in the tree that the build makes, the number of a jump counts the loops around it up to the statement that it was resolved on, and a jump
+-- to a loop is Labeled by the first rule exactly when that number is above 0; and in the tree of the language entry every Labeled jump names a label around
+-- it, and an Unlabeled break stands directly in its loop. For the reader: a printer may write Unlabeled as a bare break and Labeled with its label.
+-- The walk keeps `Matched`: the control stack is that of the statements around.
 use mathlib.Core.Path.{_≡_, refl, sym, ap, _∙_, subst}
 use Prim.Native.Nat.{ℕ, zero, suc, _+_}
 use native.Mathlib.Nat.{zero-add, add-zero}
@@ -9,6 +10,7 @@ use mathlib.Core.List.{List, [], _∷_}
 use mathlib.Core.Option.{Option, none, some}
 use mathlib.Core.Bool.{Bool, true, false, not}
 use lib.Dec.{eqb}
+use borrow.Author.Tests.{eqb-true, eq-eqb}
 use Rattle.table.specs.Table.{Table, Block, Case, Terminal, absent, unreachable, throw, return, goto, if, branch, switch, do-while, while, for, for-of, for-in}
 use Rattle.table.specs.Table.{logical, ternary, optional, label, sequence, maybe-throw, try, scope, Variant, Break, Continue, Try, blockAt, terminalAt}
 use Rattle.table.specs.Table.{instructionRowsAt, isAbsent, isUnreachable}
@@ -16,10 +18,12 @@ use Rattle.definition.specs.Tree.{Kind, implicit, labeled, unlabeled, St
 use Rattle.definition.specs.Around.{Rule, rust, language, Enclosing, a-loop, a-switch, another, Around, outermost, within, switchInside, kindBy}
 use Rattle.definition.specs.Around.{breakKindIn, isLabel, namesStatement, namesLoop, unnamed, breakUnnamed, continueUnnamed}
 use Rattle.definition.specs.Named.{BreakNamed, ContinueNamed, InLanguage, LabelOr, VeryLoop, NamedStatement, Named, NamedCases}
+use Rattle.definition.specs.Named.{Landing, on-a-loop, on-another, OtherLabel, Lands, this-loop, this-switch, this-statement, a-later-case}
+use Rattle.definition.specs.Named.{inside-a-loop, inside-a-switch, inside-another, LandedKind, BreakLanded, ContinueLanded}
 use Rattle.definition.specs.Result.{Result, ok, refused}
-use Rattle.definition.specs.Context.{has, ControlFlowTarget, isLoop, target-if, target-switch, target-case, target-loop, Entry, Context, start}
+use Rattle.definition.specs.Context.{has, ControlFlowTarget, targetBlock, continuesAt, isLoop, loopsOf, target-if, target-switch, target-case, target-loop, Entry, Context, start}
 use Rattle.definition.specs.Context.{isScheduled, withVisits, markScopeFallthrough, scheduleCatchHandler, pushed, blockedCode, blockAsked, schedule}
-use Rattle.definition.specs.Context.{unschedule, Resolution, getBreakTarget, continueKind, continueTargetFrom, getContinueTarget}
+use Rattle.definition.specs.Context.{unschedule, Resolution, breakKind, breakTargetFrom, getBreakTarget, continueKind, continueTargetFrom, getContinueTarget}
 use Rattle.definition.specs.Value.{VisitValueBlock, visitValueBlockTerminal, visitValueBlock}
 use Rattle.definition.specs.Statement.{BlockResult, TerminalResult, TraverseBlock, TraverseInside, enterBlock, unlessScheduled, unlessUnreachable}
 use Rattle.definition.specs.Statement.{scheduleIf, scheduleSwitch, unscheduleIf, markScopeFallthroughIf, breakToScope, breakResolved, visitBreak}
@@ -32,13 +36,19 @@ use Rattle.definition.proofs.ValueWalk.{VisitTook, value-took}
 use Rattle.definition.proofs.Never.{After, StepAfter, WalkFine, enter-fine, terminal-fine, walk-fine}
 use Rattle.definition.proofs.Formed.{good-both}
 
--- ---- the loops on the stack are the loops around
+-- ---- the stack is that of the statements around
 
+-- a statement that took its fallthrough has its entry, a loop always; a scope may have one; and above a switch stand the cases built
 pub data Matched : List Enclosing → List Entry → Type 0 where
   nothing-built : Matched [] []
-  not-a-loop : {E : List Enclosing} {S : List Entry} (i : ℕ) (g : ControlFlowTarget) (owns : Bool) → isLoop g ≡ false → Matched E S → Matched E (record { id = i; target = g; ownsLoop = owns } ∷ S)
-  another-built : {E : List Enclosing} {S : List Entry} (l : Option ℕ) → Matched E S → Matched (another l ∷ E) S
-  switch-built : {E : List Enclosing} {S : List Entry} (l : Option ℕ) → Matched E S → Matched (a-switch l ∷ E) S
+  untaken-built : {E : List Enclosing} {S : List Entry} → Matched E S → Matched (another none ∷ E) S
+  another-built : {E : List Enclosing} {S : List Entry} (i f : ℕ) (owns : Bool) (l : Option ℕ) → LabelOr l f → Matched E S
+      → Matched (another l ∷ E) (record { id = i; target = target-if f; ownsLoop = owns } ∷ S)
+  untaken-switch : {E : List Enclosing} {S : List Entry} → Matched E S → Matched (a-switch none ∷ E) S
+  switch-built : {E : List Enclosing} {S : List Entry} (i f : ℕ) (owns : Bool) → Matched E S
+      → Matched (a-switch (some f) ∷ E) (record { id = i; target = target-switch f; ownsLoop = owns } ∷ S)
+  case-built : {E : List Enclosing} {S : List Entry} (i g : ℕ) (owns : Bool) (l : Option ℕ) → Matched (a-switch l ∷ E) S
+      → Matched (a-switch l ∷ E) (record { id = i; target = target-case g; ownsLoop = owns } ∷ S)
   loop-built : {E : List Enclosing} {S : List Entry} (i f k m : ℕ) (owns : Bool) (l : Option ℕ) → LabelOr l f → Matched E S
       → Matched (a-loop l ∷ E) (record { id = i; target = target-loop f k m; ownsLoop = owns } ∷ S)
 
@@ -51,15 +61,18 @@ record Very (E : List Enclosing) (n : ℕ) (r : Resolution) : Type 0 where
 very-lower : {E : List Enclosing} {n : ℕ} {r : Resolution} → Very E (0 + n) r → Very E n r
 very-lower v = record { more = v .more; number = omega (arith, v .number); loop = v .loop }
 
+-- past a statement that is no loop
+very-past : {E : List Enclosing} {n : ℕ} {r : Resolution} (x : Enclosing) → ((m t : ℕ) → VeryLoop E m t → VeryLoop (x ∷ E) m t) → Very E n r → Very (x ∷ E) n r
+very-past x over v = record { more = v .more; number = v .number; loop = over (v .more) _ (v .loop) }
+
 very-from : {E : List Enclosing} {S : List Entry} → Matched E S → (g : ℕ) (top : Bool) (n : ℕ) (r : Resolution) → continueTargetFrom S g top n ≡ some r → Very E n r
 unfolding continueTargetFrom
 very-from nothing-built g top n r e = absurd (none-some e)
-very-from (not-a-loop i (target-if b) owns q p) g top n r e = very-lower (very-from p g false (0 + n) r e)
-very-from (not-a-loop i (target-switch b) owns q p) g top n r e = very-lower (very-from p g false (0 + n) r e)
-very-from (not-a-loop i (target-case b) owns q p) g top n r e = very-lower (very-from p g false (0 + n) r e)
-very-from (not-a-loop i (target-loop f k m) owns q p) g top n r e = absurd (true-false q)
-very-from (another-built l p) g top n r e = let v : Very _ n r = very-from p g top n r e in record { more = v .more; number = v .number; loop = v .loop }
-very-from (switch-built l p) g top n r e = let v : Very _ n r = very-from p g top n r e in record { more = v .more; number = v .number; loop = v .loop }
+very-from (untaken-built p) g top n r e = very-past (another none) (λ m t h. h) (very-from p g top n r e)
+very-from (another-built i f owns l u p) g top n r e = very-past (another l) (λ m t h. h) (very-lower (very-from p g false (0 + n) r e))
+very-from (untaken-switch p) g top n r e = very-past (a-switch none) (λ m t h. h) (very-from p g top n r e)
+very-from (switch-built i f owns p) g top n r e = very-past (a-switch (some f)) (λ m t h. h) (very-lower (very-from p g false (0 + n) r e))
+very-from (case-built i b owns l p) g top n r e = very-lower (very-from p g false (0 + n) r e)
 very-from (loop-built {E} {S} i f k m owns l h p) g top n r e = at (eqb k g) e (λ q. very-from p g false (1 + n) r q)
   where
     at : (y : Bool) → elim y [ true ↦ some (record { target = f; kind = continueKind top n; loops = n }) | false ↦ continueTargetFrom S g false (1 + n) ] ≡ some r
@@ -77,24 +90,168 @@ very-loop {E} c g r p e =
     let v : Very E 0 r = very-from p g true 0 r e in
     subst (λ (n : ℕ). VeryLoop E n (r .target)) (sym (v .number ∙ zero-add (v .more))) (v .loop)
 
+-- ---- where a break lands, with n loops above already
+
+record Landed (E : List Enclosing) (n : ℕ) (r : Resolution) : Type 0 where
+  landing : Landing
+  more : ℕ
+  number : r .loops ≡ n + more
+  lands : Lands landing E more (r .target)
+  landed : LandedKind landing (r .loops) (r .kind)
+
+landed-lower : {E : List Enclosing} {n : ℕ} {r : Resolution} → Landed E (0 + n) r → Landed E n r
+landed-lower v = record { landing = v .landing; more = v .more; number = omega (arith, v .number); lands = v .lands; landed = v .landed }
+
+landed-past : {E D : List Enclosing} {n : ℕ} {r : Resolution} → ((landing : Landing) (m t : ℕ) → r .target ≡ t → Lands landing E m t → Lands landing D m t) → Landed E n r → Landed D n r
+landed-past over v = record { landing = v .landing; more = v .more; number = v .number; lands = over (v .landing) (v .more) _ refl (v .lands); landed = v .landed }
+
+-- the kind on a loop, and on another entry
+loop-kind : (top : Bool) (n : ℕ) → LandedKind on-a-loop n (breakKind true top n)
+unfolding breakKind
+loop-kind top zero = refl
+loop-kind top (suc n) = refl
+
+other-kind : (top : Bool) (n : ℕ) → LandedKind on-another n (breakKind false top n)
+unfolding breakKind
+other-kind true n e = let z : _≡_ {A = ℕ} 0 1 = cc in omega arith
+other-kind false n e = let z : _≡_ {A = ℕ} 0 1 = cc in omega arith
+
+-- the label of an entry passed over is another
+other-label : (l : Option ℕ) (f g : ℕ) → LabelOr l f → eqb f g ≡ false → OtherLabel l g
+other-label none f g h e = tt
+other-label (some k) f g h e = λ q. true-false (sym (eq-eqb f g (sym h ∙ q)) ∙ e)
+
+-- a break's target is the block asked for
+target-is : (S : List Entry) (g : ℕ) (top : Bool) (n : ℕ) (r : Resolution) → breakTargetFrom S g top n ≡ some r → r .target ≡ g
+unfolding breakTargetFrom
+target-is [] g top n r e = absurd (none-some e)
+target-is (x ∷ S) g top n r e = at (eqb (targetBlock (x .target)) g) e (λ q. target-is S g false (loopsOf (x .target) + n) r q)
+  where
+    at : (y : Bool) → elim y [
+      | true ↦ some (record { target = g; kind = breakKind (isLoop (x .target)) top n; loops = n })
+      | false ↦ breakTargetFrom S g false (loopsOf (x .target) + n)
+    ] ≡ some r → (breakTargetFrom S g false (loopsOf (x .target) + n) ≡ some r → r .target ≡ g) → r .target ≡ g
+    at true e again = sym (ap (λ (z : Resolution). z .target) (some-eq e))
+    at false e again = again e
+
+-- found here
+landed-here : {E : List Enclosing} (landing : Landing) (g n : ℕ) (k : Kind) (r : Resolution) → LandedKind landing n k → Lands landing E 0 g
+    → record { target = g; kind = k; loops = n } ≡ r → Landed E n r
+landed-here {E} landing g n k r h l e = subst (λ (z : Resolution). Landed E n z) e (record { landing = landing; more = 0; number = sym (add-zero n); lands = l; landed = h })
+
+module _ (g : ℕ) where
+  -- an entry that does not fit is passed over
+  abbrev Step : (x : Entry) (S : List Entry) (top : Bool) (n : ℕ) (r : Resolution) → Bool → Type 0
+  Step x S top n r y = elim y [
+    | true ↦ some (record { target = g; kind = breakKind (isLoop (x .target)) top n; loops = n })
+    | false ↦ breakTargetFrom S g false (loopsOf (x .target) + n)
+  ] ≡ some r
+
+  landed-from : {E : List Enclosing} {S : List Entry} → Matched E S → (top : Bool) (n : ℕ) (r : Resolution) → breakTargetFrom S g top n ≡ some r → Landed E n r
+  unfolding breakTargetFrom
+  landed-from nothing-built top n r e = absurd (none-some e)
+  landed-from (untaken-built p) top n r e = landed-past (λ _ _ _ _ l. inside-another none tt l) (landed-from p top n r e)
+  landed-from (another-built {E} {S} i f owns l u p) top n r e = at (eqb f g) refl e (λ q. landed-from p false (0 + n) r q)
+    where
+      at : (y : Bool) → eqb f g ≡ y → Step (record { id = i; target = target-if f; ownsLoop = owns }) S top n r y
+          → (breakTargetFrom S g false (0 + n) ≡ some r → Landed E (0 + n) r) → Landed (another l ∷ E) n r
+      at true q e again = landed-here on-another g n (breakKind false top n) r (other-kind top n) (this-statement l g (subst (LabelOr l) (eqb-true f g q) u)) (some-eq e)
+      at false q e again =
+          landed-past (λ _ _ t h k. inside-another l (subst (OtherLabel l) (sym (target-is S g false (0 + n) r e) ∙ h) (other-label l f g u q)) k) (landed-lower (again e))
+  landed-from (untaken-switch p) top n r e = landed-past (λ _ _ _ _ l. inside-a-switch none tt l) (landed-from p top n r e)
+  landed-from (switch-built {E} {S} i f owns p) top n r e = at (eqb f g) refl e (λ q. landed-from p false (0 + n) r q)
+    where
+      at : (y : Bool) → eqb f g ≡ y → Step (record { id = i; target = target-switch f; ownsLoop = owns }) S top n r y
+          → (breakTargetFrom S g false (0 + n) ≡ some r → Landed E (0 + n) r) → Landed (a-switch (some f) ∷ E) n r
+      at true q e again = landed-here on-another g n (breakKind false top n) r (other-kind top n)
+          (subst (λ (z : ℕ). Lands on-another (a-switch (some z) ∷ E) 0 g) (sym (eqb-true f g q)) (this-switch g)) (some-eq e)
+      at false q e again =
+          landed-past (λ _ _ t h k. inside-a-switch (some f) (subst (OtherLabel (some f)) (sym (target-is S g false (0 + n) r e) ∙ h) (other-label (some f) f g refl q)) k)
+          (landed-lower (again e))
+  landed-from (case-built {E} {S} i b owns l p) top n r e = at (eqb b g) e (λ q. landed-from p false (0 + n) r q)
+    where
+      at : (y : Bool) → Step (record { id = i; target = target-case b; ownsLoop = owns }) S top n r y
+          → (breakTargetFrom S g false (0 + n) ≡ some r → Landed (a-switch l ∷ E) (0 + n) r) → Landed (a-switch l ∷ E) n r
+      at true e again = landed-here on-another g n (breakKind false top n) r (other-kind top n) (a-later-case l g) (some-eq e)
+      at false e again = landed-lower (again e)
+  landed-from (loop-built {E} {S} i f k m owns l u p) top n r e = at (eqb f g) refl e (λ q. landed-from p false (1 + n) r q)
+    where
+      at : (y : Bool) → eqb f g ≡ y → Step (record { id = i; target = target-loop f k m; ownsLoop = owns }) S top n r y
+          → (breakTargetFrom S g false (1 + n) ≡ some r → Landed E (1 + n) r) → Landed (a-loop l ∷ E) n r
+      at true q e again = landed-here on-a-loop g n (breakKind true top n) r (loop-kind top n) (this-loop l g (subst (LabelOr l) (eqb-true f g q) u)) (some-eq e)
+      at false q e again =
+          let v : Landed E (1 + n) r = again e in
+          let other : OtherLabel l (r .target) = subst (OtherLabel l) (sym (target-is S g false (1 + n) r e)) (other-label l f g u q) in
+          record { landing = v .landing; more = suc (v .more); number = omega (arith, v .number); lands = inside-a-loop l other (v .lands); landed = v .landed }
+
+  break-landed : (E : List Enclosing) (rule : Rule) (o : Around) (c : Context) (r : Resolution) → o .rule ≡ rule → switchInside (o .statements) ≡ switchInside E → Matched E (c .stack)
+      → getBreakTarget c g ≡ some r → BreakLanded rule E (r .target) (breakKindIn o (r .kind)) (r .loops)
+  unfolding getBreakTarget breakKindIn
+  break-landed E rule o c r ruled same p e =
+      let v : Landed E 0 r = landed-from p true 0 r e in record {
+        landing = v .landing;
+        lands = subst (λ (n : ℕ). Lands (v .landing) E n (r .target)) (sym (v .number ∙ zero-add (v .more))) (v .lands);
+        first = r .kind;
+        landed = v .landed;
+        by-rule = rw (ruled, same);
+      }
+
+-- a continue is Labeled exactly where a loop is above its own
+continue-kind : (top : Bool) (n : ℕ) → ContinueLanded n (continueKind top n)
+unfolding continueKind
+continue-kind true zero = λ e. let z : _≡_ {A = ℕ} 0 1 = cc in omega arith
+continue-kind false zero = λ e. let z : _≡_ {A = ℕ} 0 1 = cc in omega arith
+continue-kind top (suc n) = refl
+
+continue-landed : (S : List Entry) (g : ℕ) (top : Bool) (n : ℕ) (r : Resolution) → continueTargetFrom S g top n ≡ some r → ContinueLanded (r .loops) (r .kind)
+unfolding continueTargetFrom
+continue-landed [] g top n r e = absurd (none-some e)
+continue-landed (x ∷ S) g top n r e = at (continuesAt (x .target) g) e (λ q. continue-landed S g false (loopsOf (x .target) + n) r q)
+  where
+    at : (y : Bool) → elim y [
+      | true ↦ some (record { target = targetBlock (x .target); kind = continueKind top n; loops = n })
+      | false ↦ continueTargetFrom S g false (loopsOf (x .target) + n)
+    ] ≡ some r
+        → (continueTargetFrom S g false (loopsOf (x .target) + n) ≡ some r → ContinueLanded (r .loops) (r .kind)) → ContinueLanded (r .loops) (r .kind)
+    at true e again = subst (λ (z : Resolution). ContinueLanded (z .loops) (z .kind)) (some-eq e) (continue-kind top n)
+    at false e again = again e
+
+found-landed : (c : Context) (g : ℕ) (r : Resolution) → getContinueTarget c g ≡ some r → ContinueLanded (r .loops) (r .kind)
+unfolding getContinueTarget
+found-landed c g r e = continue-landed (c .stack) g true 0 r e
+
 -- ---- how the steps keep it
 
 matched-after : {E : List Enclosing} {c d : Context} → Matched E (c .stack) → After c d → Matched E (d .stack)
 matched-after {E} h p = subst (λ (S : List Entry). Matched E S) (sym (p .same)) h
 
-schedule-matched : {E : List Enclosing} (g : ControlFlowTarget) (c : Context) → isLoop g ≡ false → Matched E (c .stack) → Good (λ d. Matched E (d .stack)) (schedule g c)
+-- an entry is pushed, whose blocks are free
+schedule-matched : {D : List Enclosing} (g : ControlFlowTarget) (c : Context)
+    → ((owns : Bool) → Matched D (record { id = c .nextId; target = g; ownsLoop = owns } ∷ c .stack)) → Good (λ d. Matched D (d .stack)) (schedule g c)
 unfolding schedule pushed
-schedule-matched {E} g c q h = good-unless (λ d. Matched E (d .stack)) _ (blockedCode g) (blockAsked g) (c .visits) _ (λ _. not-a-loop (c .nextId) g _ q h)
+schedule-matched {D} g c h = good-unless (λ d. Matched D (d .stack)) _ (blockedCode g) (blockAsked g) (c .visits) _ (λ _. h _)
 
-if-matched : {E : List Enclosing} (l : Option ℕ) (g : Option ℕ) (c : Context) → Matched E (c .stack) → Good (λ d. Matched (another l ∷ E) (d .stack)) (scheduleIf g c)
+-- a statement with its label, and a scope, which has none
+if-matched : {E : List Enclosing} (g : Option ℕ) (c : Context) → Matched E (c .stack) → Good (λ d. Matched (another g ∷ E) (d .stack)) (scheduleIf g c)
 unfolding scheduleIf
-if-matched l none c h = another-built l h
-if-matched l (some f) c h = schedule-matched (target-if f) c refl (another-built l h)
+if-matched none c h = untaken-built h
+if-matched (some f) c h = schedule-matched (target-if f) c (λ owns. another-built (c .nextId) f owns (some f) refl h)
+
+scope-built : {E : List Enclosing} (g : Option ℕ) (c : Context) → Matched E (c .stack) → Good (λ d. Matched (another none ∷ E) (d .stack)) (scheduleIf g c)
+unfolding scheduleIf
+scope-built none c h = untaken-built h
+scope-built (some f) c h = schedule-matched (target-if f) c (λ owns. another-built (c .nextId) f owns none tt h)
 
 switch-matched : {E : List Enclosing} (g : Option ℕ) (c : Context) → Matched E (c .stack) → Good (λ d. Matched (a-switch g ∷ E) (d .stack)) (scheduleSwitch g c)
 unfolding scheduleSwitch
-switch-matched none c h = switch-built none h
-switch-matched (some f) c h = schedule-matched (target-switch f) c refl (switch-built (some f) h)
+switch-matched none c h = untaken-switch h
+switch-matched (some f) c h = schedule-matched (target-switch f) c (λ owns. switch-built (c .nextId) f owns h)
+
+case-matched : {E : List Enclosing} (D : List Enclosing) (l : Option ℕ) → E ≡ a-switch l ∷ D → (b : ℕ) (c : Context) → Matched E (c .stack)
+    → Good (λ d. Matched E (d .stack)) (schedule (target-case b) c)
+case-matched {E} D l is b c h =
+    schedule-matched (target-case b) c
+    (λ owns. subst (λ (z : List Enclosing). Matched z (record { id = c .nextId; target = target-case b; ownsLoop = owns } ∷ c .stack)) (sym is) (case-built (c .nextId) b owns l (subst (λ (z : List Enclosing). Matched z (c .stack)) is h)))
 
 loop-matched : {E : List Enclosing} (f k l : ℕ) (g : Option ℕ) (c : Context) → LabelOr g f → Matched E (c .stack) → Good (λ d. Matched (a-loop g ∷ E) (d .stack)) (schedule (target-loop f k l) c)
 unfolding schedule pushed
@@ -198,36 +355,47 @@ module _ (rule : Rule) where
   unfolding switchInside namesStatement isLabel
   branch-around E k target h = h
 
+  branch-inside : (E : List Enclosing) → switchInside E ≡ switchInside (another none ∷ E)
+  unfolding switchInside
+  branch-inside E = refl
+
+  -- what a break found on the stack, by what is around
+  abbrev FoundIn : List Enclosing → Around → Option Resolution → Type 0
+  FoundIn E o r = (found : Resolution) → r ≡ some found → BreakLanded rule E (found .target) (breakKindIn o (found .kind)) (found .loops)
+
   scope-named : (E : List Enclosing) (k : Kind) (at v : ℕ) → Good (NamedOption E) (breakToScope k at v)
   unfolding breakToScope
   scope-named E implicit at v = tt
   scope-named E labeled at v = tt
   scope-named E unlabeled at v = tt
 
-  resolved-named : (E : List Enclosing) (o : Around) → Inner E (o .statements) → o .rule ≡ rule → (at b i : ℕ) (c : Context) (r : Option Resolution) → Good (NamedOption E) (breakResolved o at b i c r)
+  resolved-named : (E : List Enclosing) (o : Around) → Inner E (o .statements) → o .rule ≡ rule → (at b i : ℕ) (c : Context) (r : Option Resolution) → FoundIn E o r
+      → Good (NamedOption E) (breakResolved o at b i c r)
   unfolding breakResolved Named
-  resolved-named E o n e at b i c none = tt
-  resolved-named E o n e at b i c (some r) =
+  resolved-named E o n e at b i c none v = tt
+  resolved-named E o n e at b i c (some r) v =
       good-pick (NamedOption E) (has (c .scopeFallthroughs) (r .target)) _ _ (scope-named E (r .kind) at (c .visits))
-      (good-unless (NamedOption E) (breakUnnamed o r) 29 at (c .visits) _ (λ h. n (breakKindIn o (r .kind)) (r .target) (break-named rule o r e h)))
+      (good-unless (NamedOption E) (breakUnnamed o r) 29 at (c .visits) _ (λ h. (v r refl, n (breakKindIn o (r .kind)) (r .target) (break-named rule o r e h))))
 
-  visit-break-named : (E : List Enclosing) (o : Around) → Inner E (o .statements) → o .rule ≡ rule → (at b i : ℕ) (c : Context) → Good (NamedOption E) (visitBreak o at b i c)
+  visit-break-named : (E : List Enclosing) (o : Around) → Inner E (o .statements) → switchInside (o .statements) ≡ switchInside E → o .rule ≡ rule
+      → (at b i : ℕ) (c : Context) → Matched E (c .stack) → Good (NamedOption E) (visitBreak o at b i c)
   unfolding visitBreak
-  visit-break-named E o n e at b i c = resolved-named E o n e at b i c (getBreakTarget c b)
+  visit-break-named E o n inside e at b i c m = resolved-named E o n e at b i c (getBreakTarget c b) (λ r q. break-landed b E rule o c r e inside m q)
 
   continued-named : (o : Around) → o .rule ≡ rule → (at b i : ℕ) (c : Context) (r : Option Resolution)
-      → ((found : Resolution) → r ≡ some found → VeryLoop (o .statements) (found .loops) (found .target))
+      → ((found : Resolution) → r ≡ some found → VeryLoop (o .statements) (found .loops) (found .target) × ContinueLanded (found .loops) (found .kind))
       → Good (NamedStatement rule (o .statements)) (continueResolved o at b i c r)
   unfolding continueResolved Named
   continued-named o e at b i c none v = tt
-  continued-named o e at b i c (some r) v = good-unless (NamedStatement rule (o .statements)) (continueUnnamed o r) 29 at (c .visits) _ (λ h. (v r refl, continue-named rule o r e h))
+  continued-named o e at b i c (some r) v =
+      good-unless (NamedStatement rule (o .statements)) (continueUnnamed o r) 29 at (c .visits) _ (λ h. (v r refl .0, v r refl .1, continue-named rule o r e h))
 
   goto-named : (o : Around) → o .rule ≡ rule → (v : Variant) (at b i : ℕ) (c : Context) → Matched (o .statements) (c .stack) → Good (NamedStep (o .statements)) (visitGoto o v at b i c)
   unfolding visitGoto visitContinue
-  goto-named o e Break at b i c m = good-bind (NamedOption (o .statements)) (NamedStep (o .statements)) _ _ (visit-break-named (o .statements) o (λ k t h. h) e at b i c) (λ s h. h)
+  goto-named o e Break at b i c m = good-bind (NamedOption (o .statements)) (NamedStep (o .statements)) _ _ (visit-break-named (o .statements) o (λ k t h. h) refl e at b i c m) (λ s h. h)
   goto-named o e Continue at b i c m =
       good-bind (NamedStatement rule (o .statements)) (NamedStep (o .statements)) _ _
-      (continued-named o e at b i c (getContinueTarget c b) (λ r q. very-loop c b r m q)) (λ s h. h)
+      (continued-named o e at b i c (getContinueTarget c b) (λ r q. (very-loop c b r m q, found-landed c b r q))) (λ s h. h)
   goto-named o e Try at b i c m = tt
 
   followed-named : (E : List Enclosing) (s : Option Statement) (k : Statements) → NamedOption E s → Named rule E k → Named rule E (followedBy s k)
@@ -271,20 +439,22 @@ module _ (rule : Rule) where
         good-bind (KeptBlock E) (NamedStep D) _ _ (inner-named l (withVisits v c) (visits-matched v c m))
         (λ r h. good-bind Any (NamedStep D) _ _ (good-any (unschedule i (r .context))) (λ c₂ _. mk (r .statements) (h .0))))
 
-    cases-named : (at f : ℕ) (ks : List Case) (ids : List ℕ) (c : Context) → Matched E (c .stack) → Good (CasesNamed E) (traverseCases inner at f ks ids c)
+    -- the cases of a switch: each is pushed above it
+    cases-named : (D : List Enclosing) (l : Option ℕ) → E ≡ a-switch l ∷ D → (at f : ℕ) (ks : List Case) (ids : List ℕ) (c : Context) → Matched E (c .stack)
+        → Good (CasesNamed E) (traverseCases inner at f ks ids c)
     unfolding traverseCases Named
-    cases-named at f [] ids c m = tt
-    cases-named at f (k ∷ ks) ids c m =
+    cases-named D l is at f [] ids c m = tt
+    cases-named D l is at f (k ∷ ks) ids c m =
         good-pick (CasesNamed E) (isScheduled c (k .block)) _ _
-        (good-unless (CasesNamed E) _ 14 at (c .visits) _ (λ _. cases-named at f ks ids c m))
+        (good-unless (CasesNamed E) _ 14 at (c .visits) _ (λ _. cases-named D l is at f ks ids c m))
         (good-bind (KeptBlock E) (CasesNamed E) _ _ (inner-named (k .block) c m) (λ r h.
-        good-bind (λ d. Matched E (d .stack)) (CasesNamed E) _ _ (schedule-matched (target-case (k .block)) (r .context) refl (h .1)) (λ c₁ n.
-        good-bind (CasesNamed E) (CasesNamed E) _ _ (cases-named at f ks (r .context .nextId ∷ ids) c₁ n) (λ z q. (h .0, q)))))
+        good-bind (λ d. Matched E (d .stack)) (CasesNamed E) _ _ (case-matched D l is (k .block) (r .context) (h .1)) (λ c₁ n.
+        good-bind (CasesNamed E) (CasesNamed E) _ _ (cases-named D l is at f ks (r .context .nextId ∷ ids) c₁ n) (λ z q. (h .0, q)))))
 
-    consequent-named : (o : Around) → Inner E (o .statements) → o .rule ≡ rule → (at y i : ℕ) (c : Context) → Matched E (c .stack) → Good (KeptBlock E) (traverseConsequent o inner at y i c)
+    consequent-named : (o : Around) → Inner E (o .statements) → switchInside (o .statements) ≡ switchInside E → o .rule ≡ rule → (at y i : ℕ) (c : Context) → Matched E (c .stack) → Good (KeptBlock E) (traverseConsequent o inner at y i c)
     unfolding traverseConsequent Named
-    consequent-named o n e at y i c m =
-        good-pick (KeptBlock E) (isScheduled c y) _ _ (good-bind (NamedOption E) (KeptBlock E) _ _ (visit-break-named E o n e at y i c) (λ s h. (followed-named E s done h tt, m))) (inner-named y c m)
+    consequent-named o n inside e at y i c m =
+        good-pick (KeptBlock E) (isScheduled c y) _ _ (good-bind (NamedOption E) (KeptBlock E) _ _ (visit-break-named E o n inside e at y i c m) (λ s h. (followed-named E s done h tt, m))) (inner-named y c m)
 
   -- ---- terminals
 
@@ -314,18 +484,18 @@ module _ (rule : Rule) where
       terminal-named (goto g v) at k c m = goto-named o e v at g (k .id) c m
       terminal-named (if x y a f) at k c m =
           good-bind Any (NamedStep E) _ _ (good-any (unlessUnreachable t c f)) (λ g _.
-          good-bind (λ d. Matched (another g ∷ E) (d .stack)) (NamedStep E) _ _ (if-matched g g c m) (λ c₁ m₁.
+          good-bind (λ d. Matched (another g ∷ E) (d .stack)) (NamedStep E) _ _ (if-matched g c m) (λ c₁ m₁.
           good-bind (KeptBlock (another g ∷ E)) (NamedStep E) _ _ (unscheduled-named (another g ∷ E) _ (deeper (another g)) (wa _) y 12 y c₁ m₁) (λ r h.
           good-bind (NamedAlternate (another g ∷ E)) (NamedStep E) _ _ (alternate-named (another g ∷ E) _ (deeper (another g)) (wa _) a f (r .context) (h .1)) (λ z q.
           good-bind Any (NamedStep E) _ _ (good-any (unscheduleIf g (c .nextId) (z .context))) (λ c₂ _. (h .0, q))))))
       terminal-named (branch x y a) at k c m =
           good-bind (KeptBlock (another none ∷ E)) (NamedStep E) _ _
-          (consequent-named (another none ∷ E) _ (deeper (another none)) (wa _) o (branch-around E) e at y (k .id) c (another-built none m)) (λ r h.
+          (consequent-named (another none ∷ E) _ (deeper (another none)) (wa _) o (branch-around E) (branch-inside E) e at y (k .id) c (untaken-built m)) (λ r h.
           good-bind (KeptBlock (another none ∷ E)) (NamedStep E) _ _ (unscheduled-named (another none ∷ E) _ (deeper (another none)) (wa _) a 19 at (r .context) (h .1)) (λ z q. (h .0, q .0)))
       terminal-named (switch x i n f) at k c m =
           good-bind Any (NamedStep E) _ _ (good-any (unlessUnreachable t c f)) (λ g _.
           good-bind (λ d. Matched (a-switch g ∷ E) (d .stack)) (NamedStep E) _ _ (switch-matched g c m) (λ c₁ m₁.
-          good-bind (CasesNamed (a-switch g ∷ E)) (NamedStep E) _ _ (cases-named (a-switch g ∷ E) _ (deeper (a-switch g)) (wa _) at f (casesLastFirst t i n) (scheduleIds g (c .nextId)) c₁ m₁) (λ r h.
+          good-bind (CasesNamed (a-switch g ∷ E)) (NamedStep E) _ _ (cases-named (a-switch g ∷ E) _ (deeper (a-switch g)) (wa _) E g refl at f (casesLastFirst t i n) (scheduleIds g (c .nextId)) c₁ m₁) (λ r h.
           good-bind Any (NamedStep E) _ _ (good-any (unscheduleAll (r .ids) (r .context))) (λ c₂ _. h))))
       terminal-named (do-while l x f) at k c m =
           good-bind (λ d. Matched (a-loop (unlessScheduled c f) ∷ E) (d .stack)) (NamedStep E) _ _ (loop-matched f x l (unlessScheduled c f) c (scheduled-label c f) m) (λ c₁ m₁.
@@ -358,18 +528,18 @@ module _ (rule : Rule) where
       terminal-named (optional g x f) at k c m = value-named E (optional g x f) at k f c
       terminal-named (label x f) at k c m =
           good-bind Any (NamedStep E) _ _ (good-any (unlessUnreachable t c f)) (λ g _.
-          good-bind (λ d. Matched (another g ∷ E) (d .stack)) (NamedStep E) _ _ (if-matched g g c m) (λ c₁ m₁.
+          good-bind (λ d. Matched (another g ∷ E) (d .stack)) (NamedStep E) _ _ (if-matched g c m) (λ c₁ m₁.
           enclosed-named (another g ∷ E) _ (deeper (another g)) (wa _) E x 17 at g c c₁ (LABEL (k .id) g) m₁ (λ z h. h)))
       terminal-named (sequence x f) at k c m = value-named E (sequence x f) at k f c
       terminal-named (maybe-throw n) at k c m = tt
       terminal-named (try x y f n) at k c m =
           good-bind Any (NamedStep E) _ _ (good-any (unlessUnreachable t c f)) (λ g _.
-          good-bind (λ d. Matched (another g ∷ E) (d .stack)) (NamedStep E) _ _ (if-matched g g c m) (λ c₁ m₁.
+          good-bind (λ d. Matched (another g ∷ E) (d .stack)) (NamedStep E) _ _ (if-matched g c m) (λ c₁ m₁.
           good-bind (KeptBlock (another g ∷ E)) (NamedStep E) _ _ (inner-named (another g ∷ E) _ (deeper (another g)) (wa _) x (scheduleCatchHandler y c₁) (catch-matched y c₁ m₁)) (λ r h.
           good-bind (KeptBlock (another g ∷ E)) (NamedStep E) _ _ (inner-named (another g ∷ E) _ (deeper (another g)) (wa _) y (r .context) (h .1)) (λ z q.
           good-bind Any (NamedStep E) _ _ (good-any (unscheduleIf g (c .nextId) (z .context))) (λ c₂ _. (h .0, q .0))))))
       terminal-named (scope p x f n) at k c m =
-          good-bind (λ d. Matched (another none ∷ E) (d .stack)) (NamedStep E) _ _ (if-matched none (unlessScheduled c f) c m) (λ c₁ m₁.
+          good-bind (λ d. Matched (another none ∷ E) (d .stack)) (NamedStep E) _ _ (scope-built (unlessScheduled c f) c m) (λ c₁ m₁.
           enclosed-named (another none ∷ E) _ (deeper (another none)) (wa _) E x 18 at (unlessScheduled c f) c (markScopeFallthroughIf (unlessScheduled c f) c₁) (SCOPE p n)
           (scope-matched (unlessScheduled c f) c₁ m₁) (λ z h. h))
 

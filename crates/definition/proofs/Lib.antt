@@ -23,6 +23,7 @@ pub mod Rises
 pub mod Preview
 pub mod Surveys
 pub mod Goals
+pub mod Relabels
 pub mod Parting
 pub mod PartingRows
 pub mod PlainEnough

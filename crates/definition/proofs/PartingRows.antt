@@ -7,8 +7,10 @@ use mathlib.Core.Bool.{true, false}
 use lib.ListN.{length}
 use Rattle.definition.specs.Tree.{Value, Statement, Statements, _▸_, countStatements, Cases, countCases, Row, row, orNone, valueRows, updateRows}
 use Rattle.definition.specs.Tree.{statementRows, statementsRows, blockRows, casesRows, rows}
-use Rattle.definition.specs.Relabeled.{Relabeled, the-same, a-break, in-if, in-switch, in-do-while, in-while, in-for, in-for-of, in-for-in, in-label, in-try, in-scope}
-use Rattle.definition.specs.Relabeled.{RelabeledAll, none-left, and-then, RelabeledCases, no-case-left, a-case}
+use Rattle.definition.proofs.Relabels.{Relabeled, the-same, a-break, in-if, in-switch, in-do-while, in-while, in-for, in-for-of, in-for-in, in-label, in-try, in-scope}
+use Rattle.definition.proofs.Relabels.{RelabeledAll, none-left, and-then, RelabeledCases, no-case-left, a-case, relabels}
+use Rattle.definition.specs.Around.{Enclosing}
+use Rattle.definition.specs.Relabeled.{relabeled}
 use Rattle.definition.specs.RelabeledRows.{RelabeledRows, no-row-left, the-same-row, a-break-row}
 use Rattle.definition.proofs.Rows.{value-append, statement-append}
 
@@ -71,5 +73,5 @@ mutual
   cases-rows (a-case test p q) r = block-rows p (the-same-row _ (cases-rows q r))
 
 -- of whole trees
-pub rows-part : (s s′ : Statements) → RelabeledAll s s′ → RelabeledRows (rows s) (rows s′)
-rows-part s s′ p = block-rows p no-row-left
+pub rows-part : (around : List Enclosing) (s : Statements) → RelabeledRows (rows s) (rows (relabeled around s))
+rows-part around s = block-rows (relabels around s) no-row-left

@@ -1,10 +1,12 @@
 pub mod Tree
 pub mod Index
 pub mod Reading
+pub mod Reader
 pub mod Result
 pub mod Context
 pub mod Around
 pub mod Named
+pub mod Crossed
 pub mod Survey
 pub mod Value
 pub mod Statement
@@ -19,6 +21,7 @@ pub mod Plain
 pub mod PlainLoops
 pub mod PlainTest
 pub mod Machine
+pub mod Reached
 pub mod Framed
 pub mod RunLaw
 pub mod LoopLaw

@@ -1,43 +1,45 @@
--- M-102, "which differs only as follows": two trees that are the same but for BREAKs that are Unlabeled in the first and Labeled in the second.
+-- M-102, "which differs only as follows": the language entry's tree is the first entry's, but that a break to a loop is Labeled "also when a switch is being
+-- built between the jump and that loop". The kind of a BREAK is `kindBy language` of what is around it, and nothing else moves.
 use Prim.Native.Nat.{ℕ, _≤_}
 use mathlib.Core.Path.{_≡_}
-use mathlib.Core.Option.{Option}
-use mathlib.Core.Bool.{Bool}
+use mathlib.Core.Option.{none}
+use mathlib.Core.List.{List, _∷_}
 use mathlib.Core.Logic.{_⊎_}
-use Rattle.table.specs.declared.columns.Span.{Span}
 use Rattle.definition.specs.Result.{Result, ok, refused}
-use Rattle.definition.specs.Tree.{Kind, unlabeled, labeled, Value, Statement, IF, SWITCH, DOWHILE, WHILE, FOR, FOROF, FORIN, LABEL, TRY, SCOPE, BREAK}
+use Rattle.definition.specs.Tree.{Statement, INSTR, IF, SWITCH, DOWHILE, WHILE, FOR, FOROF, FORIN, LABEL, TRY, SCOPE, RETURN, THROW, BREAK, CONTINUE}
 use Rattle.definition.specs.Tree.{Statements, done, _▸_, Cases, no-cases, CASE}
+use Rattle.definition.specs.Around.{language, Enclosing, a-loop, a-switch, another, switchInside, kindBy}
 use Rattle.definition.specs.Context.{Context}
 use Rattle.definition.specs.Statement.{BlockResult}
 
-mutual
-  pub data Relabeled : Statement → Statement → Type 0 where
-    the-same : (statement : Statement) → Relabeled statement statement
-    a-break : (target id loops : ℕ) → Relabeled (BREAK target id unlabeled loops) (BREAK target id labeled loops)
-    in-if : (test id : ℕ) (label : Option ℕ) (present : Bool) {first first′ second second′ : Statements} → RelabeledAll first first′ → RelabeledAll second second′
-        → Relabeled (IF test id label first present second) (IF test id label first′ present second′)
-    in-switch : (test id : ℕ) (label : Option ℕ) {cases cases′ : Cases} → RelabeledCases cases cases′ → Relabeled (SWITCH test id label cases) (SWITCH test id label cases′)
-    in-do-while : (id : ℕ) (label : Option ℕ) (test : Value) {body body′ : Statements} → RelabeledAll body body′ → Relabeled (DOWHILE id label body test) (DOWHILE id label body′ test)
-    in-while : (id : ℕ) (label : Option ℕ) (test : Value) {body body′ : Statements} → RelabeledAll body body′ → Relabeled (WHILE id label test body) (WHILE id label test body′)
-    in-for : (id : ℕ) (label : Option ℕ) (init test : Value) (update : Option Value) {body body′ : Statements} → RelabeledAll body body′
-        → Relabeled (FOR id label init test update body) (FOR id label init test update body′)
-    in-for-of : (id : ℕ) (label : Option ℕ) (span : Span) (init test : Value) {body body′ : Statements} → RelabeledAll body body′
-        → Relabeled (FOROF id label span init test body) (FOROF id label span init test body′)
-    in-for-in : (id : ℕ) (label : Option ℕ) (span : Span) (init : Value) {body body′ : Statements} → RelabeledAll body body′
-        → Relabeled (FORIN id label span init body) (FORIN id label span init body′)
-    in-label : (id : ℕ) (label : Option ℕ) {body body′ : Statements} → RelabeledAll body body′ → Relabeled (LABEL id label body) (LABEL id label body′)
-    in-try : (id : ℕ) (label binding : Option ℕ) {first first′ second second′ : Statements} → RelabeledAll first first′ → RelabeledAll second second′
-        → Relabeled (TRY id label binding first second) (TRY id label binding first′ second′)
-    in-scope : (pruned : Bool) (scope : ℕ) {body body′ : Statements} → RelabeledAll body body′ → Relabeled (SCOPE pruned scope body) (SCOPE pruned scope body′)
+-- within these statements, the innermost first
+unfoldable mutual
+  pub relabeledStatement : List Enclosing → Statement → Statement
+  relabeledStatement around (INSTR id lvalue span value) = INSTR id lvalue span value
+  relabeledStatement around (IF test id label consequent present alternate) =
+      IF test id label (relabeled (another label ∷ around) consequent) present (relabeled (another label ∷ around) alternate)
+  relabeledStatement around (SWITCH test id label cases) = SWITCH test id label (relabeledCases (a-switch label ∷ around) cases)
+  relabeledStatement around (DOWHILE id label body test) = DOWHILE id label (relabeled (a-loop label ∷ around) body) test
+  relabeledStatement around (WHILE id label test body) = WHILE id label test (relabeled (a-loop label ∷ around) body)
+  relabeledStatement around (FOR id label init test update body) = FOR id label init test update (relabeled (a-loop label ∷ around) body)
+  relabeledStatement around (FOROF id label span init test body) = FOROF id label span init test (relabeled (a-loop label ∷ around) body)
+  relabeledStatement around (FORIN id label span init body) = FORIN id label span init (relabeled (a-loop label ∷ around) body)
+  relabeledStatement around (LABEL id label body) = LABEL id label (relabeled (another label ∷ around) body)
+  relabeledStatement around (TRY id label binding body handler) =
+      TRY id label binding (relabeled (another label ∷ around) body) (relabeled (another label ∷ around) handler)
+  relabeledStatement around (SCOPE pruned scope body) = SCOPE pruned scope (relabeled (another none ∷ around) body)
+  relabeledStatement around (RETURN value id) = RETURN value id
+  relabeledStatement around (THROW value id) = THROW value id
+  relabeledStatement around (BREAK target id kind loops) = BREAK target id (kindBy language (switchInside around) kind) loops
+  relabeledStatement around (CONTINUE target id kind loops) = CONTINUE target id kind loops
 
-  pub data RelabeledAll : Statements → Statements → Type 0 where
-    none-left : RelabeledAll done done
-    and-then : {statement statement′ : Statement} {rest rest′ : Statements} → Relabeled statement statement′ → RelabeledAll rest rest′ → RelabeledAll (statement ▸ rest) (statement′ ▸ rest′)
+  pub relabeled : List Enclosing → Statements → Statements
+  relabeled around done = done
+  relabeled around (statement ▸ rest) = relabeledStatement around statement ▸ relabeled around rest
 
-  pub data RelabeledCases : Cases → Cases → Type 0 where
-    no-case-left : RelabeledCases no-cases no-cases
-    a-case : (test : ℕ) {body body′ : Statements} {rest rest′ : Cases} → RelabeledAll body body′ → RelabeledCases rest rest′ → RelabeledCases (CASE test body rest) (CASE test body′ rest′)
+  pub relabeledCases : List Enclosing → Cases → Cases
+  relabeledCases around no-cases = no-cases
+  relabeledCases around (CASE test body rest) = CASE test (relabeled around body) (relabeledCases around rest)
 
 -- what the first entry gives, and the language entry: "the same, or 29". Where the first refuses, the second refuses alike, or with 29; and 29 comes
 -- with no more visits than the first entry has (`seen` is the count of a result)
@@ -52,5 +54,6 @@ abbrev pub visitsAfter : BlockResult → ℕ
 visitsAfter result = result .context .visits
 
 -- lists of statements that are so, with one Context after them: the same visits, too
-pub data AlikeBlocks : BlockResult → BlockResult → Type 0 where
-  alike-blocks : (first second : Statements) (context : Context) → RelabeledAll first second → AlikeBlocks (record { statements = first; context = context }) (record { statements = second; context = context })
+pub data AlikeBlocks (around : List Enclosing) : BlockResult → BlockResult → Type 0 where
+  alike-blocks : (first : Statements) (context : Context)
+      → AlikeBlocks around (record { statements = first; context = context }) (record { statements = relabeled around first; context = context })

@@ -1,4 +1,5 @@
--- M-102, "index included": trees that differ only in BREAKs that are Labeled in place of Unlabeled have the same lines. For crates/theorems.
+-- M-102, "index included": the language entry's tree, which differs only in BREAKs that are Labeled in place of Unlabeled, has the first entry's lines.
+-- For crates/theorems.
 use mathlib.Core.Path.{_≡_, refl, sym, ap, _∙_}
 use Prim.Native.Nat.{ℕ, suc, _+_, _-_}
 use native.Mathlib.Omega.{arith}
@@ -7,8 +8,10 @@ use mathlib.Core.Option.{Option, none, some}
 use mathlib.Core.Bool.{Bool, true, false}
 use lib.ListN.{length, length-append}
 use Rattle.definition.specs.Index.{labelOf, rowsIn, Labelled, labelledBy, inParts, inList, inCases, Line, lineOf, lines}
-use Rattle.definition.specs.Relabeled.{Relabeled, the-same, a-break, in-if, in-switch, in-do-while, in-while, in-for, in-for-of, in-for-in, in-label, in-try, in-scope}
-use Rattle.definition.specs.Relabeled.{RelabeledAll, none-left, and-then, RelabeledCases, no-case-left, a-case}
+use Rattle.definition.proofs.Relabels.{Relabeled, the-same, a-break, in-if, in-switch, in-do-while, in-while, in-for, in-for-of, in-for-in, in-label, in-try, in-scope}
+use Rattle.definition.proofs.Relabels.{RelabeledAll, none-left, and-then, RelabeledCases, no-case-left, a-case, relabels}
+use Rattle.definition.specs.Around.{Enclosing}
+use Rattle.definition.specs.Relabeled.{relabeled}
 use Rattle.definition.specs.Tree.{Value, Statement, Statements, _▸_, Cases, Row, valueRows, updateRows, statementRows, statementsRows, blockRows, casesRows}
 use Rattle.definition.proofs.Rows.{value-append, update-append, statement-append}
 
@@ -140,6 +143,6 @@ mutual
       (cases-moved (inCases (n + (rowsIn (blockRows b) + 1)) r) r′ (n + (rowsIn (blockRows b) + 1)) (n + (rowsIn (blockRows b′) + 1))
       (ap (λ (m : ℕ). n + (m + 1)) (block-many p [] [] refl)) (cases-alike q (n + (rowsIn (blockRows b) + 1))))
 
-pub same-lines : (first second : Statements) → RelabeledAll first second → lines first ≡ lines second
+pub same-lines : (around : List Enclosing) (first : Statements) → lines first ≡ lines (relabeled around first)
 unfolding lines
-same-lines first second p = list-alike p 0
+same-lines around first = list-alike (relabels around first) 0

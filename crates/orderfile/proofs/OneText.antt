@@ -16,7 +16,8 @@ use Rattle.renaming.specs.Renaming.{Renaming, renamed}
 use Rattle.renaming.specs.Order.{newNumber, oldNumber, walkingOrder, rearranged}
 use Rattle.renaming.proofs.Checks.{renamed-checked}
 use Rattle.renaming.proofs.OrderLaws.{walking-renaming}
-use Rattle.renaming.proofs.Canonical.{AllNamed, one-rearrangement}
+use Rattle.renaming.proofs.Canonical.{one-rearrangement}
+use Rattle.renaming.specs.Order.{AllNamed}
 use Rattle.writer.specs.Write.{tableText}
 use Rattle.writer.proofs.GoodLaws.{good-is-text}
 use Rattle.orderfile.specs.Prints.{unlessRefused, orderedText, Prints}

@@ -12,7 +12,8 @@ use Rattle.definition.specs.Tree.{Row, row, Statements}
 use Rattle.definition.specs.Reading.{Part, value, statement, block, case, partRows, Forest, forestRows, WellFormedForest, ReadAsForest, ReadAs}
 use Rattle.definition.proofs.Steps.{none-some}
 use Rattle.definition.proofs.Rows.{value-append, statement-append, block-append}
-use Rattle.definition.proofs.Readings.{close, read, forest-read, one-forest}
+use Rattle.definition.specs.Reader.{close, read}
+use Rattle.definition.proofs.Readings.{forest-read, one-forest}
 use Rattle.reading.specs.Ranges.{inRange, allInRange}
 use Rattle.reading.specs.Grammar.{Reads, OneTree, GoodBefore, noRow, RowsAnswer, one-tree, out-of-range, no-parts, remainder}
 use Rattle.reading.specs.Needs.{RowsVerdict, accepted, refused, codeOf, atOf}

@@ -12,8 +12,8 @@ use Rattle.definition.specs.Tree.{Value, Instructions, instruction, Statement, 
 use Rattle.definition.specs.Tree.{SWITCH, DOWHILE, WHILE, FOR, FOROF, FORIN, LABEL, TRY, SCOPE, RETURN, THROW, BREAK, CONTINUE, Statements, _▸_, Cases}
 use Rattle.definition.specs.Tree.{CASE, Row, row}
 use Rattle.definition.specs.Reading.{Part, value, statement, block, case, Forest}
-use Rattle.definition.proofs.Readings.{Step, takeValue, takeStatement, takeBlock, takeCase, asInstruction, takeInstructions, takeStatements, takeCases, pushes}
-use Rattle.definition.proofs.Readings.{closeIf, closeFor, closings, close}
+use Rattle.definition.specs.Reader.{Step, takeValue, takeStatement, takeBlock, takeCase, asInstruction, takeInstructions, takeStatements, takeCases, pushes}
+use Rattle.definition.specs.Reader.{closeIf, closeFor, closings, close}
 use Rattle.reading.specs.Ranges.{inRange}
 use Rattle.reading.specs.Needs.{Sort, a-value, an-instr, a-statement, a-block, a-case, many, ifPresent, partsOf, madeBy, Sorts, taken, sortStep, sortOfStatement, sortOf, sortsOf}
 use Rattle.reading.proofs.Sound.{InRange, in-range}

@@ -20,8 +20,8 @@ use Rattle.definition.specs.Tree.{countCases, statementRows, statementsRows, bl
 use Rattle.table.specs.declared.columns.Span.{Span}
 use Rattle.definition.specs.Reading.{BelowNone, WellFormedStatement, WellFormed, WellFormedCases, Part, value, statement, block, case, partRows, WellFormedPart, Forest, forestRows, WellFormedForest}
 use Rattle.definition.proofs.Steps.{none-some}
-use Rattle.definition.proofs.Readings.{Step, takeValue, takeStatement, takeBlock, takeCase, asInstruction, takeInstructions, takeStatements, takeCases, pushes}
-use Rattle.definition.proofs.Readings.{kindOf, closeIf, closeFor, closings, close, read}
+use Rattle.definition.specs.Reader.{Step, takeValue, takeStatement, takeBlock, takeCase, asInstruction, takeInstructions, takeStatements, takeCases, pushes}
+use Rattle.definition.specs.Reader.{kindOf, closeIf, closeFor, closings, close, read}
 use Rattle.reading.proofs.Upto.{upto, ends, _and_, and-both}
 use Rattle.reading.specs.Ranges.{rulesByOp, rowRules, fitsColumn, inRange}
 

@@ -19,7 +19,7 @@ use Rattle.definition.specs.Completion.{contains}
 use Rattle.definition.proofs.Steps.{true-false}
 use Rattle.renaming.specs.Renaming.{Renaming, namesBlock, renamedIf, renamedBlockRow, renamed, RenamedWords}
 use Rattle.lines.specs.Lines.{caseBlocks, unlessNo, namedBy}
-use Rattle.renaming.specs.Order.{oldNumber, placeFrom, newNumber, withNamed, walkFrom, walkingOrder, rearranged}
+use Rattle.renaming.specs.Order.{AllNamed, oldNumber, placeFrom, newNumber, withNamed, walkFrom, walkingOrder, rearranged}
 use Rattle.renaming.proofs.Alike.{Moves, moves, same-test, new-below}
 use Rattle.renaming.proofs.Tables.{renamedTerminal, renamedCase, renamedTable, Reordered}
 use Rattle.renaming.proofs.Walk.{map-take, map-drop}
@@ -116,10 +116,6 @@ module _ (new : ℕ → ℕ) (m : Moves new) where
             pick-false (ltb place (length (map new found))) _ _ (ap (ltb place) (length-map found new) ∙ e) ∙ ap (map new) (sym (pick-false (ltb place (length found)) _ _ e))
 
 -- ---- where every block is named, none comes last
-
--- the walk from the entry names every block
-abbrev pub AllNamed : Table → Type 0
-AllNamed t = (b : ℕ) → b < length (t .blocks) → contains (walkFrom t (length (t .blocks)) 0 (t .entry ∷ [])) b ≡ true
 
 with-all : (found names : List ℕ) → ((b : ℕ) → contains names b ≡ true → contains found b ≡ true) → withNamed found names ≡ found
 with-all found [] h = refl

@@ -1,5 +1,6 @@
 -- M-111: the list of old numbers, the renaming that it stands for, and the order of a breadth-first walk.
-use Prim.Native.Nat.{ℕ, zero, suc}
+use mathlib.Core.Path.{_≡_}
+use Prim.Native.Nat.{ℕ, zero, suc, _<_}
 use mathlib.Core.List.{List, [], _∷_, _++_}
 use mathlib.Core.Bool.{Bool, true, false, not, _&&_}
 use lib.ListN.{getD, length, replicate}
@@ -52,6 +53,10 @@ walkFrom t (suc places) place found =
       | true ↦ walkFrom t places (suc place) (withNamed found (namedAt t (getD found place 0)))
       | false ↦ found
     ]
+
+-- the walk from the entry names every block
+abbrev pub AllNamed : Table → Type 0
+AllNamed t = (b : ℕ) → b < length (t .blocks) → contains (walkFrom t (length (t .blocks)) 0 (t .entry ∷ [])) b ≡ true
 
 -- "the entry becomes 0, the others follow as a breadth-first walk along M-110's lines first names them, and blocks it never names come last in their old order"
 unfoldable pub walkingOrder : Table → List ℕ

@@ -19,7 +19,8 @@ use mathlib.Core.Bool.{true}
 use lib.ListN.{length}
 use Rattle.definition.specs.Tree.{rows}
 use Rattle.definition.specs.Reading.{block, Forest}
-use Rattle.definition.proofs.Readings.{read, forest-read}
+use Rattle.definition.specs.Reader.{read}
+use Rattle.definition.proofs.Readings.{forest-read}
 use Rattle.reading.specs.Ranges.{allInRange}
 use Rattle.reading.specs.Grammar.{mostRows}
 use Rattle.reading.specs.Needs.{RowsVerdict, rowsOfWords, sizedVerdict}

@@ -7,7 +7,7 @@ use mathlib.Core.Bool.{true}
 use lib.ListN.{length}
 use Rattle.definition.specs.Tree.{Row, Statements, done, _▸_}
 use Rattle.definition.specs.Reading.{ReadAs, Part, value, statement, block, case, Forest}
-use Rattle.definition.proofs.Readings.{read}
+use Rattle.definition.specs.Reader.{read}
 use Rattle.definition.specs.Build.{wordsOf}
 use Rattle.definition.specs.Run.{Answers}
 use Rattle.reading.specs.Ranges.{allInRange}

@@ -14,13 +14,15 @@ use Rattle.definition.specs.Around.{Rule, rust, language}
 use Rattle.definition.specs.Result.{Result, ok, refused}
 use Rattle.definition.specs.Statement.{BlockResult, buildTree}
 use Rattle.definition.specs.Tree.{Statements, Row, rows}
-use Rattle.definition.specs.Named.{Named}
 use Rattle.definition.specs.Index.{Line, lines}
 use Rattle.indexed.proofs.SameLines.{same-lines}
 use Rattle.definition.specs.Build.{Outcome, report, reported, refusal, wordsOf, placed, outcomeOf, afterCheck, built}
-use Rattle.definition.specs.Relabeled.{Apart, AlikeBlocks, alike-blocks, visitsAfter}
-use Rattle.theorems.specs.Parted.{Parted, refused-alike, unnamed, relabeled}
+use Rattle.definition.specs.Relabeled.{relabeled, Apart, AlikeBlocks, alike-blocks, visitsAfter}
+use Rattle.theorems.specs.LabelsThere.{LabelsThere}
+use Rattle.theorems.specs.Parted.{Parted, refused-alike, unnamed, relabeled-alike}
 use Rattle.definition.proofs.Checked.{ofCheck, Coded, coded}
+use Rattle.definition.proofs.Steps.{ofPaper}
+use Rattle.definition.proofs.Never.{never-of-paper}
 use Rattle.definition.proofs.RustCodes.{rust-never-29}
 use Rattle.definition.proofs.Parting.{differs-only-so}
 use Rattle.definition.proofs.PartingRows.{rows-part}
@@ -39,25 +41,34 @@ module _ (words : List ℕ) (lent lentIndex : ℕ) where
       by true false e f = rw (e, f, placed)
       by false z e f = rw (e, placed)
 
-  results-part : (m n : Result BlockResult) → Apart AlikeBlocks visitsAfter m n → Parted lent lentIndex (outcomeOf lent lentIndex (reported m)) (outcomeOf lent lentIndex (reported n))
+  -- `some` says that a refusal has a number
+  results-part : (m n : Result BlockResult) → ((code at visits : ℕ) → m ≡ refused code at visits → code ≡ 0 → ⊥) → Apart (AlikeBlocks []) visitsAfter m n
+      → Parted lent lentIndex (outcomeOf lent lentIndex (reported m)) (outcomeOf lent lentIndex (reported n))
   unfolding outcomeOf reported refusal
-  results-part (ok a) (ok b) (alike-blocks first second cx p) =
-      subst (λ (z : List Line). Parted lent lentIndex (placed lent lentIndex (rows first) (lines first) (cx .visits)) (placed lent lentIndex (rows second) z (cx .visits)))
-      (same-lines first second p) (relabeled first second (cx .visits) p (rows-part first second p))
-  results-part (ok a) (refused code at visits) e =
+  results-part (ok a) (ok b) some (alike-blocks first cx) =
+      subst (λ (z : List Line). Parted lent lentIndex (placed lent lentIndex (rows first) (lines first) (cx .visits)) (placed lent lentIndex (rows (relabeled [] first)) z (cx .visits)))
+      (same-lines [] first) (relabeled-alike first (cx .visits) (rows-part [] first))
+  results-part (ok a) (refused code at visits) some e =
       let given : Outcome = placed lent lentIndex (rows (a .statements)) (lines (a .statements)) (visitsAfter a) in
       let fewer : visits ≤ given .visits = rw (placed-visits (rows (a .statements)) (lines (a .statements)) (visitsAfter a)) (e .1) in
       rw (e .0) (unnamed given at visits fewer)
-  results-part (refused code at visits) (ok b) e = absurd e
-  results-part (refused code at visits) (refused code′ at′ visits′) e = ⊎-elim (λ q. rw (q .0, q .1, q .2) (refused-alike _)) (λ q. rw (q .0) (unnamed _ at′ visits′ (q .1))) e
+  results-part (refused code at visits) (ok b) some e = absurd e
+  results-part (refused code at visits) (refused code′ at′ visits′) some e =
+      ⊎-elim (λ q. rw (sym (q .0), sym (q .1), sym (q .2)) (refused-alike (refusal code at 0 visits lent lentIndex) (some code at visits refl)))
+      (λ q. rw (q .0) (unnamed _ at′ visits′ (q .1))) e
+
+  -- no table, and no word, is refused with 0
+  some-number : (code at visits : ℕ) → buildTree rust (tableOf words) ≡ refused code at visits → code ≡ 0 → ⊥
+  unfolding report reported
+  some-number code at visits e z = subst (λ (n : ℕ). T (ofPaper n)) z (never-of-paper rust (tableOf words) code at visits (ap reported e))
 
   pub entries-part : Parted lent lentIndex (built rust words lent lentIndex) (built language words lent lentIndex)
-  unfolding built afterCheck report
-  entries-part = at (checked words)
+  unfolding built afterCheck report refusal
+  entries-part = at (checked words) refl
     where
-      at : (v : Verdict) → Parted lent lentIndex (afterCheck rust lent lentIndex v words) (afterCheck language lent lentIndex v words)
-      at check.accepted = results-part (buildTree rust (tableOf words)) (buildTree language (tableOf words)) (differs-only-so (tableOf words))
-      at (check.refused code place) = refused-alike _
+      at : (v : Verdict) → checked words ≡ v → Parted lent lentIndex (afterCheck rust lent lentIndex v words) (afterCheck language lent lentIndex v words)
+      at check.accepted e = results-part (buildTree rust (tableOf words)) (buildTree language (tableOf words)) some-number (differs-only-so (tableOf words))
+      at (check.refused code place) e = refused-alike _ (λ h. let c : T (ofCheck code) = subst Coded e (coded words) in subst (λ (n : ℕ). T (ofCheck n)) h c)
 
   -- ---- the first entry never gives 29
 
@@ -82,13 +93,7 @@ module _ (words : List ℕ) (lent lentIndex : ℕ) where
       at check.accepted e h = result (buildTree rust (tableOf words)) refl h
       at (check.refused code place) e h = let c : T (ofCheck code) = subst Coded e (coded words) in subst (λ (n : ℕ). T (ofCheck n)) h c
 
--- ---- "A jump that comes out Labeled must name the label of a statement around it, and a continue the label of the very loop it resolved to."
-
--- of the tree whose rows the buffer holds
-pub record LabelsThere (rule : Rule) (words : List ℕ) (lent lentIndex : ℕ) : Type 0 where
-  pub root : Statements
-  pub held : take (built rule words lent lentIndex .rows * 6) (built rule words lent lentIndex .buffer) ≡ wordsOf (rows root)
-  pub named : Named rule [] root
+-- ---- M-107, and "A jump that comes out Labeled must name the label of a statement around it, and a continue the label of the very loop it resolved to."
 
 pub labels-there : (rule : Rule) (words : List ℕ) (lent lentIndex : ℕ) → built rule words lent lentIndex .code ≡ 0 → LabelsThere rule words lent lentIndex
 labels-there rule words lent lentIndex h =

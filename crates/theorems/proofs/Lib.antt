@@ -1,7 +1,10 @@
+pub mod Calls
+pub mod Demands
 pub mod Language
 pub mod Loops
 pub mod Parting
 pub mod Previews
 pub mod Requests
+pub mod RunReasons
 pub mod Theorems
 pub mod WalkingOrder

@@ -8,34 +8,15 @@ use mathlib.Core.Bool.{Bool, true, false}
 use lib.Dec.{leb}
 use lib.ListN.{length}
 use Rattle.definition.specs.Around.{rust, language}
-use Rattle.definition.specs.Tree.{Row, rows}
+use Rattle.definition.specs.Tree.{Statements, Row, rows}
+use Rattle.definition.specs.Relabeled.{relabeled}
 use Rattle.definition.specs.Index.{Line, lines}
 use Rattle.definition.specs.Build.{Outcome, refusal, placed, built}
-use Rattle.definition.specs.RelabeledRows.{RelabeledRows, no-row-left, the-same-row}
-use Rattle.definition.proofs.Outcomes.{acceptance, accepted-form}
+use Rattle.definition.specs.RelabeledRows.{RelabeledRows}
 use Rattle.definition.proofs.PartingRows.{as-many-rows}
-use Rattle.theorems.specs.Parted.{Parted, refused-alike, unnamed, relabeled}
+use Rattle.theorems.specs.Answered.{acceptance}
+use Rattle.theorems.specs.Parted.{Parted, refused-alike, unnamed, relabeled-alike, Unnamed, AcceptedAlike}
 use Rattle.theorems.proofs.Language.{entries-part}
-
--- "29 in the new entry", with no more visits than the first entry's outcome has
-pub record Unnamed (first second : Outcome) : Type 0 where
-  pub code : second .code ≡ 29
-  pub fewer : second .visits ≤ first .visits
-
--- both accept, after the same visits: equally many rows, the same but for BREAKs that go from Unlabeled to Labeled, then zeros; and the same lines
-pub record AcceptedAlike (lent lentIndex : ℕ) (first second : Outcome) : Type 0 where
-  pub list : List Row
-  pub list′ : List Row
-  pub index : List Line
-  pub visits : ℕ
-  pub many : length list′ ≡ length list
-  pub rows : RelabeledRows list list′
-  pub is : first ≡ acceptance lent lentIndex list index visits
-  pub is′ : second ≡ acceptance lent lentIndex list′ index visits
-
-rows-same : (list : List Row) → RelabeledRows list list
-rows-same [] = no-row-left
-rows-same (one ∷ list) = the-same-row one (rows-same list)
 
 module _ (lent lentIndex : ℕ) where
   module _ (list : List Row) (index : List Line) (visits : ℕ) where
@@ -60,7 +41,16 @@ module _ (lent lentIndex : ℕ) where
   refused-some code at rows visits some e = omega (arith, some, e)
 
   -- rows that fit, and rows or lines that do not
-  module _ (list list′ : List Row) (index : List Line) (visits : ℕ) (p : RelabeledRows list list′) where
+  module _ (root : Statements) (visits : ℕ) (p : RelabeledRows (rows root) (rows (relabeled [] root))) where
+    abbrev list : List Row
+    list = rows root
+
+    abbrev list′ : List Row
+    list′ = rows (relabeled [] root)
+
+    abbrev index : List Line
+    index = lines root
+
     many : length list′ ≡ length list
     many = as-many-rows list list′ p
 
@@ -81,11 +71,8 @@ module _ (lent lentIndex : ℕ) where
         by : (fits : Bool) → leb (length list) (lent / 6) ≡ fits → (indexed : Bool) → leb (length index) (lentIndex / 3) ≡ indexed
             → AcceptedAlike lent lentIndex (placed lent lentIndex list index visits) (placed lent lentIndex list′ index visits)
         by true e true f = record {
-          list = list;
-          list′ = list′;
-          index = index;
+          root = root;
           visits = visits;
-          many = many;
           rows = p;
           is = fits-placed list index visits e f;
           is′ = fits-placed list′ index visits (rw many e) f;
@@ -94,17 +81,14 @@ module _ (lent lentIndex : ℕ) where
         by false e indexed f = absurd (refused-some 40 0 (length list) visits (omega arith) (sym (ap (λ (o : Outcome). o .code) (full-placed list index visits e)) ∙ h))
 
   refused-part : (first second : Outcome) → Parted lent lentIndex first second → (first .code ≡ 0 → ⊥) → (second ≡ first) ⊎ Unnamed first second
-  refused-part first second (refused-alike outcome) h = inl refl
+  refused-part first second (refused-alike outcome some) h = inl refl
   refused-part first second (unnamed outcome at visits fewer) h = inr (refusal-29 outcome at visits fewer)
-  refused-part first second (relabeled s s′ visits p q) h = inl (placed-refused (rows s) (rows s′) (lines s) visits q h)
+  refused-part first second (relabeled-alike root visits p) h = inl (placed-refused root visits p h)
 
-  accepted-part : (first second : Outcome) → Parted lent lentIndex first second → first .code ≡ 0
-      → (list : List Row) (index : List Line) (visits : ℕ) → first ≡ acceptance lent lentIndex list index visits
-      → AcceptedAlike lent lentIndex first second ⊎ Unnamed first second
-  accepted-part first second (refused-alike outcome) h list index visits e =
-      inl (record { list = list; list′ = list; index = index; visits = visits; many = refl; rows = rows-same list; is = e; is′ = e })
-  accepted-part first second (unnamed outcome at count fewer) h list index visits e = inr (refusal-29 outcome at count fewer)
-  accepted-part first second (relabeled s s′ count p q) h list index visits e = inl (placed-accepted (rows s) (rows s′) (lines s) count q h)
+  accepted-part : (first second : Outcome) → Parted lent lentIndex first second → first .code ≡ 0 → AcceptedAlike lent lentIndex first second ⊎ Unnamed first second
+  accepted-part first second (refused-alike outcome some) h = absurd (some h)
+  accepted-part first second (unnamed outcome at count fewer) h = inr (refusal-29 outcome at count fewer)
+  accepted-part first second (relabeled-alike root count p) h = inl (placed-accepted root count p h)
 
 module _ (words : List ℕ) (lent lentIndex : ℕ) where
   pub where-refused : (built rust words lent lentIndex .code ≡ 0 → ⊥)
@@ -114,6 +98,4 @@ module _ (words : List ℕ) (lent lentIndex : ℕ) where
   pub where-accepted : built rust words lent lentIndex .code ≡ 0
       → AcceptedAlike lent lentIndex (built rust words lent lentIndex) (built language words lent lentIndex)
       ⊎ Unnamed (built rust words lent lentIndex) (built language words lent lentIndex)
-  where-accepted h =
-      let form = accepted-form rust words lent lentIndex h in
-      accepted-part lent lentIndex _ _ (entries-part words lent lentIndex) h (rows (form .0)) (lines (form .0)) _ (form .2)
+  where-accepted h = accepted-part lent lentIndex _ _ (entries-part words lent lentIndex) h

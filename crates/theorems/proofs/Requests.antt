@@ -1,15 +1,18 @@
 -- The entries of paper 02's requests beside the build: each contract is met for any input and demands nothing (`asks-nothing`), and what a caller learns from it is what
 -- the definition gives, every lent word of it (`gives-the-definition`).
 -- Statements only, each by the lemma that proves it. M-111's stand in WalkingOrder.
-use Prim.Native.Nat.{ℕ, _*_, _≤_}
+use Prim.Native.Nat.{ℕ, _*_, _^_, _<_, _≤_}
 use mathlib.Core.Path.{_≡_, refl, ap, sym, _∙_, subst}
 use mathlib.Core.List.{List}
 use mathlib.Core.Logic.{_⊎_}
-use lib.ListN.{length, take}
+use mathlib.Core.Option.{none, some}
+use lib.ListN.{length, take, getD}
 use contract.Lifetimes.{Lfts}
 use denote.Ref.{RefT, now}
 use Rattle.table.specs.Table.{tableOf}
 use Rattle.table.specs.Check.{accepted, checked}
+use Rattle.table.proofs.PromiseLaws.{promised}
+use Rattle.text.specs.File.{Good}
 use Rattle.text.specs.Layout.{Layout, layout}
 use Rattle.text.specs.declared.version.Version.the-variants.{Old, New}
 use Rattle.text.specs.Answer.{Accepted}
@@ -17,7 +20,7 @@ use Rattle.text.specs.Placed.{Placing, placing}
 use Rattle.text.specs.declared.placed.Placed.{Placed}
 use Rattle.control.specs.Abstraction.{targetOf, contextOf, resultOf}
 use Rattle.definition.specs.Result.{ok}
-use Rattle.control.specs.Contract.{Scheduled, Unscheduled}
+use Rattle.control.specs.Contract.{Named, Room, Last, Scheduled, Unscheduled}
 use Rattle.control.specs.declared.Entry.{Entry}
 use Rattle.control.specs.declared.Context.{Context}
 use Rattle.control.specs.declared.ControlFlowTarget.{ControlFlowTarget}
@@ -26,11 +29,14 @@ use Rattle.definition.specs.Around.{language}
 use Rattle.definition.specs.Build.{built}
 use Rattle.definition.specs.Plain.{with-switch, Plain}
 use Rattle.definition.specs.PlainLoops.{PlainLoops}
+use Rattle.definition.specs.Tree.{Statements, rows}
+use Rattle.definition.specs.TreeRun.{treeRun}
 use Rattle.definition.specs.Run.{Answers}
 use Rattle.definition.specs.RunLaw.{Spoken, SwitchLaw}
 use Rattle.reading.specs.Grammar.{Answer}
 use Rattle.running.specs.Given.{RunGives, runOf}
-use Rattle.running.specs.Ran.{Outcome, ended}
+use Rattle.running.specs.Ran.{Outcome, refusal, firstNotRun, ended, ran}
+use Rattle.running.specs.Numbered.{numbered}
 use Rattle.running.proofs.OneOutcome.{one-outcome, is-given}
 use Rattle.running.proofs.SwitchRuns.{the-law, runner-gives, runner-does, never-63-64}
 use Rattle.running.proofs.LoopRuns as loops
@@ -40,12 +46,16 @@ use Rattle.lookup.specs.Lookup.{found, looked}
 use Rattle.lookup.specs.declared.Found.{Found}
 use Rattle.dot.specs.Dot.{drawn}
 use Rattle.writer.specs.Write.{tableText, tableWritten}
+use Rattle.writer.proofs.GoodLaws.{text-good, good-is-text}
+use Rattle.writer.proofs.TextLaws.{sized-shaped}
 use Rattle.convert.specs.OldCheck.{oldChecked}
 use Rattle.convert.specs.Widen.{widened}
-use Rattle.convert.specs.Convert.{Converted, newOfOld, oldOfNew, oldToNew, newToOld, spansVerdict, oldText}
+use Rattle.convert.specs.Convert.{Converted, newOfOld, oldOfNew, oldToNew, newToOld, spansVerdict, oldText, textOfAnswer, wholly}
 use Rattle.convert.proofs.OneAnswer.{converted-so, converted-one}
-use Rattle.convert.proofs.RoundTrip.{textOfAnswer, wholly, new-wholly, old-wholly}
+use Rattle.convert.proofs.RoundTrip.{new-wholly, old-wholly}
 use Rattle.convert.proofs.Trips.{old-again, new-again}
+use Rattle.theorems.specs.Stops.{Stops}
+use Rattle.theorems.proofs.RunReasons.{tree-stops, only-before-running}
 use Rattle.dot.proofs.dot.Statement as dot-stated
 use Rattle.dot.proofs.dot.Met as dot-proved
 use Rattle.dot.proofs.dot.Reads as dot-entry
@@ -81,8 +91,10 @@ use Rattle.lookup.proofs.tree_lookup.Met as lookup-export-proved
 use Rattle.lookup.proofs.tree_lookup.Reads as lookup-export
 use Rattle.control.proofs.Context.schedule.Statement as schedule-stated
 use Rattle.control.proofs.Context.schedule.Met as schedule-proved
+use Rattle.control.proofs.Context.schedule.Reads as schedule-entry
 use Rattle.control.proofs.Context.unschedule.Statement as unschedule-stated
 use Rattle.control.proofs.Context.unschedule.Met as unschedule-proved
+use Rattle.control.proofs.Context.unschedule.Reads as unschedule-entry
 use Rattle.runner.proofs.run_tree.Statement as run-stated
 use Rattle.runner.proofs.run_tree.Met as run-proved
 use Rattle.runner.proofs.run_tree.Reads as run-entry
@@ -108,13 +120,27 @@ schedule-meets-its-contract = schedule-proved.met
 pub unschedule-meets-its-contract : {M : Type 1} → unschedule-stated.statement M
 unschedule-meets-its-contract = unschedule-proved.met
 
--- what the contract is
-pub schedule-gives-the-definition : (target : ControlFlowTarget) (self r : Context) → Scheduled target self r → (visits : ℕ)
-    → schedule (targetOf target) (contextOf visits self) ≡ resultOf visits r
-schedule-gives-the-definition target self r promised = promised .context
+-- it asks that the target's blocks are among the 1,024, and room for one entry and its id; a call learns the definition's stack and set, or 15
+abbrev pub Scheduling : Type 0
+Scheduling = Context × (ControlFlowTarget × Unit {0})
 
-pub unschedule-gives-the-definition : (last : Entry) (self r : Context) → Unscheduled last self r → (visits : ℕ) → unschedule (last .id) (contextOf visits self) ≡ ok (contextOf visits r)
-unschedule-gives-the-definition last self r promised = promised .context
+pub schedule-asks-for-room-alone : (κs : Lfts 0) (before : Scheduling) → Named (before .1 .0) → Room (before .0) → schedule-entry.Asked κs before
+schedule-asks-for-room-alone κs before named room = (named, room)
+
+pub schedule-gives-the-definition : (κs : Lfts 0) (before after : Scheduling) (answer : Context) → schedule-entry.Learnt κs before answer after → (visits : ℕ)
+    → schedule (targetOf (before .1 .0)) (contextOf visits (before .0)) ≡ resultOf visits answer
+schedule-gives-the-definition κs before after answer learnt = let promised : Scheduled (before .1 .0) (before .0) answer = learnt in promised .context
+
+-- it asks for the stack's last entry, which it takes off
+abbrev pub Unscheduling : Type 0
+Unscheduling = Context × (Entry × Unit {0})
+
+pub unschedule-asks-for-the-last-entry-alone : (κs : Lfts 0) (before : Unscheduling) → Last (before .0) (before .1 .0) → unschedule-entry.Asked κs before
+unschedule-asks-for-the-last-entry-alone κs before last = last
+
+pub unschedule-gives-the-definition : (κs : Lfts 0) (before after : Unscheduling) (answer : Context) → unschedule-entry.Learnt κs before answer after → (visits : ℕ)
+    → unschedule (before .1 .0 .id) (contextOf visits (before .0)) ≡ ok (contextOf visits answer)
+unschedule-gives-the-definition κs before after answer learnt = let promised : Unscheduled (before .1 .0) (before .0) answer = learnt in promised .context
 
 -- ---- M-110: draw the blocks
 
@@ -231,6 +257,12 @@ pub new-to-old-has-room : (file words : List ℕ) (lent : ℕ) → Accepted (lay
     → newToOld file lent ≡ wholly lent (oldText words)
 new-to-old-has-room = old-wholly
 
+-- the writer's text of words of 32 bits with no refusal 1 to 4 is a good file with these words, and the only one: every file of that form that has them is that text
+pub the-writers-text-is-the-good-file : (words : List ℕ) → checked words ≡ accepted → ((i : ℕ) → getD words i 0 < 2 ^ 32)
+    → Good (layout New) (tableText words) words × ((file : List ℕ) → Good (layout New) file words → file ≡ tableText words)
+the-writers-text-is-the-good-file words passed narrow =
+    (text-good New words (sized-shaped words (promised words passed .sized)) narrow, λ file good. good-is-text New file words good)
+
 -- ---- M-101: the lookup
 
 pub find-meets-its-contract : {M : Type 1} → find-stated.statement M
@@ -320,6 +352,16 @@ a-run-is-of-the-tree-read words answers lent = is-given words answers lent refl
 -- and any words, answers and length have one such outcome, every lent word of it
 pub a-run-has-one-outcome : (words : List ℕ) (answers : Answers) (lent : ℕ) {o o′ : Outcome} → RunGives words answers lent o → RunGives words answers lent o′ → o ≡ o′
 a-run-has-one-outcome = one-outcome
+
+-- no run of a tree stops for another reason than "return, throw, end of the tree, or no answer left", or a jump without target (63); the run with row numbers neither
+pub a-tree-stops-for-a-reason-of-the-paper : (root : Statements) (answers : Answers) → firstNotRun (rows root) 0 ≡ none
+    → Stops (treeRun root answers) × Stops (treeRun (numbered 0 root) answers)
+a-tree-stops-for-a-reason-of-the-paper = tree-stops
+
+-- "64, before running, at the first LOGICAL, COND, OPTIONAL, TRY, FOROF or FORIN": where one stands, and never after running
+pub only-such-a-row-gives-64 : (root : Statements) (answers : Answers) (lent : ℕ) → ran root answers lent .code ≡ 64
+    → (i : ℕ) × (firstNotRun (rows root) 0 ≡ some i) × (ran root answers lent ≡ refusal 64 i lent)
+only-such-a-row-gives-64 = only-before-running
 
 -- ---- M-113: the runner on the trees of plain tables with switches. The law itself stands in Theorems
 

@@ -1,11 +1,11 @@
 -- The final theorems: statements only, each by the lemma that proves it. What must be believed to read them are the definitions that they name
 -- (docs/DEFINITION.md gives an order to read them in), and the kit. One section for each demand; a request adds its own.
 use Prim.Native.Nat.{ℕ, suc, _+_, _*_, _≤_}
-use mathlib.Core.Path.{_≡_, sym, subst}
-use mathlib.Core.List.{List, map}
+use mathlib.Core.Path.{_≡_, refl, sym, subst}
+use mathlib.Core.List.{List, [], map}
 use mathlib.Core.Logic.{_⊎_}
-use mathlib.Core.Bool.{_||_}
 use mathlib.Core.Option.{some}
+use mathlib.Core.Bool.{Bool}
 use lib.ListN.{length, take}
 use lib.Dec.{T, eqb}
 use contract.Lifetimes.{Lfts}
@@ -15,15 +15,25 @@ use Rattle.table.specs.Table.{Table, tableOf}
 use Rattle.table.specs.Answer as table
 use Rattle.table.specs.declared.Checked.{Checked}
 use Rattle.table.proofs.PromiseLaws.{promised}
+use Rattle.table.proofs.Checked.code.Statement as code-stated
+use Rattle.table.proofs.Checked.code.Met as code-proved
+use Rattle.table.proofs.Checked.code.Reads as code-method
+use Rattle.table.proofs.Checked.place.Statement as place-stated
+use Rattle.table.proofs.Checked.place.Met as place-proved
+use Rattle.table.proofs.Checked.place.Reads as place-method
+use Rattle.table.proofs.Checked.is_accepted.Statement as accepted-stated
+use Rattle.table.proofs.Checked.is_accepted.Met as accepted-proved
+use Rattle.table.proofs.Checked.is_accepted.Reads as accepted-method
 use Rattle.table_check.proofs.check.Statement as check-stated
 use Rattle.table_check.proofs.check.Met as check-proved
 use Rattle.table_check.proofs.check.Reads as check-entry
 use Rattle.table_check.proofs.table_check.Statement as check-export-stated
 use Rattle.table_check.proofs.table_check.Met as check-export-proved
 use Rattle.table_check.proofs.table_check.Reads as check-export
-use Rattle.definition.specs.Around.{Rule, rust, language, Around}
+use Rattle.definition.specs.Around.{Rule, rust, language, Around, switchInside, kindBy}
+use Rattle.definition.specs.Relabeled.{relabeled}
 use Rattle.definition.specs.Result.{alreadyScheduled, unscheduleOutOfOrder, maybeThrowInValueTerminal}
-use Rattle.definition.specs.Tree.{Statements, rows}
+use Rattle.definition.specs.Tree.{Value, unlabeled, WHILE, BREAK, Statements, done, _▸_, rows}
 use Rattle.definition.specs.Context.{ControlFlowTarget, target-if, target-switch, target-case, target-loop, targetBlock, continuesAt, Context, Resolution, getBreakTarget, getContinueTarget}
 use Rattle.definition.specs.Value.{mostVisits, visitValueBlock}
 use Rattle.definition.specs.Statement.{visitBlock, traverseBlock}
@@ -39,17 +49,19 @@ use Rattle.definition.proofs.Preview.{never-41}
 use Rattle.indexed.specs.Indexed.{OneLineEach, InOrder, FindsLabelled}
 use Rattle.indexed.proofs.Found.{one-line-each, lines-in-order, finds-labelled}
 use Rattle.definition.specs.RunLaw.{RunLaw, SwitchLaw, LawOfSwitches}
-use Rattle.definition.proofs.Outcomes.{ofInput, acceptance, outcome-code, refused-form, refused-rows, accepted-form}
+use Rattle.definition.proofs.Outcomes.{outcome-code, refused-form, refused-rows, accepted-form}
 use Rattle.definition.proofs.Visits.{visits-most}
 use Rattle.definition.proofs.Never.{target-known, never-already-scheduled, never-unschedule-out-of-order, never-maybe-throw-in-value-terminal}
 use Rattle.definition.proofs.Simulation.{machine-builds}
-use Rattle.definition.proofs.Invariant.{Reached, contextOf, framesOf, Small, sound-small, reached-going, stack-bound, machine-turns}
+use Rattle.definition.specs.Reached.{Reached, contextOf, framesOf}
+use Rattle.definition.proofs.Invariant.{Small, sound-small, reached-going, stack-bound, machine-turns}
 use Rattle.definition.proofs.Enough.{blocks-enough}
 use Rattle.definition.specs.PlainLoops.{PlainLoops}
 use Rattle.definition.specs.LoopLaw.{LawOfLoops, LawOfLoopsAndSwitches}
 use Rattle.definition.proofs.PlainEnough.{plain-enough}
 use Rattle.definition.proofs.Law.{switch-law, loops-law as law-of-loops, loops-and-switches-law, more-steps, one-tree}
-use Rattle.definition.proofs.Crossed.{Found, break-found, continue-found}
+use Rattle.definition.specs.Crossed.{Found}
+use Rattle.definition.proofs.Crossed.{break-found, continue-found}
 use Rattle.definition.proofs.JumpRows.{built-within}
 use Rattle.definition.proofs.Example.{W, loops, picks, W-law, loops-law, picks-law, not-for-rust}
 use Rattle.definition.proofs.LoopLawExample.{counts, counts-law}
@@ -91,9 +103,11 @@ use Rattle.build.proofs.reactive_build_language.Met as language-export-proved
 use Rattle.build.proofs.reactive_build_language.Reads as language-export
 use Rattle.survey.specs.declared.Rule as code
 use Rattle.survey.specs.Abstraction.{ruleOf}
-use Rattle.theorems.specs.Parted.{Parted}
-use Rattle.theorems.proofs.Language.{entries-part, first-never-29, LabelsThere, labels-there}
-use Rattle.theorems.proofs.Parting.{Unnamed, AcceptedAlike, where-refused, where-accepted}
+use Rattle.theorems.specs.Answered.{isNumber, acceptance}
+use Rattle.theorems.specs.LabelsThere.{LabelsThere}
+use Rattle.theorems.specs.Parted.{Parted, Unnamed, AcceptedAlike}
+use Rattle.theorems.proofs.Language.{entries-part, first-never-29, labels-there}
+use Rattle.theorems.proofs.Parting.{where-refused, where-accepted}
 use Rattle.text.specs.Prints.{printing}
 use Rattle.treefile.specs.Prints.{lentWords, lentIndex, builtText, Prints}
 use Rattle.treefile.proofs.OutcomeLaws.{never-41 as file-never-41}
@@ -182,6 +196,26 @@ pub check-gives-the-definition : (κs : Lfts 1) (before after : RefT (List ℕ) 
     → table.verdictOf answer ≡ checked (now (before .0))
 check-gives-the-definition κs before after answer learnt = learnt
 
+-- the three methods of its answer
+pub the-methods-of-checked-meet-their-contracts : {M : Type 1} → (code-stated.statement M × place-stated.statement M) × accepted-stated.statement M
+the-methods-of-checked-meet-their-contracts = ((code-proved.met, place-proved.met), accepted-proved.met)
+
+pub checked-code-gives-the-definition : (κs : Lfts 0) (before after : Checked × Unit {0}) (code : ℕ) → code-method.Learnt κs before code after
+    → code ≡ table.codeOf (table.verdictOf (before .0))
+checked-code-gives-the-definition κs before after code learnt = learnt
+
+pub checked-place-gives-the-definition : (κs : Lfts 0) (before after : Checked × Unit {0}) (place : ℕ) → place-method.Learnt κs before place after
+    → place ≡ table.placeOf (table.verdictOf (before .0))
+checked-place-gives-the-definition κs before after place learnt = learnt
+
+pub checked-is-accepted-gives-the-definition : (κs : Lfts 0) (before after : Checked × Unit {0}) (answer : Bool) → accepted-method.Learnt κs before answer after
+    → answer ≡ table.isAccepted (table.verdictOf (before .0))
+checked-is-accepted-gives-the-definition κs before after answer learnt = learnt
+
+pub the-methods-of-checked-ask-nothing : (κs : Lfts 0) (before : Checked × Unit {0})
+    → (code-method.Asked κs before × place-method.Asked κs before) × accepted-method.Asked κs before
+the-methods-of-checked-ask-nothing κs before = ((tt, tt), tt)
+
 -- and its export the verdict's code, with its place by reference
 pub table-check-meets-its-contract : {M : Type 1} → check-export-stated.statement M
 table-check-meets-its-contract = check-export-proved.met
@@ -223,8 +257,8 @@ module _ (rule : Rule) (words buffer index buffer′ index′ : List ℕ) (answe
       (accepted-form rule words (length buffer) (length index))
 
   -- 0; 1 to 4 or 10 to 31, which are the paper's for words and graphs; 40; or 41
-  pub a-call-has-a-code-of-the-paper : T (eqb (answer .code) 0 || ofInput (answer .code) || eqb (answer .code) 40 || eqb (answer .code) 41)
-  a-call-has-a-code-of-the-paper = carried (λ o. T (eqb (o .code) 0 || ofInput (o .code) || eqb (o .code) 40 || eqb (o .code) 41)) (outcome-code rule words (length buffer) (length index))
+  pub a-call-has-a-code-of-the-paper : T (isNumber (answer .code))
+  a-call-has-a-code-of-the-paper = carried (λ o. T (isNumber (o .code))) (outcome-code rule words (length buffer) (length index))
 
   -- "Depth at most 128, visits at most 8,192."
   pub a-call-makes-at-most-8192-visits : answer .visits ≤ 8192
@@ -321,7 +355,8 @@ the-depth-is-at-most-128 rule words passed s reached =
 
 -- ---- M-107: how many loops a jump leaves
 
--- the number is that of the loops on the stack above the entry found; where that is a loop, the jump is Labeled exactly when the number is above 0
+-- the number is that of the loops on the stack above the entry found, and no entry that fits lies above it; where it is a loop, the jump is Labeled exactly when
+-- the number is above 0
 pub a-break-gives-the-loops-above-its-entry : (cx : Context) (block : ℕ) (found : Resolution) → getBreakTarget cx block ≡ some found
     → Found (λ target. eqb (targetBlock target) block) (cx .stack) found
 a-break-gives-the-loops-above-its-entry = break-found
@@ -329,6 +364,11 @@ a-break-gives-the-loops-above-its-entry = break-found
 pub a-continue-gives-the-loops-above-its-loop : (cx : Context) (block : ℕ) (found : Resolution) → getContinueTarget cx block ≡ some found
     → Found (λ target. continuesAt target block) (cx .stack) found
 a-continue-gives-the-loops-above-its-loop = continue-found
+
+-- the same of the tree whose rows the buffer holds: d counts the loops between a jump and the statement that it was resolved on, with none between that bears its
+-- label; and in the first entry a jump whose target is a loop is Labeled exactly when d is above 0 (definition/specs/Named, `Lands`, `LandedKind`, `VeryLoop`)
+pub the-jumps-of-a-tree-count-their-loops : (rule : Rule) (words : List ℕ) (lent lentIndex : ℕ) → built rule words lent lentIndex .code ≡ 0 → LabelsThere rule words lent lentIndex
+the-jumps-of-a-tree-count-their-loops = labels-there
 
 pub no-row-has-more-than-128-loops : (rule : Rule) (words : List ℕ) (lent lentIndex : ℕ) → (accepts : built rule words lent lentIndex .code ≡ 0)
     → JumpsWithin (rows (one-tree rule words lent lentIndex accepts .tree))
@@ -385,8 +425,8 @@ what-the-build-makes-is-accepted = built-answered
 
 -- ---- M-102: the language entry
 
--- "index included, which differs only as follows": for the same words and lent buffers it refuses alike, gives 29, or accepts after the same visits a tree that differs only in
--- BREAKs that are Labeled in place of Unlabeled, with the same lines
+-- "index included, which differs only as follows": for the same words and lent buffers it refuses alike, gives 29, or accepts after the same visits the first entry's tree
+-- relabeled: a BREAK is Labeled in place of Unlabeled exactly where "a switch is being built between" (definition/specs/Relabeled); with the same lines
 pub the-entries-differ-only-so : (words : List ℕ) (lent lentIndex : ℕ) → Parted lent lentIndex (built rust words lent lentIndex) (built language words lent lentIndex)
 the-entries-differ-only-so = entries-part
 
@@ -395,12 +435,18 @@ pub where-the-first-entry-refuses : (words : List ℕ) (lent lentIndex : ℕ) �
     → (built language words lent lentIndex ≡ built rust words lent lentIndex) ⊎ Unnamed (built rust words lent lentIndex) (built language words lent lentIndex)
 where-the-first-entry-refuses = where-refused
 
--- where it accepts, the language entry accepts after the same visits with equally many rows, the same but for BREAK kinds that go from Unlabeled to Labeled,
--- and the same lines, or gives 29 with no more visits
+-- where it accepts, the language entry accepts after the same visits with the rows of its tree relabeled, the same but for BREAK kinds that go from Unlabeled to
+-- Labeled, and the same lines, or gives 29 with no more visits
 pub where-the-first-entry-accepts : (words : List ℕ) (lent lentIndex : ℕ) → built rust words lent lentIndex .code ≡ 0
     → AcceptedAlike lent lentIndex (built rust words lent lentIndex) (built language words lent lentIndex)
     ⊎ Unnamed (built rust words lent lentIndex) (built language words lent lentIndex)
 where-the-first-entry-accepts = where-accepted
+
+-- so that a bare break with no switch between stays as it is: "every bare break is Labeled" is another relation
+pub a-bare-break-in-a-loop-stays : (id target jump : ℕ) (test : Value)
+    → relabeled [] (WHILE id (some target) test (BREAK target jump unlabeled 0 ▸ done) ▸ done) ≡ WHILE id (some target) test (BREAK target jump unlabeled 0 ▸ done) ▸ done
+unfolding relabeled switchInside kindBy
+a-bare-break-in-a-loop-stays id target jump test = refl
 
 -- "29 in the new entry"
 pub the-first-entry-never-gives-29 : (words : List ℕ) (lent lentIndex : ℕ) → built rust words lent lentIndex .code ≡ 29 → ⊥

@@ -13,10 +13,10 @@ use Rattle.table.proofs.PromiseLaws.{promised}
 use Rattle.definition.specs.Around.{Rule}
 use Rattle.definition.specs.Build.{built}
 use Rattle.renaming.specs.Renaming.{Renaming, renamed, renamedOutcome}
-use Rattle.renaming.specs.Order.{isPermutation, newNumber, walkingOrder, rearranged, rearrangement, restoration}
+use Rattle.renaming.specs.Order.{AllNamed, isPermutation, newNumber, walkingOrder, rearranged, rearrangement, restoration}
 use Rattle.renaming.proofs.Theorem.{built-renamed}
 use Rattle.renaming.proofs.OrderLaws.{walking-order, rearranged-checked, rearranged-entry, rearranged-built, round-trip}
-use Rattle.renaming.proofs.Canonical.{AllNamed, one-rearrangement}
+use Rattle.renaming.proofs.Canonical.{one-rearrangement}
 use Rattle.order.specs.Entry.{rearranging, restoring}
 use Rattle.order.specs.declared.Moved.{Moved}
 use Rattle.order.proofs.rearrange.Statement as rearrange-stated

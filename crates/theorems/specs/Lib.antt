@@ -1,1 +1,5 @@
+pub mod Answered
+pub mod Call
+pub mod LabelsThere
 pub mod Parted
+pub mod Stops
