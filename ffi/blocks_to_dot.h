@@ -1,4 +1,5 @@
 /* The blocks of a table as a graph in DOT, for C. Link libdot.a (ffi/README.md says how it is made). */
+/* Stack: blocks_to_dot 4 KB. */
 #ifndef BLOCKS_TO_DOT_H
 #define BLOCKS_TO_DOT_H
 

@@ -1,4 +1,6 @@
 /* build_reactive_function for C. Link libbuild.a (ffi/README.md says how it is made). */
+/* Stack: reactive_build 108 KB. */
+/* Stack: reactive_build_language 108 KB. */
 #ifndef REACTIVE_BUILD_H
 #define REACTIVE_BUILD_H
 

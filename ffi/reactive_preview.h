@@ -1,4 +1,6 @@
 /* What a build will need, for C (M-106). Link libpreview.a (ffi/README.md says how it is made). */
+/* Stack: reactive_preview 108 KB. */
+/* Stack: reactive_preview_language 108 KB. */
 #ifndef REACTIVE_PREVIEW_H
 #define REACTIVE_PREVIEW_H
 

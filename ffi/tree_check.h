@@ -1,4 +1,5 @@
 /* Whether a list of rows reads as one tree, for C. Link libtreerows.a (ffi/README.md says how it is made). */
+/* Stack: tree_check 12 KB. */
 #ifndef TREE_CHECK_H
 #define TREE_CHECK_H
 

@@ -1,4 +1,5 @@
 /* A statement of a tree by its label, for C. Link liblookup.a (ffi/README.md says how it is made). */
+/* Stack: tree_lookup 4 KB. */
 #ifndef TREE_LOOKUP_H
 #define TREE_LOOKUP_H
 

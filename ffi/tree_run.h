@@ -1,4 +1,5 @@
 /* Runs a tree on paper, for C. Link librunner.a (ffi/README.md says how it is made). */
+/* Stack: tree_run 84 KB. */
 #ifndef TREE_RUN_H
 #define TREE_RUN_H
 
