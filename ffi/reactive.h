@@ -3,7 +3,8 @@
  *
  * Of every call: no pointer is null, also where the length is 0. What is passed is valid for its length and aligned; what is written to overlaps
  * nothing else that is passed, and no other thread uses it during the call. The content of what is read does not matter: any words and any bytes
- * may be passed. A call takes no memory but the stack, keeps nothing, and may be made from any number of threads. */
+ * may be passed. A call takes no memory but the stack (how much each takes at most is said with it), keeps nothing, and may be made from any
+ * number of threads. */
 #ifndef REACTIVE_H
 #define REACTIVE_H
 
@@ -141,12 +142,14 @@ static inline reactive_span reactive_row_span(const uint32_t *row) {
  *
  * Returns the code: 0, and the buffers hold *rows rows and *lines lines, and then zeros; or a refusal (docs/FORMAT.md), and both hold
  * zeros. *at is the refusal's place, *visits the number of visits. If refused *lines is 0, and *rows but for code 40: then it is the number
- * of rows to lend. Code 41 says that the rows would have fitted and the lines did not. reactive_preview gives both numbers beforehand. */
+ * of rows to lend. Code 41 says that the rows would have fitted and the lines did not. reactive_preview gives both numbers beforehand.
+ * Stack: reactive_build 108 KB. */
 uint32_t reactive_build(const uint32_t *words, size_t word_count, uint32_t *tree, size_t tree_length, uint32_t *index, size_t index_length,
                         uint32_t *at, uint32_t *rows, uint32_t *visits, uint32_t *lines);
 
 /* The same by the language's rule (docs/FORMAT.md): a break to a loop is Labeled also where a switch is being built in between, and the label
- * that a Labeled jump names is there; else the refusal is 29, which reactive_build never gives. */
+ * that a Labeled jump names is there; else the refusal is 29, which reactive_build never gives.
+ * Stack: reactive_build_language 108 KB. */
 uint32_t reactive_build_language(const uint32_t *words, size_t word_count, uint32_t *tree, size_t tree_length, uint32_t *index,
                                  size_t index_length, uint32_t *at, uint32_t *rows, uint32_t *visits, uint32_t *lines);
 
@@ -157,10 +160,11 @@ uint32_t reactive_build_language(const uint32_t *words, size_t word_count, uint3
  * words, word_count    the table, of any content and length
  *
  * Returns the code, never 40 or 41; the others are as of reactive_build. With fewer places for rows than *rows reactive_build
- * gives 40, else with fewer for lines than *lines 41. */
+ * gives 40, else with fewer for lines than *lines 41.
+ * Stack: reactive_preview 108 KB. */
 uint32_t reactive_preview(const uint32_t *words, size_t word_count, uint32_t *at, uint32_t *rows, uint32_t *visits, uint32_t *lines);
 
-/* The same of reactive_build_language. */
+/* The same of reactive_build_language. Stack: reactive_preview_language 108 KB. */
 uint32_t reactive_preview_language(const uint32_t *words, size_t word_count, uint32_t *at, uint32_t *rows, uint32_t *visits,
                                    uint32_t *lines);
 
@@ -177,7 +181,8 @@ uint32_t reactive_preview_language(const uint32_t *words, size_t word_count, uin
  * tree, tree_length      the rows, words of any content and number
  *
  * Returns the code: 0, and the statement's own rows are the words from *begin up to before *end of tree, the closing row last; or a
- * refusal, and *begin and *end are 0. 42: no line has the label. 43: the first line that has it does not tell rows of this tree. *at is 0. */
+ * refusal, and *begin and *end are 0. 42: no line has the label. 43: the first line that has it does not tell rows of this tree. *at is 0.
+ * Stack: tree_lookup 4 KB. */
 uint32_t tree_lookup(const uint32_t *index, size_t index_length, uint32_t lines, uint32_t label, const uint32_t *tree,
                      size_t tree_length, uint32_t *at, size_t *begin, size_t *end);
 
@@ -191,7 +196,8 @@ uint32_t tree_lookup(const uint32_t *index, size_t index_length, uint32_t lines,
  * tree, tree_length    the rows, words of any content and number. Of a buffer that was lent to reactive_build hand over 6 * rows words: the
  *                      zeros after them are no rows
  *
- * Returns the code: 0 if the list is the rows of one tree; 60, 61 or 62 (docs/FORMAT.md). *at is the row refused 60 or 61, else 0. */
+ * Returns the code: 0 if the list is the rows of one tree; 60, 61 or 62 (docs/FORMAT.md). *at is the row refused 60 or 61, else 0.
+ * Stack: tree_check 12 KB. */
 uint32_t tree_check(const uint32_t *tree, size_t tree_length, uint32_t *at);
 
 /* ---- A tree run on paper (M-103) ---- */
@@ -212,7 +218,8 @@ uint32_t tree_check(const uint32_t *tree, size_t tree_length, uint32_t *at);
  * Returns the code: 0 if the tree was run; 60 to 62 as tree_check gives them; 64 at the first row that is not run (LOGICAL, COND, OPTIONAL, TRY, FOROF,
  * FORIN); 63 at a jump reached that has no target; 65 at the first PLAIN reached that the buffer can't take. *at is that row of the tree, or 0; *number the
  * number of rows performed, 0 where refused; *reason one of the four above, 0 where refused.
- * The call ends: each round of a loop takes an answer. */
+ * The call ends: each round of a loop takes an answer.
+ * Stack: tree_run 84 KB. */
 uint32_t tree_run(const uint32_t *tree, size_t tree_length, const uint32_t *answers, size_t answers_length, uint32_t *performed, size_t performed_length,
                   uint32_t *at, size_t *number, uint32_t *reason);
 
@@ -227,7 +234,8 @@ uint32_t tree_run(const uint32_t *tree, size_t tree_length, const uint32_t *answ
  * text, text_length      a buffer of any length, in bytes
  *
  * Returns the code: 0, and the buffer holds *length bytes of text and then zeros; or a refusal (docs/FORMAT.md), and the buffer holds
- * zeros. *at is the refusal's place. *length is 0 if refused. 44: the text does not fit. */
+ * zeros. *at is the refusal's place. *length is 0 if refused. 44: the text does not fit.
+ * Stack: blocks_to_dot 4 KB. */
 uint32_t blocks_to_dot(const uint32_t *words, size_t word_count, uint8_t *text, size_t text_length, uint32_t *at, size_t *length);
 
 /* ---- The text of a table, and texts of the old form (M-112) ---- */
