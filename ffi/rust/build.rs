@@ -1,50 +1,53 @@
-//! Where the archives are: the folder that REACTIVE_BUILD_DIR names. libbuild.a is always linked, each other one with its feature.
+//! Where the library is: the folder that REACTIVE_BUILD_DIR names; else `lib` beside this crate, as in the package; else target/staticlib of
+//! the repository, where `./run library` puts it. Linked is libreactive.a, which has everything; where it is not there, every archive of
+//! that folder.
 
 use std::env;
 use std::path::{Path, PathBuf};
 
 fn main() {
     println!("cargo::rerun-if-env-changed=REACTIVE_BUILD_DIR");
-    let named = PathBuf::from(
-        env::var_os("REACTIVE_BUILD_DIR")
-            .expect("REACTIVE_BUILD_DIR: the folder of libbuild.a, that `rt staticlib build` writes"),
-    );
-    // A relative path is from where cargo was started; this script is run in the crate's own folder.
-    let folder = if named.is_relative() {
-        println!("cargo::rerun-if-env-changed=PWD");
-        env::var_os("PWD").map(PathBuf::from).unwrap_or_default().join(&named)
-    } else {
-        named
+    println!("cargo::rerun-if-env-changed=DOCS_RS");
+    if env::var_os("DOCS_RS").is_some() {
+        return; // pages alone: nothing is linked
+    }
+    let folder = match env::var_os("REACTIVE_BUILD_DIR") {
+        Some(named) => from_where_cargo_was_started(PathBuf::from(named)),
+        None => beside(),
     };
     println!("cargo::rustc-link-search=native={}", folder.display());
-    link(&folder, "build");
-    if env::var_os("CARGO_FEATURE_DOT").is_some() {
-        link(&folder, "dot");
-    }
-    if env::var_os("CARGO_FEATURE_ORDER").is_some() {
-        link(&folder, "order");
-    }
-    if env::var_os("CARGO_FEATURE_PREVIEW").is_some() {
-        link(&folder, "preview");
-    }
-    if env::var_os("CARGO_FEATURE_TREE_CHECK").is_some() {
-        link(&folder, "treerows");
-    }
-    if env::var_os("CARGO_FEATURE_TREE_LOOKUP").is_some() {
-        link(&folder, "lookup");
-    }
-    if env::var_os("CARGO_FEATURE_TABLE_TEXT").is_some() {
-        link(&folder, "writer");
-        link(&folder, "convert");
-    }
-    if env::var_os("CARGO_FEATURE_TREE_RUN").is_some() {
-        link(&folder, "runner");
+    let archives = archives(&folder);
+    assert!(!archives.is_empty(), "no libreactive.a in {}: `./run library` writes it, or REACTIVE_BUILD_DIR names its folder", folder.display());
+    for name in archives {
+        println!("cargo::rerun-if-changed={}", folder.join(format!("lib{name}.a")).display());
+        println!("cargo::rustc-link-lib=static={name}");
     }
 }
 
-fn link(folder: &Path, name: &str) {
-    let archive = folder.join(format!("lib{name}.a"));
-    assert!(archive.is_file(), "REACTIVE_BUILD_DIR: no {}: `rt staticlib {name}` writes it", archive.display());
-    println!("cargo::rerun-if-changed={}", archive.display());
-    println!("cargo::rustc-link-lib=static={name}");
+/// This script is run in the crate's own folder.
+fn from_where_cargo_was_started(named: PathBuf) -> PathBuf {
+    if named.is_relative() {
+        println!("cargo::rerun-if-env-changed=PWD");
+        env::var_os("PWD").map(PathBuf::from).unwrap_or_default().join(named)
+    } else {
+        named
+    }
+}
+
+fn beside() -> PathBuf {
+    let own = PathBuf::from(env::var_os("CARGO_MANIFEST_DIR").expect("cargo sets it"));
+    let packed = own.join("../lib");
+    if packed.join("libreactive.a").is_file() { packed } else { own.join("../../target/staticlib") }
+}
+
+fn archives(folder: &Path) -> Vec<String> {
+    println!("cargo::rerun-if-changed={}", folder.display());
+    if folder.join("libreactive.a").is_file() {
+        return vec!["reactive".into()];
+    }
+    let files = folder.read_dir().into_iter().flatten().flatten().filter_map(|file| file.file_name().into_string().ok());
+    let mut names: Vec<String> =
+        files.filter_map(|name| Some(name.strip_prefix("lib")?.strip_suffix(".a")?.to_string())).collect();
+    names.sort();
+    names
 }

@@ -1,4 +1,37 @@
 //! `build_reactive_function`, proved, from Rust.
+//!
+//! A table of blocks goes in as words, a tree comes out as rows (docs/FORMAT.md). Any words and any buffers may be passed: a call demands
+//! nothing of their content and never panics, but where its page says so.
+//!
+//! ```
+//! use reactive_build::table::{Ending, Table, Variant};
+//! use reactive_build::tree::{Node, Nodes};
+//!
+//! // while (place 0) {} return place 0
+//! let mut table = Table::default();
+//! let named = table.identifier(true);
+//! let value = table.place(named);
+//! table.block(&[], Ending::While { test: 1, loop_block: 2, fallthrough: 3 }, 1, None);
+//! table.block(&[], Ending::Branch { test: value, consequent: 2, alternate: 3 }, 2, None);
+//! table.block(&[], Ending::Goto { block: 1, variant: Variant::Continue }, 3, None);
+//! table.block(&[], Ending::Return { value }, 4, None);
+//!
+//! let rows = reactive_build::rows(&table.words())?;
+//! let nodes = Nodes::of(&rows)?;
+//! let loops = nodes.iter().filter(|node| matches!(node, Node::While { .. })).count();
+//! assert_eq!(loops, 1);
+//! # Ok::<(), reactive_build::Refusal>(())
+//! ```
+//!
+//! | | |
+//! |---|---|
+//! | [`build`], [`build_language`] | a tree and its index into lent buffers, by the Rust's rule or the language's |
+//! | [`rows`], [`rows_language`] | the rows in memory of their own |
+//! | [`table`], [`tree`] | tables and trees as typed values |
+//! | [`Refusal`], [`code`] | why there is no answer |
+//!
+//! The other modules are features, all on by default. They need nothing but the one archive: to leave one out makes nothing smaller that is
+//! linked.
 
 /// Declares the exports of the two entries (the Rust's rule and the language's), which have one signature, and its type.
 macro_rules! entries {
@@ -13,14 +46,19 @@ macro_rules! entries {
 
 #[cfg(feature = "dot")]
 pub mod dot;
-#[cfg(feature = "table-text")]
-pub mod table_text;
 #[cfg(feature = "order")]
 pub mod order;
 #[cfg(feature = "preview")]
 pub mod preview;
+mod refusal;
+pub mod table;
+#[cfg(feature = "table-check")]
+pub mod table_check;
+#[cfg(feature = "table-text")]
+pub mod table_text;
 #[cfg(any(feature = "dot", feature = "table-text"))]
 mod text;
+pub mod tree;
 #[cfg(feature = "tree-check")]
 pub mod tree_check;
 #[cfg(feature = "tree-lookup")]
@@ -28,6 +66,7 @@ pub mod tree_lookup;
 #[cfg(feature = "tree-run")]
 pub mod tree_run;
 
+pub use refusal::{CODES, Checked, Refusal, code};
 use std::ffi::c_uint;
 
 /// Words in a row of the tree: op, a, b, c, d, e. In a BREAK (24) and a CONTINUE (25) d is the number of
@@ -47,7 +86,7 @@ pub const BLOCK_WORDS: usize = 11;
 pub const INSTRUCTION_WORDS: usize = 7;
 
 /// Where something begins and ends in the source.
-#[derive(Clone, Copy, Debug, PartialEq, Eq)]
+#[derive(Clone, Copy, Debug, PartialEq, Eq, Hash)]
 pub struct Span {
     pub from: u32,
     pub to: u32,
@@ -56,12 +95,20 @@ pub struct Span {
 impl Span {
     /// The span of a row of the tree: of UNDEF, INSTR, FOROF and FORIN. 0 and 0 is none.
     pub fn of_row(row: &[u32; ROW_WORDS]) -> Option<Self> {
-        let (from, to) = match *row {
-            [3, from, to, ..] => (from, to),
-            [4 | 16 | 17, _, _, from, to, _] => (from, to),
-            _ => return None,
-        };
+        match *row {
+            [3, from, to, ..] | [4 | 16 | 17, _, _, from, to, _] => Self::of_words(from, to),
+            _ => None,
+        }
+    }
+
+    /// The span of two words. 0 and 0 is none.
+    pub fn of_words(from: u32, to: u32) -> Option<Self> {
         ((from, to) != (0, 0)).then_some(Self { from, to })
+    }
+
+    /// The two words. None is 0 and 0, and so is a span from 0 to 0.
+    pub fn words(span: Option<Self>) -> [u32; 2] {
+        span.map_or([0; 2], |Self { from, to }| [from, to])
     }
 }
 
@@ -75,11 +122,11 @@ pub struct Outcome {
     pub lines: u32,
 }
 
-/// Why there is no tree. The codes are told in docs/FORMAT.md.
-#[derive(Clone, Copy, Debug, PartialEq, Eq)]
-pub struct Refusal {
-    pub code: u32,
-    pub at: u32,
+impl Outcome {
+    /// The refusal, if it is one.
+    pub fn refusal(&self) -> Option<Refusal> {
+        (self.code != 0).then_some(Refusal { code: self.code, at: self.at })
+    }
 }
 
 entries! { Entry = reactive_build, reactive_build_language: (
@@ -129,18 +176,38 @@ fn build_by(entry: Entry, words: &[u32], tree: &mut [u32], index: &mut [u32]) ->
     Outcome { code, at, rows, visits, lines }
 }
 
-/// The rows of the tree. Builds once with a buffer of a usual size, and once more if that was short.
+/// The rows of the tree.
+///
+/// ```
+/// use reactive_build::{Refusal, code, rows};
+///
+/// assert_eq!(rows(&[]), Err(Refusal { code: code::WORD_COUNT, at: 0 }));
+/// ```
 pub fn rows(words: &[u32]) -> Result<Vec<[u32; ROW_WORDS]>, Refusal> {
-    let mut tree = vec![0; 256 * ROW_WORDS];
-    let mut index = [0; MOST_LINES * LINE_WORDS];
-    let mut built = build(words, &mut tree, &mut index);
-    if built.code == 40 {
-        tree.resize(built.rows as usize * ROW_WORDS, 0);
-        built = build(words, &mut tree, &mut index);
+    rows_by(build, words)
+}
+
+/// The same by the language's rule.
+pub fn rows_language(words: &[u32]) -> Result<Vec<[u32; ROW_WORDS]>, Refusal> {
+    rows_by(build_language, words)
+}
+
+/// Lends as many rows as a usual tree of so many blocks and instructions has at most; builds once more where that was short.
+fn rows_by(build: fn(&[u32], &mut [u32], &mut [u32]) -> Outcome, words: &[u32]) -> Result<Vec<[u32; ROW_WORDS]>, Refusal> {
+    let count = |word: usize, limit: u32| words.get(word).map_or(0, |count| (*count).min(limit)) as usize;
+    let (blocks, instructions) = (count(1, table::LIMITS[0]), count(2, table::LIMITS[1]));
+    // An instruction is mostly two rows (its value, INSTR), the end of a block mostly no more than three.
+    let mut tree = vec![[0; ROW_WORDS]; 16 + 3 * blocks + 2 * instructions];
+    // Labels are blocks, no two lines have the same one, and none is the entry's.
+    let mut index = vec![0; blocks.min(MOST_LINES) * LINE_WORDS];
+    let mut built = build(words, tree.as_flattened_mut(), &mut index);
+    if built.code == code::ROWS_LENT {
+        tree.resize(built.rows as usize, [0; ROW_WORDS]);
+        built = build(words, tree.as_flattened_mut(), &mut index);
     }
-    if built.code != 0 {
-        return Err(Refusal { code: built.code, at: built.at });
+    if let Some(refusal) = built.refusal() {
+        return Err(refusal);
     }
-    tree.truncate(built.rows as usize * ROW_WORDS);
-    Ok(tree.as_chunks().0.to_vec())
+    tree.truncate(built.rows as usize);
+    Ok(tree)
 }
