@@ -38,9 +38,12 @@ fn time(blocks: u32) {
     let rows = reactive_build::rows(&lowered.words).expect("it is accepted");
     let turns = 200_000 / blocks;
     let rust = least(turns, || rust(black_box(&hir), &env).expect("accepted").body.len());
-    let dropin = least(turns, || build_reactive_function(black_box(&hir), &env).expect("accepted").body.len());
+    let dropin = least(turns, || {
+        build_reactive_function(black_box(&hir), &env).expect("accepted").body.len()
+    });
     let lower = least(turns, || Lowered::of(black_box(&hir), &env).expect("it fits").words.len());
-    let build = least(turns, || reactive_build::rows(black_box(&lowered.words)).expect("accepted").len());
+    let build =
+        least(turns, || reactive_build::rows(black_box(&lowered.words)).expect("accepted").len());
     let raise = least(turns, || raise(black_box(&rows), &lowered, &hir, &env).len());
     println!(
         "{} blocks, {} instructions, {} rows: the Rust {rust:.1} us, the drop-in {dropin:.1} us, {:.2} times; of it to lower {lower:.1}, to build {build:.1}, to raise {raise:.1}",
