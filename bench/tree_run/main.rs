@@ -1,6 +1,7 @@
 // Time of the proved runner against a plain Rust runner that reads the rows into a tree with boxes and vectors and runs it by recursion, on runs of a
-// million performed rows and more; and whether 512 KB of stack are enough for the deepest tree. Build and run: bench/tree_run/run (see there).
+// million performed rows and more; and the smallest stack on which the smallest and the deepest tree are run. Build and run: bench/tree_run/run.
 use std::hint::black_box;
+use std::process::{Command, Stdio};
 
 unsafe extern "C" {
     // A slice is passed as its pointer and its length.
@@ -350,14 +351,40 @@ fn measure() {
     }
 }
 
+/// Trees for the stack: the smallest one, and LABELs in one another, the deepest.
+fn shape(name: &str) -> Vec<u32> {
+    if name == "one" { rows(&[[9, 0, 0, 0, 0, 0]]) } else { deep(1020) }
+}
+
+/// Runs the tree on a thread with this stack; the process ends by a signal where that is not enough.
+fn probe(name: &str, kilobytes: usize) {
+    let tree = shape(name);
+    let run = move || proved(&tree, &[1, 1, 0], &mut [0; 16]);
+    let ran = std::thread::Builder::new().stack_size(kilobytes << 10).spawn(run).expect("a thread").join();
+    assert_eq!(ran.expect("a run").0, 0);
+}
+
+/// The smallest stack on which the tree is run, in steps of 4 KB: each in a process of its own, since a thread is given the stack of one that has
+/// ended where that is large enough.
+fn stack(name: &str) -> usize {
+    let program = std::env::current_exe().expect("its own name");
+    let enough = |kilobytes: &usize| {
+        let mut probe = Command::new(&program);
+        probe.args(["stack", name, &kilobytes.to_string()]).stderr(Stdio::null());
+        probe.status().expect("a process").success()
+    };
+    (16..512).step_by(4).find(enough).expect("512 KB are enough")
+}
+
 fn main() {
-    // the plain runner goes down by recursion
-    std::thread::Builder::new().stack_size(256 << 20).spawn(measure).unwrap().join().unwrap();
-    for kilobytes in [512, 256, 128, 96, 64] {
-        let ran = std::thread::Builder::new().stack_size(kilobytes << 10).spawn(|| {
-            let mut performed = [0; 16];
-            proved(&deep(1020), &[1, 1, 0], &mut performed)
-        });
-        println!("1,020 LABELs on a thread with {kilobytes} KB of stack: {:?}", ran.unwrap().join().unwrap());
+    let words: Vec<String> = std::env::args().collect();
+    if let [_, verb, name, kilobytes] = &words[..] {
+        assert_eq!(verb, "stack");
+        return probe(name, kilobytes.parse().expect("a number of KB"));
     }
+    // the plain runner goes down by recursion
+    if words.len() == 1 {
+        std::thread::Builder::new().stack_size(256 << 20).spawn(measure).unwrap().join().unwrap();
+    }
+    println!("the least stack of a thread: {} KB for the one row 9 0 0 0 0 0, {} KB for 1,020 LABELs", stack("one"), stack("labels"));
 }

@@ -52,6 +52,8 @@ pub mod order;
 pub mod preview;
 mod refusal;
 pub mod table;
+#[cfg(feature = "table-check")]
+pub mod table_check;
 #[cfg(feature = "table-text")]
 pub mod table_text;
 #[cfg(any(feature = "dot", feature = "table-text"))]
@@ -64,7 +66,7 @@ pub mod tree_lookup;
 #[cfg(feature = "tree-run")]
 pub mod tree_run;
 
-pub use refusal::{CODES, Refusal, code};
+pub use refusal::{CODES, Checked, Refusal, code};
 use std::ffi::c_uint;
 
 /// Words in a row of the tree: op, a, b, c, d, e. In a BREAK (24) and a CONTINUE (25) d is the number of
@@ -193,10 +195,11 @@ pub fn rows_language(words: &[u32]) -> Result<Vec<[u32; ROW_WORDS]>, Refusal> {
 /// Lends as many rows as a usual tree of so many blocks and instructions has at most; builds once more where that was short.
 fn rows_by(build: fn(&[u32], &mut [u32], &mut [u32]) -> Outcome, words: &[u32]) -> Result<Vec<[u32; ROW_WORDS]>, Refusal> {
     let count = |word: usize, limit: u32| words.get(word).map_or(0, |count| (*count).min(limit)) as usize;
+    let (blocks, instructions) = (count(1, table::LIMITS[0]), count(2, table::LIMITS[1]));
     // An instruction is mostly two rows (its value, INSTR), the end of a block mostly no more than three.
-    let usual = 16 + 3 * count(1, table::LIMITS[0]) + 2 * count(2, table::LIMITS[1]);
-    let mut tree = vec![[0; ROW_WORDS]; usual];
-    let mut index = [0; MOST_LINES * LINE_WORDS];
+    let mut tree = vec![[0; ROW_WORDS]; 16 + 3 * blocks + 2 * instructions];
+    // Labels are blocks, no two lines have the same one, and none is the entry's.
+    let mut index = vec![0; blocks.min(MOST_LINES) * LINE_WORDS];
     let mut built = build(words, tree.as_flattened_mut(), &mut index);
     if built.code == code::ROWS_LENT {
         tree.resize(built.rows as usize, [0; ROW_WORDS]);

@@ -52,6 +52,21 @@ impl Display for Refusal {
 
 impl Error for Refusal {}
 
+/// Code (0 accepted) and at.
+#[derive(Clone, Copy, Debug, PartialEq, Eq)]
+pub struct Checked {
+    pub code: u32,
+    pub at: u32,
+}
+
+impl Checked {
+    /// The refusal, if it is one.
+    pub fn result(&self) -> Result<(), Refusal> {
+        let Self { code, at } = *self;
+        if code == 0 { Ok(()) } else { Err(Refusal { code, at }) }
+    }
+}
+
 /// A code's constant, and its line of docs/FORMAT.md. tests/format.rs holds them to that page.
 macro_rules! refusals {
     ($($name:ident = $code:literal, $at:literal, $sentence:literal;)+) => {

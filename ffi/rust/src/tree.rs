@@ -161,37 +161,38 @@ pub enum Node {
 
 impl Node {
     /// The node of a row; none where its op, a flag, an operator or a kind is out of range, or a column that the op does not use is not 0.
+    #[inline]
     pub fn of_row(row: &Row) -> Option<Self> {
-        let [op, a, b, c, d, _] = *row;
-        let node = match Op::of(op)? {
-            Op::Plain => Self::Plain { instruction: a },
-            Op::Load => Self::Load { place: a },
-            Op::Undef => Self::Undef { span: Span::of_words(a, b) },
-            Op::Instr => Self::Instr { id: a, lvalue: b, span: Span::of_words(c, d) },
-            Op::Seq => Self::Seq { instructions: a, id: b },
-            Op::Logical => Self::Logical { operator: Operator::of(a)? },
-            Op::Cond => Self::Cond,
-            Op::Optional => Self::Optional { optional: a == 1 },
-            Op::Block => Self::Block { statements: a },
-            Op::If => Self::If { test: a, has_alternate: b == 1, id: c, label: some(d) },
-            Op::Case => Self::Case { test: some(a) },
-            Op::Switch => Self::Switch { test: a, cases: b, id: c, label: some(d) },
-            Op::DoWhile => Self::DoWhile { id: a, label: some(b) },
-            Op::While => Self::While { id: a, label: some(b) },
-            Op::For => Self::For { id: a, label: some(b), has_update: c == 1 },
-            Op::ForOf => Self::ForOf { id: a, label: some(b), span: Span::of_words(c, d) },
-            Op::ForIn => Self::ForIn { id: a, label: some(b), span: Span::of_words(c, d) },
-            Op::Label => Self::Label { id: a, label: some(b) },
-            Op::Try => Self::Try { id: a, label: some(b), binding: some(c) },
-            Op::Scope => Self::Scope { scope: a },
-            Op::Pruned => Self::Pruned { scope: a },
-            Op::Return => Self::Return { value: a, id: b },
-            Op::Throw => Self::Throw { value: a, id: b },
-            Op::Break => Self::Break { target: a, id: b, kind: Kind::of(c)?, loops_left: d },
-            Op::Continue => Self::Continue { target: a, id: b, kind: Kind::of(c)?, loops_left: d },
-        };
-        // Flags and columns that are not used: what the node does not say again was not allowed.
-        (node.row() == *row).then_some(node)
+        Some(match *row {
+            [1, instruction, 0, 0, 0, 0] => Self::Plain { instruction },
+            [2, place, 0, 0, 0, 0] => Self::Load { place },
+            [3, from, to, 0, 0, 0] => Self::Undef { span: Span::of_words(from, to) },
+            [4, id, lvalue, from, to, 0] => Self::Instr { id, lvalue, span: Span::of_words(from, to) },
+            [5, instructions, id, 0, 0, 0] => Self::Seq { instructions, id },
+            [6, operator, 0, 0, 0, 0] => Self::Logical { operator: Operator::of(operator)? },
+            [7, 0, 0, 0, 0, 0] => Self::Cond,
+            [8, optional @ (0 | 1), 0, 0, 0, 0] => Self::Optional { optional: optional == 1 },
+            [9, statements, 0, 0, 0, 0] => Self::Block { statements },
+            [10, test, alternate @ (0 | 1), id, label, 0] => {
+                Self::If { test, has_alternate: alternate == 1, id, label: some(label) }
+            }
+            [11, test, 0, 0, 0, 0] => Self::Case { test: some(test) },
+            [12, test, cases, id, label, 0] => Self::Switch { test, cases, id, label: some(label) },
+            [13, id, label, 0, 0, 0] => Self::DoWhile { id, label: some(label) },
+            [14, id, label, 0, 0, 0] => Self::While { id, label: some(label) },
+            [15, id, label, update @ (0 | 1), 0, 0] => Self::For { id, label: some(label), has_update: update == 1 },
+            [16, id, label, from, to, 0] => Self::ForOf { id, label: some(label), span: Span::of_words(from, to) },
+            [17, id, label, from, to, 0] => Self::ForIn { id, label: some(label), span: Span::of_words(from, to) },
+            [18, id, label, 0, 0, 0] => Self::Label { id, label: some(label) },
+            [19, id, label, binding, 0, 0] => Self::Try { id, label: some(label), binding: some(binding) },
+            [20, scope, 0, 0, 0, 0] => Self::Scope { scope },
+            [21, scope, 0, 0, 0, 0] => Self::Pruned { scope },
+            [22, value, id, 0, 0, 0] => Self::Return { value, id },
+            [23, value, id, 0, 0, 0] => Self::Throw { value, id },
+            [24, target, id, kind, loops_left, 0] => Self::Break { target, id, kind: Kind::of(kind)?, loops_left },
+            [25, target, id, kind, loops_left, 0] => Self::Continue { target, id, kind: Kind::of(kind)?, loops_left },
+            _ => return None,
+        })
     }
 
     /// The row of a node: the inverse.

@@ -1,14 +1,8 @@
 //! Whether a list of rows reads as one tree.
 
 use crate::Refusal;
+pub use crate::refusal::Checked;
 use std::ffi::c_uint;
-
-/// Code (0 accepted) and at: the row, or 0.
-#[derive(Clone, Copy, Debug, PartialEq, Eq)]
-pub struct Checked {
-    pub code: u32,
-    pub at: u32,
-}
 
 unsafe extern "C" {
     fn tree_check(tree: *const u32, tree_length: usize, at: *mut u32) -> c_uint;
@@ -26,8 +20,5 @@ pub fn check(tree: &[u32]) -> Checked {
 
 /// The same as a result.
 pub fn is_tree(tree: &[u32]) -> Result<(), Refusal> {
-    match check(tree) {
-        Checked { code: 0, .. } => Ok(()),
-        Checked { code, at } => Err(Refusal { code, at }),
-    }
+    check(tree).result()
 }

@@ -21,8 +21,8 @@ pub fn arguments() -> (u64, u64, impl Iterator<Item = u64>) {
     (tables, seed, given)
 }
 
-/// A program that compares a proved library with the model, given the library, TABLES and SEED. The
-/// library's feature is `candidate-` and this name; it fails where that is not linked.
+/// A program that compares a part of the proved library with the model, given the part, TABLES and SEED. It
+/// fails where the library is not linked.
 pub fn with_library<L>(
     name: &str,
     library: Option<L>,
@@ -31,7 +31,7 @@ pub fn with_library<L>(
     let (tables, seed, _) = arguments();
     let Some(library) = library else {
         let said = name.replace('-', " ");
-        println!("{said}: FAILED: the proved library is not linked (feature candidate-{name})");
+        println!("{said}: FAILED: the proved library is not linked (feature candidate)");
         return ExitCode::FAILURE;
     };
     compare(library, tables, seed).status()

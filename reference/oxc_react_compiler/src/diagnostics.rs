@@ -1,4 +1,4 @@
-//! Stands in for the crate's `diagnostics`: a diagnostic keeps its message.
+//! Stands in for the crate's `diagnostics`: a diagnostic keeps its message and its category.
 
 use std::borrow::Cow;
 
@@ -11,8 +11,15 @@ pub enum ErrorCategory {
 }
 
 impl ErrorCategory {
+    const fn name(self) -> &'static str {
+        match self {
+            Self::Invariant => "Invariant",
+            Self::Todo => "Todo",
+        }
+    }
+
     pub fn diagnostic(self, message: impl Into<Cow<'static, str>>) -> OxcDiagnostic {
         walk_observer::gives_up();
-        OxcDiagnostic::error(message)
+        OxcDiagnostic::error(message).with_category(self.name())
     }
 }

@@ -1,4 +1,5 @@
-//! Stands in for the crate's `react_compiler_utils`: the map of blocks. The walk only looks up.
+//! Stands in for the crate's `react_compiler_utils`: the map of blocks. The walk only looks up by index, the
+//! drop-in by `get`.
 
 use std::fmt::Debug;
 use std::ops::Index;
@@ -19,6 +20,10 @@ impl<V> OrderedMap<BlockId, V> {
     /// The value at each number, where there is one.
     pub fn from_values(values: Vec<Option<V>>) -> Self {
         Self { values, key: std::marker::PhantomData }
+    }
+
+    pub fn get(&self, block: &BlockId) -> Option<&V> {
+        self.values.get(block.index())?.as_ref()
     }
 }
 

@@ -1,14 +1,38 @@
 //! `mutants [PART OF A NAME]`, run in the folder `reference`: builds each wrong model of
 //! `mutants.txt` and says whether the vectors find it and, if not, whether a run of the comparison
 //! does. The status is not 0 if one is found by neither.
+//!
+//! `mutants dropin [PART OF A NAME]`, with REACTIVE_BUILD_DIR the whole path of the proved library's folder:
+//! the same of the wrong drop-ins of `dropin/mutants.txt`, and the drop-in's comparison.
 
 use std::fs;
 use std::path::Path;
 use std::process::{Command, ExitCode, Stdio};
 
 const WORK: &str = "target/mutants/work";
-const MODEL: &str = "comparison/src/model";
-const TABLES: &str = "160000";
+
+/// A list of mutants: the folder of the files that they change, and the runs that may find them, the
+/// shortest first: what it is, its program and arguments.
+struct List {
+    path: &'static str,
+    folder: &'static str,
+    runs: &'static [(&'static str, &'static str, &'static [&'static str])],
+}
+
+const OF_THE_MODEL: List = List {
+    path: "mutants.txt",
+    folder: "comparison/src/model",
+    runs: &[
+        ("the vectors", "vectors", &["replay", "../crates/vectors/data/vectors.bin"]),
+        ("the comparison", "compare", &["160000"]),
+    ],
+};
+
+const OF_THE_DROP_IN: List = List {
+    path: "dropin/mutants.txt",
+    folder: "dropin/src",
+    runs: &[("the comparison", "compare_dropin", &["20000"])],
+};
 
 struct Mutant {
     name: String,
@@ -18,15 +42,42 @@ struct Mutant {
 }
 
 fn main() -> ExitCode {
-    let list = fs::read_to_string("mutants.txt").expect("mutants.txt");
-    let part = std::env::args().nth(1).unwrap_or_default();
-    let mut mutants = read(&list);
+    let mut arguments = std::env::args().skip(1).peekable();
+    let list = match arguments.next_if_eq("dropin") {
+        Some(_) => OF_THE_DROP_IN,
+        None => OF_THE_MODEL,
+    };
+    let part = arguments.next().unwrap_or_default();
+    let mut mutants = read(&fs::read_to_string(list.path).expect(list.path));
     mutants.retain(|mutant| mutant.name.contains(&part));
+    copy_the_sources();
+    for mutant in &mutants {
+        let times = right(&list, mutant).matches(&mutant.old).count();
+        assert_eq!(times, 1, "{}: its text is there once", mutant.name);
+    }
+    let mut found = vec![0; list.runs.len()];
+    for mutant in &mutants {
+        match tried(&list, mutant) {
+            Ok(Some(run)) => {
+                found[run] += 1;
+                println!("{}: found by {}", mutant.name, list.runs[run].0);
+            }
+            Ok(None) => println!("{}: NOT FOUND", mutant.name),
+            Err(()) => println!("{}: DOES NOT BUILD", mutant.name),
+        }
+    }
+    let missed = mutants.len() - found.iter().sum::<usize>();
+    println!("{} mutants, {} found by {}, {missed} not found", mutants.len(), found[0], list.runs[0].0);
+    if missed == 0 { ExitCode::SUCCESS } else { ExitCode::FAILURE }
+}
+
+/// Beside the folder as beside `reference`: ffi/rust, which the comparison can be built with.
+fn copy_the_sources() {
     fs::create_dir_all(WORK).expect("a folder");
-    // Beside the folder as beside `reference`: ffi/rust, which the comparison can be built with.
     for (part, to) in [
         ("Cargo.toml", WORK),
         ("comparison", WORK),
+        ("dropin", WORK),
         ("oxc_react_compiler", WORK),
         ("stand-ins", WORK),
         ("../ffi", "target/mutants"),
@@ -34,35 +85,30 @@ fn main() -> ExitCode {
         let copied = Command::new("cp").args(["-rpu", part, to]).status().expect("cp");
         assert!(copied.success());
     }
-    let right = |mutant: &Mutant| {
-        fs::read_to_string(Path::new(MODEL).join(&mutant.file)).expect(&mutant.file)
-    };
-    for mutant in &mutants {
-        let times = right(mutant).matches(&mutant.old).count();
-        assert_eq!(times, 1, "{}: its text is there once", mutant.name);
+}
+
+fn right(list: &List, mutant: &Mutant) -> String {
+    fs::read_to_string(Path::new(list.folder).join(&mutant.file)).expect(&mutant.file)
+}
+
+/// Which run finds it, if it builds.
+fn tried(list: &List, mutant: &Mutant) -> Result<Option<usize>, ()> {
+    let path = Path::new(WORK).join(list.folder).join(&mutant.file);
+    let right = right(list, mutant);
+    fs::write(&path, right.replace(&mutant.old, &mutant.new)).expect("written");
+    let mut found = Ok(None);
+    for (number, (_, program, arguments)) in list.runs.iter().enumerate() {
+        if !build(program) {
+            found = Err(());
+            break;
+        }
+        if !run(program, arguments) {
+            found = Ok(Some(number));
+            break;
+        }
     }
-    let (mut by_vectors, mut missed) = (0, 0);
-    for mutant in &mutants {
-        let path = Path::new(WORK).join(MODEL).join(&mutant.file);
-        let right = right(mutant);
-        fs::write(&path, right.replace(&mutant.old, &mutant.new)).expect("written");
-        let built = build("vectors");
-        let in_vectors =
-            built && !run("vectors", &["replay", "../crates/vectors/data/vectors.bin"]);
-        let in_run = built && !in_vectors && build("compare") && !run("compare", &[TABLES]);
-        fs::write(&path, right).expect("written");
-        by_vectors += usize::from(in_vectors);
-        missed += usize::from(!in_vectors && !in_run);
-        let found = match (built, in_vectors, in_run) {
-            (false, ..) => "DOES NOT BUILD",
-            (_, true, _) => "found by the vectors",
-            (_, _, true) => "found by the comparison",
-            _ => "NOT FOUND",
-        };
-        println!("{}: {found}", mutant.name);
-    }
-    println!("{} mutants, {by_vectors} found by the vectors, {missed} not found", mutants.len());
-    if missed == 0 { ExitCode::SUCCESS } else { ExitCode::FAILURE }
+    fs::write(&path, right).expect("written");
+    found
 }
 
 /// Blocks of `name:`, `file:`, `old:` and `new:`, each text going on to the next of these.
@@ -84,7 +130,7 @@ fn read(list: &str) -> Vec<Mutant> {
 
 fn build(program: &str) -> bool {
     let mut cargo = Command::new("cargo");
-    cargo.args(["build", "--offline", "--quiet", "--profile", "mutant", "--bin", program]);
+    cargo.args(["build", "--offline", "--quiet", "--workspace", "--profile", "mutant", "--bin", program]);
     cargo.args(["--target-dir", "target/mutants/target", "--manifest-path"]);
     cargo.arg(format!("{WORK}/Cargo.toml")).env("RUSTFLAGS", "-Awarnings");
     cargo.status().expect("cargo").success()

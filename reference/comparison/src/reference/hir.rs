@@ -20,32 +20,94 @@ use crate::model::table::Table;
 pub const PLACE_ROW: u32 = LARGEST + 1;
 pub const INSTRUCTION_ROW: u32 = LARGEST + 2;
 
-/// Makes the parts of a function from a table's rows.
-pub struct Lowering<'w, 'a> {
-    pub table: Table<'w>,
-    pub allocator: &'a Allocator,
+/// What the parts of a function are that a table tells by numbers.
+pub trait Dress {
+    /// The id of a block; of two numbers, the greater has the greater id.
+    fn block(&self, number: u32) -> BlockId {
+        BlockId::new(number)
+    }
+
+    /// The identifier of a number; of two numbers, the greater has the greater one.
+    fn identifier(&self, number: u32) -> IdentifierId {
+        IdentifierId::new(number)
+    }
+
+    /// Where an instruction stands in the function.
+    fn instruction(&self, row: u32) -> InstructionId {
+        InstructionId::new(row)
+    }
+
+    /// How many instructions the function has, of so many in the table.
+    fn instructions(&self, count: u32) -> u32 {
+        count
+    }
+
+    fn scope(&self, number: u32) -> ScopeId {
+        ScopeId::new(number)
+    }
+
+    fn place(&self, row: u32, identifier: IdentifierId) -> Place {
+        Place { identifier, effect: 0, reactive: false, span: Some(Span { start: row, end: PLACE_ROW }) }
+    }
+
+    fn lvalue(&self, place: Place) -> LValue {
+        LValue { place, kind: 0 }
+    }
+
+    /// 0 and 0 alone is none.
+    fn span(&self, start: u32, end: u32) -> Option<Span> {
+        ((start, end) != (0, 0)).then_some(Span { start, end })
+    }
+
+    /// The span that a value carries.
+    fn value_span(&self, row: u32) -> Option<Span> {
+        Some(Span { start: row, end: INSTRUCTION_ROW })
+    }
+
+    /// A value that is neither a LoadLocal nor a StoreLocal.
+    fn other<'a>(&self, _: Place, span: Option<Span>) -> InstructionValue<'a> {
+        InstructionValue::Debugger { span }
+    }
 }
 
-impl<'a> Lowering<'_, 'a> {
+/// Every part is told by its number, so that it can be read off the tree.
+pub struct Plain;
+
+impl Dress for Plain {}
+
+/// Makes the parts of a function from a table's rows.
+pub struct Lowering<'w, 'a, D> {
+    pub table: Table<'w>,
+    pub allocator: &'a Allocator,
+    pub dress: D,
+}
+
+impl<'a, D: Dress> Lowering<'_, 'a, D> {
     pub fn environment(&self) -> Environment<'a> {
-        let identifiers = (0..self.table.words[5]).map(|identifier| {
-            let named = self.table.is_named(identifier);
-            Identifier { name: named.then_some(IdentifierName::Named(Ident("named"))) }
-        });
-        Environment { allocator: self.allocator, identifiers: Identifiers(identifiers.collect()) }
+        let mut identifiers = Vec::new();
+        for number in 0..self.table.words[5] {
+            let name = self.table.is_named(number).then_some(IdentifierName::Named(Ident("named")));
+            identifiers.resize(self.dress.identifier(number).index(), Identifier { name: None });
+            identifiers.push(Identifier { name });
+        }
+        Environment { allocator: self.allocator, identifiers: Identifiers(identifiers) }
     }
 
     pub fn function(&self) -> HirFunction<'a> {
         let [entry, blocks, instructions, ..] = *self.table.words else { unreachable!() };
-        let blocks = (0..blocks).map(|number| self.block(number));
-        let blocks = OrderedMap::from_values(blocks.collect());
+        let mut values = Vec::new();
+        for number in 0..blocks {
+            values.resize_with(self.dress.block(number).index(), || None);
+            values.push(self.block(number));
+        }
+        let blocks = OrderedMap::from_values(values);
         HirFunction {
             span: None,
             id: None,
             name_hint: None,
             params: self.list([]),
-            body: HIR { entry: BlockId::new(entry), blocks },
-            instructions: self.list((0..instructions).map(|row| self.instruction(row))),
+            body: HIR { entry: self.dress.block(entry), blocks },
+            instructions: self.instructions(instructions),
             generator: false,
             is_async: false,
             directives: self.list([]),
@@ -59,28 +121,36 @@ impl<'a> Lowering<'_, 'a> {
     fn block(&self, number: u32) -> Option<BasicBlock<'a>> {
         let [first, count, ..] = *self.table.block(number);
         let terminal = self.terminal(number)?;
-        let instructions = self.list((first..first + count).map(InstructionId::new));
-        Some(BasicBlock { id: BlockId::new(number), instructions, terminal })
+        let instructions = self.list((first..first + count).map(|row| self.dress.instruction(row)));
+        Some(BasicBlock { id: self.dress.block(number), instructions, terminal })
+    }
+
+    /// Each at its place; between them, where there is room, strangers that no block has.
+    fn instructions(&self, count: u32) -> ArenaVec<'a, Instruction<'a>> {
+        let mut list: Vec<_> = (0..self.dress.instructions(count)).map(|_| stranger()).collect();
+        for row in 0..count {
+            list[self.dress.instruction(row).index()] = self.instruction(row);
+        }
+        self.list(list)
     }
 
     fn instruction(&self, row: u32) -> Instruction<'a> {
         let [id, lvalue, code, p, q, from, to] = *self.table.instruction(row);
-        let span = Some(Span { start: row, end: INSTRUCTION_ROW });
+        let span = self.dress.value_span(row);
         let value = match code {
-            0 => InstructionValue::Debugger { span },
+            0 => self.dress.other(self.place(lvalue), span),
             1 => InstructionValue::LoadLocal { place: self.place(p), span },
             _ => {
-                let lvalue = LValue { place: self.place(p) };
+                let lvalue = self.dress.lvalue(self.place(p));
                 InstructionValue::StoreLocal { lvalue, value: self.place(q), span }
             }
         };
         let id = EvaluationOrder::new(id);
-        Instruction { id, lvalue: self.place(lvalue), value, span: table_span(from, to) }
+        Instruction { id, lvalue: self.place(lvalue), value, span: self.dress.span(from, to) }
     }
 
     fn place(&self, row: u32) -> Place {
-        let identifier = IdentifierId::new(self.table.identifier_of(row));
-        Place { identifier, span: Some(Span { start: row, end: PLACE_ROW }) }
+        self.dress.place(row, self.dress.identifier(self.table.identifier_of(row)))
     }
 
     fn place_or_none(&self, row: u32) -> Option<Place> {
@@ -90,7 +160,7 @@ impl<'a> Lowering<'_, 'a> {
     fn cases(&self, first: u32, count: u32) -> ArenaVec<'a, Case> {
         self.list((first..first + count).map(|row| {
             let [test, block] = *self.table.case(row);
-            Case { test: self.place_or_none(test), block: BlockId::new(block) }
+            Case { test: self.place_or_none(test), block: self.dress.block(block) }
         }))
     }
 
@@ -98,8 +168,8 @@ impl<'a> Lowering<'_, 'a> {
     fn terminal(&self, number: u32) -> Option<Terminal<'a>> {
         let [_, _, code, a, b, c, d, e, id, from, to] = *self.table.block(number);
         let id = EvaluationOrder::new(id);
-        let span = table_span(from, to);
-        let block = BlockId::new;
+        let span = self.dress.span(from, to);
+        let block = |number| self.dress.block(number);
         Some(match code {
             0 => return None,
             1 => Terminal::Unreachable { id, span },
@@ -196,14 +266,14 @@ impl<'a> Lowering<'_, 'a> {
             20 => Terminal::Scope {
                 block: block(a),
                 fallthrough: block(b),
-                scope: ScopeId::new(c),
+                scope: self.dress.scope(c),
                 id,
                 span,
             },
             _ => Terminal::PrunedScope {
                 block: block(a),
                 fallthrough: block(b),
-                scope: ScopeId::new(c),
+                scope: self.dress.scope(c),
                 id,
                 span,
             },
@@ -211,9 +281,9 @@ impl<'a> Lowering<'_, 'a> {
     }
 }
 
-/// 0 and 0 alone is none.
-fn table_span(start: u32, end: u32) -> Option<Span> {
-    ((start, end) != (0, 0)).then_some(Span { start, end })
+fn stranger<'a>() -> Instruction<'a> {
+    let lvalue = Place { identifier: IdentifierId::new(0), effect: 9, reactive: true, span: None };
+    Instruction { id: EvaluationOrder::new(1), lvalue, value: InstructionValue::Debugger { span: None }, span: None }
 }
 
 fn goto_variant(number: u32) -> GotoVariant {

@@ -1,6 +1,6 @@
 //! Runs the reference on checked words and tells its answer in paper 01's terms.
 
-mod hir;
+pub mod hir;
 mod rows;
 
 use std::any::Any;
@@ -72,7 +72,7 @@ fn fits_kind(row: &Row, loops: u32) -> bool {
 /// The same with other bounds than paper 01's. The Rust has none.
 pub fn walk_within(table: &Table, bounds: Bounds) -> (Walked, Seen) {
     let allocator = Allocator;
-    let lowering = hir::Lowering { table: *table, allocator: &allocator };
+    let lowering = hir::Lowering { table: *table, allocator: &allocator, dress: hir::Plain };
     let environment = lowering.environment();
     let function = lowering.function();
     walk_observer::start(bounds);
@@ -94,7 +94,7 @@ pub fn walk_within(table: &Table, bounds: Bounds) -> (Walked, Seen) {
 /// The time of so many builds of an accepted table, without the making of the graph before them.
 pub fn time(table: &Table, calls: u32) -> Duration {
     let allocator = Allocator;
-    let lowering = hir::Lowering { table: *table, allocator: &allocator };
+    let lowering = hir::Lowering { table: *table, allocator: &allocator, dress: hir::Plain };
     let environment = lowering.environment();
     let function = lowering.function();
     let start = Instant::now();

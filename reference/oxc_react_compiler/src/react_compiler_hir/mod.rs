@@ -1,5 +1,6 @@
 //! Stands in for the crate's `react_compiler_hir/mod.rs`: its types, trimmed to what
-//! `build_reactive_function.rs` and `reactive.rs` use.
+//! `build_reactive_function.rs` and `reactive.rs` use; and a few fields and a kind of value more, for numbers
+//! and flags of the original, which have to come through the drop-in (../dropin).
 
 pub mod environment;
 pub mod reactive;
@@ -83,16 +84,18 @@ pub struct Instruction<'a> {
 #[derive(Debug, Clone, Copy)]
 pub struct LValue {
     pub place: Place,
+    pub kind: u8,
 }
 
 /// The walk asks only whether a value is a LoadLocal or a StoreLocal, and makes a Primitive;
-/// Debugger stands for all the others.
+/// Debugger and CallExpression stand for all the others.
 #[derive(Debug, Clone)]
 pub enum InstructionValue<'a> {
     LoadLocal { place: Place, span: Option<Span> },
     StoreLocal { lvalue: LValue, value: Place, span: Option<Span> },
     Primitive { value: PrimitiveValue<'a>, span: Option<Span> },
     Debugger { span: Option<Span> },
+    CallExpression { callee: Place, args: Vec<Place>, span: Option<Span> },
 }
 
 #[derive(Debug, Clone, Copy)]
@@ -104,6 +107,8 @@ pub enum PrimitiveValue<'a> {
 #[derive(Debug, Clone, Copy)]
 pub struct Place {
     pub identifier: IdentifierId,
+    pub effect: u8,
+    pub reactive: bool,
     pub span: Option<Span>,
 }
 
