@@ -13,17 +13,16 @@ impl Shown<'_> {
         let outside = spans.iter().filter(|span| span.to as usize > source.len()).count();
         let told = match outside {
             0 => String::new(),
-            spans => {
-                format!("<p class=\"empty\">{} of the table not in this source, which has {} characters.</p>\n", are(spans), source.len())
-            }
+            1 => outside_told("1 span of the table is", source.len()),
+            spans => outside_told(&format!("{spans} spans of the table are"), source.len()),
         };
         let tools = format!("<span class=\"tools\">{}</span>", html(name));
         panel("source", "Source", &tools, &format!("{told}<ol class=\"source\">\n{}</ol>\n", lines.collect::<String>()))
     }
 }
 
-fn are(spans: usize) -> String {
-    if spans == 1 { "1 span is".to_string() } else { format!("{spans} spans are") }
+fn outside_told(which: &str, length: usize) -> String {
+    format!("<p class=\"empty\">{which} not in this source, which has {length} characters.</p>\n")
 }
 
 fn piece((at, text): &(usize, String)) -> String {
