@@ -72,9 +72,9 @@
     for (const view of all('.view, .pair .outline')) {
       const element = all('.' + name, view).find(element => !element.closest('.ways') && element.getClientRects().length);
       if (!element || view === but) continue;
-      const inner = element.getBoundingClientRect(), outer = view.getBoundingClientRect();
+      const inner = (element.querySelector('.w b') || element).getBoundingClientRect(), outer = view.getBoundingClientRect();
       if (inner.top < outer.top || inner.bottom > outer.bottom) view.scrollTop += inner.top - outer.top - (outer.height - inner.height) / 2;
-      if (element.closest('.drawing') && (inner.left < outer.left || inner.right > outer.right)) view.scrollLeft += inner.left - outer.left - (outer.width - inner.width) / 2;
+      if (inner.left < outer.left || inner.right > outer.right) view.scrollLeft += inner.left - outer.left - (outer.width - inner.width) / 3;
     }
   };
 
