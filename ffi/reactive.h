@@ -251,15 +251,17 @@ uint32_t blocks_to_dot(const uint32_t *words, size_t word_count, uint8_t *text, 
  *
  * Returns the code: 0, and the buffer holds *length bytes of text and then zeros; or a refusal (1 to 4, docs/FORMAT.md), and the buffer
  * holds zeros. *at is the refusal's place. *length is 0 if refused. 53: the text does not fit.
- * This call and the two below take some 150 KB of stack. */
+ * Stack: table_write 4 KB. */
 uint32_t table_write(const uint32_t *words, size_t word_count, uint8_t *text, size_t text_length, uint32_t *at, size_t *length);
 
 /* A file of the old form, with one span column, in the new one: a span s becomes from s and to s. 50 and 51 for a file that is not in
- * the form, 1 to 4 with *at in words of the old form, 53. */
+ * the form, 1 to 4 with *at in words of the old form, 53.
+ * Stack: table_old_to_new 144 KB. */
 uint32_t table_old_to_new(const uint8_t *file, size_t file_length, uint8_t *text, size_t text_length, uint32_t *at, size_t *length);
 
 /* A file of the new form in the old one. The same refusals, with *at in words of the new form, and before 53: 52, at the word of the first
- * `to` that differs from its `from`. */
+ * `to` that differs from its `from`.
+ * Stack: table_new_to_old 68 KB. */
 uint32_t table_new_to_old(const uint8_t *file, size_t file_length, uint8_t *text, size_t text_length, uint32_t *at, size_t *length);
 
 /* ---- The blocks in walking order (M-111) ---- */
@@ -272,7 +274,8 @@ uint32_t table_new_to_old(const uint8_t *file, size_t file_length, uint8_t *text
  * old_numbers, old_number_count      for the old number of each block: as many words as the table has blocks (words[1])
  *
  * Returns the code: 0, and both buffers are full; or a refusal (docs/FORMAT.md), and both hold zeros. *at is the refusal's place.
- * 45: a buffer is shorter or longer than just needed. */
+ * 45: a buffer is shorter or longer than just needed.
+ * Stack: blocks_rearrange 8 KB. */
 uint32_t blocks_rearrange(const uint32_t *words, size_t word_count, uint32_t *new_words, size_t new_word_count, uint32_t *old_numbers, size_t old_number_count, uint32_t *at);
 
 /* Gives every block of a table, the entry too, its old number in the list: of a table and a list that blocks_rearrange gave, the first
@@ -282,7 +285,8 @@ uint32_t blocks_rearrange(const uint32_t *words, size_t word_count, uint32_t *ne
  * old_numbers, old_number_count      the list, of any content and length
  * first_words, first_word_count      for the table: word_count words
  *
- * As above. 46: the list is no permutation of the block numbers; tested after 45. */
+ * As above. 46: the list is no permutation of the block numbers; tested after 45.
+ * Stack: blocks_restore 8 KB. */
 uint32_t blocks_restore(const uint32_t *words, size_t word_count, const uint32_t *old_numbers, size_t old_number_count, uint32_t *first_words, size_t first_word_count, uint32_t *at);
 
 /* ---- Whether words are a table ---- */
@@ -291,7 +295,8 @@ uint32_t blocks_restore(const uint32_t *words, size_t word_count, const uint32_t
  *
  * words, word_count    the table, of any content and length
  *
- * Returns the code: 0, or the refusal 1, 2, 3 or 4 (docs/FORMAT.md). *at is its place. */
+ * Returns the code: 0, or the refusal 1, 2, 3 or 4 (docs/FORMAT.md). *at is its place.
+ * Stack: table_check 4 KB. */
 uint32_t table_check(const uint32_t *words, size_t word_count, uint32_t *at);
 
 #ifdef __cplusplus

@@ -1,6 +1,6 @@
 //! Where the library is: the folder that REACTIVE_BUILD_DIR names; else `lib` beside this crate, as in the package; else target/staticlib of
 //! the repository, where `./run library` puts it. Linked is libreactive.a, which has everything; where it is not there, every archive of
-//! that folder.
+//! that folder. One that is older than another archive beside it is not linked: it would not be what was built last.
 
 use std::env;
 use std::path::{Path, PathBuf};
@@ -40,14 +40,20 @@ fn beside() -> PathBuf {
     if packed.join("libreactive.a").is_file() { packed } else { own.join("../../target/staticlib") }
 }
 
+/// The one archive, or where it is not there every archive of the folder.
 fn archives(folder: &Path) -> Vec<String> {
     println!("cargo::rerun-if-changed={}", folder.display());
-    if folder.join("libreactive.a").is_file() {
-        return vec!["reactive".into()];
-    }
     let files = folder.read_dir().into_iter().flatten().flatten().filter_map(|file| file.file_name().into_string().ok());
     let mut names: Vec<String> =
         files.filter_map(|name| Some(name.strip_prefix("lib")?.strip_suffix(".a")?.to_string())).collect();
     names.sort();
-    names
+    if !names.iter().any(|name| name == "reactive") {
+        return names;
+    }
+    let written = |name: &str| folder.join(format!("lib{name}.a")).metadata().and_then(|file| file.modified()).ok();
+    for name in names {
+        let is_newer = written(&name) > written("reactive");
+        assert!(!is_newer, "{}: lib{name}.a is newer than libreactive.a: `./run library` makes it anew", folder.display());
+    }
+    vec!["reactive".into()]
 }

@@ -71,10 +71,21 @@ fn say(program: &[u8], words: &[u8]) {
     io::write_all(STDERR_FILENO, words);
 }
 
-// Reads standard input; where that fails it says so, with the program's name before it.
+// Whether a person may wait for something else than happens: there is a word behind the program's name, or the input is a terminal.
+fn may_wait() -> bool {
+    os::arg_count() > 1 || libc::isatty(STDIN_FILENO) == 1
+}
+
+// Reads standard input; where that fails it says so, with the program's name before it. Where a person may wait, it says first what it does.
 pub fn read_all(program: &[u8], bytes: &mut [u8]) -> Input
     ensures { λ r. ⌜ Counts (r .count) (now (bytes .exit)) ⌝ }
 {
+    if may_wait() {
+        say(
+            program,
+            b": reads standard input to its end, as in PROGRAM <FILE, and prints to standard output; no argument is read\n",
+        );
+    }
     let input = read_input(STDIN_FILENO, bytes);
     if input.failed {
         say(program, b": standard input cannot be read\n");

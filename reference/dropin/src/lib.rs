@@ -37,7 +37,10 @@ impl Display for Outside {
     fn fmt(&self, out: &mut Formatter) -> fmt::Result {
         match self {
             Self::Code(refusal) => write!(out, "outside the library: {refusal}"),
-            Self::LargeId => write!(out, "outside the library: the id of a block or of an identifier is 1,048,576 or above"),
+            Self::LargeId => write!(
+                out,
+                "outside the library: the id of a block or of an identifier is 1,048,576 or above"
+            ),
         }
     }
 }
@@ -51,7 +54,10 @@ impl From<Outside> for Failed {
 }
 
 /// The tree that the Rust's `build_reactive_function` gives, or its diagnostic.
-pub fn build_reactive_function<'a>(hir: &HirFunction<'a>, env: &Environment<'a>) -> Result<ReactiveFunction<'a>, Failed> {
+pub fn build_reactive_function<'a>(
+    hir: &HirFunction<'a>,
+    env: &Environment<'a>,
+) -> Result<ReactiveFunction<'a>, Failed> {
     built(reactive_build::rows, hir, env)
 }
 
@@ -66,7 +72,11 @@ pub fn build_reactive_function_language<'a>(
 
 type Build = fn(&[u32]) -> Result<Vec<[u32; 6]>, Refusal>;
 
-fn built<'a>(build: Build, hir: &HirFunction<'a>, env: &Environment<'a>) -> Result<ReactiveFunction<'a>, Failed> {
+fn built<'a>(
+    build: Build,
+    hir: &HirFunction<'a>,
+    env: &Environment<'a>,
+) -> Result<ReactiveFunction<'a>, Failed> {
     let lowered = Lowered::of(hir, env)?;
     let rows = build(&lowered.words).map_err(|refusal| refuse::failed(refusal, &lowered, hir))?;
     Ok(ReactiveFunction {

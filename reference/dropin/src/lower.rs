@@ -9,7 +9,8 @@ use std::collections::HashMap;
 use oxc_ast::ast::LogicalOperator;
 use oxc_react_compiler::react_compiler_hir::environment::Environment;
 use oxc_react_compiler::react_compiler_hir::{
-    BlockId, EvaluationOrder, GotoVariant, HirFunction, Instruction, InstructionId, InstructionValue, Place, ScopeId, Terminal,
+    BlockId, EvaluationOrder, GotoVariant, HirFunction, Instruction, InstructionId,
+    InstructionValue, Place, ScopeId, Terminal,
 };
 use oxc_span::Span;
 use reactive_build::table::{Ending, LIMITS, NONE, Operator, Variant};
@@ -63,7 +64,11 @@ struct Lowering<'h, 'a> {
 }
 
 impl<'h, 'a> Lowering<'h, 'a> {
-    fn new(hir: &HirFunction, env: &'h Environment<'a>, place_rows: Option<HashMap<PlaceKey, u32>>) -> Self {
+    fn new(
+        hir: &HirFunction,
+        env: &'h Environment<'a>,
+        place_rows: Option<HashMap<PlaceKey, u32>>,
+    ) -> Self {
         let usual = 16 + 2 * hir.instructions.len();
         Self {
             env,
@@ -97,14 +102,35 @@ impl<'h, 'a> Lowering<'h, 'a> {
             }
             let (ending, id, span) = self.terminal(&block.terminal);
             let ([a, b, c, d, e], [from, to]) = (ending.columns(), self.span(span));
-            blocks.push([first, block.instructions.len() as u32, ending.code(), a, b, c, d, e, id.index() as u32, from, to]);
+            blocks.push([
+                first,
+                block.instructions.len() as u32,
+                ending.code(),
+                a,
+                b,
+                c,
+                d,
+                e,
+                id.index() as u32,
+                from,
+                to,
+            ]);
         }
         if self.block_rows.is_over || self.identifier_rows.is_over {
             return Err(Outside::LargeId);
         }
-        let counts = [blocks.len(), rows.len(), self.cases.len(), self.places.len(), self.named.len()];
-        let parts = [blocks.as_flattened(), rows.as_flattened(), self.cases.as_flattened(), &self.place_identifiers, &self.named];
-        let mut words = Vec::with_capacity(1 + counts.len() + parts.iter().map(|part| part.len()).sum::<usize>());
+        let counts =
+            [blocks.len(), rows.len(), self.cases.len(), self.places.len(), self.named.len()];
+        let parts = [
+            blocks.as_flattened(),
+            rows.as_flattened(),
+            self.cases.as_flattened(),
+            &self.place_identifiers,
+            &self.named,
+        ];
+        let mut words = Vec::with_capacity(
+            1 + counts.len() + parts.iter().map(|part| part.len()).sum::<usize>(),
+        );
         words.push(entry);
         words.extend(counts.map(|count| count as u32));
         parts.iter().for_each(|part| words.extend_from_slice(part));
@@ -124,7 +150,8 @@ impl<'h, 'a> Lowering<'h, 'a> {
         let next = self.places.len() as u32;
         let Place { identifier, effect, reactive, span } = place;
         if let Some(rows) = &mut self.place_rows {
-            let key = (identifier.index(), effect, reactive, span.map(|span| (span.start, span.end)));
+            let key =
+                (identifier.index(), effect, reactive, span.map(|span| (span.start, span.end)));
             let row = *rows.entry(key).or_insert(next);
             if row != next {
                 return row;
@@ -157,7 +184,9 @@ impl<'h, 'a> Lowering<'h, 'a> {
         let lvalue = self.place(instruction.lvalue);
         let (code, p, q) = match &instruction.value {
             InstructionValue::LoadLocal { place, .. } => (1, self.place(*place), 0),
-            InstructionValue::StoreLocal { lvalue, value, .. } => (2, self.place(lvalue.place), self.place(*value)),
+            InstructionValue::StoreLocal { lvalue, value, .. } => {
+                (2, self.place(lvalue.place), self.place(*value))
+            }
             _ => (0, 0, 0),
         };
         let [from, to] = self.span(instruction.span);
@@ -168,14 +197,21 @@ impl<'h, 'a> Lowering<'h, 'a> {
     fn terminal(&mut self, terminal: &Terminal) -> (Ending, EvaluationOrder, Option<Span>) {
         match terminal {
             Terminal::Unreachable { id, span } => (Ending::Unreachable, *id, *span),
-            Terminal::Throw { value, id, span } => (Ending::Throw { value: self.place(*value) }, *id, *span),
-            Terminal::Return { value, id, span } => (Ending::Return { value: self.place(*value) }, *id, *span),
-            Terminal::Goto { block, variant, id, span } => {
-                (Ending::Goto { block: self.block(*block), variant: goto_variant(*variant) }, *id, *span)
+            Terminal::Throw { value, id, span } => {
+                (Ending::Throw { value: self.place(*value) }, *id, *span)
             }
+            Terminal::Return { value, id, span } => {
+                (Ending::Return { value: self.place(*value) }, *id, *span)
+            }
+            Terminal::Goto { block, variant, id, span } => (
+                Ending::Goto { block: self.block(*block), variant: goto_variant(*variant) },
+                *id,
+                *span,
+            ),
             Terminal::If { test, consequent, alternate, fallthrough, id, span } => {
                 let test = self.place(*test);
-                let [consequent, alternate, fallthrough] = self.blocks([*consequent, *alternate, *fallthrough]);
+                let [consequent, alternate, fallthrough] =
+                    self.blocks([*consequent, *alternate, *fallthrough]);
                 (Ending::If { test, consequent, alternate, fallthrough }, *id, *span)
             }
             // Its fallthrough is never read.
@@ -188,18 +224,25 @@ impl<'h, 'a> Lowering<'h, 'a> {
                 let test = self.place(*test);
                 let first_case = self.cases.len() as u32;
                 for case in cases.iter() {
-                    let row = [self.place_or_none(case.test).unwrap_or(NONE), self.block(case.block)];
+                    let row =
+                        [self.place_or_none(case.test).unwrap_or(NONE), self.block(case.block)];
                     self.cases.push(row);
                 }
                 let fallthrough = self.block(*fallthrough);
-                (Ending::Switch { test, first_case, cases: cases.len() as u32, fallthrough }, *id, *span)
+                (
+                    Ending::Switch { test, first_case, cases: cases.len() as u32, fallthrough },
+                    *id,
+                    *span,
+                )
             }
             Terminal::DoWhile { loop_block, test, fallthrough, id, span } => {
-                let [loop_block, test, fallthrough] = self.blocks([*loop_block, *test, *fallthrough]);
+                let [loop_block, test, fallthrough] =
+                    self.blocks([*loop_block, *test, *fallthrough]);
                 (Ending::DoWhile { loop_block, test, fallthrough }, *id, *span)
             }
             Terminal::While { test, loop_block, fallthrough, id, span } => {
-                let [test, loop_block, fallthrough] = self.blocks([*test, *loop_block, *fallthrough]);
+                let [test, loop_block, fallthrough] =
+                    self.blocks([*test, *loop_block, *fallthrough]);
                 (Ending::While { test, loop_block, fallthrough }, *id, *span)
             }
             Terminal::For { init, test, update, loop_block, fallthrough, id, span } => {
@@ -209,16 +252,22 @@ impl<'h, 'a> Lowering<'h, 'a> {
                 (Ending::For { init, test, update, loop_block, fallthrough }, *id, *span)
             }
             Terminal::ForOf { init, test, loop_block, fallthrough, id, span } => {
-                let [init, test, loop_block, fallthrough] = self.blocks([*init, *test, *loop_block, *fallthrough]);
+                let [init, test, loop_block, fallthrough] =
+                    self.blocks([*init, *test, *loop_block, *fallthrough]);
                 (Ending::ForOf { init, test, loop_block, fallthrough }, *id, *span)
             }
             Terminal::ForIn { init, loop_block, fallthrough, id, span } => {
-                let [init, loop_block, fallthrough] = self.blocks([*init, *loop_block, *fallthrough]);
+                let [init, loop_block, fallthrough] =
+                    self.blocks([*init, *loop_block, *fallthrough]);
                 (Ending::ForIn { init, loop_block, fallthrough }, *id, *span)
             }
             Terminal::Logical { operator, test, fallthrough, id, span } => {
                 let [test, fallthrough] = self.blocks([*test, *fallthrough]);
-                (Ending::Logical { operator: logical_operator(*operator), test, fallthrough }, *id, *span)
+                (
+                    Ending::Logical { operator: logical_operator(*operator), test, fallthrough },
+                    *id,
+                    *span,
+                )
             }
             Terminal::Ternary { test, fallthrough, id, span } => {
                 let [test, fallthrough] = self.blocks([*test, *fallthrough]);

@@ -5,8 +5,9 @@ use oxc_allocator::{Box as ArenaBox, CloneIn, Vec as ArenaVec};
 use oxc_ast::ast::LogicalOperator;
 use oxc_react_compiler::react_compiler_hir::environment::Environment;
 use oxc_react_compiler::react_compiler_hir::{
-    BlockId, EvaluationOrder, HirFunction, InstructionValue, Place, PrimitiveValue, PrunedReactiveScopeBlock, ReactiveBlock,
-    ReactiveInstruction, ReactiveLabel, ReactiveScopeBlock, ReactiveStatement, ReactiveSwitchCase, ReactiveTerminal,
+    BlockId, EvaluationOrder, HirFunction, InstructionValue, Place, PrimitiveValue,
+    PrunedReactiveScopeBlock, ReactiveBlock, ReactiveInstruction, ReactiveLabel,
+    ReactiveScopeBlock, ReactiveStatement, ReactiveSwitchCase, ReactiveTerminal,
     ReactiveTerminalStatement, ReactiveTerminalTargetKind, ReactiveValue,
 };
 use oxc_span::Span;
@@ -19,9 +20,21 @@ use crate::lower::Lowered;
 /// # Panics
 ///
 /// Where the rows are not those that the build gave of this function's words.
-pub fn raise<'a>(rows: &[Row], lowered: &Lowered, hir: &HirFunction<'a>, env: &Environment<'a>) -> ReactiveBlock<'a> {
-    let mut raising =
-        Raising { lowered, hir, env, values: Vec::new(), statements: Vec::new(), blocks: Vec::new(), cases: Vec::new() };
+pub fn raise<'a>(
+    rows: &[Row],
+    lowered: &Lowered,
+    hir: &HirFunction<'a>,
+    env: &Environment<'a>,
+) -> ReactiveBlock<'a> {
+    let mut raising = Raising {
+        lowered,
+        hir,
+        env,
+        values: Vec::new(),
+        statements: Vec::new(),
+        blocks: Vec::new(),
+        cases: Vec::new(),
+    };
     for row in rows {
         raising.node(Node::of_row(row).expect("a row of the build"));
     }
@@ -42,16 +55,22 @@ impl<'a> Raising<'_, 'a> {
     /// Makes the part of a row, from the parts before it, the last of which is on top.
     fn node(&mut self, node: Node) {
         match node {
-            Node::Plain { .. } | Node::Load { .. } | Node::Undef { .. } => self.instruction_value(node),
-            Node::Logical { .. } | Node::Cond | Node::Seq { .. } | Node::Optional { .. } => self.compound_value(node),
+            Node::Plain { .. } | Node::Load { .. } | Node::Undef { .. } => {
+                self.instruction_value(node)
+            }
+            Node::Logical { .. } | Node::Cond | Node::Seq { .. } | Node::Optional { .. } => {
+                self.compound_value(node)
+            }
             Node::Instr { id, lvalue, span } => {
-                let (lvalue, value, span) = (Some(self.place(lvalue)), self.value(), self.span(span));
+                let (lvalue, value, span) =
+                    (Some(self.place(lvalue)), self.value(), self.span(span));
                 let instruction = ReactiveInstruction { id: order(id), lvalue, value, span };
                 self.statements.push(ReactiveStatement::Instruction(instruction));
             }
             Node::Block { statements } => {
                 let from = self.statements.len() - statements as usize;
-                let block = ArenaVec::from_iter_in(self.statements.drain(from..), &self.env.allocator);
+                let block =
+                    ArenaVec::from_iter_in(self.statements.drain(from..), &self.env.allocator);
                 self.blocks.push(block);
             }
             Node::Case { test } => {
@@ -60,11 +79,15 @@ impl<'a> Raising<'_, 'a> {
             }
             Node::Scope { scope } => {
                 let (scope, instructions) = (self.lowered.scopes[scope as usize], self.block());
-                self.statements.push(ReactiveStatement::Scope(ReactiveScopeBlock { scope, instructions }));
+                self.statements
+                    .push(ReactiveStatement::Scope(ReactiveScopeBlock { scope, instructions }));
             }
             Node::Pruned { scope } => {
                 let (scope, instructions) = (self.lowered.scopes[scope as usize], self.block());
-                self.statements.push(ReactiveStatement::PrunedScope(PrunedReactiveScopeBlock { scope, instructions }));
+                self.statements.push(ReactiveStatement::PrunedScope(PrunedReactiveScopeBlock {
+                    scope,
+                    instructions,
+                }));
             }
             _ => self.terminal(node),
         }
@@ -73,18 +96,27 @@ impl<'a> Raising<'_, 'a> {
     /// In the order of the Rust's `ReactiveTerminal`.
     fn terminal(&mut self, node: Node) {
         let terminal = match node {
-            Node::Break { target, id, kind, .. } => {
-                ReactiveTerminal::Break { target: self.target(target), id: order(id), target_kind: target_kind(kind) }
+            Node::Break { target, id, kind, .. } => ReactiveTerminal::Break {
+                target: self.target(target),
+                id: order(id),
+                target_kind: target_kind(kind),
+            },
+            Node::Continue { target, id, kind, .. } => ReactiveTerminal::Continue {
+                target: self.target(target),
+                id: order(id),
+                target_kind: target_kind(kind),
+            },
+            Node::Return { value, id } => {
+                ReactiveTerminal::Return { value: self.place(value), id: order(id) }
             }
-            Node::Continue { target, id, kind, .. } => {
-                ReactiveTerminal::Continue { target: self.target(target), id: order(id), target_kind: target_kind(kind) }
+            Node::Throw { value, id } => {
+                ReactiveTerminal::Throw { value: self.place(value), id: order(id) }
             }
-            Node::Return { value, id } => ReactiveTerminal::Return { value: self.place(value), id: order(id) },
-            Node::Throw { value, id } => ReactiveTerminal::Throw { value: self.place(value), id: order(id) },
             Node::Switch { test, cases, id, .. } => {
                 // Rows have the last case first.
                 let from = self.cases.len() - cases as usize;
-                let cases = ArenaVec::from_iter_in(self.cases.drain(from..).rev(), &self.env.allocator);
+                let cases =
+                    ArenaVec::from_iter_in(self.cases.drain(from..).rev(), &self.env.allocator);
                 ReactiveTerminal::Switch { test: self.place(test), cases, id: order(id) }
             }
             Node::DoWhile { id, .. } => {
@@ -103,7 +135,13 @@ impl<'a> Raising<'_, 'a> {
             }
             Node::ForOf { id, span, .. } => {
                 let (loop_block, test, init) = (self.block(), self.value(), self.value());
-                ReactiveTerminal::ForOf { init, test, loop_block, id: order(id), span: self.span(span) }
+                ReactiveTerminal::ForOf {
+                    init,
+                    test,
+                    loop_block,
+                    id: order(id),
+                    span: self.span(span),
+                }
             }
             Node::ForIn { id, span, .. } => {
                 let (loop_block, init) = (self.block(), self.value());
@@ -112,18 +150,32 @@ impl<'a> Raising<'_, 'a> {
             Node::If { test, has_alternate, id, .. } => {
                 let alternate = has_alternate.then(|| self.block());
                 let consequent = self.block();
-                ReactiveTerminal::If { test: self.place(test), consequent, alternate, id: order(id) }
+                ReactiveTerminal::If {
+                    test: self.place(test),
+                    consequent,
+                    alternate,
+                    id: order(id),
+                }
             }
-            Node::Label { id, .. } => ReactiveTerminal::Label { block: self.block(), id: order(id) },
+            Node::Label { id, .. } => {
+                ReactiveTerminal::Label { block: self.block(), id: order(id) }
+            }
             Node::Try { id, binding, .. } => {
                 let (handler, block) = (self.block(), self.block());
-                ReactiveTerminal::Try { block, handler_binding: self.place_or_none(binding), handler, id: order(id) }
+                ReactiveTerminal::Try {
+                    block,
+                    handler_binding: self.place_or_none(binding),
+                    handler,
+                    id: order(id),
+                }
             }
             _ => unreachable!("no terminal"),
         };
-        let label = node.label().map(|label| ReactiveLabel { id: self.target(label), implicit: false });
+        let label =
+            node.label().map(|label| ReactiveLabel { id: self.target(label), implicit: false });
         let statement = ReactiveTerminalStatement { terminal, label };
-        self.statements.push(ReactiveStatement::Terminal(ArenaBox::new_in(statement, &self.env.allocator)));
+        self.statements
+            .push(ReactiveStatement::Terminal(ArenaBox::new_in(statement, &self.env.allocator)));
     }
 
     fn instruction_value(&mut self, node: Node) {
@@ -136,7 +188,10 @@ impl<'a> Raising<'_, 'a> {
                 let place = self.place(place);
                 InstructionValue::LoadLocal { place, span: place.span }
             }
-            Node::Undef { span } => InstructionValue::Primitive { value: PrimitiveValue::Undefined, span: self.span(span) },
+            Node::Undef { span } => InstructionValue::Primitive {
+                value: PrimitiveValue::Undefined,
+                span: self.span(span),
+            },
             _ => unreachable!("no instruction's value"),
         };
         self.values.push(ReactiveValue::Instruction(value));
@@ -147,10 +202,15 @@ impl<'a> Raising<'_, 'a> {
         let value = match node {
             Node::Logical { operator } => {
                 let (right, left) = (self.boxed_value(), self.boxed_value());
-                ReactiveValue::LogicalExpression { operator: logical_operator(operator), left, right }
+                ReactiveValue::LogicalExpression {
+                    operator: logical_operator(operator),
+                    left,
+                    right,
+                }
             }
             Node::Cond => {
-                let (alternate, consequent, test) = (self.boxed_value(), self.boxed_value(), self.boxed_value());
+                let (alternate, consequent, test) =
+                    (self.boxed_value(), self.boxed_value(), self.boxed_value());
                 ReactiveValue::ConditionalExpression { test, consequent, alternate }
             }
             Node::Seq { instructions, id } => {
@@ -163,7 +223,9 @@ impl<'a> Raising<'_, 'a> {
                 let instructions = ArenaVec::from_iter_in(instructions, &self.env.allocator);
                 ReactiveValue::SequenceExpression { instructions, id: order(id), value }
             }
-            Node::Optional { optional } => ReactiveValue::OptionalExpression { value: self.boxed_value(), optional },
+            Node::Optional { optional } => {
+                ReactiveValue::OptionalExpression { value: self.boxed_value(), optional }
+            }
             _ => unreachable!("no compound value"),
         };
         self.values.push(value);

@@ -16,27 +16,44 @@ pub fn failed(refusal: Refusal, lowered: &Lowered, hir: &HirFunction) -> Failed 
     let bb = || block().index();
     let message = match code {
         code::EMITTED => format!("Block bb{} was already emitted", bb()),
-        code::CONSEQUENT_SCHEDULED => format!("Unexpected 'if' where consequent is already scheduled (bb{})", bb()),
-        code::ALTERNATE_SCHEDULED => format!("Unexpected 'if' where the alternate is already scheduled (bb{})", bb()),
+        code::CONSEQUENT_SCHEDULED => {
+            format!("Unexpected 'if' where consequent is already scheduled (bb{})", bb())
+        }
+        code::ALTERNATE_SCHEDULED => {
+            format!("Unexpected 'if' where the alternate is already scheduled (bb{})", bb())
+        }
         code::CASE_SCHEDULED => {
-            "Unexpected 'switch' where a case is already scheduled and block is not the fallthrough".into()
+            "Unexpected 'switch' where a case is already scheduled and block is not the fallthrough"
+                .into()
         }
         code::CONTINUE_SCHEDULED => format!("Continue block is already scheduled: bb{}", bb()),
-        code::LOOP_SCHEDULED => format!("Unexpected '{}' where the loop is already scheduled", name(terminal(hir, block()))),
+        code::LOOP_SCHEDULED => format!(
+            "Unexpected '{}' where the loop is already scheduled",
+            name(terminal(hir, block()))
+        ),
         code::LABEL_SCHEDULED => "Unexpected 'label' where the block is already scheduled".into(),
         code::SCOPE_SCHEDULED => "Unexpected 'scope' where the block is already scheduled".into(),
-        code::BRANCH_SCHEDULED => "Unexpected 'branch' where the alternate is already scheduled".into(),
+        code::BRANCH_SCHEDULED => {
+            "Unexpected 'branch' where the alternate is already scheduled".into()
+        }
         code::NO_BREAK_TARGET => format!("Expected a break target for bb{}", bb()),
-        code::NO_CONTINUE_TARGET => format!("Expected continue target to be scheduled for bb{}", bb()),
+        code::NO_CONTINUE_TARGET => {
+            format!("Expected continue target to be scheduled for bb{}", bb())
+        }
         code::SCOPE_BREAK => "Expected reactive scope to implicitly break to fallthrough".into(),
-        code::FALLTHROUGH_REACHED => format!("Did not expect to reach the fallthrough of a value block (bb{})", bb()),
+        code::FALLTHROUGH_REACHED => {
+            format!("Did not expect to reach the fallthrough of a value block (bb{})", bb())
+        }
         code::EMPTY_GOTO => "Unexpected empty block with `goto` terminal".into(),
         code::TEST_WITHOUT_BRANCH => test_without_branch(hir, block()),
-        code::LABEL_IN_VALUE => "Support labeled statements combined with value blocks is not yet implemented".into(),
+        code::LABEL_IN_VALUE => {
+            "Support labeled statements combined with value blocks is not yet implemented".into()
+        }
         code::NOT_A_VALUE => "Unsupported terminal kind in value block".into(),
         _ => return Outside::Code(refusal).into(),
     };
-    let category = if code == code::LABEL_IN_VALUE { ErrorCategory::Todo } else { ErrorCategory::Invariant };
+    let category =
+        if code == code::LABEL_IN_VALUE { ErrorCategory::Todo } else { ErrorCategory::Invariant };
     let diagnostic = category.diagnostic(message);
     Failed::Refused(match code {
         code::EMPTY_GOTO => diagnostic.with_help(format!("Block bb{} is empty", bb())),
@@ -48,7 +65,9 @@ pub fn failed(refusal: Refusal, lowered: &Lowered, hir: &HirFunction) -> Failed 
 fn test_without_branch(hir: &HirFunction, block: BlockId) -> String {
     let value = terminal(hir, block);
     let test = match value {
-        Terminal::Logical { test, .. } | Terminal::Ternary { test, .. } | Terminal::Optional { test, .. } => *test,
+        Terminal::Logical { test, .. }
+        | Terminal::Ternary { test, .. }
+        | Terminal::Optional { test, .. } => *test,
         _ => unreachable!("only these have a test"),
     };
     let met = discriminant(terminal(hir, last_of_value(hir, test)));

@@ -4,8 +4,8 @@ use dropin::{Failed, Outside, build_reactive_function};
 use oxc_allocator::{Allocator, Vec as ArenaVec};
 use oxc_react_compiler::react_compiler_hir::environment::{Environment, Identifiers};
 use oxc_react_compiler::react_compiler_hir::{
-    BasicBlock, BlockId, EvaluationOrder, HIR, HirFunction, Identifier, IdentifierId, Instruction, InstructionId,
-    InstructionValue, LValue, Place, ReactiveFunction, Terminal,
+    BasicBlock, BlockId, EvaluationOrder, HIR, HirFunction, Identifier, IdentifierId, Instruction,
+    InstructionId, InstructionValue, LValue, Place, ReactiveFunction, Terminal,
 };
 use oxc_react_compiler::react_compiler_reactive_scopes::build_reactive_function::build_reactive_function as rust;
 use oxc_react_compiler::react_compiler_utils::OrderedMap;
@@ -13,15 +13,31 @@ use oxc_span::Span;
 use reactive_build::{Refusal, code};
 
 fn place(identifier: u32, start: u32) -> Place {
-    Place { identifier: IdentifierId::new(identifier), effect: 0, reactive: false, span: Some(Span { start, end: start }) }
+    Place {
+        identifier: IdentifierId::new(identifier),
+        effect: 0,
+        reactive: false,
+        span: Some(Span { start, end: start }),
+    }
 }
 
 /// One block of stores, which returns; `place` gives the place of each occurrence.
-fn function<'a>(allocator: &'a Allocator, stores: u32, block: u32, place: fn(u32) -> Place) -> HirFunction<'a> {
+fn function<'a>(
+    allocator: &'a Allocator,
+    stores: u32,
+    block: u32,
+    place: fn(u32) -> Place,
+) -> HirFunction<'a> {
     let instruction = |number: u32| {
         let lvalue = LValue { place: place(3 * number), kind: 0 };
-        let value = InstructionValue::StoreLocal { lvalue, value: place(3 * number + 1), span: None };
-        Instruction { id: EvaluationOrder::new(number), lvalue: place(3 * number + 2), value, span: None }
+        let value =
+            InstructionValue::StoreLocal { lvalue, value: place(3 * number + 1), span: None };
+        Instruction {
+            id: EvaluationOrder::new(number),
+            lvalue: place(3 * number + 2),
+            value,
+            span: None,
+        }
     };
     let (id, entry) = (EvaluationOrder::new(stores), BlockId::new(block));
     let terminal = Terminal::Return { value: place(0), id, span: None };
@@ -43,13 +59,19 @@ fn function<'a>(allocator: &'a Allocator, stores: u32, block: u32, place: fn(u32
 }
 
 fn environment(allocator: &Allocator, identifiers: usize) -> Environment<'_> {
-    Environment { allocator, identifiers: Identifiers(vec![Identifier { name: None }; identifiers]) }
+    Environment {
+        allocator,
+        identifiers: Identifiers(vec![Identifier { name: None }; identifiers]),
+    }
 }
 
 fn same_as_the_rust<'a>(hir: &HirFunction<'a>, env: &Environment<'a>) {
     let text = |function: &ReactiveFunction| format!("{function:?}");
     let theirs = rust(hir, env).expect("the Rust takes it");
-    assert_eq!(text(&build_reactive_function(hir, env).expect("the library takes it")), text(&theirs));
+    assert_eq!(
+        text(&build_reactive_function(hir, env).expect("the library takes it")),
+        text(&theirs)
+    );
 }
 
 fn outside<'a>(hir: &HirFunction<'a>, env: &Environment<'a>) -> Outside {
@@ -82,7 +104,11 @@ fn too_many_instructions() {
     let over = function(&allocator, 4_097, 0, |_| place(0, 0));
     let refused = outside(&over, &environment(&allocator, 1));
     assert_eq!(refused, Outside::Code(Refusal { code: code::COUNT_LIMIT, at: 2 }));
-    assert!(refused.to_string().starts_with("outside the library: 2 at word 2: A count is over its limit"));
+    assert!(
+        refused
+            .to_string()
+            .starts_with("outside the library: 2 at word 2: A count is over its limit")
+    );
 }
 
 #[test]

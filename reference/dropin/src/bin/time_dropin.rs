@@ -15,6 +15,7 @@ use dropin::lower::Lowered;
 use dropin::raise::raise;
 use oxc_allocator::Allocator;
 use oxc_react_compiler::react_compiler_reactive_scopes::build_reactive_function::build_reactive_function as rust;
+use reactive_build::{LINE_WORDS, MOST_LINES, ROW_WORDS};
 use scrambled::Scrambled;
 
 fn main() {
@@ -38,12 +39,19 @@ fn time(blocks: u32) {
     let rows = reactive_build::rows(&lowered.words).expect("it is accepted");
     let turns = 200_000 / blocks;
     let rust = least(turns, || rust(black_box(&hir), &env).expect("accepted").body.len());
-    let dropin = least(turns, || build_reactive_function(black_box(&hir), &env).expect("accepted").body.len());
+    let dropin = least(turns, || {
+        build_reactive_function(black_box(&hir), &env).expect("accepted").body.len()
+    });
     let lower = least(turns, || Lowered::of(black_box(&hir), &env).expect("it fits").words.len());
-    let build = least(turns, || reactive_build::rows(black_box(&lowered.words)).expect("accepted").len());
+    let build =
+        least(turns, || reactive_build::rows(black_box(&lowered.words)).expect("accepted").len());
+    let (mut tree, mut index) = (vec![0; rows.len() * ROW_WORDS], vec![0; MOST_LINES * LINE_WORDS]);
+    let lent = least(turns, || {
+        reactive_build::build(black_box(&lowered.words), &mut tree, &mut index).rows as usize
+    });
     let raise = least(turns, || raise(black_box(&rows), &lowered, &hir, &env).len());
     println!(
-        "{} blocks, {} instructions, {} rows: the Rust {rust:.1} us, the drop-in {dropin:.1} us, {:.2} times; of it to lower {lower:.1}, to build {build:.1}, to raise {raise:.1}",
+        "{} blocks, {} instructions, {} rows: the Rust {rust:.1} us, the drop-in {dropin:.1} us, {:.2} times; of it to lower {lower:.1}, to build {build:.1} ({lent:.1} into lent buffers), to raise {raise:.1}",
         words[1],
         words[2],
         rows.len(),
@@ -52,7 +60,7 @@ fn time(blocks: u32) {
 }
 
 /// In microseconds, dropping what was made included.
-fn least(turns: u32, work: impl Fn() -> usize) -> f64 {
+fn least(turns: u32, mut work: impl FnMut() -> usize) -> f64 {
     let mut least = Duration::MAX;
     for _ in 0..turns {
         let start = Instant::now();

@@ -49,12 +49,18 @@ fn compare(tables: u64, seed: u64) -> Verdict {
         let (sort, given) = told(&ours);
         *met.entry(sort).or_default() += 1;
         if !is_same(&given, &theirs) && count_and_tell(&mut differences) {
-            println!("function {number} differs:\n  Rust {}\n  ours {}", beginning(&theirs), beginning(&given));
+            println!(
+                "function {number} differs:\n  Rust {}\n  ours {}",
+                beginning(&theirs),
+                beginning(&given)
+            );
         }
         match by_language(&given, &hir, &env) {
             Ok(Some(sort)) => *met.entry(sort.into()).or_default() += 1,
             Ok(None) => {}
-            Err(what) if count_and_tell(&mut differences) => println!("function {number} differs by the language's rule: {what}"),
+            Err(what) if count_and_tell(&mut differences) => {
+                println!("function {number} differs by the language's rule: {what}")
+            }
             Err(_) => {}
         }
     }
@@ -70,11 +76,16 @@ fn summary(met: &BTreeMap<String, u64>, mut verdict: Verdict) -> Verdict {
     for code in [10, 28, 30, 31] {
         verdict.need(format!("outside: {code}"), times(&format!("outside: {code}")));
     }
-    let of = |sorts: &'static str| met.iter().filter(move |(sort, _)| sort.starts_with(sorts)).map(|(_, count)| *count);
+    let of = |sorts: &'static str| {
+        met.iter().filter(move |(sort, _)| sort.starts_with(sorts)).map(|(_, count)| *count)
+    };
     verdict.need("some of the messages", u64::from(of("message: ").count() as u64 >= MESSAGES));
-    let (trees, messages, outside) = (times(TREE), of("message: ").sum::<u64>(), of("outside: ").sum::<u64>());
+    let (trees, messages, outside) =
+        (times(TREE), of("message: ").sum::<u64>(), of("outside: ").sum::<u64>());
     let functions = trees + messages + outside;
-    println!("drop-in: {functions} functions, {trees} trees, {messages} messages, {outside} outside; {verdict}");
+    println!(
+        "drop-in: {functions} functions, {trees} trees, {messages} messages, {outside} outside; {verdict}"
+    );
     verdict
 }
 
@@ -105,10 +116,15 @@ fn told(answer: &Result<ReactiveFunction, Failed>) -> (String, String) {
     match answer {
         Ok(function) => (TREE.into(), format!("{function:?}")),
         Err(Failed::Refused(diagnostic)) => {
-            let words = diagnostic.message.split([' ', '(', ':']).take_while(|word| !word.starts_with("bb"));
+            let words = diagnostic
+                .message
+                .split([' ', '(', ':'])
+                .take_while(|word| !word.starts_with("bb"));
             (format!("message: {}", words.collect::<Vec<_>>().join(" ")), format!("{diagnostic:?}"))
         }
-        Err(Failed::Outside(Outside::Code(refusal))) => (outside(refusal.code), outside(refusal.code)),
+        Err(Failed::Outside(Outside::Code(refusal))) => {
+            (outside(refusal.code), outside(refusal.code))
+        }
         Err(Failed::Outside(other)) => ("outside: an id".into(), format!("outside: {other:?}")),
     }
 }
@@ -120,7 +136,11 @@ fn is_same(given: &str, theirs: &str) -> bool {
 
 /// By the language's rule: the same text, but for breaks that are Labeled in place of Unlabeled, as many as its rows have; or 29, the one
 /// refusal of its own.
-fn by_language<'a>(first: &str, hir: &HirFunction<'a>, env: &Environment<'a>) -> Result<Option<&'static str>, String> {
+fn by_language<'a>(
+    first: &str,
+    hir: &HirFunction<'a>,
+    env: &Environment<'a>,
+) -> Result<Option<&'static str>, String> {
     let (_, given) = told(&build_reactive_function_language(hir, env));
     if given == first {
         return Ok(None);
@@ -129,14 +149,23 @@ fn by_language<'a>(first: &str, hir: &HirFunction<'a>, env: &Environment<'a>) ->
         return Ok(Some(LANGUAGE_REFUSED));
     }
     let lowered = Lowered::of(hir, env).map_err(|outside| outside.to_string())?;
-    let rows = [reactive_build::rows(&lowered.words), reactive_build::rows_language(&lowered.words)];
+    let rows =
+        [reactive_build::rows(&lowered.words), reactive_build::rows_language(&lowered.words)];
     let [Ok(first_rows), Ok(rows)] = &rows else { return Err(beginning(&given).into()) };
     let changed = first_rows.iter().zip(rows).filter(|(first, row)| first != row).count();
-    let kinds = |text: &str| text.split("target_kind: ").skip(1).map(|rest| rest.starts_with("Labeled")).collect::<Vec<_>>();
+    let kinds = |text: &str| {
+        text.split("target_kind: ")
+            .skip(1)
+            .map(|rest| rest.starts_with("Labeled"))
+            .collect::<Vec<_>>()
+    };
     let (was, is) = (kinds(first), kinds(&given));
     let more = was.iter().zip(&is).filter(|(was, is)| !*was && **is).count();
     let rest = |text: &str| text.replace("target_kind: Labeled", "target_kind: Unlabeled");
-    if more == changed && was.iter().zip(&is).all(|(was, is)| !was || *is) && rest(first) == rest(&given) {
+    if more == changed
+        && was.iter().zip(&is).all(|(was, is)| !was || *is)
+        && rest(first) == rest(&given)
+    {
         Ok(Some(LANGUAGE))
     } else {
         Err(format!("{more} more Labeled, {changed} rows: {}", beginning(&given)))

@@ -8,7 +8,8 @@ use comparison::reference::hir::{Dress, Lowering};
 use comparison::rng::Rng;
 use oxc_allocator::{Allocator, Vec as ArenaVec};
 use oxc_react_compiler::react_compiler_hir::{
-    BlockId, HirFunction, IdentifierId, InstructionId, InstructionValue, LValue, ParamPattern, Place, PrimitiveValue, ScopeId,
+    BlockId, HirFunction, IdentifierId, InstructionId, InstructionValue, LValue, ParamPattern,
+    Place, PrimitiveValue, ScopeId,
 };
 use oxc_span::Span;
 use oxc_str::{Ident, Str};
@@ -23,20 +24,29 @@ pub struct Scrambled {
 }
 
 impl Scrambled {
-    pub fn lowering<'w, 'a>(table: Table<'w>, allocator: &'a Allocator, mut rng: Rng) -> Lowering<'w, 'a, Self> {
+    pub fn lowering<'w, 'a>(
+        table: Table<'w>,
+        allocator: &'a Allocator,
+        mut rng: Rng,
+    ) -> Lowering<'w, 'a, Self> {
         let length = table.words[2] + rng.below(5);
         let mut moved: Vec<u32> = (0..length).collect();
         for last in (1..length).rev() {
             moved.swap(last as usize, rng.below(last + 1) as usize);
         }
         let (factor, offset) = (rng.from_to(1, 4), rng.below(3_000));
-        Lowering { table, allocator, dress: Self { rng: RefCell::new(rng), moved, length, factor, offset } }
+        Lowering {
+            table,
+            allocator,
+            dress: Self { rng: RefCell::new(rng), moved, length, factor, offset },
+        }
     }
 
     /// The function of a table, with all that the build only copies.
     pub fn function<'a>(lowering: &Lowering<'_, 'a, Self>) -> HirFunction<'a> {
         let dress = &lowering.dress;
-        let parameters = (0..dress.below(3)).map(|row| ParamPattern::Place(dress.place(row, IdentifierId::new(row))));
+        let parameters = (0..dress.below(3))
+            .map(|row| ParamPattern::Place(dress.place(row, IdentifierId::new(row))));
         HirFunction {
             span: dress.any_span(),
             id: (dress.below(2) == 1).then_some(Ident("Kerning")),
@@ -44,7 +54,10 @@ impl Scrambled {
             params: ArenaVec::from_iter_in(parameters, &lowering.allocator),
             generator: dress.below(2) == 1,
             is_async: dress.below(2) == 1,
-            directives: ArenaVec::from_iter_in((0..dress.below(3)).map(|_| Str("use memo")), &lowering.allocator),
+            directives: ArenaVec::from_iter_in(
+                (0..dress.below(3)).map(|_| Str("use memo")),
+                &lowering.allocator,
+            ),
             ..lowering.function()
         }
     }
@@ -88,7 +101,12 @@ impl Dress for Scrambled {
     }
 
     fn place(&self, _: u32, identifier: IdentifierId) -> Place {
-        Place { identifier, effect: self.below(5) as u8, reactive: self.below(2) == 1, span: self.any_span() }
+        Place {
+            identifier,
+            effect: self.below(5) as u8,
+            reactive: self.below(2) == 1,
+            span: self.any_span(),
+        }
     }
 
     fn lvalue(&self, place: Place) -> LValue {
