@@ -1,9 +1,9 @@
 //! Which blocks made a row, and which text of the source it has. A row tells an instruction, or an id and columns; the blocks that have
-//! these are taken, so that a table with one id twice may give two.
+//! these are taken, so that a table with one id twice may give two. Where there are many, the row tells too little, and none is taken.
 
 use crate::outline::roles;
 use reactive_build::Span;
-use reactive_build::table::{Block, Ending, Table};
+use reactive_build::table::{Block, Ending, Table, Variant};
 use reactive_build::tree::{Node, Nodes};
 
 /// Of one row.
@@ -40,8 +40,13 @@ fn having(table: &Table, instruction: u32) -> Vec<usize> {
     made_by(table, |block| instruction.checked_sub(block.first).is_some_and(|place| place < block.count))
 }
 
+/// No more blocks than these are taken for those of one row.
+const MOST: usize = 16;
+
 fn made_by(table: &Table, made: impl Fn(&Block) -> bool) -> Vec<usize> {
-    table.blocks.iter().enumerate().filter(|(_, block)| made(block)).map(|(number, _)| number).collect()
+    let blocks = table.blocks.iter().enumerate().filter(|(_, block)| made(block)).map(|(number, _)| number);
+    let blocks: Vec<usize> = blocks.take(MOST + 1).collect();
+    if blocks.len() > MOST { Vec::new() } else { blocks }
 }
 
 fn is_value(ending: &Ending) -> bool {
@@ -69,7 +74,9 @@ fn makes(block: &Block, node: &Node) -> bool {
         (Ending::Return { value }, Node::Return { value: place, id }) | (Ending::Throw { value }, Node::Throw { value: place, id }) => {
             id == block.id && value == place
         }
-        (Ending::Goto { .. } | Ending::Branch { .. }, Node::Break { id, .. } | Node::Continue { id, .. }) => id == block.id,
+        (Ending::Goto { block: to, variant: Variant::Break }, Node::Break { id, target, .. }) => id == block.id && to == target,
+        (Ending::Goto { variant: Variant::Continue, .. }, Node::Continue { id, .. }) => id == block.id,
+        (Ending::Branch { .. }, Node::Break { id, .. } | Node::Continue { id, .. }) => id == block.id,
         _ => false,
     }
 }

@@ -12,7 +12,7 @@ use viewer::{refusal, text};
 
 const USAGE: &str = "usage: treeshow [--run] FILE [SOURCE] [TABLE]\n\
     FILE is a table, or rows of a tree (with answers or without); SOURCE is the text that its spans mark\n\
-    TABLE, for rows: the table that they were built of, which has the spans of all instructions\n\
+    TABLE, for rows: the table that they were built of, which has the spans of all instructions; - for no source\n\
     --run: of rows with answers the run alone";
 
 fn main() -> ExitCode {
@@ -25,10 +25,13 @@ fn main() -> ExitCode {
         eprintln!("{USAGE}");
         return ExitCode::from(2);
     }
-    let shown = show(&arguments[0], arguments.get(1), arguments.get(2), run_alone);
+    let named = |place: usize| arguments.get(place).filter(|name| *name != "-");
+    let shown = show(&arguments[0], named(1), named(2), run_alone);
     match shown {
         Ok(Shown { text, status }) => match io::stdout().write_all(text.as_bytes()) {
             Ok(()) => ExitCode::from(status),
+            // Nobody reads any more, as `head` does not: no more is said.
+            Err(error) if error.kind() == io::ErrorKind::BrokenPipe => ExitCode::from(2),
             Err(error) => complain(&format!("standard output: {error}")),
         },
         Err(message) => complain(&message),
