@@ -19,7 +19,7 @@ pub struct Layout {
     pub edges: Vec<(usize, usize, Vec<[f64; 2]>)>,
 }
 
-const WIDTH: f64 = 112.0;
+const WIDTH: f64 = 118.0;
 const HEIGHT: f64 = 28.0;
 
 /// A drawing that takes longer is given up, and the blocks are listed.

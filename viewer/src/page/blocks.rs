@@ -13,13 +13,15 @@ const MOST_DRAWN: usize = 4_000;
 const ZOOM: &str = "<span class=\"tools\"><button type=\"button\" data-zoom=\"0.8\" aria-label=\"Smaller drawing\">−</button>\
     <button type=\"button\" data-zoom=\"0\">Fit</button><button type=\"button\" data-zoom=\"1.25\" aria-label=\"Larger drawing\">+</button></span>";
 
+const KEY: &str = "<p class=\"note key\"><span class=\"ft\">fallthrough</span></p>\n";
+
 impl Shown<'_> {
     pub(super) fn blocks(&self) -> String {
         let list = self.block_list();
         match self.drawing() {
             Some(drawing) => {
                 let list = format!("<details class=\"blocks\"><summary>The blocks as a list</summary>\n{list}</details>\n");
-                panel("blocks", "Blocks", ZOOM, &format!("<div class=\"drawing\">{drawing}</div>\n{list}"))
+                panel("blocks", "Blocks", ZOOM, &format!("<div class=\"drawing\">{drawing}</div>\n{KEY}{list}"))
             }
             None => panel("blocks", "Blocks", "", &list),
         }

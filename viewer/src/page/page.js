@@ -187,10 +187,10 @@
   });
   // A refusal: its block and its byte are brought into view.
   for (const element of all('.list .refused')) for (const other of blockElements.get(+element.dataset.b)) other.classList.add('refused');
+  const refusedRow = one('[data-refused-row]');
+  if (refusedRow) for (const element of rowElements.get(+refusedRow.dataset.refusedRow) || []) element.classList.add('refused');
   show('entry');
   show('refused');
-  const refusedRow = one('[data-refused-row]');
-  if (refusedRow && rowElements.has(+refusedRow.dataset.refusedRow)) for (const element of rowElements.get(+refusedRow.dataset.refusedRow)) element.classList.add('refused');
   const here = one('#here');
   if (here) here.scrollIntoView({ block: 'center' });
 })();

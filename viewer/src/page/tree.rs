@@ -14,7 +14,8 @@ use std::collections::HashMap;
 /// More rows are not shown: a page of them would not be usable.
 pub const MOST_ROWS: usize = 20_000;
 
-const ALL: &str = "<span class=\"tools\"><output id=\"only\"></output><button type=\"button\" id=\"all\" hidden>All rows</button></span>";
+const ALL: &str = "<span class=\"tools\"><span class=\"key\"><span>break</span><span class=\"continue\">continue</span><span class=\"implicit\">Implicit</span></span>\
+    <output id=\"only\"></output><button type=\"button\" id=\"all\" hidden>All rows</button></span>";
 
 impl Shown<'_> {
     pub(super) fn tree(&self, built: &Built) -> String {
