@@ -1,6 +1,7 @@
 use native.Mathlib.Omega.{arith}
-use mathlib.Core.Path.{sym}
+use mathlib.Core.Path.{sym, ap}
 use lib.Seq.{length-take-le}
+use Rattle.text.specs.Prints.{Printing}
 use Rattle.text.proofs.WriteLaws.{bytes-within}
 use borrow.Author.Needs.{needs}
 use Rattle.treemain.proofs.build_input.Statement.{statement}
@@ -40,13 +41,13 @@ array-share-prefix-out : tie.Need-array-share-prefix-out
 array-share-prefix-out c =
     let at-build : tie.After-build-file = search in
     let at-bytes : tie.After-written = search in
-    omega (arith, bytes-within _ _ _ _ (at-build .build-file .ensures .written .answer) (at-bytes .written .given .1), at-build .build-file .kept .1 .1 .0)
+    omega (arith, bytes-within _ _ _ _ (ap (λ (p : Printing). p .answer) (at-build .build-file .ensures .0)) (at-bytes .written .given .1), at-build .build-file .kept .1 .1 .0)
 
 slice-aggregate-write-all : tie.Need-slice-aggregate-write-all
 slice-aggregate-write-all c =
     let at-build : tie.After-build-file = search in
     let at-bytes : tie.After-written = search in
-    sym (length-take-le _ _ (omega (arith, bytes-within _ _ _ _ (at-build .build-file .ensures .written .answer) (at-bytes .written .given .1), at-build .build-file .kept .1 .1 .0)))
+    sym (length-take-le _ _ (omega (arith, bytes-within _ _ _ _ (ap (λ (p : Printing). p .answer) (at-build .build-file .ensures .0)) (at-bytes .written .given .1), at-build .build-file .kept .1 .1 .0)))
 
 write-all-requires : tie.Need-write-all-requires
 write-all-requires c κs = search needs

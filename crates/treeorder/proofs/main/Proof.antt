@@ -1,6 +1,7 @@
 use native.Mathlib.Omega.{arith}
-use mathlib.Core.Path.{sym}
+use mathlib.Core.Path.{sym, ap}
 use lib.Seq.{length-take-le}
+use Rattle.text.specs.Prints.{Printing}
 use Rattle.text.proofs.WriteLaws.{bytes-within}
 use borrow.Author.Needs.{needs}
 use Rattle.treeorder.proofs.main.Statement.{statement}
@@ -46,13 +47,13 @@ array-share-prefix-out : tie.Need-array-share-prefix-out
 array-share-prefix-out c =
     let printed : tie.After-order-file = search in
     let told : tie.After-written = search in
-    omega (arith, bytes-within _ _ _ _ (printed .order-file .ensures .written .answer) (told .written .given .1), printed .order-file .kept .1 .0)
+    omega (arith, bytes-within _ _ _ _ (ap (λ (p : Printing). p .answer) (printed .order-file .ensures .0)) (told .written .given .1), printed .order-file .kept .1 .0)
 
 slice-aggregate-write-all-2 : tie.Need-slice-aggregate-write-all-2
 slice-aggregate-write-all-2 c =
     let printed : tie.After-order-file = search in
     let told : tie.After-written = search in
-    sym (length-take-le _ _ (omega (arith, bytes-within _ _ _ _ (printed .order-file .ensures .written .answer) (told .written .given .1), printed .order-file .kept .1 .0)))
+    sym (length-take-le _ _ (omega (arith, bytes-within _ _ _ _ (ap (λ (p : Printing). p .answer) (printed .order-file .ensures .0)) (told .written .given .1), printed .order-file .kept .1 .0)))
 
 write-all-requires : tie.Need-write-all-requires
 write-all-requires c κs = search needs

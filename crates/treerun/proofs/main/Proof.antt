@@ -1,7 +1,8 @@
 -- `treerun::main` meets its contract.
 use native.Mathlib.Omega.{arith}
-use mathlib.Core.Path.{sym}
+use mathlib.Core.Path.{sym, ap}
 use lib.Seq.{length-take-le}
+use Rattle.text.specs.Prints.{Printing}
 use Rattle.text.proofs.WriteLaws.{bytes-within}
 use borrow.Author.Needs.{needs}
 use Rattle.treerun.proofs.main.Statement.{statement}
@@ -47,13 +48,13 @@ array-share-prefix-out : tie.Need-array-share-prefix-out
 array-share-prefix-out c =
     let at-run : tie.After-run-file = search in
     let at-bytes : tie.After-written = search in
-    omega (arith, bytes-within _ _ _ _ (at-run .run-file .ensures .written .answer) (at-bytes .written .given .1), at-run .run-file .kept .1 .0)
+    omega (arith, bytes-within _ _ _ _ (ap (λ (p : Printing). p .answer) (at-run .run-file .ensures .0)) (at-bytes .written .given .1), at-run .run-file .kept .1 .0)
 
 slice-aggregate-write-all-2 : tie.Need-slice-aggregate-write-all-2
 slice-aggregate-write-all-2 c =
     let at-run : tie.After-run-file = search in
     let at-bytes : tie.After-written = search in
-    sym (length-take-le _ _ (omega (arith, bytes-within _ _ _ _ (at-run .run-file .ensures .written .answer) (at-bytes .written .given .1), at-run .run-file .kept .1 .0)))
+    sym (length-take-le _ _ (omega (arith, bytes-within _ _ _ _ (ap (λ (p : Printing). p .answer) (at-run .run-file .ensures .0)) (at-bytes .written .given .1), at-run .run-file .kept .1 .0)))
 
 write-all-requires : tie.Need-write-all-requires
 write-all-requires c κs = search needs
