@@ -83,7 +83,6 @@ use Rattle.treerows.proofs.tree_check.Met as tree-export-proved
 use Rattle.treerows.proofs.tree_check.Reads as tree-export
 use Rattle.text.specs.Ascii.{ascii}
 use Rattle.text.specs.Decimal.{digitsOf, decimal}
-use Rattle.text.specs.declared.write.Written.{Written}
 use Rattle.text.proofs.DecimalLaws.{steps}
 use Rattle.build.specs.declared.Outcome.{Outcome}
 use Rattle.build.specs.Entry.{outcome}
@@ -101,21 +100,14 @@ use Rattle.build.proofs.build_language.Reads as language-entry
 use Rattle.build.proofs.reactive_build_language.Statement as language-export-stated
 use Rattle.build.proofs.reactive_build_language.Met as language-export-proved
 use Rattle.build.proofs.reactive_build_language.Reads as language-export
-use Rattle.survey.specs.declared.Rule as code
-use Rattle.survey.specs.Abstraction.{ruleOf}
 use Rattle.theorems.specs.Answered.{isNumber, acceptance}
 use Rattle.theorems.specs.LabelsThere.{LabelsThere}
 use Rattle.theorems.specs.Parted.{Parted, Unnamed, AcceptedAlike}
 use Rattle.theorems.proofs.Language.{entries-part, first-never-29, labels-there}
 use Rattle.theorems.proofs.Parting.{where-refused, where-accepted}
-use Rattle.text.specs.Prints.{printing}
-use Rattle.treefile.specs.Prints.{lentWords, lentIndex, builtText, Prints}
+use Rattle.treefile.specs.Prints.{lentWords, lentIndex, Prints}
 use Rattle.treefile.proofs.OutcomeLaws.{never-41 as file-never-41}
-use Rattle.text.proofs.PrintsLaws.{file-prints, prints-one}
 use Rattle.treefile.proofs.Sample.{sample-prints}
-use Rattle.treefile.proofs.build_file.Statement as file-stated
-use Rattle.treefile.proofs.build_file.Met as file-proved
-use Rattle.treefile.proofs.build_file.Reads as build-file
 
 -- ---- the entries (demand 2): build_reactive_function and build_language (M-102) give what the definition gives, each by its rule
 
@@ -370,9 +362,10 @@ a-continue-gives-the-loops-above-its-loop = continue-found
 pub the-jumps-of-a-tree-count-their-loops : (rule : Rule) (words : List ℕ) (lent lentIndex : ℕ) → built rule words lent lentIndex .code ≡ 0 → LabelsThere rule words lent lentIndex
 the-jumps-of-a-tree-count-their-loops = labels-there
 
-pub no-row-has-more-than-128-loops : (rule : Rule) (words : List ℕ) (lent lentIndex : ℕ) → (accepts : built rule words lent lentIndex .code ≡ 0)
-    → JumpsWithin (rows (one-tree rule words lent lentIndex accepts .tree))
-no-row-has-more-than-128-loops = built-within
+pub no-row-has-more-than-128-loops : (rule : Rule) (words : List ℕ) (lent lentIndex : ℕ) → built rule words lent lentIndex .code ≡ 0
+    → (root : Statements) → TreeOf (built rule words lent lentIndex) root → JumpsWithin (rows root)
+no-row-has-more-than-128-loops rule words lent lentIndex accepts root held =
+    subst (λ (tree : Statements). JumpsWithin (rows tree)) (sym (one-tree rule words lent lentIndex accepts .only root held)) (built-within rule words lent lentIndex accepts)
 
 -- ---- M-100: read a tree back
 
@@ -491,30 +484,6 @@ pub the-sample-file-prints-its-output :
     (ascii "entry blocks instructions cases places identifiers\n0 1 0 0 1 1\nfirst count code a b c d e id from to\n0 0 3 0 0 0 0 0 7 0 0\nid lvalue code p q from to\ntest block\nidentifier\n0\nnamed\n1\n")
     (ascii "code at rows visits\n0 0 2 1\nop a b c d e\n22 0 7 0 0 0\n9 1 0 0 0 0\n")
 the-sample-file-prints-its-output = sample-prints
-
--- ---- the programs treebuild and treebuild_language, as the function build_file by either rule
-
-pub build-file-meets-its-contract : {M : Type 1} → file-stated.statement M
-build-file-meets-its-contract = file-proved.met
-
--- the rule, the file and the lent bytes
-abbrev pub Ruled : Type 0
-Ruled = code.Rule × (RefT (List ℕ) × (RefT (List ℕ) × Unit {0}))
-
-pub build-file-asks-nothing : (κs : Lfts 2) (before : Ruled) → build-file.Asked κs before
-build-file-asks-nothing κs before = tt
-
--- the answer and every lent byte: a file in the form prints the definition's outcome of its words, any other its refusal
-pub build-file-prints-the-definition : (κs : Lfts 2) (before after : Ruled) (answer : Written) → build-file.Learnt κs before answer after
-    → record { answer = answer; bytes = now (after .1 .1 .0) } ≡ printing (length (now (before .1 .1 .0))) (builtText (ruleOf (before .0)) (now (before .1 .0)))
-build-file-prints-the-definition κs before after answer learnt = learnt .0
-
--- the same text with no reader in the definition, and no other
-pub a-file-prints-its-text : (rule : Rule) (file : List ℕ) → Prints rule file (builtText rule file)
-a-file-prints-its-text rule = file-prints _ _ _
-
-pub a-file-prints-one-text : (rule : Rule) (file text text′ : List ℕ) → Prints rule file text → Prints rule file text′ → text ≡ text′
-a-file-prints-one-text rule = prints-one _ _ _
 
 -- ---- the machine, which the code follows turn by turn, gives what the definition gives
 

@@ -1,1 +1,1 @@
-// The final theorems, and no code: proofs/Theorems.antt.
+// The final theorems, and no code: proofs/Demands.antt, then Theorems.antt.
