@@ -1,16 +1,19 @@
 -- The answer of `text::read::read`, told as code, place and number, is what the definition gives.
-use Prim.Native.Nat.{ℕ}
+use Prim.Native.Nat.{ℕ, _≤_}
 use mathlib.Core.Path.{_≡_, refl, ap, _∙_}
 use mathlib.Core.Bool.{Bool, true, false}
 use mathlib.Core.List.{List}
 use lib.Dec.{leb}
 use lib.ListN.{length, replicate}
+use borrow.Author.Tests.{le-leb}
 use Rattle.text.specs.Layout.{layout}
 use Rattle.text.specs.Lent.{padded}
+use Rattle.text.specs.Answer.{Accepted}
 use Rattle.text.specs.Reading.{Reading, reads, refuses, reading, WordsRead, readInto}
 use Rattle.text.specs.declared.version.Version.the-variants.{New}
 use Rattle.text.specs.declared.read.Answer.{Answer}
 use Rattle.text.specs.declared.read.Answer.the-variants as answer
+use Rattle.text.proofs.ReadingLaws.{accepted-reads}
 use Rattle.table_read.specs.Read.{WordsPlaced, refusal, placedIn, tableRead}
 
 -- what the code makes of an answer
@@ -55,3 +58,9 @@ module _ (file : List ℕ) (room : ℕ) where
 
   pub short-told : {lent : List ℕ} → Read answer.NoRoom lent → record { code = 54; at = 0; count = 0; lent = lent } ≡ tableRead file room
   short-told e = told-read _ e
+
+  -- a good file is read as its words
+  pub good-read : (words : List ℕ) → Accepted (layout New) file words → length words ≤ room
+      → tableRead file room ≡ record { code = 0; at = 0; count = length words; lent = padded room words }
+  unfolding tableRead placedIn
+  good-read words good fits = rw (accepted-reads (layout New) file words good, placedIn, le-leb (length words) room fits) refl
