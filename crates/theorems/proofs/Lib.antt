@@ -4,6 +4,7 @@ pub mod Language
 pub mod Loops
 pub mod Parting
 pub mod Previews
+pub mod Reader
 pub mod Requests
 pub mod RunReasons
 pub mod Theorems
