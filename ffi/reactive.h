@@ -90,6 +90,7 @@ enum reactive_refusal {
     REACTIVE_REFUSAL_FILE_LENGTH = 51, /* The file is too long: a table has at most 32,768 bytes, a file of rows 262,144. */
     REACTIVE_REFUSAL_TWO_ENDS = 52, /* A to differs from its from: the old form has one end. */
     REACTIVE_REFUSAL_TEXT_LENT = 53, /* The written text is longer than the lent buffer. */
+    REACTIVE_REFUSAL_WORDS_LENT = 54, /* The file has more words than were lent. */
     REACTIVE_REFUSAL_ROW_OUT_OF_RANGE = 60, /* The op of this row, or one of its columns, is out of range. */
     REACTIVE_REFUSAL_PARTS_MISSING = 61, /* This row does not find its parts before it. */
     REACTIVE_REFUSAL_NOT_ONE_TREE = 62, /* The rows are not one tree: no row, over 2,048 rows, words that are no multiple of six, or something else left at the end than one BLOCK. */
@@ -253,6 +254,20 @@ uint32_t blocks_to_dot(const uint32_t *words, size_t word_count, uint8_t *text, 
  * holds zeros. *at is the refusal's place. *length is 0 if refused. 53: the text does not fit.
  * Stack: table_write 4 KB. */
 uint32_t table_write(const uint32_t *words, size_t word_count, uint8_t *text, size_t text_length, uint32_t *at, size_t *length);
+
+/* So many words hold those of any file; and half as many words as the file has bytes hold those of that file. */
+#define TABLE_READ_MOST_WORDS 16384
+
+/* Reads a file in the form of docs/FORMAT.md: the words of its table.
+ *
+ * file, file_length      bytes of any content and number
+ * words, word_count      a buffer of any length, in words
+ *
+ * Returns the code: 0, and the buffer holds *count words and then zeros; or a refusal (docs/FORMAT.md), and the buffer holds zeros. 51 for
+ * a file that is too long; 50 for one that is not in the form, and *at is the byte; 54: there are more words than were lent. *at is 0
+ * but for 50, *count is 0 if refused. That the words are a table (refusals 1 to 4) is not checked: table_check does, and every call that takes them.
+ * Stack: table_read 4 KB. */
+uint32_t table_read(const uint8_t *file, size_t file_length, uint32_t *words, size_t word_count, uint32_t *at, size_t *count);
 
 /* A file of the old form, with one span column, in the new one: a span s becomes from s and to s. 50 and 51 for a file that is not in
  * the form, 1 to 4 with *at in words of the old form, 53.

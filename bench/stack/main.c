@@ -37,6 +37,7 @@ static void check(void) { code = tree_check(words, word_count, &at); }
 static void lookup(void) { code = tree_lookup(lines, 3072, 1024, 1023, words, word_count, &at, &begin, &end); }
 static void run(void) { code = tree_run(words, word_count, list, 1024, tree, 1024, &at, &end, &a); }
 static void check_words(void) { code = table_check(words, word_count, &at); }
+static void read_words(void) { code = table_read(file, file_length, tree, MOST_WORDS, &at, &end); }
 static void nothing(void) {}
 
 static size_t taken(void (*call)(void)) {
@@ -155,6 +156,7 @@ int main(void) {
         {"blocks_rearrange", rearrange, shape, SHAPES},
         {"blocks_restore", restore, numbers, 2},
         {"table_check", check_words, shape, SHAPES},
+        {"table_read", read_words, file_of, 3},
     };
     for (size_t each = 0; each < sizeof calls / sizeof *calls; each++)
         printf("%s %zu\n", calls[each].name, most(calls[each].call, calls[each].make, calls[each].number) - own);

@@ -2,23 +2,15 @@
 
 use reactive_build::preview::{tree, tree_language};
 use reactive_build::tree::{Nodes, Row};
-use reactive_build::{LINE_WORDS, Refusal, code, dot, table_text, tree_check, tree_lookup, tree_run};
+use reactive_build::{LINE_WORDS, Refusal, dot, table_check, table_text, tree_check, tree_lookup, tree_run};
 use std::ops::Range;
 
 pub use reactive_build::tree_run::Reason;
 
-/// The words of a table's file. That it is one is told by the proved converter; that these are its words, by the proved writer, which gives
-/// for each table its only text.
+/// The words of a table's file, which are a table.
 pub fn words(file: &[u8]) -> Result<Vec<u32>, Refusal> {
-    let mut text = vec![0; table_text::OLD_LARGEST];
-    let read = table_text::new_to_old(file, &mut text);
-    if !matches!(read.code, 0 | code::TWO_ENDS) {
-        return Err(Refusal { code: read.code, at: read.at });
-    }
-    let words: Vec<u32> = numbers(file).map(|(_, number)| number).collect();
-    let mut text = vec![0; file.len()];
-    let written = table_text::write(&words, &mut text);
-    assert!(written.code == 0 && text == file, "the words of a good file give the file");
+    let words = table_text::read_table(file)?;
+    table_check::is_table(&words)?;
     Ok(words)
 }
 

@@ -5,6 +5,7 @@ pub mod Loops
 pub mod Parting
 pub mod Previews
 pub mod Programs
+pub mod Reader
 pub mod Requests
 pub mod RunReasons
 pub mod Theorems

@@ -120,6 +120,7 @@ refusals! {
     FILE_LENGTH = 51, "0", "The file is too long: a table has at most 32,768 bytes, a file of rows 262,144.";
     TWO_ENDS = 52, "word", "A `to` differs from its `from`: the old form has one end.";
     TEXT_LENT = 53, "0", "The written text is longer than the lent buffer.";
+    WORDS_LENT = 54, "0", "The file has more words than were lent.";
     ROW_OUT_OF_RANGE = 60, "row", "The op of this row, or one of its columns, is out of range.";
     PARTS_MISSING = 61, "row", "This row does not find its parts before it.";
     NOT_ONE_TREE = 62, "0", "The rows are not one tree: no row, over 2,048 rows, words that are no multiple of six, or something else left at the end than one BLOCK.";

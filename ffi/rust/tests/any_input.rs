@@ -4,7 +4,7 @@
 use reactive_build::table::{Block, Ending, Instruction, Table};
 use reactive_build::tree::{Kind, Node, Nodes, Op, Operator};
 use reactive_build::{
-    LINE_WORDS, Outcome, ROW_WORDS, Refusal, Span, build, build_language, dot, order, preview, rows, rows_language, table_check,
+    LINE_WORDS, Outcome, ROW_WORDS, Refusal, Span, build, build_language, code, dot, order, preview, rows, rows_language, table_check,
     table_text, tree_check, tree_lookup, tree_run,
 };
 
@@ -124,6 +124,14 @@ fn bytes_are_taken(file: &[u8], lent: usize) {
         assert!(!refused(placed.code) || zeros(&text));
         assert!(placed.length <= lent);
     }
+    let mut words = vec![7; lent];
+    let read = table_text::read(file, &mut words);
+    assert!(if refused(read.code) { read.count == 0 && zeros(&words) } else { zeros(&words[read.count..]) });
+    match table_text::read_table(file) {
+        Ok(whole) if whole.len() <= lent => assert_eq!((read.code, &whole[..]), (0, &words[..read.count])),
+        Ok(_) => assert_eq!((read.code, read.at), (code::WORDS_LENT, 0)),
+        Err(refusal) => assert_eq!(refusal, Refusal { code: read.code, at: read.at }),
+    }
 }
 
 #[test]
@@ -158,6 +166,31 @@ fn bytes_of_any_sort() {
         bytes_are_taken(good, lent);
         bytes_are_taken(&[], lent);
         bytes_are_taken(&vec![b'1'; 5_000_000], lent);
+    }
+}
+
+#[test]
+fn what_is_written_is_read_and_a_spoilt_byte_is_found() {
+    let (words, mut text) = (good_table(), vec![0; 4_096]);
+    let written = table_text::write(&words, &mut text);
+    let good = &text[..written.length];
+    assert_eq!(table_text::read_table(good).as_ref(), Ok(&words));
+    for (lent, code) in [(words.len(), 0), (words.len() - 1, code::WORDS_LENT), (0, code::WORDS_LENT)] {
+        assert_eq!(table_text::read(good, &mut vec![7; lent]).code, code);
+    }
+    for at in 0..good.len() {
+        let refusal = |at: usize| Err(Refusal { code: code::FORM, at: at as u32 });
+        assert_eq!(table_text::read_table(&good[..at]), refusal(at));
+        for byte in [0, b'\r', 0xff] {
+            let mut spoilt = good.to_vec();
+            spoilt[at] = byte;
+            assert_eq!(table_text::read_table(&spoilt), refusal(at));
+        }
+    }
+    assert_eq!(table_text::read_table(&[good, b"\n"].concat()), Err(Refusal { code: code::FORM, at: good.len() as u32 }));
+    for length in [32_768, 32_769, 5_000_000] {
+        let code = if length > 32_768 { code::FILE_LENGTH } else { code::FORM };
+        assert_eq!(table_text::read_table(&vec![b'1'; length]), Err(Refusal { code, at: 0 }));
     }
 }
 

@@ -6,6 +6,7 @@ use crate::model::Outcome;
 use crate::model::convert::Placed;
 use crate::model::dot::Drawn;
 use crate::model::order::Moved;
+use crate::model::text::WordsRead;
 use crate::model::tree_run::Ran;
 
 /// Words; the tree buffer and the index lent.
@@ -19,12 +20,13 @@ pub type CandidateCheck = fn(&[u32]) -> (u32, u32);
 
 pub type CandidateDot = fn(&[u32], &mut [u8]) -> Drawn;
 
-/// The writer, and the two converters.
+/// The writer, the two converters, and the reader.
 #[derive(Clone, Copy)]
 pub struct CandidateTexts {
     pub write: fn(&[u32], &mut [u8]) -> Placed,
     pub old_to_new: fn(&[u8], &mut [u8]) -> Placed,
     pub new_to_old: fn(&[u8], &mut [u8]) -> Placed,
+    pub read: fn(&[u8], &mut [u32]) -> WordsRead,
 }
 /// The rearrangement, and the inverse.
 pub type CandidateOrder = (fn(&[u32], &mut [u32], &mut [u32]) -> Moved, fn(&[u32], &[u32], &mut [u32]) -> Moved);
@@ -140,6 +142,10 @@ pub const CANDIDATE_TEXTS: Option<CandidateTexts> = Some(CandidateTexts {
     write: |words, text| placed(reactive_build::table_text::write(words, text)),
     old_to_new: |file, text| placed(reactive_build::table_text::old_to_new(file, text)),
     new_to_old: |file, text| placed(reactive_build::table_text::new_to_old(file, text)),
+    read: |file, words| {
+        let reactive_build::table_text::WordsRead { code, at, count } = reactive_build::table_text::read(file, words);
+        WordsRead { code, at, count }
+    },
 });
 
 #[cfg(feature = "candidate")]

@@ -1,6 +1,6 @@
 //! `compare_texts [FILES [SEED]]`: seeded tables and files, and every stored vector, through the writer and
-//! the converters of M-112, by the model and by the proved library, into buffers of exactly the text's
-//! length, a byte less, none, and some more; and round trips by the library alone. The status is not 0 if
+//! the converters of M-112 and the reader of files, by the model and by the proved library, into buffers of exactly
+//! the length needed, one less, none, and some more; and round trips by the library alone. The status is not 0 if
 //! anything differs, if a round trip does not give the text again, if an answer was not met in a long enough
 //! run, or if the library is not linked.
 
@@ -15,12 +15,15 @@ use comparison::model::convert::{
     NEW, OLD, Placed, narrow, new_text, new_to_old, old_text, old_to_new, widen, write_table,
 };
 use comparison::model::table::Table;
-use comparison::model::text::{MAX_BYTES, parse, write_as};
+use comparison::model::text::{MAX_BYTES, parse, read_table, write_as};
 use comparison::rng::Rng;
 use comparison::vector::from_bytes;
 
 /// Accepted, and every refusal that a file can have.
 const ANSWERS: [u32; 8] = [0, 2, 3, 4, 50, 51, 52, 53];
+
+/// Those of the reader.
+const READ_ANSWERS: [u32; 4] = [0, 50, 51, 54];
 
 type Convert = fn(&[u8], &mut [u8]) -> Placed;
 
@@ -28,12 +31,15 @@ type Convert = fn(&[u8], &mut [u8]) -> Placed;
 struct Met {
     /// Of the writer, of old to new, of new to old: how often each of `ANSWERS` was given.
     answers: [[u64; ANSWERS.len()]; 3],
+    /// Of the reader, of `READ_ANSWERS`.
+    read_answers: [u64; READ_ANSWERS.len()],
     old_trips: u64,
     new_trips: u64,
     /// Old files whose new text is too long to be read back.
     too_long: u64,
     longest: usize,
     calls: u64,
+    reads: u64,
     differences: u64,
 }
 
@@ -58,9 +64,10 @@ fn compare_texts(candidate: CandidateTexts, files: u64, seed: u64) -> Verdict {
 
     let verdict = met.verdict(files);
     println!(
-        "seed {seed}: {files} tables and {} stored vectors, {} texts into lent buffers, round trips: {} from old, {} from new, {} too long to be read back; {verdict}, longest text {} bytes",
+        "seed {seed}: {files} tables and {} stored vectors, {} texts and {} readings into lent buffers, round trips: {} from old, {} from new, {} too long to be read back; {verdict}, longest text {} bytes",
         stored.len(),
         met.calls,
+        met.reads,
         met.old_trips,
         met.new_trips,
         met.too_long,
@@ -127,6 +134,8 @@ impl Met {
     fn both(&mut self, candidate: CandidateTexts, rng: &mut Rng, old_file: &[u8], new_file: &[u8]) {
         self.convert(1, candidate.old_to_new, old_to_new, new_text(old_file).ok(), rng, old_file);
         self.convert(2, candidate.new_to_old, new_to_old, old_text(new_file).ok(), rng, new_file);
+        self.read(candidate, rng, new_file);
+        self.read(candidate, rng, old_file);
         if let Some(new) = through(candidate.old_to_new, old_file) {
             if new.len() > MAX_BYTES {
                 self.too_long += 1;
@@ -151,6 +160,24 @@ impl Met {
             let expected = model(file, &mut expected_text);
             let shown = String::from_utf8_lossy(file);
             self.compare(which, lent, expected, &expected_text, |text| candidate(file, text), &shown);
+        }
+    }
+
+    /// Code, at, count and every lent word are compared, and the words around them.
+    fn read(&mut self, candidate: CandidateTexts, rng: &mut Rng, file: &[u8]) {
+        for lent in lengths(parse(file).map_or(20, |words| words.len()), rng) {
+            self.reads += 1;
+            let mut expected_words = stale(lent);
+            let expected = read_table(file, &mut expected_words);
+            let answer = READ_ANSWERS.iter().position(|code| *code == expected.code);
+            self.read_answers[answer.expect("a known code")] += 1;
+            let mut room = Room::new(lent);
+            let read = (candidate.read)(file, room.lent());
+            let untouched = room.is_kept();
+            if read != expected || room.lent() != expected_words || !untouched {
+                let shown = String::from_utf8_lossy(file);
+                self.differs(&format!("read, {lent} words lent: {read:?} for {expected:?}, words around them kept: {untouched}"), &shown);
+            }
         }
     }
 
@@ -189,6 +216,9 @@ impl Met {
                     verdict.need(format_args!("answer {code} of call {which}"), *times);
                 }
             }
+        }
+        for (code, times) in READ_ANSWERS.iter().zip(self.read_answers) {
+            verdict.need(format_args!("answer {code} of the reader"), times);
         }
         verdict.need("a new text that is too long", self.too_long);
         verdict

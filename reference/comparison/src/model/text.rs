@@ -44,6 +44,28 @@ pub fn parse_as(form: Form, input: &[u8]) -> Result<Vec<u32>, Refusal> {
     Ok(words)
 }
 
+/// What `table_read` gives: code (0 accepted), at, and the number of words.
+#[derive(Clone, Copy, Debug, PartialEq, Eq)]
+pub struct WordsRead {
+    pub code: u32,
+    pub at: u32,
+    pub count: usize,
+}
+
+/// A file's words into lent ones, then zeros; zeros alone if refused, 54 if there are more than were lent.
+pub fn read_table(file: &[u8], lent: &mut [u32]) -> WordsRead {
+    lent.fill(0);
+    let words = match parse(file) {
+        Ok(words) => words,
+        Err(Refusal { code, at }) => return WordsRead { code, at, count: 0 },
+    };
+    match lent.get_mut(..words.len()) {
+        Some(place) => place.copy_from_slice(&words),
+        None => return WordsRead { code: 54, at: 0, count: 0 },
+    }
+    WordsRead { code: 0, at: 0, count: words.len() }
+}
+
 /// Reads on as long as what was read could begin a good file.
 struct Reader<'i> {
     input: &'i [u8],
