@@ -15,7 +15,7 @@ use Rattle.definition.proofs.Rows.{value-append, statement-append, block-append
 use Rattle.definition.specs.Reader.{close, read}
 use Rattle.definition.proofs.Readings.{forest-read, one-forest}
 use Rattle.reading.specs.Ranges.{inRange, allInRange}
-use Rattle.reading.specs.Grammar.{Reads, OneTree, GoodBefore, noRow, RowsAnswer, one-tree, out-of-range, no-parts, remainder}
+use Rattle.reading.specs.Grammar.{Reads, ReadsAsTree, GoodBefore, noRow, RowsAnswer, one-tree, out-of-range, no-parts, remainder}
 use Rattle.reading.specs.Needs.{RowsVerdict, accepted, refused, codeOf, atOf}
 use Rattle.reading.specs.Needs.{rowsVerdict, sortsOf}
 use Rattle.reading.specs.Needs as needs
@@ -116,7 +116,7 @@ module _ (list : List Row) where
   forest-tree : (root : Statements) → ReadAsForest list (block root ∷ []) → ReadAs list root
   forest-tree root p = record { well-formed = p .well-formed .0; same-rows = p .same-rows }
 
-  whole : (S : Forest) → ReadAsForest list S → ((b : Statements) → S ≡ block b ∷ [] → ⊥) → OneTree list → ⊥
+  whole : (S : Forest) → ReadAsForest list S → ((b : Statements) → S ≡ block b ∷ [] → ⊥) → ReadsAsTree list → ⊥
   whole S p f t = f (t .root) (one-forest list S (block (t .root) ∷ []) p (tree-forest (t .root) (t .reading)))
 
   -- ---- every list has an answer: the machine's
@@ -223,13 +223,13 @@ module _ (list : List Row) where
   code-is (suc code) at = refl
 
   -- accepted means one tree, and one tree is accepted
-  pub accepts : OneTree list → rowsVerdict list 0 [] ≡ accepted
+  pub accepts : ReadsAsTree list → rowsVerdict list 0 [] ≡ accepted
   accepts t = answer-is (one-tree t)
 
-  pub accepted-tree : rowsVerdict list 0 [] ≡ accepted → OneTree list
+  pub accepted-tree : rowsVerdict list 0 [] ≡ accepted → ReadsAsTree list
   accepted-tree e = by (subst Answered e machine-answers) refl
     where
-      by : {code at : ℕ} → RowsAnswer list code at → code ≡ 0 → OneTree list
+      by : {code at : ℕ} → RowsAnswer list code at → code ≡ 0 → ReadsAsTree list
       by (one-tree t) z = t
       by (out-of-range i g q) z = absurd (omega arith)
       by (no-parts i g q f) z = absurd (omega arith)

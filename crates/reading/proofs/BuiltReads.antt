@@ -25,7 +25,7 @@ use Rattle.definition.specs.Build.{wordsOf, built}
 use Rattle.definition.proofs.Accepted.{Accepted, accepted-of, rows-of-buffer, words-rows}
 use Rattle.definition.proofs.Checked.{ranged}
 use Rattle.definition.proofs.Formed.{tree-formed}
-use Rattle.reading.specs.Grammar.{OneTree, one-tree, Answer, of-rows}
+use Rattle.reading.specs.Grammar.{ReadsAsTree, one-tree, Answer, of-rows}
 use Rattle.reading.specs.Needs.{accepted, refused, codeOf, rowsVerdict}
 use Rattle.reading.proofs.Upto.{and-both}
 use Rattle.reading.proofs.Trees.{Spanned, tree-in}
@@ -100,14 +100,14 @@ module _ (ws : List ℕ) (p : Promise ws) where
 
 module _ (rule : Rule) (words : List ℕ) (lent lentIndex : ℕ) (h : built rule words lent lentIndex .code ≡ 0) (few : built rule words lent lentIndex .rows ≤ 2048) (list : List Row)
     (held : wordsOf list ≡ take (built rule words lent lentIndex .rows * 6) (built rule words lent lentIndex .buffer)) where
-  pub built-reads : OneTree list
+  pub built-reads : ReadsAsTree list
   built-reads =
       let a : Accepted rule words lent lentIndex = accepted-of rule words lent lentIndex h in
       let root : Statements = a .root .statements in
       let e : rows root ≡ list = sym (words-rows list (rows root) (held ∙ rows-of-buffer rule words lent lentIndex a)) in
       let k : Bounded (tableOf words) _ _ _ _ = bounded words (promised words (a .checks)) in
       let formed : WellFormed root = tree-formed (tableOf words) (ranged words (a .checks)) rule (a .root) (a .builds) in
-      subst OneTree e (record {
+      subst ReadsAsTree e (record {
         ranged = tree-in root formed (tree-ranged (tableOf words) _ _ _ _ k rule (a .root) (a .builds)) (omega (arith, few, a .number));
         root = root;
         reading = record { well-formed = formed; same-rows = refl };
@@ -123,7 +123,7 @@ module _ (rule : Rule) (words : List ℕ) (lent lentIndex : ℕ) (h : built rule
       let a : Accepted rule words lent lentIndex = accepted-of rule words lent lentIndex h in
       let list : List Row = rows (a .root .statements) in
       let held : wordsOf list ≡ take (built rule words lent lentIndex .rows * 6) (built rule words lent lentIndex .buffer) = sym (rows-of-buffer rule words lent lentIndex a) in
-      let reads : OneTree list = built-reads rule words lent lentIndex h few list held in
+      let reads : ReadsAsTree list = built-reads rule words lent lentIndex h few list held in
       of-rows list held (some-row list (accepts list reads)) (omega (arith, few, a .number)) 0 0 (one-tree reads)
     where
       some-row : (list : List Row) → rowsVerdict list 0 [] ≡ accepted → 1 ≤ length list

@@ -16,7 +16,7 @@ pub record Reads (list : List Row) : Type 0 where
   pub reading : ReadAsForest list forest
 
 -- "accepts a list of at most 2,048 rows exactly when it reads as one tree"
-pub record OneTree (list : List Row) : Type 0 where
+pub record ReadsAsTree (list : List Row) : Type 0 where
   pub ranged : allInRange list ≡ true
   pub root : Statements
   pub reading : ReadAs list root
@@ -33,10 +33,10 @@ noRow = row 0 0 0 0 0 0
 -- "60 for the first row, in row order, whose op or columns are out of range; 61 for the first row that doesn't find its parts, tested after 60 of the same row;
 -- 62 .. for a wrong remainder, tested last". At is the row, or 0
 pub data RowsAnswer (list : List Row) : (code at : ℕ) → Type 0 where
-  one-tree : OneTree list → RowsAnswer list 0 0
+  one-tree : ReadsAsTree list → RowsAnswer list 0 0
   out-of-range : (i : ℕ) → GoodBefore list i → inRange (getD list i noRow) ≡ false → RowsAnswer list 60 i
   no-parts : (i : ℕ) → GoodBefore list i → inRange (getD list i noRow) ≡ true → (Reads (take (suc i) list) → ⊥) → RowsAnswer list 61 i
-  remainder : allInRange list ≡ true → Reads list → (OneTree list → ⊥) → RowsAnswer list 62 0
+  remainder : allInRange list ≡ true → Reads list → (ReadsAsTree list → ⊥) → RowsAnswer list 62 0
 
 abbrev pub mostRows : ℕ
 mostRows = 2048

@@ -1,5 +1,5 @@
 // Refusals 1 to 4 of paper 01.
-mod rows;
+mod other_tables;
 
 use block_check::check_blocks;
 use table::Checked;
@@ -44,19 +44,19 @@ fn check_tables(words: &[u32]) -> Checked
     if !blocks.is_accepted() {
         return blocks;
     }
-    let instructions = rows::check_instructions(words);
+    let instructions = other_tables::check_instructions(words);
     if !instructions.is_accepted() {
         return instructions;
     }
-    let cases = rows::check_cases(words);
+    let cases = other_tables::check_cases(words);
     if !cases.is_accepted() {
         return cases;
     }
-    let places = rows::check_places(words);
+    let places = other_tables::check_places(words);
     if !places.is_accepted() {
         return places;
     }
-    rows::check_identifiers(words)
+    other_tables::check_identifiers(words)
 }
 
 // Whether any words are a table that the walk can take: the refusals in paper 01's order.

@@ -1,12 +1,12 @@
--- `table_check::rows::instruction_row` meets its contract.
+-- `table_check::other_tables::instruction_row` meets its contract.
 use mathlib.Core.Path.{refl}
 use mathlib.Core.List.{[], _∷_}
 use borrow.Author.Needs.{needs}
 use Rattle.table.specs.Check.{number, end-of, operandRules, instructionRules, place}
 use Rattle.table_check.specs.Found.{two}
 use Rattle.block_check.proofs.RowLaws.{passed, failed, all-fit, within, beyond}
-use Rattle.table_check.proofs.rows.instruction_row.Statement.{statement}
-use Rattle.table_check.proofs.rows.instruction_row.Tie as tie
+use Rattle.table_check.proofs.other_tables.instruction_row.Statement.{statement}
+use Rattle.table_check.proofs.other_tables.instruction_row.Tie as tie
 
 instruction-word-requires : tie.Need-instruction-word-requires
 instruction-word-requires c κs = search needs

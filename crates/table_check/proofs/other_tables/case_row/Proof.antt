@@ -1,10 +1,10 @@
--- `table_check::rows::case_row` meets its contract.
+-- `table_check::other_tables::case_row` meets its contract.
 use mathlib.Core.Path.{refl}
 use borrow.Author.Needs.{needs}
 use Rattle.table.specs.Check.{caseRules, block, place-or-none}
 use Rattle.block_check.proofs.RowLaws.{passed, failed, all-fit}
-use Rattle.table_check.proofs.rows.case_row.Statement.{statement}
-use Rattle.table_check.proofs.rows.case_row.Tie as tie
+use Rattle.table_check.proofs.other_tables.case_row.Statement.{statement}
+use Rattle.table_check.proofs.other_tables.case_row.Tie as tie
 
 case-word-requires : tie.Need-case-word-requires
 case-word-requires c κs = search needs

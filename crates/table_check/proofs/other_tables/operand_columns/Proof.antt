@@ -1,11 +1,11 @@
--- `table_check::rows::operand_columns` meets its contract.
+-- `table_check::other_tables::operand_columns` meets its contract.
 use mathlib.Core.Path.{refl}
 use borrow.Author.Needs.{needs}
 use Rattle.table.specs.Check.{operandRules, place}
 use Rattle.block_check.proofs.RowLaws.{in-limits}
 use Rattle.table.proofs.RuleLaws.{no-operation, past}
-use Rattle.table_check.proofs.rows.operand_columns.Statement.{statement}
-use Rattle.table_check.proofs.rows.operand_columns.Tie as tie
+use Rattle.table_check.proofs.other_tables.operand_columns.Statement.{statement}
+use Rattle.table_check.proofs.other_tables.operand_columns.Tie as tie
 
 place-count-requires : tie.Need-place-count-requires
 place-count-requires c κs = search needs

@@ -1,4 +1,4 @@
--- `table_check::rows::check_instructions` meets its contract.
+-- `table_check::other_tables::check_instructions` meets its contract.
 use Prim.Native.Nat.{_+_, _*_, _-_, _≤_}
 use mathlib.Core.Path.{_≡_, sym, _∙_}
 use native.Mathlib.Omega.{arith}
@@ -7,8 +7,8 @@ use Rattle.table.specs.Words.{instructionWord, instructionsBegin, instructionCo
 use Rattle.table.specs.Check.{instructionRules, rowsVerdict}
 use Rattle.block_check.proofs.RowLaws.{rows-first, rows-last, rows-on, rows-off}
 use Rattle.table.proofs.RuleLaws.{instruction-width}
-use Rattle.table_check.proofs.rows.check_instructions.Statement.{statement}
-use Rattle.table_check.proofs.rows.check_instructions.Tie as tie
+use Rattle.table_check.proofs.other_tables.check_instructions.Statement.{statement}
+use Rattle.table_check.proofs.other_tables.check_instructions.Tie as tie
 
 abbrev Inv-loop : tie.InvT-loop
 Inv-loop words begin rows row₀ row =

@@ -1,8 +1,8 @@
--- `table_check::rows::operands` meets its contract.
+-- `table_check::other_tables::operands` meets its contract.
 use borrow.Author.Needs.{needs}
 use Rattle.block_check.proofs.RowLaws.{is-below, is-not-below, all-below}
-use Rattle.table_check.proofs.rows.operands.Statement.{statement}
-use Rattle.table_check.proofs.rows.operands.Tie as tie
+use Rattle.table_check.proofs.other_tables.operands.Statement.{statement}
+use Rattle.table_check.proofs.other_tables.operands.Tie as tie
 
 instruction-word-requires : tie.Need-instruction-word-requires
 instruction-word-requires c κs = search needs

@@ -1,4 +1,4 @@
--- `table_check::rows::check_places` meets its contract.
+-- `table_check::other_tables::check_places` meets its contract.
 use Prim.Native.Nat.{_+_, _-_, _≤_}
 use mathlib.Core.Path.{_≡_, sym, _∙_}
 use native.Mathlib.Omega.{arith}
@@ -6,8 +6,8 @@ use borrow.Author.Needs.{needs}
 use Rattle.table.specs.Words.{placeWord, placesBegin, placeCount}
 use Rattle.table.specs.Check.{placeRules, rowsVerdict}
 use Rattle.block_check.proofs.RowLaws.{rest-first, rest-last, rest-on, rest-off}
-use Rattle.table_check.proofs.rows.check_places.Statement.{statement}
-use Rattle.table_check.proofs.rows.check_places.Tie as tie
+use Rattle.table_check.proofs.other_tables.check_places.Statement.{statement}
+use Rattle.table_check.proofs.other_tables.check_places.Tie as tie
 
 abbrev Inv-loop : tie.InvT-loop
 Inv-loop words begin rows identifiers row₀ row =

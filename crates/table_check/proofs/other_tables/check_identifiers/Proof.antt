@@ -1,4 +1,4 @@
--- `table_check::rows::check_identifiers` meets its contract.
+-- `table_check::other_tables::check_identifiers` meets its contract.
 use Prim.Native.Nat.{_+_, _-_, _≤_}
 use mathlib.Core.Path.{_≡_, refl, sym, _∙_}
 use native.Mathlib.Omega.{arith}
@@ -6,8 +6,8 @@ use borrow.Author.Needs.{needs}
 use Rattle.table.specs.Words.{identifierWord, identifiersBegin, identifierCount}
 use Rattle.table.specs.Check.{identifierRules, rowsVerdict}
 use Rattle.block_check.proofs.RowLaws.{rest-first, rest-last, rest-on, rest-off}
-use Rattle.table_check.proofs.rows.check_identifiers.Statement.{statement}
-use Rattle.table_check.proofs.rows.check_identifiers.Tie as tie
+use Rattle.table_check.proofs.other_tables.check_identifiers.Statement.{statement}
+use Rattle.table_check.proofs.other_tables.check_identifiers.Tie as tie
 
 abbrev Inv-loop : tie.InvT-loop
 Inv-loop words begin rows row₀ row =
