@@ -1,0 +1,6 @@
+pub mod Facts
+pub mod Asked
+pub mod Tails
+pub mod Cases
+pub mod Laws
+pub mod Plainness
