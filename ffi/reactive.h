@@ -314,6 +314,21 @@ uint32_t blocks_restore(const uint32_t *words, size_t word_count, const uint32_t
  * Stack: table_check 4 KB. */
 uint32_t table_check(const uint32_t *words, size_t word_count, uint32_t *at);
 
+/* Which run law speaks of a table (docs/DIFFERENCES.md): one of these numbers. */
+enum reactive_law {
+    REACTIVE_LAW_NONE = 0, /* No law. */
+    REACTIVE_LAW_PAPER_01 = 1, /* It is plain in paper 01's sense: demand 3, of both entries. */
+    REACTIVE_LAW_SWITCHES = 2, /* In M-113's sense, with Switch: of reactive_build_language. */
+    REACTIVE_LAW_LOOPS = 3, /* With the loops and switches that compilers make, beyond the papers: of reactive_build_language; of both where no block ends in Switch. */
+};
+
+/* words, word_count    the table, of any content and length
+ *
+ * Returns the code, as table_check does, with its place in *at. *number is the first law that speaks of the table, one of reactive_law; 0 where the
+ * words are refused. The time grows with the square of the number of blocks.
+ * Stack: table_plain 4 KB. */
+uint32_t table_plain(const uint32_t *words, size_t word_count, uint32_t *at, uint32_t *number);
+
 #ifdef __cplusplus
 }
 #endif

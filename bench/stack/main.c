@@ -38,6 +38,7 @@ static void lookup(void) { code = tree_lookup(lines, 3072, 1024, 1023, words, wo
 static void run(void) { code = tree_run(words, word_count, list, 1024, tree, 1024, &at, &end, &a); }
 static void check_words(void) { code = table_check(words, word_count, &at); }
 static void read_words(void) { code = table_read(file, file_length, tree, MOST_WORDS, &at, &end); }
+static void plain(void) { code = table_plain(words, word_count, &at, &a); }
 static void nothing(void) {}
 
 static size_t taken(void (*call)(void)) {
@@ -157,6 +158,7 @@ int main(void) {
         {"blocks_restore", restore, numbers, 2},
         {"table_check", check_words, shape, SHAPES},
         {"table_read", read_words, file_of, 3},
+        {"table_plain", plain, shape, SHAPES},
     };
     for (size_t each = 0; each < sizeof calls / sizeof *calls; each++)
         printf("%s %zu\n", calls[each].name, most(calls[each].call, calls[each].make, calls[each].number) - own);

@@ -54,6 +54,8 @@ mod refusal;
 pub mod table;
 #[cfg(feature = "table-check")]
 pub mod table_check;
+#[cfg(feature = "table-plain")]
+pub mod table_plain;
 #[cfg(feature = "table-text")]
 pub mod table_text;
 #[cfg(any(feature = "dot", feature = "table-text"))]
