@@ -8,5 +8,6 @@ pub mod Programs
 pub mod Reader
 pub mod Requests
 pub mod RunReasons
+pub mod TablePlain
 pub mod Theorems
 pub mod WalkingOrder
