@@ -2,9 +2,10 @@
 
 use reactive_build::preview::{tree, tree_language};
 use reactive_build::tree::{Nodes, Row};
-use reactive_build::{LINE_WORDS, Refusal, dot, table_check, table_text, tree_check, tree_lookup, tree_run};
+use reactive_build::{LINE_WORDS, Refusal, dot, table_check, table_plain, table_text, tree_check, tree_lookup, tree_run};
 use std::ops::Range;
 
+pub use reactive_build::table_plain::Law;
 pub use reactive_build::tree_run::Reason;
 
 /// The words of a table's file, which are a table.
@@ -23,6 +24,11 @@ pub fn numbers(file: &[u8]) -> impl Iterator<Item = (usize, u32)> + '_ {
         let text = str::from_utf8(digits).ok()?;
         (!text.is_empty()).then(|| (begin, text.parse().unwrap_or(u32::MAX)))
     })
+}
+
+/// Which run law speaks of a table that `words` gave.
+pub fn law(words: &[u32]) -> Law {
+    table_plain::law(words).expect("the words are a table")
 }
 
 /// By which rule a jump is resolved.

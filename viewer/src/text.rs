@@ -4,7 +4,7 @@ use crate::escape::line;
 use crate::links::{Link, links};
 use crate::names;
 use crate::outline;
-use crate::proved::{Built, Reason, Run};
+use crate::proved::{Built, Law, Reason, Run};
 use crate::source::Source;
 use reactive_build::Span;
 use reactive_build::table::Table;
@@ -15,6 +15,18 @@ const MOST_TEXT: usize = 72;
 
 /// Columns stand below each other as far as this.
 const MOST_ALIGNED: usize = 80;
+
+/// Which run law speaks of a table, in words.
+pub fn law(law: Law) -> &'static str {
+    match law {
+        Law::Paper01 => "Paper 01's: by either entry the tree performs the same instructions as the blocks.",
+        Law::Switches => "M-113's: by the language entry the tree performs the same instructions as the blocks.",
+        Law::Loops => {
+            "Ours, beyond the papers: by the language entry the tree performs the same instructions as the blocks, and by the first too where there is no Switch."
+        }
+        Law::None => "None speaks of this table.",
+    }
+}
 
 /// A line a block: its instructions, what it ends in, where it goes, and the text of its ending.
 pub fn blocks(table: &Table, source: Option<&Source>) -> String {

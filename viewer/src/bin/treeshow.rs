@@ -66,7 +66,7 @@ fn read_table(path: &str) -> Result<Table, String> {
     table.map_err(|refused| format!("{path}: {}", refusal::told(&refused, &file, None)))
 }
 
-/// The blocks, then the tree, or why there is none.
+/// The blocks, then the tree, or why there is none, then which run law speaks of the table.
 fn of_table(file: &[u8], source: Option<&Source>) -> Shown {
     let words = match proved::words(file) {
         Ok(words) => words,
@@ -79,7 +79,8 @@ fn of_table(file: &[u8], source: Option<&Source>) -> Shown {
     let shown = format!("Blocks\n{}\n", text::blocks(&table, source));
     match proved::build(&words, Rule::Rust) {
         Ok(built) => {
-            let text = format!("{shown}Tree\n{}", text::tree(&built, Some(&table), source));
+            let tree = text::tree(&built, Some(&table), source);
+            let text = format!("{shown}Tree\n{tree}\nRun law\n{}\n", text::law(proved::law(&words)));
             Shown { text, status: 0 }
         }
         Err(refused) => refusing(shown, &refused, file, Some(&table)),
