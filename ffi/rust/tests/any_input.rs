@@ -5,7 +5,7 @@ use reactive_build::table::{Block, Ending, Instruction, Table};
 use reactive_build::tree::{Kind, Node, Nodes, Op, Operator};
 use reactive_build::{
     LINE_WORDS, Outcome, ROW_WORDS, Refusal, Span, build, build_language, code, dot, order, preview, rows, rows_language, table_check,
-    table_text, tree_check, tree_lookup, tree_run,
+    table_plain, table_text, tree_check, tree_lookup, tree_run,
 };
 
 /// W of paper 01 with a switch after it.
@@ -74,6 +74,7 @@ fn words_are_taken(words: &[u32], lent: usize) {
     assert_eq!(preview::tree(words).map(|tree| tree.rows), rows(words).map(|rows| rows.concat()));
     assert_eq!(preview::tree_language(words).map(|tree| tree.rows), rows_language(words).map(|rows| rows.concat()));
     assert_eq!(table_check::is_table(words).is_ok(), !refused(table_check::check(words).code));
+    assert_eq!(table_plain::law(words).err(), table_check::is_table(words).err());
     let drawn = dot::draw(words, &mut text);
     assert!(!refused(drawn.code) || zeros(&text));
     assert!(dot::text(words).is_ok() || refused(drawn.code));
