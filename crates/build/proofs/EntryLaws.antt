@@ -22,8 +22,7 @@ use Rattle.rows.specs.Rows.{Holds}
 use Rattle.rows.specs.Stack.{pushed}
 use Rattle.rows.proofs.RowLaws.{words-held}
 use Rattle.rows.proofs.StackLaws.{length-pushed}
-use Rattle.driver.specs.declared.Walked.{Walked}
-use Rattle.build.specs.declared.Outcome.{Outcome}
+use Rattle.driver.specs.declared.Outcome.{Outcome}
 use Rattle.driver.specs.Driver.{Reported}
 use Rattle.build.specs.Entry.{outcome}
 
@@ -37,7 +36,7 @@ refused-outcome code at rows visits buffer index buffer′ index′ e f =
     let y : length index - 0 ≡ length index = omega arith in
     rw (e, f, z, y) refl
 
-module _ (walked : Walked) (buffer index : List ℕ) where
+module _ (walked : Outcome) (buffer index : List ℕ) where
   -- a walk that was refused
   pub rejected-outcome : (o : definition.Outcome) → (walked .code ≡ 0 → ⊥) → o ≡ refusal (walked .code) (walked .at) 0 (walked .visits) (length buffer) (length index)
       → (a : Report) → Reported a walked buffer index → o ≡ outcomeOf (length buffer) (length index) a

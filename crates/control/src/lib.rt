@@ -13,6 +13,14 @@ ghost use Rattle.definition.specs.Tree.{kindNumber};
 ghost use Rattle.control.specs.Abstraction.{targetOf, kindOf, foundBlock, resolutionOf};
 ghost use Rattle.control.specs.Contract.{Named, Room, Last, refusalIf, Created, Scheduled, Unscheduled, breakTo, continueTo};
 
+// The Rust's BlockId, as the sets and the stack have it.
+pub fn block_id(block: u32) -> u16
+    requires { ⌜ block ≤ 65535 ⌝ }
+    ensures { λ r. ⌜ r ≡ block ⌝ }
+{
+    block as u16
+}
+
 // What an entry of the control stack stands for. A loop's `block` is its fallthrough.
 pub enum ControlFlowTarget {
     If {

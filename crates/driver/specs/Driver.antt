@@ -14,7 +14,7 @@ use Rattle.plan.specs.declared.Stage.{Stage}
 use Rattle.plan.specs.declared.Stage.the-variants.{Visit, Ended, Choose, Pop, Values, Halt}
 use Rattle.plan.specs.declared.Position.{Position}
 use Rattle.plan.specs.declared.Plan.{Plan}
-use Rattle.driver.specs.declared.Walked.{Walked}
+use Rattle.driver.specs.declared.Outcome.{Outcome}
 
 -- ---- a plan
 
@@ -48,14 +48,14 @@ planEnds plan = elim (eqb (plan .code) 0) [ true ↦ isHalt (plan .position .sta
 abbrev pub startingAt : (entry : ℕ) → Position
 startingAt entry = record { block = entry; depth = 0; count = 0; rows = 0; visits = 0; stage = Visit }
 
-abbrev pub walkedBy : Plan → (lines : ℕ) → Walked
+abbrev pub walkedBy : Plan → (lines : ℕ) → Outcome
 walkedBy plan lines = record { code = plan .code; at = plan .at; rows = plan .position .rows; visits = plan .position .visits; lines = lines }
 
 -- what `schedule` refused
-abbrev pub blockedBy : (code at : ℕ) → Position → Walked
+abbrev pub blockedBy : (code at : ℕ) → Position → Outcome
 blockedBy code at p = record { code = code; at = at; rows = p .rows; visits = p .visits; lines = 0 }
 
 -- its answer is the table's report, and an accepted table's rows and lines are held
-abbrev pub Reported : Report → Walked → (buffer index : List ℕ) → Type 0
+abbrev pub Reported : Report → Outcome → (buffer index : List ℕ) → Type 0
 Reported (accepted rows lines visits) r buffer index = (r .code ≡ 0) × (r .visits ≡ visits) × Holds buffer (r .rows) (pushed rows []) × HoldsLines index (r .lines) lines
 Reported (rejected code at visits) r buffer index = (r .code ≡ code) × (code ≡ 0 → ⊥) × (r .at ≡ at) × (r .visits ≡ visits)

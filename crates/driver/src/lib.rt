@@ -21,7 +21,7 @@ use plan::NONE;
 use plan::Plan;
 use plan::Position;
 use plan::Stage;
-use plan::fallthrough::narrow;
+use control::block_id;
 use planner::turn::plan_turn;
 use survey::Rule;
 use table::words::entry;
@@ -37,8 +37,9 @@ ghost use Rattle.control.specs.Abstraction.{targetOf};
 ghost use Rattle.survey.specs.Abstraction.{ruleOf};
 ghost use Rattle.driver.specs.Driver.{visitedBlock, marked, startingAt, planEnds, isHalt, walkedBy, blockedBy, Reported};
 
-// Where the walk ended: a refusal, or the rows and the lines that are out.
-pub struct Walked {
+// Paper 01, "Result and refusals": code (0 accepted), at, rows, visits; and M-101's number of lines. The walk hands it back before the buffers are
+// asked whether all fits.
+pub struct Outcome {
     pub code: u32,
     pub at: u32,
     pub rows: u32,
@@ -81,7 +82,7 @@ fn mark(set: &mut [bool; 1024], block: u32)
     if block == NONE {
         return;
     }
-    insert(set, narrow(block));
+    insert(set, block_id(block));
 }
 
 fn halted(stage: Stage) -> bool
@@ -109,11 +110,11 @@ fn ends(plan: Plan) -> bool
     halted(stage)
 }
 
-fn answer(plan: Plan, lines: u32) -> Walked
+fn answer(plan: Plan, lines: u32) -> Outcome
     ensures { λ r. ⌜ r ≡ walkedBy plan lines ⌝ }
 {
     let position = plan.position;
-    Walked {
+    Outcome {
         code: plan.code,
         at: plan.at,
         rows: position.rows,
@@ -123,11 +124,11 @@ fn answer(plan: Plan, lines: u32) -> Walked
 }
 
 // What `schedule` refused, at the block that it asks about.
-fn blocked(code: u16, target: ControlFlowTarget, p: Position) -> Walked
+fn blocked(code: u16, target: ControlFlowTarget, p: Position) -> Outcome
     ensures { λ r. ⌜ r ≡ blockedBy code (blockAsked (targetOf target)) p ⌝ }
 {
     let at = target.block_asked() as u32;
-    Walked {
+    Outcome {
         code: code as u32,
         at: at,
         rows: p.rows,
@@ -148,7 +149,7 @@ fn innermost(depth: u32) -> usize
 
 // Each turn is planned, and its plan applied. The search of the stack (the Rust's `get_break_target` and `get_continue_target`) and the store of an entry stand
 // here, since a function that is handed the Context by value and indexes its entries copies it, 18 KB a turn (docs/PERFORMANCE.md).
-pub fn walk(rule: Rule, words: &[u32], tree: &mut [u32], index: &mut [u32]) -> Walked
+pub fn walk(rule: Rule, words: &[u32], tree: &mut [u32], index: &mut [u32]) -> Outcome
     requires { ⌜ Promise (now words) ⌝ }
     ensures { λ r. ⌜ Reported (report (ruleOf rule) (tableOf (now (words .entry)))) r (now (tree .exit)) (now (index .exit)) ⌝ }
 {

@@ -8,7 +8,7 @@ use control::break_to;
 use control::continue_to;
 use plan::Position;
 use plan::Stage;
-use plan::fallthrough::narrow;
+use control::block_id;
 use plan::fallthrough::scheduled_at;
 use survey::Aim;
 use survey::Rule;
@@ -154,7 +154,7 @@ fn goto_jump(words: &[u32], block: u32) -> Jump
     ensures { λ r. ⌜ ((scheduledSet handlerSet : Flags) → Searches (now (words .entry)) scheduledSet handlerSet block r) ⌝ }
 {
     let terminal = goto_at(words, block);
-    let target = narrow(terminal.block);
+    let target = block_id(terminal.block);
     let variant = terminal.variant;
     match variant {
         0 => Jump::Break(target),
@@ -177,7 +177,7 @@ fn branch_jump<'a>(
 {
     let terminal = branch_at(words, block);
     if scheduled_at(scheduled, catch_handlers, terminal.consequent) {
-        return Jump::Break(narrow(terminal.consequent));
+        return Jump::Break(block_id(terminal.consequent));
     }
     Jump::Nothing
 }

@@ -8,7 +8,7 @@ use plan::Position;
 use plan::Stage;
 use plan::advance;
 use plan::fallthrough::entries_of;
-use plan::fallthrough::narrow;
+use control::block_id;
 use plan::fallthrough::schedule_if;
 use plan::fallthrough::scheduled_at;
 use plan::fallthrough::unless_scheduled;
@@ -137,9 +137,9 @@ fn loop_target(fallthrough: u32, continue_block: u32, loop_block: u32) -> Contro
     ensures { λ r. ⌜ r ≡ loopTarget fallthrough «continue_block» «loop_block» ⌝ }
 {
     ControlFlowTarget::Loop {
-        block: narrow(fallthrough),
-        continue_block: narrow(continue_block),
-        loop_block: narrow(loop_block),
+        block: block_id(fallthrough),
+        continue_block: block_id(continue_block),
+        loop_block: block_id(loop_block),
     }
 }
 

@@ -7,6 +7,7 @@ use crate::frame_of;
 use crate::refuse;
 use crate::traverse_block;
 use control::ControlFlowTarget;
+use control::block_id;
 use control::is_scheduled;
 use table::columns::code_at;
 ghost use mathlib.Core.Path.{_≡_};
@@ -18,14 +19,6 @@ ghost use mathlib.Core.Bool.{_||_};
 ghost use Rattle.definition.specs.Context.{has};
 ghost use Rattle.plan.specs.Plans.{unlessTaken, entriesIf, scheduleIf, scheduleSwitch, unscheduleIf, scheduledWith, enclosing};
 
-// A block's number as the sets and the stack have it.
-pub fn narrow(block: u32) -> u16
-    requires { ⌜ block ≤ 65535 ⌝ }
-    ensures { λ r. ⌜ r ≡ block ⌝ }
-{
-    block as u16
-}
-
 pub fn scheduled_at<'a>(
     scheduled: &'a [bool; 1024],
     catch_handlers: &'a [bool; 1024],
@@ -34,7 +27,7 @@ pub fn scheduled_at<'a>(
     requires { ⌜ block < 1024 ⌝ }
     ensures { λ r. ⌜ r ≡ has (now (scheduled .entry)) block || has (now («catch_handlers» .entry)) block ⌝ }
 {
-    is_scheduled(scheduled, catch_handlers, narrow(block))
+    is_scheduled(scheduled, catch_handlers, block_id(block))
 }
 
 fn unless_taken(taken: bool, fallthrough: u32) -> u32
@@ -104,7 +97,7 @@ pub fn schedule_if(label: u32) -> Change
         return Change::Nothing;
     }
     Change::Schedule(ControlFlowTarget::If {
-        block: narrow(label),
+        block: block_id(label),
     })
 }
 
@@ -116,7 +109,7 @@ pub fn schedule_switch(label: u32) -> Change
         return Change::Nothing;
     }
     Change::Schedule(ControlFlowTarget::Switch {
-        block: narrow(label),
+        block: block_id(label),
     })
 }
 

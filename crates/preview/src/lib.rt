@@ -1,7 +1,6 @@
 // M-106: what a build gives where both buffers are large enough, from the words alone: the same walk with no place lent, which counts rows
 // and lines on.
-use build::Outcome;
-use driver::Walked;
+use driver::Outcome;
 use driver::walk;
 use survey::Rule;
 use table_check::check;
@@ -16,7 +15,7 @@ ghost use Rattle.driver.specs.Driver.{Reported};
 ghost use Rattle.preview.specs.Entry.{numbers};
 
 // A refusal tells no row and no line.
-fn told(walked: Walked) -> Outcome
+fn told(walked: Outcome) -> Outcome
     ensures { λ r. ⌜ ((report : Report) (tree index : List ℕ) → Reported report walked tree index → numbers r ≡ previewOf report) ⌝ }
 {
     if walked.code != 0 {

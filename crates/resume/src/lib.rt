@@ -10,7 +10,7 @@ use plan::Stage;
 use plan::accept;
 use plan::advance;
 use plan::choose;
-use plan::fallthrough::narrow;
+use control::block_id;
 use plan::fallthrough::scheduled_at;
 use plan::fallthrough::unschedule_if;
 use plan::leave;
@@ -294,7 +294,7 @@ fn resume_switch(words: &[u32], tree: &mut [u32], p: Position, frame: Frame) -> 
     let case = case_at(words, terminal.first + frame.left);
     let rows = put(tree, p.rows, CASE, case.test, 0, 0, 0, 0);
     let target = ControlFlowTarget::Case {
-        block: narrow(case.block),
+        block: block_id(case.block),
     };
     let built = with_counts(frame, frame.entries + 1, frame.left, frame.built + 1);
     choose(built, p.depth, rows, p.visits, Change::Schedule(target))

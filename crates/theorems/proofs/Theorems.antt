@@ -84,7 +84,7 @@ use Rattle.treerows.proofs.tree_check.Reads as tree-export
 use Rattle.text.specs.Ascii.{ascii}
 use Rattle.text.specs.Decimal.{digitsOf, decimal}
 use Rattle.text.proofs.DecimalLaws.{steps}
-use Rattle.build.specs.declared.Outcome.{Outcome}
+use Rattle.driver.specs.declared.Outcome.{Outcome}
 use Rattle.build.specs.Entry.{outcome}
 use Rattle.driver.proofs.CheckedLaws.{checked-table}
 use Rattle.build.proofs.Demand3.{entry-tree, entry-law, language-law}

@@ -10,7 +10,7 @@ use Rattle.definition.proofs.Outcomes.{accepted-fits}
 use Rattle.definition.proofs.Preview.{never-41-by-rows}
 use Rattle.text.specs.Printed.{printed}
 use Rattle.build.specs.Entry.{outcome}
-use Rattle.build.specs.declared.Outcome as build
+use Rattle.driver.specs.declared.Outcome as build
 use Rattle.treefile.specs.Prints.{lentWords, lentIndex, printedOutcome}
 
 -- what is written of a build is what its outcome prints

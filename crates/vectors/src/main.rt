@@ -4,7 +4,7 @@
 ghost use Prim.Native.Nat.{_≤_, _<_};
 ghost use mathlib.Core.Path.{_≡_};
 ghost use lib.ListN.{length};
-use build::Outcome;
+use driver::Outcome;
 use build::build_reactive_function;
 use libc::STDOUT_FILENO;
 

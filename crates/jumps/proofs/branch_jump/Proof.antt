@@ -11,15 +11,15 @@ branch-at-requires c κs = search needs
 scheduled-at-requires : tie.Need-scheduled-at-requires
 scheduled-at-requires c κs = omega (arith, c .branch-at .ensures .named .1, c .branch-at .ensures .few)
 
-narrow-requires : tie.Need-narrow-requires
-narrow-requires c κs =
+block-id-requires : tie.Need-block-id-requires
+block-id-requires c κs =
     let at-branch-at : tie.After-branch-at = search in
     omega (arith, at-branch-at .branch-at .ensures .named .1, at-branch-at .branch-at .ensures .few)
 
 returns : tie.Need-returns
 returns c =
     let at-branch-at : tie.After-branch-at = search in
-    branch-breaks _ _ _ _ (at-branch-at .branch-at .ensures) _ (c .narrow .ensures)
+    branch-breaks _ _ _ _ (at-branch-at .branch-at .ensures) _ (c .block-id .ensures)
 
 returns-2 : tie.Need-returns-2
 returns-2 c =
@@ -28,4 +28,4 @@ returns-2 c =
     branch-goes _ _ _ _ (at-branch-at .branch-at .ensures) (sym (at-scheduled-at .scheduled-at .ensures) ∙ c .if1 .left)
 
 pub branch-jump-spec : {M : Type 1} → statement M
-branch-jump-spec = tie.close (tie.spec branch-at-requires scheduled-at-requires narrow-requires returns returns-2)
+branch-jump-spec = tie.close (tie.spec branch-at-requires scheduled-at-requires block-id-requires returns returns-2)

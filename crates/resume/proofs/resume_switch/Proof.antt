@@ -23,8 +23,8 @@ case-at-requires c κs =
 put-requires : tie.Need-put-requires
 put-requires c κs = search needs
 
-narrow-requires : tie.Need-narrow-requires
-narrow-requires c κs =
+block-id-requires : tie.Need-block-id-requires
+block-id-requires c κs =
     let chosen : tie.After-case-at = search in
     let read : tie.After-switch-at = search in
     let start : tie.Start = search in
@@ -51,13 +51,13 @@ same-length c = search needs
 returns : tie.Need-returns
 returns c =
     let counted : tie.After-with-counts = search in
-    let narrowed : tie.After-narrow = search in
+    let narrowed : tie.After-block-id = search in
     let put : tie.After-put = search in
     let chosen : tie.After-case-at = search in
     let read : tie.After-switch-at = search in
     let start : tie.Start = search in
     case-built (start .args .words .now) (start .args .p) (start .args .frame) (start .pre .0) (read .switch-at .ensures) (chosen .case-at .ensures) _ (start .args .tree .now) _
-    (narrowed .narrow .result) (put .put .result) (narrowed .narrow .ensures) (put .put .ensures) (rw (counted .with-counts .ensures) at (c .choose .ensures))
+    (narrowed .block-id .result) (put .put .result) (narrowed .block-id .ensures) (put .put .ensures) (rw (counted .with-counts .ensures) at (c .choose .ensures))
 
 pub resume-switch-spec : {M : Type 1} → statement M
 resume-switch-spec =
@@ -67,7 +67,7 @@ resume-switch-spec =
     add-case-at
     case-at-requires
     put-requires
-    narrow-requires
+    block-id-requires
     add-with-counts
     add-with-counts-2
     with-counts-requires

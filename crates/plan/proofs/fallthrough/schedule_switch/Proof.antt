@@ -6,13 +6,13 @@ use Rattle.plan.proofs.fallthrough.schedule_switch.Tie as tie
 returns : tie.Need-returns
 returns c = rw (eq-eqb _ _ (c .if1 .taken))
 
-narrow-requires : tie.Need-narrow-requires
-narrow-requires c κs = search needs
+block-id-requires : tie.Need-block-id-requires
+block-id-requires c κs = search needs
 
 returns-2 : tie.Need-returns-2
 returns-2 c =
     let else1 : tie.Else1 = search in
-    rw (ne-eqb _ _ (else1 .if1 .left), c .narrow .ensures)
+    rw (ne-eqb _ _ (else1 .if1 .left), c .block-id .ensures)
 
 pub schedule-switch-spec : {M : Type 1} → statement M
-schedule-switch-spec = tie.close (tie.spec returns narrow-requires returns-2)
+schedule-switch-spec = tie.close (tie.spec returns block-id-requires returns-2)
