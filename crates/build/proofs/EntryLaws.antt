@@ -18,12 +18,12 @@ use Rattle.definition.specs.Index.{lineWords}
 use Rattle.definition.specs.Tree.{Row}
 use Rattle.definition.proofs.Accepted.{placed-fits, placed-40, placed-41}
 use Rattle.definition.proofs.Outcomes.{acceptance}
-use Rattle.rows.specs.Rows.{Holds}
-use Rattle.rows.specs.Stack.{pushed}
-use Rattle.rows.proofs.RowLaws.{words-held}
-use Rattle.rows.proofs.StackLaws.{length-pushed}
-use Rattle.driver.specs.declared.Outcome.{Outcome}
-use Rattle.driver.specs.Driver.{Reported}
+use Rattle.values.specs.Rows.{Holds}
+use Rattle.values.specs.Stack.{pushed}
+use Rattle.values.proofs.RowLaws.{words-held}
+use Rattle.values.proofs.StackLaws.{length-pushed}
+use Rattle.walk.specs.declared.Outcome.{Outcome}
+use Rattle.walk.specs.Driver.{Reported}
 use Rattle.build.specs.Entry.{outcome}
 
 -- all zeros, in both buffers

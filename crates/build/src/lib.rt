@@ -1,15 +1,17 @@
 // build_reactive_function: words of a block table in, rows of the tree and lines of its index (M-101) out, or a refusal with its place.
-use driver::Outcome;
-use driver::walk;
-use rows::clear;
-use survey::Rule;
+pub mod file;
+
+use control::rule::Rule;
 use table_check::check;
+use values::rows::clear;
+use walk::Outcome;
+use walk::walk;
 ghost use mathlib.Core.Path.{_≡_};
 ghost use lib.ListN.{length};
 ghost use Rattle.definition.specs.Around.{rust, language};
 ghost use Rattle.definition.specs.Build.{Report, refusal, outcomeOf, built};
-ghost use Rattle.survey.specs.Abstraction.{ruleOf};
-ghost use Rattle.driver.specs.Driver.{Reported};
+ghost use Rattle.control.specs.AroundAbstraction.{ruleOf};
+ghost use Rattle.walk.specs.Driver.{Reported};
 ghost use Rattle.build.specs.Entry.{outcome};
 
 // Refused: all zeros, in both buffers.

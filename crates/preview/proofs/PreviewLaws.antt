@@ -13,9 +13,9 @@ use Rattle.definition.proofs.Steps.{true-false}
 use Rattle.definition.specs.Around.{Rule}
 use Rattle.definition.specs.Build.{Report, accepted, rejected, report}
 use Rattle.definition.specs.Preview.{Preview, previewOf, previewAfter, previewed}
-use Rattle.rows.proofs.StackLaws.{length-pushed}
-use Rattle.driver.specs.declared.Outcome.{Outcome}
-use Rattle.driver.specs.Driver.{Reported}
+use Rattle.values.proofs.StackLaws.{length-pushed}
+use Rattle.walk.specs.declared.Outcome.{Outcome}
+use Rattle.walk.specs.Driver.{Reported}
 
 pub refused-told : (walked : Outcome) → (walked .code ≡ 0 → ⊥) → (r : Report) (tree index : List ℕ) → Reported r walked tree index
     → record { code = walked .code; at = walked .at; rows = 0; visits = walked .visits; lines = 0 } ≡ previewOf r
