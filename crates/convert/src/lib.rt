@@ -1,7 +1,7 @@
 // M-112: old texts, with one span column, into new ones and back.
 pub mod file;
 mod spans;
-mod table_read;
+pub mod table_read;
 mod widen;
 pub mod writing;
 pub mod written_tables;
