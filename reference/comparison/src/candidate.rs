@@ -22,7 +22,7 @@ pub type CandidateDot = fn(&[u32], &mut [u8]) -> Drawn;
 
 /// The writer, the two converters, and the reader.
 #[derive(Clone, Copy)]
-pub struct CandidateTexts {
+pub struct CandidateConvert {
     pub write: fn(&[u32], &mut [u8]) -> Placed,
     pub old_to_new: fn(&[u8], &mut [u8]) -> Placed,
     pub new_to_old: fn(&[u8], &mut [u8]) -> Placed,
@@ -135,10 +135,10 @@ fn look_up<'a>(index: &[u32], lines: u32, label: u32, tree: &'a [u32]) -> Looked
 }
 
 #[cfg(not(feature = "candidate"))]
-pub const CANDIDATE_TEXTS: Option<CandidateTexts> = None;
+pub const CANDIDATE_CONVERT: Option<CandidateConvert> = None;
 
 #[cfg(feature = "candidate")]
-pub const CANDIDATE_TEXTS: Option<CandidateTexts> = Some(CandidateTexts {
+pub const CANDIDATE_CONVERT: Option<CandidateConvert> = Some(CandidateConvert {
     write: |words, text| placed(reactive_build::convert::write(words, text)),
     old_to_new: |file, text| placed(reactive_build::convert::old_to_new(file, text)),
     new_to_old: |file, text| placed(reactive_build::convert::new_to_old(file, text)),
