@@ -1,5 +1,5 @@
 // Time of the proved check against a plain Rust loop with the same tests, on the largest table that the limits allow.
-// Build and run: bench/table/run (see there).
+// Build and run: bench/table_check/run (see there).
 use std::hint::black_box;
 use std::time::Instant;
 

@@ -25,7 +25,7 @@ pub enum Law {
 ///
 /// ```
 /// use reactive_build::table::{Ending, Table};
-/// use reactive_build::table_plain::{Law, law};
+/// use reactive_build::plain::{Law, law};
 ///
 /// let mut table = Table::default();
 /// let named = table.identifier(true);

@@ -1,4 +1,4 @@
-//! `compare_texts [FILES [SEED]]`: seeded tables and files, and every stored vector, through the writer and
+//! `compare_convert [FILES [SEED]]`: seeded tables and files, and every stored vector, through the writer and
 //! the converters of M-112 and the reader of files, by the model and by the proved library, into buffers of exactly
 //! the length needed, one less, none, and some more; and round trips by the library alone. The status is not 0 if
 //! anything differs, if a round trip does not give the text again, if an answer was not met in a long enough
@@ -6,7 +6,7 @@
 
 use std::process::ExitCode;
 
-use comparison::candidate::{CANDIDATE_TEXTS, CandidateTexts};
+use comparison::candidate::{CANDIDATE_CONVERT, CandidateConvert};
 use comparison::generate::files::good_of_length;
 use comparison::generate::generate;
 use comparison::harness::{LONG_ENOUGH, Room, Verdict, count_and_tell, stale, with_library};
@@ -44,10 +44,10 @@ struct Met {
 }
 
 fn main() -> ExitCode {
-    with_library("texts", CANDIDATE_TEXTS, compare_texts)
+    with_library("convert", CANDIDATE_CONVERT, compare_convert)
 }
 
-fn compare_texts(candidate: CandidateTexts, files: u64, seed: u64) -> Verdict {
+fn compare_convert(candidate: CandidateConvert, files: u64, seed: u64) -> Verdict {
     let mut met = Met::default();
     for number in 0..files {
         let mut rng = Rng::of_table(seed, number);
@@ -82,7 +82,7 @@ fn whole(words: &[u32]) -> bool {
 }
 
 impl Met {
-    fn table(&mut self, candidate: CandidateTexts, rng: &mut Rng, words: &[u32]) {
+    fn table(&mut self, candidate: CandidateConvert, rng: &mut Rng, words: &[u32]) {
         let exact = check(words).map_or(20, |_| write_as(NEW, words).len());
         for lent in lengths(exact, rng) {
             let mut expected_text = stale(lent);
@@ -96,7 +96,7 @@ impl Met {
     }
 
     /// The table as a new file and as an old one, each spoilt at times, and back.
-    fn files(&mut self, candidate: CandidateTexts, rng: &mut Rng, words: &[u32]) {
+    fn files(&mut self, candidate: CandidateConvert, rng: &mut Rng, words: &[u32]) {
         if !whole(words) {
             return;
         }
@@ -109,7 +109,7 @@ impl Met {
     }
 
     /// Lengths about the limit: of an old file, of its new text, and of a new file.
-    fn long(&mut self, candidate: CandidateTexts, rng: &mut Rng) {
+    fn long(&mut self, candidate: CandidateConvert, rng: &mut Rng) {
         for length in [MAX_BYTES - 1, MAX_BYTES, MAX_BYTES + 1] {
             let new_file = good_of_length(length);
             let mut longer = new_file.clone();
@@ -131,7 +131,7 @@ impl Met {
         }
     }
 
-    fn both(&mut self, candidate: CandidateTexts, rng: &mut Rng, old_file: &[u8], new_file: &[u8]) {
+    fn both(&mut self, candidate: CandidateConvert, rng: &mut Rng, old_file: &[u8], new_file: &[u8]) {
         self.convert(1, candidate.old_to_new, old_to_new, new_text(old_file).ok(), rng, old_file);
         self.convert(2, candidate.new_to_old, new_to_old, old_text(new_file).ok(), rng, new_file);
         self.read(candidate, rng, new_file);
@@ -164,7 +164,7 @@ impl Met {
     }
 
     /// Code, at, count and every lent word are compared, and the words around them.
-    fn read(&mut self, candidate: CandidateTexts, rng: &mut Rng, file: &[u8]) {
+    fn read(&mut self, candidate: CandidateConvert, rng: &mut Rng, file: &[u8]) {
         for lent in lengths(parse(file).map_or(20, |words| words.len()), rng) {
             self.reads += 1;
             let mut expected_words = stale(lent);

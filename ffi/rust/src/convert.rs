@@ -44,14 +44,7 @@ pub struct WordsRead {
 }
 
 unsafe extern "C" {
-    fn table_read(
-        file: *const u8,
-        file_length: usize,
-        words: *mut u32,
-        word_count: usize,
-        at: *mut u32,
-        count: *mut usize,
-    ) -> c_uint;
+    fn table_read(file: *const u8, file_length: usize, words: *mut u32, word_count: usize, at: *mut u32, count: *mut usize) -> c_uint;
 }
 
 /// Reads a table's file into lent words, both of any content and length. They then hold the file's words and
@@ -61,16 +54,14 @@ pub fn read(file: &[u8], words: &mut [u32]) -> WordsRead {
     let (mut at, mut count) = (0, 0);
     // SAFETY: slices give pointers that are not null, aligned and valid for their lengths; `words` and the two
     // results are borrowed for this call alone. The function reads and writes nothing else.
-    let code = unsafe {
-        table_read(file.as_ptr(), file.len(), words.as_mut_ptr(), words.len(), &mut at, &mut count)
-    };
+    let code = unsafe { table_read(file.as_ptr(), file.len(), words.as_mut_ptr(), words.len(), &mut at, &mut count) };
     WordsRead { code, at, count }
 }
 
 /// The words of a table's file in memory of their own; 51 or 50 if it is not in the form.
 ///
 /// ```
-/// use reactive_build::table_text::read_table;
+/// use reactive_build::convert::read_table;
 /// use reactive_build::{Refusal, code, rows};
 ///
 /// let file = b"entry blocks instructions cases places identifiers\n0 1 0 0 1 1\n\

@@ -1,5 +1,5 @@
 // Time of the proved writer and converters on files of 32,768 bytes, beside a plain Rust program that parses into a Vec, copies the rows with
-// their last word twice or without it, and writes with `write!`. Build and run: bench/texts/run (see there).
+// their last word twice or without it, and writes with `write!`. Build and run: bench/convert/run (see there).
 use std::fmt::Write;
 use std::hint::black_box;
 use std::time::Instant;
