@@ -1,5 +1,5 @@
 /* Checks the rows of W of paper 01, a while loop; then without the last row, and with a zero row after it. */
-#include "tree_check.h"
+#include "reactive.h"
 
 #include <inttypes.h>
 #include <stdio.h>

@@ -1,5 +1,5 @@
 /* Converts a file of the old form into the new one and back, writes a table's words, and asks for what is refused. */
-#include "table_text.h"
+#include "reactive.h"
 
 #include <inttypes.h>
 #include <stdio.h>

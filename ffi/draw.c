@@ -1,5 +1,5 @@
 /* Draws W of paper 01, a while loop, and prints the text; then with a buffer that is too short by a byte. */
-#include "blocks_to_dot.h"
+#include "reactive.h"
 
 #include <inttypes.h>
 #include <stdio.h>

@@ -1,7 +1,6 @@
 /* Builds W of paper 01, a while loop, with an instruction before its return, and prints its rows with their spans and the lines of its
  * index, each with the rows that its label finds; then with a tree buffer, and with an index, that is too short. */
-#include "reactive_build.h"
-#include "tree_lookup.h"
+#include "reactive.h"
 #include "while_table.h"
 
 #include <inttypes.h>

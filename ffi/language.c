@@ -1,6 +1,6 @@
 /* A break out of a loop, in a switch (examples/switch.txt): the build that equals the Rust prints it without a label, and so it would leave
  * the switch; the build by the language's rule (M-102) labels it. */
-#include "reactive_build.h"
+#include "reactive.h"
 
 #include <inttypes.h>
 #include <stdio.h>

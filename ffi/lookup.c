@@ -1,5 +1,5 @@
 /* Finds the while loop of W of paper 01 by its label; then a label that no line has, and the loop in a tree that lacks its closing row. */
-#include "tree_lookup.h"
+#include "reactive.h"
 
 #include <inttypes.h>
 #include <stdio.h>

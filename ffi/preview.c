@@ -1,6 +1,5 @@
 /* Asks what the build of W of paper 01 needs, takes just that much memory and builds; then asks of W with a loop that is refused. */
-#include "reactive_build.h"
-#include "reactive_preview.h"
+#include "reactive.h"
 #include "while_table.h"
 
 #include <inttypes.h>

@@ -1,6 +1,6 @@
 /* Puts the blocks of a while loop in walking order, prints the table and the list, restores the first table, and tries a list that is
  * no permutation. */
-#include "blocks_order.h"
+#include "reactive.h"
 
 #include <inttypes.h>
 #include <stdio.h>

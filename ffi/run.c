@@ -1,6 +1,6 @@
 /* Runs the kerning search of examples/search.txt on paper: a pair that does not match, one that does, and one more that would. Then the same with the
  * break tied to the inner statement, the IF: it leaves the IF alone, and the search goes on past its match. */
-#include "tree_run.h"
+#include "reactive.h"
 
 #include <inttypes.h>
 #include <stdio.h>

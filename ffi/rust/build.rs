@@ -17,7 +17,11 @@ fn main() {
     };
     println!("cargo::rustc-link-search=native={}", folder.display());
     let archives = archives(&folder);
-    assert!(!archives.is_empty(), "no libreactive.a in {}: `./run library` writes it, or REACTIVE_BUILD_DIR names its folder", folder.display());
+    assert!(
+        !archives.is_empty(),
+        "no libreactive.a in {}: `./run library` writes it, or REACTIVE_BUILD_DIR names its folder",
+        folder.display()
+    );
     for name in archives {
         println!("cargo::rerun-if-changed={}", folder.join(format!("lib{name}.a")).display());
         println!("cargo::rustc-link-lib=static={name}");
@@ -44,8 +48,7 @@ fn beside() -> PathBuf {
 fn archives(folder: &Path) -> Vec<String> {
     println!("cargo::rerun-if-changed={}", folder.display());
     let files = folder.read_dir().into_iter().flatten().flatten().filter_map(|file| file.file_name().into_string().ok());
-    let mut names: Vec<String> =
-        files.filter_map(|name| Some(name.strip_prefix("lib")?.strip_suffix(".a")?.to_string())).collect();
+    let mut names: Vec<String> = files.filter_map(|name| Some(name.strip_prefix("lib")?.strip_suffix(".a")?.to_string())).collect();
     names.sort();
     if !names.iter().any(|name| name == "reactive") {
         return names;

@@ -2,15 +2,15 @@
 
 use reactive_build::preview::{tree, tree_language};
 use reactive_build::tree::{Nodes, Row};
-use reactive_build::{LINE_WORDS, Refusal, dot, table_check, table_plain, table_text, tree_check, tree_lookup, tree_run};
+use reactive_build::{LINE_WORDS, Refusal, convert, dot, lookup, plain, table_check, tree_check, tree_run};
 use std::ops::Range;
 
-pub use reactive_build::table_plain::Law;
+pub use reactive_build::plain::Law;
 pub use reactive_build::tree_run::Reason;
 
 /// The words of a table's file, which are a table.
 pub fn words(file: &[u8]) -> Result<Vec<u32>, Refusal> {
-    let words = table_text::read_table(file)?;
+    let words = convert::read_table(file)?;
     table_check::is_table(&words)?;
     Ok(words)
 }
@@ -28,7 +28,7 @@ pub fn numbers(file: &[u8]) -> impl Iterator<Item = (usize, u32)> + '_ {
 
 /// Which run law speaks of a table that `words` gave.
 pub fn law(words: &[u32]) -> Law {
-    table_plain::law(words).expect("the words are a table")
+    plain::law(words).expect("the words are a table")
 }
 
 /// By which rule a jump is resolved.
@@ -74,7 +74,7 @@ impl Built {
     /// The rows of the statement that bears the label, its closing row last.
     pub fn statement(&self, label: u32) -> Result<Range<usize>, Refusal> {
         let words = self.rows.as_flattened();
-        let found = tree_lookup::find(&self.index, self.lines, label, words);
+        let found = lookup::find(&self.index, self.lines, label, words);
         match found.code {
             0 => Ok(found.begin / 6..found.end / 6),
             code => Err(Refusal { code, at: found.at }),

@@ -11,7 +11,7 @@ use Rattle.definition.specs.Plain.{paper-01, with-switch, Plain}
 use Rattle.definition.specs.Reading.{OneTree}
 use Rattle.definition.specs.RunLaw.{RunLaw, SwitchLaw}
 use Rattle.definition.proofs.Law.{one-tree, run-law, switch-law}
-use Rattle.build.specs.declared.Outcome.{Outcome}
+use Rattle.walk.specs.declared.Outcome.{Outcome}
 use Rattle.build.specs.Entry.{outcome}
 
 -- `ensured` is what build_reactive_function ensures by the Rust's rule, and build_language by the language's

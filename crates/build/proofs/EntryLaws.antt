@@ -18,13 +18,12 @@ use Rattle.definition.specs.Index.{lineWords}
 use Rattle.definition.specs.Tree.{Row}
 use Rattle.definition.proofs.Accepted.{placed-fits, placed-40, placed-41}
 use Rattle.definition.proofs.Outcomes.{acceptance}
-use Rattle.rows.specs.Rows.{Holds}
-use Rattle.rows.specs.Stack.{pushed}
-use Rattle.rows.proofs.RowLaws.{words-held}
-use Rattle.rows.proofs.StackLaws.{length-pushed}
-use Rattle.driver.specs.declared.Walked.{Walked}
-use Rattle.build.specs.declared.Outcome.{Outcome}
-use Rattle.driver.specs.Driver.{Reported}
+use Rattle.values.specs.Rows.{Holds}
+use Rattle.values.specs.Stack.{pushed}
+use Rattle.values.proofs.RowLaws.{words-held}
+use Rattle.values.proofs.StackLaws.{length-pushed}
+use Rattle.walk.specs.declared.Outcome.{Outcome}
+use Rattle.walk.specs.Driver.{Reported}
 use Rattle.build.specs.Entry.{outcome}
 
 -- all zeros, in both buffers
@@ -37,7 +36,7 @@ refused-outcome code at rows visits buffer index buffer′ index′ e f =
     let y : length index - 0 ≡ length index = omega arith in
     rw (e, f, z, y) refl
 
-module _ (walked : Walked) (buffer index : List ℕ) where
+module _ (walked : Outcome) (buffer index : List ℕ) where
   -- a walk that was refused
   pub rejected-outcome : (o : definition.Outcome) → (walked .code ≡ 0 → ⊥) → o ≡ refusal (walked .code) (walked .at) 0 (walked .visits) (length buffer) (length index)
       → (a : Report) → Reported a walked buffer index → o ≡ outcomeOf (length buffer) (length index) a

@@ -1,25 +1,18 @@
 // build_reactive_function: words of a block table in, rows of the tree and lines of its index (M-101) out, or a refusal with its place.
-use driver::Walked;
-use driver::walk;
-use rows::clear;
-use survey::Rule;
+pub mod file;
+
+use control::rule::Rule;
 use table_check::check;
+use values::rows::clear;
+use walk::Outcome;
+use walk::walk;
 ghost use mathlib.Core.Path.{_≡_};
 ghost use lib.ListN.{length};
 ghost use Rattle.definition.specs.Around.{rust, language};
 ghost use Rattle.definition.specs.Build.{Report, refusal, outcomeOf, built};
-ghost use Rattle.survey.specs.Abstraction.{ruleOf};
-ghost use Rattle.driver.specs.Driver.{Reported};
+ghost use Rattle.control.specs.AroundAbstraction.{ruleOf};
+ghost use Rattle.walk.specs.Driver.{Reported};
 ghost use Rattle.build.specs.Entry.{outcome};
-
-// Paper 01, "Result and refusals": code (0 accepted), at, rows, visits; and M-101's number of lines.
-pub struct Outcome {
-    pub code: u32,
-    pub at: u32,
-    pub rows: u32,
-    pub visits: u32,
-    pub lines: u32,
-}
 
 // Refused: all zeros, in both buffers.
 fn refuse(
@@ -44,7 +37,7 @@ fn refuse(
 }
 
 // Accepted, the buffers hold the rows and the lines, then zeros; 40 where the rows do not fit, else 41 where the lines do not.
-fn finish(tree: &mut [u32], index: &mut [u32], walked: Walked) -> Outcome
+fn finish(tree: &mut [u32], index: &mut [u32], walked: Outcome) -> Outcome
     ensures { λ r. ⌜ ((report : Report) → Reported report walked (now (tree .entry)) (now (index .entry)) → outcome r (now (tree .exit)) (now (index .exit)) ≡ outcomeOf (length (now (tree .entry))) (length (now (index .entry))) report) ⌝ }
 {
     if walked.code != 0 {

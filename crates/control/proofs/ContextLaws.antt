@@ -16,7 +16,7 @@ use Rattle.definition.specs.Context as definition
 use Rattle.definition.specs.Context.{Flags, has, add, noFlags, start, isScheduled, emit, markScopeFallthrough, scheduleCatchHandler, targetBlock, target-if}
 use Rattle.definition.specs.Context.{target-switch, target-case, target-loop, isBlocked, blockAsked, blockedCode, pushed, popped, schedule, scheduledBy, owns, unscheduledBy}
 use Rattle.definition.specs.Context.{unschedule, unscheduleTop}
-use Rattle.definition.specs.Machine as machine
+use Rattle.machine.specs.Machine as machine
 use Rattle.control.specs.declared.ControlFlowTarget.{ControlFlowTarget}
 use Rattle.control.specs.declared.ControlFlowTarget.the-variants.{If, Switch, Case, Loop}
 use Rattle.control.specs.declared.Entry.{Entry}

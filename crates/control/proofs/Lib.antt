@@ -1,2 +1,3 @@
 pub mod ContextLaws
 pub mod SearchLaws
+pub mod SurveyLaws

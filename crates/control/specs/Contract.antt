@@ -6,7 +6,7 @@ use mathlib.Core.List.{List}
 use lib.ListN.{getD, set, replicate}
 use Rattle.definition.specs.Result.{ok}
 use Rattle.definition.specs.Context as definition
-use Rattle.definition.specs.Machine as machine
+use Rattle.machine.specs.Machine as machine
 use Rattle.definition.specs.Context.{targetBlock, isLoop, isBlocked, blockedCode, scheduledBy, owns, unscheduledBy, breakKind, continueKind, start, schedule, unschedule}
 use Rattle.control.specs.declared.ControlFlowTarget.{ControlFlowTarget}
 use Rattle.control.specs.declared.ControlFlowTarget.the-variants.{If, Switch, Case, Loop}

@@ -1,2 +1,4 @@
 pub mod Abstraction
 pub mod Contract
+pub mod AroundAbstraction
+pub mod Pass

@@ -5,6 +5,9 @@
 // local and back, and of the stack's array it leaves two things to its caller, one line each: `schedule` gives the entry that went on in `pushed`, to be stored at
 // `len - 1`, and `unschedule` is handed the entry that its caller reads there. For the same reason each step writes `len`, and the scalars stand between the
 // arrays. (docs/PERFORMANCE.md has the times.)
+pub mod around;
+pub mod rule;
+
 ghost use mathlib.Core.Path.{_≡_};
 ghost use Prim.Native.Nat.{_+_, _≤_, _<_};
 ghost use mathlib.Core.Bool.{_||_};
@@ -12,6 +15,14 @@ ghost use Rattle.definition.specs.Context.{add, has, targetBlock, isLoop, loops
 ghost use Rattle.definition.specs.Tree.{kindNumber};
 ghost use Rattle.control.specs.Abstraction.{targetOf, kindOf, foundBlock, resolutionOf};
 ghost use Rattle.control.specs.Contract.{Named, Room, Last, refusalIf, Created, Scheduled, Unscheduled, breakTo, continueTo};
+
+// The Rust's BlockId, as the sets and the stack have it.
+pub fn block_id(block: u32) -> u16
+    requires { ⌜ block ≤ 65535 ⌝ }
+    ensures { λ r. ⌜ r ≡ block ⌝ }
+{
+    block as u16
+}
 
 // What an entry of the control stack stands for. A loop's `block` is its fallthrough.
 pub enum ControlFlowTarget {

@@ -18,9 +18,9 @@ use Rattle.text.specs.Placed.{Placing, refusal, placed, Holding}
 use Rattle.text.specs.declared.version.Version.the-variants.{Old, New}
 use Rattle.text.proofs.ReadingLaws.{Says, reading-says}
 use Rattle.text.proofs.PlacedLaws.{placed-fits, holding-refusal, holding-placed}
-use Rattle.writer.specs.Cut.{Shaped}
-use Rattle.writer.specs.Write.{tableText, unlessRefused}
-use Rattle.writer.proofs.GoodLaws.{good-shaped, good-is-text}
+use Rattle.convert.specs.Cut.{Shaped}
+use Rattle.convert.specs.Write.{tableText, unlessRefused}
+use Rattle.convert.proofs.GoodLaws.{good-shaped, good-is-text}
 use Rattle.convert.specs.OldCheck.{oldChecked}
 use Rattle.convert.specs.Widen.{widened}
 use Rattle.convert.specs.Convert.{endsAgree, spansVerdict, newOfOld, oldText, oldOfNew, ofReading, oldToNew, newToOld}

@@ -20,9 +20,9 @@ use Rattle.text.specs.declared.version.Version.the-variants.{Old, New}
 use Rattle.text.proofs.AnswerLaws.{room-enough, good-room}
 use Rattle.text.proofs.ReadingLaws.{accepted-reads, refusal-refuses}
 use Rattle.text.proofs.PrintsLaws.{words-read}
-use Rattle.writer.specs.Cut.{textIn, instructionsAt, casesAt, placesAt, identifiersAt, endAt, Shaped}
-use Rattle.writer.specs.Write.{tableText, unlessRefused}
-use Rattle.writer.proofs.TextLaws.{accepted-placed, refused-placed}
+use Rattle.convert.specs.Cut.{textIn, instructionsAt, casesAt, placesAt, identifiersAt, endAt, Shaped}
+use Rattle.convert.specs.Write.{tableText, unlessRefused}
+use Rattle.convert.proofs.TextLaws.{accepted-placed, refused-placed}
 use Rattle.convert.specs.Convert.{spansVerdict, oldText, oldOfNew, ofReading}
 use Rattle.convert.specs.Parts.{oldPlace, moved, ofWide, apartAt}
 

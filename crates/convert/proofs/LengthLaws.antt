@@ -11,8 +11,8 @@ use Rattle.text.specs.Line.{line, lines}
 use Rattle.text.specs.Layout.{Layout, layout}
 use Rattle.text.specs.File.{Tables, textOf}
 use Rattle.text.specs.declared.version.Version.the-variants.{Old, New}
-use Rattle.writer.specs.Cut.{cut, instructionsAt, casesAt, placesAt, identifiersAt, Shaped, tablesIn, textIn}
-use Rattle.writer.specs.Write.{tableText}
+use Rattle.convert.specs.Cut.{cut, instructionsAt, casesAt, placesAt, identifiersAt, Shaped, tablesIn, textIn}
+use Rattle.convert.specs.Write.{tableText}
 use Rattle.convert.specs.Widen.{doubled, doubledRows, widened}
 use Rattle.convert.specs.Convert.{oldText}
 use Rattle.convert.proofs.WidenLaws.{length-doubled, doubled-open, blocks-fit, instructions-fit, wide-six, wide-head, wide-blocks, at-instructions, at-cases, at-places, at-identifiers}

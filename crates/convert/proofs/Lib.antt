@@ -1,3 +1,6 @@
+pub mod CutLaws
+pub mod TextLaws
+pub mod GoodLaws
 pub mod SpanLaws
 pub mod WidenLaws
 pub mod ConvertLaws
@@ -7,3 +10,5 @@ pub mod RoundTrip
 pub mod CodeLaws
 pub mod OneAnswer
 pub mod Trips
+pub mod PlacedLaws
+pub mod RoomLaws

@@ -18,8 +18,8 @@ use Rattle.table.proofs.RowLaws.{row-fits}
 use Rattle.table.proofs.RuleLaws.{block-width, instruction-width, case-width, place-width, identifier-width}
 use Rattle.text.specs.Layout.{layout}
 use Rattle.text.specs.declared.version.Version.the-variants.{Old, New}
-use Rattle.writer.specs.Cut.{instructionsAt, casesAt, placesAt, identifiersAt, endAt, Shaped}
-use Rattle.writer.specs.Write.{tableText, unlessRefused}
+use Rattle.convert.specs.Cut.{instructionsAt, casesAt, placesAt, identifiersAt, endAt, Shaped}
+use Rattle.convert.specs.Write.{tableText, unlessRefused}
 use Rattle.convert.specs.OldCheck.{oldBlockWord, oldInstructionWord, oldBlockRules, oldInstructionRules, oldWordsVerdict, oldChecked}
 use Rattle.convert.specs.Widen.{doubled, doubledRows, widened}
 use Rattle.convert.specs.Convert.{newOfOld}

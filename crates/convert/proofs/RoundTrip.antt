@@ -24,10 +24,10 @@ use Rattle.text.specs.declared.version.Version.the-variants.{Old, New}
 use Rattle.text.proofs.ReadingLaws.{accepted-reads}
 use Rattle.text.proofs.PlacedLaws.{placed-fits}
 use Rattle.text.proofs.WriteLaws.{Narrow, narrow-take, narrow-drop}
-use Rattle.writer.specs.Cut.{cut, instructionsAt, casesAt, placesAt, identifiersAt, endAt, Shaped, tablesIn, textIn}
-use Rattle.writer.specs.Write.{tableText, unlessRefused}
-use Rattle.writer.proofs.TextLaws.{sized-shaped}
-use Rattle.writer.proofs.GoodLaws.{old-narrower, tables-formed, text-good, tables-cut, tables-shaped, words-cut, good-shaped, good-is-text, good-narrow, narrow-append, from-cases}
+use Rattle.convert.specs.Cut.{cut, instructionsAt, casesAt, placesAt, identifiersAt, endAt, Shaped, tablesIn, textIn}
+use Rattle.convert.specs.Write.{tableText, unlessRefused}
+use Rattle.convert.proofs.TextLaws.{sized-shaped}
+use Rattle.convert.proofs.GoodLaws.{old-narrower, tables-formed, text-good, tables-cut, tables-shaped, words-cut, good-shaped, good-is-text, good-narrow, narrow-append, from-cases}
 use Rattle.convert.specs.OldCheck.{oldChecked}
 use Rattle.convert.specs.Widen.{doubled, doubledRows, widened}
 use Rattle.convert.specs.Convert.{wholly, textOfAnswer}

@@ -10,8 +10,8 @@ use Rattle.text.specs.Placed.{Placing, refusal}
 use Rattle.text.specs.declared.version.Version.the-variants.{Old, New}
 use Rattle.text.proofs.PrintsLaws.{refusal-some}
 use Rattle.text.proofs.ReadingLaws.{Says, reading-says}
-use Rattle.writer.specs.Write.{tableText}
-use Rattle.writer.proofs.GoodLaws.{good-shaped}
+use Rattle.convert.specs.Write.{tableText}
+use Rattle.convert.proofs.GoodLaws.{good-shaped}
 use Rattle.convert.specs.Widen.{widened}
 use Rattle.convert.specs.Convert.{newOfOld, oldOfNew, ofReading, oldToNew, newToOld}
 use Rattle.convert.proofs.RoundTrip.{new-wholly, old-new-old, new-old-new}

@@ -11,8 +11,8 @@ use Rattle.text.specs.declared.version.Version.the-variants.{Old, New}
 use Rattle.text.specs.Printed.{Wrote}
 use Rattle.text.proofs.LentLaws.{holds-none, holds-all}
 use Rattle.text.proofs.WriteLaws.{wrote-then}
-use Rattle.writer.specs.Cut.{cut, instructionsAt, casesAt, placesAt, identifiersAt, endAt, Shaped}
-use Rattle.writer.proofs.GoodLaws.{behind}
+use Rattle.convert.specs.Cut.{cut, instructionsAt, casesAt, placesAt, identifiersAt, endAt, Shaped}
+use Rattle.convert.proofs.GoodLaws.{behind}
 use Rattle.convert.specs.Widen.{doubled, doubledRows, widened}
 
 -- ---- one row

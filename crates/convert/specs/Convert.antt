@@ -14,8 +14,8 @@ use Rattle.text.specs.Reading.{Reading, reads, refuses, reading}
 use Rattle.text.specs.Lent.{padded}
 use Rattle.text.specs.Placed.{Placing, refusal}
 use Rattle.text.specs.declared.version.Version.the-variants.{Old, New}
-use Rattle.writer.specs.Cut.{textIn}
-use Rattle.writer.specs.Write.{tableText, unlessRefused}
+use Rattle.convert.specs.Cut.{textIn}
+use Rattle.convert.specs.Write.{tableText, unlessRefused}
 use Rattle.convert.specs.OldCheck.{oldChecked}
 use Rattle.convert.specs.Widen.{widened}
 

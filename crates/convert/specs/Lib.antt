@@ -1,4 +1,9 @@
+pub mod Cut
+pub mod WrittenParts
+pub mod Write
 pub mod OldCheck
 pub mod Widen
 pub mod Convert
 pub mod Parts
+pub mod Prints
+pub mod Read

@@ -10,7 +10,7 @@ use Rattle.table.specs.Check.{Verdict, accepted, refused, Rule, unused, number,
 use Rattle.table.specs.Check.{identifierRules, andThen, rowsVerdict, limits, countsVerdict}
 use Rattle.text.specs.Layout.{layout}
 use Rattle.text.specs.declared.version.Version.the-variants.{Old}
-use Rattle.writer.specs.Cut.{instructionsAt, casesAt, placesAt, identifiersAt, endAt}
+use Rattle.convert.specs.Cut.{instructionsAt, casesAt, placesAt, identifiersAt, endAt}
 
 module _ (ws : List ℕ) where
   unfoldable pub oldBlockWord : (row column : ℕ) → ℕ

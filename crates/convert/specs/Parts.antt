@@ -6,7 +6,7 @@ use lib.Dec.{ltb}
 use Rattle.table.specs.Words.{blockCount, instructionCount}
 use Rattle.table.specs.Check.{Verdict, accepted, refused, checked}
 use Rattle.text.specs.Placed.{Placing}
-use Rattle.writer.specs.Write.{tableText, unlessRefused}
+use Rattle.convert.specs.Write.{tableText, unlessRefused}
 
 -- a word's place in the old form: the `to`s before it are left out of the count
 unfoldable pub oldPlace : (blocks instructions at : ℕ) → ℕ

@@ -5,7 +5,7 @@ use lib.ListN.{getD, length, take, drop}
 use Rattle.text.specs.Layout.{layout}
 use Rattle.text.specs.Line.{flat}
 use Rattle.text.specs.declared.version.Version.the-variants.{Old}
-use Rattle.writer.specs.Cut.{cut, instructionsAt, casesAt}
+use Rattle.convert.specs.Cut.{cut, instructionsAt, casesAt}
 
 unfoldable pub doubled : List ℕ → List ℕ
 doubled row = row ++ (getD row (length row - 1) 0 ∷ [])

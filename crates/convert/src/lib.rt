@@ -1,10 +1,15 @@
 // M-112: old texts, with one span column, into new ones and back.
+pub mod file;
 mod spans;
+pub mod table_read;
 mod widen;
+pub mod writing;
+pub mod written_tables;
 
 use crate::spans::first_apart;
 use crate::spans::old_place;
 use crate::widen::widen;
+use crate::written_tables::write_tables;
 use table_check::check;
 use text::lent::lent_words;
 use text::placed::Placed;
@@ -13,14 +18,13 @@ use text::placed::refuse;
 use text::read::Answer;
 use text::read::read_as;
 use text::version::Version;
-use writer::tables::write_tables;
 ghost use mathlib.Core.Path.{_≡_};
 ghost use Prim.Native.Nat.{_≤_};
 ghost use lib.ListN.{length};
 ghost use Rattle.text.specs.Layout.{layout};
 ghost use Rattle.text.specs.Placed.{placing};
 ghost use Rattle.text.specs.declared.version.Version.the-variants.{Old, New};
-ghost use Rattle.writer.specs.Cut.{Shaped};
+ghost use Rattle.convert.specs.Cut.{Shaped};
 ghost use Rattle.convert.specs.Convert.{newOfOld, oldOfNew, oldToNew, newToOld};
 ghost use Rattle.convert.specs.Parts.{ofWide};
 

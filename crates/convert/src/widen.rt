@@ -5,7 +5,7 @@ ghost use lib.ListN.{length, drop};
 ghost use Rattle.text.specs.Layout.{layout};
 ghost use Rattle.text.specs.Printed.{Wrote};
 ghost use Rattle.text.specs.declared.version.Version.the-variants.{Old};
-ghost use Rattle.writer.specs.Cut.{Shaped};
+ghost use Rattle.convert.specs.Cut.{Shaped};
 ghost use Rattle.convert.specs.Widen.{doubledRows, widened};
 
 fn copy_words(wide: &mut [u32], start: usize, source: &[u32]) -> usize

@@ -29,7 +29,7 @@ use Rattle.definition.proofs.Steps.{true-false, none-some, some-eq, Any
 use Rattle.definition.proofs.Flags.{has-still, has-new, length-add, length-none, below-blocks}
 use Rattle.definition.proofs.Never.{false-of}
 use Rattle.definition.proofs.Lines.{Unlined, UnlinedStep, unlined-none, break-unlined, continue-unlined, instructions-lined}
-use Rattle.definition.proofs.Invariant.{marks, marks-below}
+use Rattle.definition.proofs.Flags.{marks, marks-below}
 
 -- ---- blocks that are entered one after the other
 

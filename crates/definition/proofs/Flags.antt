@@ -12,6 +12,8 @@ use native.Mathlib.Decide.{ℕ-discrete}
 use Rattle.table.specs.Table.{Table, Block, noBlock, terminalAt, isAbsent}
 use Rattle.definition.specs.Context.{Flags, noFlags, has, add, remove}
 use Rattle.definition.proofs.Steps.{true-false}
+use Prim.Native.Nat.{_-_, _≤_}
+use native.Mathlib.Nat.{le-refl}
 
 cases : {P : Type 0} (a b : ℕ) → (a ≡ b → P) → ((a ≡ b → ⊥) → P) → P
 cases a b f g = elim (ℕ-discrete a b) [ yes h ↦ f h | no h ↦ g h ]
@@ -80,3 +82,13 @@ present-below (x ∷ bs) (suc b) e = omega (arith, present-below bs b e)
 
 pub below-blocks : (t : Table) (b : ℕ) → isAbsent (terminalAt t b) ≡ false → b < length (t .blocks)
 below-blocks t b e = present-below (t .blocks) b e
+
+abbrev pub marks : Flags → ℕ
+marks [] = 0
+marks (true ∷ s) = suc (marks s)
+marks (false ∷ s) = marks s
+
+pub marks-below : (s : Flags) → marks s ≤ length s
+marks-below [] = le-refl 0
+marks-below (true ∷ s) = omega (arith, marks-below s)
+marks-below (false ∷ s) = omega (arith, marks-below s)

@@ -7,8 +7,6 @@ pub mod Visits
 pub mod Enough
 pub mod Rows
 pub mod Lines
-pub mod Simulation
-pub mod Invariant
 pub mod Ranged
 pub mod Checked
 pub mod Accepted
@@ -21,8 +19,6 @@ pub mod Emitted
 pub mod Sits
 pub mod Rises
 pub mod Preview
-pub mod Surveys
-pub mod Goals
 pub mod Relabels
 pub mod Parting
 pub mod PartingRows

@@ -11,7 +11,7 @@ use Rattle.table.specs.declared.columns.Span.{Span}
 use Rattle.definition.specs.Around.{Around}
 use Rattle.definition.specs.Context.{has, Context, Resolution, getBreakTarget, getContinueTarget}
 use Rattle.definition.specs.Index.{labelOf, rowsIn, Labelled, labelledBy, inParts, inList, inCases, Line, lineOf}
-use Rattle.definition.specs.Machine.{Output, _⊕_, lineOut, valueOut, updateOut, statementOut, instructionsOut, blockRow, jumpOut, added, scopeRow}
+use Rattle.definition.specs.Output.{Output, _⊕_, lineOut, valueOut, updateOut, statementOut, instructionsOut, blockRow, jumpOut, added, scopeRow}
 use Rattle.definition.specs.Statement.{breakToScope, breakResolved, visitBreak, continueResolved, visitContinue, instructionStatements, followedBy}
 use Rattle.definition.specs.Tree.{Kind, implicit, labeled, unlabeled, Value, Statement, INSTR, IF, SWITCH, DOWHILE, WHILE, FOR, FOROF, FORIN, LABEL, TRY}
 use Rattle.definition.specs.Tree.{SCOPE, RETURN, THROW, Statements, done, Cases, no-cases, CASE, Row, row, valueRows, updateRows, statementRows}

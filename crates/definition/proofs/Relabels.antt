@@ -1,5 +1,5 @@
 -- M-102: the language entry's tree and the first entry's are the same but for BREAKs that are Labeled in place of Unlabeled. For proofs/PartingRows and for
--- the lines (crates/indexed), which look at no kind.
+-- the lines (crates/theorems), which look at no kind.
 use Prim.Native.Nat.{ℕ}
 use mathlib.Core.List.{List}
 use mathlib.Core.Option.{Option}

@@ -7,7 +7,7 @@ use mathlib.Core.Option.{Option, none, some}
 use mathlib.Core.Bool.{true, false}
 use lib.ListN.{length, length-append}
 use Rattle.definition.specs.Index.{labelOf, rowsIn, Labelled, labelledBy, inParts, inList, inCases, labelled, lineOf}
-use Rattle.definition.specs.Machine.{blockRow}
+use Rattle.definition.specs.Output.{blockRow}
 use Rattle.definition.specs.Tree.{Value, Statement, INSTR, IF, SWITCH, DOWHILE, WHILE, FOR, FOROF, FORIN, LABEL, TRY, SCOPE, RETURN, THROW, BREAK}
 use Rattle.definition.specs.Tree.{CONTINUE, Statements, done, _▸_, Cases, no-cases, CASE, Row, row, valueRows, updateRows, statementRows, statementsRows}
 use Rattle.definition.specs.Tree.{blockRows, forOfRow, forInRow, casesRows, rows, countStatements, countCases, orNone, updatePresent}

@@ -9,7 +9,7 @@ use mathlib.Core.Bool.{Bool, true, false}
 use lib.ListN.{length}
 use Rattle.table.specs.declared.columns.Span.{Span}
 use Rattle.table.specs.Table.{Table, instructionAt}
-use Rattle.definition.specs.Machine.{valueOut, updateOut, statementOut, instructionsOut, blockRow, jumpOut, added, scopeRow}
+use Rattle.definition.specs.Output.{valueOut, updateOut, statementOut, instructionsOut, blockRow, jumpOut, added, scopeRow}
 use Rattle.definition.specs.Statement.{instructionStatements, followedBy}
 use Rattle.definition.specs.Tree.{Value, PLAIN, LOAD, UNDEF, SEQ, LOGICAL, COND, OPTIONAL, Instructions, no-instructions, instruction, Statement, INSTR, instrRow, forOfRow, forInRow}
 use Rattle.definition.specs.Tree.{IF, SWITCH, DOWHILE, WHILE, FOR, FOROF, FORIN, LABEL, TRY, SCOPE, RETURN, THROW, BREAK, CONTINUE, Statements, done, _▸_}

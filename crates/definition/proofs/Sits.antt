@@ -8,7 +8,7 @@ use mathlib.Core.Option.{Option, none, some}
 use mathlib.Core.Bool.{true, false}
 use lib.ListN.{length, length-append}
 use Rattle.definition.specs.Index.{Each, labelOf, rowsIn, Labelled, labelledBy, inParts, inList, inCases, labelled}
-use Rattle.definition.specs.Machine.{Output, noOutput, statementOut, blockRow}
+use Rattle.definition.specs.Output.{Output, noOutput, statementOut, blockRow}
 use Rattle.definition.specs.Tree.{Statement, INSTR, IF, SWITCH, DOWHILE, WHILE, FOR, FOROF, FORIN, LABEL, TRY, SCOPE, RETURN, THROW, BREAK, CONTINUE}
 use Rattle.definition.specs.Tree.{Statements, done, _▸_, Cases, no-cases, CASE, Row, row, rows, valueRows, updateRows, statementRows, statementsRows}
 use Rattle.definition.specs.Tree.{blockRows, instrRow, forOfRow, forInRow, casesRows, countStatements, countCases, orNone, updatePresent}

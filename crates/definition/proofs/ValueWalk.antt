@@ -14,7 +14,7 @@ use Rattle.table.specs.declared.columns.Span.{Span}
 use Rattle.table.specs.Table.{Table, Block, Terminal, Operation, other, load-local, store-local, absent, unreachable, throw, return, goto, if, branch, switch}
 use Rattle.table.specs.Table.{do-while, while, for, for-of, for-in, logical, ternary, optional, sequence, maybe-throw, try, scope, codeOf, blockAt, terminalAt}
 use Rattle.table.specs.Table.{instructionAt, instructionRowsAt, instructionRows, label}
-use Rattle.definition.specs.Machine.{valueOut, updateOut}
+use Rattle.definition.specs.Output.{valueOut, updateOut}
 use Rattle.definition.specs.Result.{Result}
 use Rattle.definition.specs.Statement.{visitUpdate}
 use Rattle.definition.specs.Tree.{Value, PLAIN, LOAD, UNDEF, SEQ, LOGICAL, COND, OPTIONAL, Instructions, no-instructions, instruction, Row, row, instrRow}

@@ -7,10 +7,8 @@ pub mod Context
 pub mod Around
 pub mod Named
 pub mod Crossed
-pub mod Survey
 pub mod Value
 pub mod Statement
-pub mod Goal
 pub mod Build
 pub mod Preview
 pub mod Run
@@ -20,9 +18,7 @@ pub mod TreeRun
 pub mod Plain
 pub mod PlainLoops
 pub mod PlainTest
-pub mod Machine
-pub mod Reached
-pub mod Framed
+pub mod Output
 pub mod RunLaw
 pub mod LoopLaw
 pub mod Relabeled

@@ -15,7 +15,7 @@ use Rattle.text.proofs.WriteLaws.{wrote-then}
 use Rattle.table.specs.Words.{blockCount}
 use Rattle.table.specs.Table.{Table, tableOf}
 use Rattle.table.proofs.TableLaws.{length-blocks}
-use Rattle.lines.specs.Lines.{Line, namedAt, linesTo, linesFrom, lines}
+use Rattle.table.specs.Lines.{Line, namedAt, linesTo, linesFrom, lines}
 use Rattle.dot.specs.Dot.{lineText, linesText, graphText}
 
 -- a number of three digits or more: the hundreds, then two digits

@@ -9,7 +9,7 @@ use Rattle.table.specs.Table.{Table, Block, Case, Continue, Try, Terminal, abse
 use Rattle.text.specs.Ascii.{ascii}
 use Rattle.text.specs.Decimal.{digitsOf, decimal}
 use Rattle.text.specs.Placed.{refusal, placed}
-use Rattle.lines.specs.Lines.{namedBy, linesFrom, lines}
+use Rattle.table.specs.Lines.{namedBy, linesFrom, lines}
 use Rattle.dot.specs.Dot.{lineText, linesText, graphText}
 
 abbrev block : Terminal → Block

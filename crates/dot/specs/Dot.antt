@@ -6,7 +6,7 @@ use Rattle.table.specs.Table.{Table, tableOf}
 use Rattle.text.specs.Ascii.{ascii}
 use Rattle.text.specs.Decimal.{decimal}
 use Rattle.text.specs.Placed.{Placing, refusal, placed}
-use Rattle.lines.specs.Lines.{Line, lines}
+use Rattle.table.specs.Lines.{Line, lines}
 
 -- "`n0 -> n1;`", LF
 unfoldable pub lineText : Line → List ℕ

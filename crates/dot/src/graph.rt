@@ -1,15 +1,15 @@
 // The lines of a table, row by row. Bounds for the sums: 28 bytes a line (numbers of ten digits), 1,029 lines a row, 1,024 rows.
 use crate::write::write_bytes;
 use crate::write::write_line;
-use lines::named_at;
-use lines::target;
+use table::lines::named_at;
+use table::lines::target;
 use table::words::block_count;
 ghost use Prim.Native.Nat.{_+_, _^_, _<_, _≤_};
 ghost use Rattle.table.specs.Words.{blockCount};
 ghost use Rattle.table.specs.Table.{tableOf};
 ghost use Rattle.table.specs.Promise.{Promise};
 ghost use Rattle.text.specs.Printed.{Wrote};
-ghost use Rattle.lines.specs.Lines.{namedAt, linesTo, lines};
+ghost use Rattle.table.specs.Lines.{namedAt, linesTo, lines};
 ghost use Rattle.dot.specs.Dot.{linesText, graphText};
 
 // A line for each block that the row names.

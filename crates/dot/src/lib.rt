@@ -1,4 +1,5 @@
 // M-110: a table's blocks as a graph in DOT, the Graphviz language.
+pub mod file;
 mod graph;
 mod write;
 

@@ -3,3 +3,5 @@ pub mod WalkLaws
 pub mod ListLaws
 pub mod WriteLaws
 pub mod EntryLaws
+pub mod OrderedLaws
+pub mod OneText

@@ -14,7 +14,7 @@ use Rattle.table.specs.Words.{entryWord, blockCount}
 use Rattle.table.specs.Table.{Table, tableOf, rowsFrom}
 use Rattle.table.specs.Promise.{Promise}
 use Rattle.table.proofs.TableLaws.{length-blocks}
-use Rattle.lines.specs.Lines.{namedAt}
+use Rattle.table.specs.Lines.{namedAt}
 use Rattle.renaming.specs.Order.{withNamed, walkFrom, walkingOrder}
 use Rattle.definition.specs.Completion.{contains}
 use Rattle.renaming.proofs.Permutations.{pick-true, pick-false, in-place, below-of, Permutes, permutes}

@@ -1,3 +1,4 @@
 pub mod Queue
 pub mod Write
 pub mod Entry
+pub mod Prints

@@ -1,14 +1,15 @@
 // M-111: a table's blocks in walking order, and the inverse.
+mod block_walk;
+pub mod file;
 mod list;
-mod walk;
 mod write;
 
+use crate::block_walk::walking_order;
 use crate::list::is_permutation;
-use crate::walk::walking_order;
 use crate::write::write_table;
-use rows::clear;
 use table::words::block_count;
 use table_check::check;
+use values::rows::clear;
 ghost use mathlib.Core.Path.{_≡_};
 ghost use mathlib.Core.Bool.{true};
 ghost use lib.ListN.{length};

@@ -1,1 +1,2 @@
 pub mod PreviewLaws
+pub mod SizeLaws

@@ -13,17 +13,17 @@ use Rattle.definition.proofs.Steps.{true-false}
 use Rattle.definition.specs.Around.{Rule}
 use Rattle.definition.specs.Build.{Report, accepted, rejected, report}
 use Rattle.definition.specs.Preview.{Preview, previewOf, previewAfter, previewed}
-use Rattle.rows.proofs.StackLaws.{length-pushed}
-use Rattle.driver.specs.declared.Walked.{Walked}
-use Rattle.driver.specs.Driver.{Reported}
+use Rattle.values.proofs.StackLaws.{length-pushed}
+use Rattle.walk.specs.declared.Outcome.{Outcome}
+use Rattle.walk.specs.Driver.{Reported}
 
-pub refused-told : (walked : Walked) → (walked .code ≡ 0 → ⊥) → (r : Report) (tree index : List ℕ) → Reported r walked tree index
+pub refused-told : (walked : Outcome) → (walked .code ≡ 0 → ⊥) → (r : Report) (tree index : List ℕ) → Reported r walked tree index
     → record { code = walked .code; at = walked .at; rows = 0; visits = walked .visits; lines = 0 } ≡ previewOf r
 unfolding previewOf
 refused-told walked some (accepted rows lines visits) tree index h = absurd (some (h .0))
 refused-told walked some (rejected code at visits) tree index h = rw (h .0, h .2, h .3) refl
 
-pub accepted-told : (walked : Walked) → walked .code ≡ 0 → (r : Report) (tree index : List ℕ) → Reported r walked tree index
+pub accepted-told : (walked : Outcome) → walked .code ≡ 0 → (r : Report) (tree index : List ℕ) → Reported r walked tree index
     → record { code = 0; at = 0; rows = walked .rows; visits = walked .visits; lines = walked .lines } ≡ previewOf r
 unfolding previewOf
 accepted-told walked none (accepted rows lines visits) tree index h =

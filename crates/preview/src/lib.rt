@@ -1,22 +1,23 @@
 // M-106: what a build gives where both buffers are large enough, from the words alone: the same walk with no place lent, which counts rows
 // and lines on.
-use build::Outcome;
-use driver::Walked;
-use driver::walk;
-use survey::Rule;
+pub mod file;
+
+use control::rule::Rule;
 use table_check::check;
+use walk::Outcome;
+use walk::walk;
 ghost use mathlib.Core.Path.{_≡_};
 ghost use mathlib.Core.List.{List};
 ghost use Prim.Native.Nat.{ℕ};
 ghost use Rattle.definition.specs.Around.{rust, language};
 ghost use Rattle.definition.specs.Build.{Report};
 ghost use Rattle.definition.specs.Preview.{previewOf, previewed};
-ghost use Rattle.survey.specs.Abstraction.{ruleOf};
-ghost use Rattle.driver.specs.Driver.{Reported};
+ghost use Rattle.control.specs.AroundAbstraction.{ruleOf};
+ghost use Rattle.walk.specs.Driver.{Reported};
 ghost use Rattle.preview.specs.Entry.{numbers};
 
 // A refusal tells no row and no line.
-fn told(walked: Walked) -> Outcome
+fn told(walked: Outcome) -> Outcome
     ensures { λ r. ⌜ ((report : Report) (tree index : List ℕ) → Reported report walked tree index → numbers r ≡ previewOf report) ⌝ }
 {
     if walked.code != 0 {

@@ -1,11 +1,12 @@
 // What a program does with its standard input and output. A failed read or write is told on standard error, since the kit has no exit status.
+use libc::STDERR_FILENO;
+use libc::STDIN_FILENO;
+use libc::STDOUT_FILENO;
+use text::write::Written;
 ghost use Prim.Native.Nat.{_+_, _≤_};
 ghost use mathlib.Core.Path.{_≡_};
 ghost use lib.ListN.{length};
 ghost use Rattle.io.specs.Counts.{Counts};
-use libc::STDERR_FILENO;
-use libc::STDIN_FILENO;
-use libc::STDOUT_FILENO;
 
 // How many bytes were read; where a read failed, it may not be the whole input.
 pub struct Input {
@@ -101,5 +102,31 @@ pub fn write_all(program: &[u8], bytes: &[u8]) {
             program,
             b": standard output cannot be written: what is printed is not whole\n",
         );
+    }
+}
+
+// Enough for what any program prints.
+pub fn printed_bytes() -> [u8; 720974]
+    ensures { λ r. ⌜ 720974 ≡ length r ⌝ }
+{
+    [0; 720974]
+}
+
+// Room for a drawing; a longer one is refused, 44.
+pub fn drawing_bytes() -> [u8; 262144]
+    ensures { λ r. ⌜ 262144 ≡ length r ⌝ }
+{
+    [0; 262144]
+}
+
+// Writes what a program's function printed into the lent bytes. Its end is within them, which the function's own contract says; asked here, so that no main has to prove it.
+pub fn write_printed(program: &[u8], out: &[u8], written: Written) {
+    match written {
+        Written::Bytes(end) => {
+            if end <= out.len() {
+                write_all(program, &out[..end]);
+            }
+        }
+        Written::NoRoom => {}
     }
 }

@@ -18,7 +18,7 @@ use Rattle.table.proofs.TableLaws.{length-blocks}
 use Rattle.definition.specs.Completion.{contains}
 use Rattle.definition.proofs.Steps.{true-false}
 use Rattle.renaming.specs.Renaming.{Renaming, namesBlock, renamedIf, renamedBlockRow, renamed, RenamedWords}
-use Rattle.lines.specs.Lines.{caseBlocks, unlessNo, namedBy}
+use Rattle.table.specs.Lines.{caseBlocks, unlessNo, namedBy}
 use Rattle.renaming.specs.Order.{AllNamed, oldNumber, placeFrom, newNumber, withNamed, walkFrom, walkingOrder, rearranged}
 use Rattle.renaming.proofs.Alike.{Moves, moves, same-test, new-below}
 use Rattle.renaming.proofs.Tables.{renamedTerminal, renamedCase, renamedTable, Reordered}

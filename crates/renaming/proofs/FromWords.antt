@@ -14,7 +14,7 @@ use Rattle.table.specs.Table.{instructionOf, operationOf, caseOf, tabulate, tab
 use Rattle.table.specs.Promise.{Promise}
 use Rattle.table.proofs.TableLaws.{length-blocks, block-at}
 use Rattle.table.proofs.RangeLaws.{code-known}
-use Rattle.reading.proofs.Upto.{ends, _and_, upto}
+use Rattle.tree_grammar.proofs.Upto.{ends, _and_, upto}
 use Rattle.renaming.specs.Renaming.{Renaming, namesBlock, renamedIf, renamedBlockRow, RenamedWords}
 use Rattle.renaming.proofs.Alike.{new-below, one-old}
 use Rattle.renaming.proofs.Tables.{renamedTerminal, renamedBlock, renamedCase, renamedTable, Reordered}

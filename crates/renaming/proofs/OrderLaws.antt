@@ -22,8 +22,8 @@ use Rattle.definition.specs.Build.{built}
 use Rattle.definition.specs.Completion.{contains}
 use Rattle.definition.proofs.Steps.{true-false}
 use Rattle.renaming.specs.Renaming.{Renaming, renamed, RenamedWords, renamedOutcome}
-use Rattle.reading.proofs.Upto.{and-both}
-use Rattle.lines.specs.Lines.{caseBlocks, unlessNo, namedBy}
+use Rattle.tree_grammar.proofs.Upto.{and-both}
+use Rattle.table.specs.Lines.{caseBlocks, unlessNo, namedBy}
 use Rattle.renaming.specs.Order.{allBelow, noneTwice, isPermutation, oldNumber, placeFrom, newNumber, withNamed, walkFrom, walkingOrder, rearranged}
 use Rattle.renaming.specs.Order.{restoredBy, Rearrangement, rearrangement, Restoration, restoration}
 use Rattle.renaming.proofs.Permutations.{both-and, by-equal, pick-true, pick-false, in-head, in-tail, in-other, in-cases, fits-in, in-rows, rows-once, below-of, Permutes, permutes, renaming-of}

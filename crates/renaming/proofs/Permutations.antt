@@ -12,7 +12,7 @@ use Rattle.table.specs.Table.{rowsFrom}
 use Rattle.table.proofs.BlockLaws.{length-rows}
 use Rattle.definition.specs.Completion.{contains}
 use Rattle.definition.proofs.Steps.{true-false}
-use Rattle.reading.proofs.Upto.{and-both}
+use Rattle.tree_grammar.proofs.Upto.{and-both}
 use Rattle.renaming.specs.Renaming.{Renaming}
 use Rattle.renaming.specs.Order.{allBelow, noneTwice, isPermutation, oldNumber, placeFrom, newNumber}
 

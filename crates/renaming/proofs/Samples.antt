@@ -6,7 +6,7 @@ use mathlib.Core.Option.{none, some}
 use Rattle.table.specs.Table.{Table, Block, Case, Terminal, absent, return, goto, if, switch, for, Break, noBlock, tableOf, tabulate, blockOf, caseOf, instructionOf, terminalOf, unlessNone, variantOf}
 use Rattle.table.specs.Words.{word, entryWord, blockCount, instructionCount, caseCount, placeCount, identifierCount, blocksBegin, instructionsBegin, casesBegin}
 use Rattle.table.specs.Words.{placesBegin, identifiersBegin, wordsNeeded, blockWord, instructionWord, caseWord, placeWord, identifierWord}
-use Rattle.lines.specs.Lines.{namedBy}
+use Rattle.table.specs.Lines.{namedBy}
 use Rattle.renaming.specs.Renaming.{renamed, rowsOf, renamedBlockRow, instructionRow, renamedCaseRow, namesBlock}
 use Rattle.renaming.specs.Order.{walkingOrder, walkFrom, rearranged, newNumber, oldNumber, restoredBy}
 

@@ -9,7 +9,7 @@ use Rattle.table.specs.Table.{Table, rowsFrom, tableOf}
 use Rattle.table.specs.Words.{blockCount}
 use Rattle.table.specs.Check.{accepted, refused, checked}
 use Rattle.definition.specs.Completion.{contains}
-use Rattle.lines.specs.Lines.{namedAt}
+use Rattle.table.specs.Lines.{namedAt}
 use Rattle.renaming.specs.Renaming.{renamed}
 
 -- ---- a list of old numbers

@@ -7,3 +7,4 @@ pub mod RangeLaws
 pub mod BlockLaws
 pub mod TerminalLaws
 pub mod ColumnLaws
+pub mod NamedLaws

@@ -3,3 +3,5 @@ pub mod Table
 pub mod Check
 pub mod Answer
 pub mod Promise
+pub mod Lines
+pub mod Named

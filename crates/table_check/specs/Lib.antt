@@ -1,1 +1,2 @@
+pub mod FoundBlocks
 pub mod Found

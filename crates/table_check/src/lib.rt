@@ -1,7 +1,9 @@
 // Refusals 1 to 4 of paper 01.
+mod blocks;
+pub mod limits;
 mod other_tables;
 
-use block_check::check_blocks;
+use crate::blocks::check_blocks;
 use table::Checked;
 use table::words;
 ghost use mathlib.Core.Path.{_≡_};

@@ -1,8 +1,8 @@
 // The rows of the other four tables: the first bad word of each.
-use block_check::limits::ANY;
-use block_check::limits::UNUSED;
-use block_check::limits::end_of;
-use block_check::limits::row_or_none;
+use crate::limits::ANY;
+use crate::limits::UNUSED;
+use crate::limits::end_of;
+use crate::limits::row_or_none;
 use table::Checked;
 use table::words;
 ghost use mathlib.Core.Path.{_≡_};
@@ -13,7 +13,7 @@ ghost use Rattle.table.specs.Words.{instructionsBegin, casesBegin, placesBegin,
 ghost use Rattle.table.specs.Check.{operandRules, instructionRules, caseRules, placeRules, identifierRules, rowsVerdict};
 ghost use Rattle.table.specs.Answer.{verdictOf};
 ghost use Rattle.table.specs.Promise.{Sized};
-ghost use Rattle.block_check.specs.Found.{firstBad, firstNotBelow};
+ghost use Rattle.table_check.specs.FoundBlocks.{firstBad, firstNotBelow};
 ghost use Rattle.table_check.specs.Found.{two};
 
 // The first of p and q that is not below its limit; 5, the next column, where both are.

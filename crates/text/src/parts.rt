@@ -1,13 +1,13 @@
 // The file from its first line to its end: lines of names, rows, tables.
+use crate::lent::put_word;
+use crate::lent::put_words;
+use crate::number::read_number;
+use crate::version::Version;
 ghost use mathlib.Core.Path.{_≡_};
 ghost use lib.ListN.{length};
 ghost use Rattle.text.specs.Layout.{layout, blockColumns, instructionColumns};
 ghost use Rattle.text.specs.Form.{rows, table, tables};
 ghost use Rattle.text.specs.Steps.{Near, NamesRead, PartRead, RowRead, HeadRead, FileRead, cursorAt, cursorRefused};
-use crate::lent::put_word;
-use crate::lent::put_words;
-use crate::number::read_number;
-use crate::version::Version;
 
 // How far the reading has come: the next byte and the number of words so far; or the byte that it is refused at.
 pub struct Cursor {

@@ -1,11 +1,11 @@
+use crate::lent::clear_words;
+use crate::parts::read_file;
+use crate::version::Version;
 ghost use mathlib.Core.Path.{_≡_};
 ghost use lib.ListN.{length};
 ghost use Rattle.text.specs.Layout.{layout};
 ghost use Rattle.text.specs.Reading.{reading, readInto};
 ghost use Rattle.text.specs.declared.version.Version.the-variants.{New};
-use crate::lent::clear_words;
-use crate::parts::read_file;
-use crate::version::Version;
 
 // What reading a file gives.
 pub enum Answer {

@@ -1,3 +1,6 @@
+use crate::lent::clear_bytes;
+use crate::lent::put_byte;
+use crate::number::ending_byte;
 ghost use mathlib.Core.Path.{_≡_};
 ghost use mathlib.Core.List.{List};
 ghost use Prim.Native.Nat.{ℕ, _+_, _*_, _^_, _/_, _<_};
@@ -5,9 +8,6 @@ ghost use lib.ListN.{length};
 ghost use Rattle.text.specs.Decimal.{decimal};
 ghost use Rattle.text.specs.Line.{line, lines};
 ghost use Rattle.text.specs.Printed.{printed, rowsOf, writtenOf, lentOf, Wrote, Held, WroteSome};
-use crate::lent::clear_bytes;
-use crate::lent::put_byte;
-use crate::number::ending_byte;
 
 // What writing a result gives.
 pub enum Written {

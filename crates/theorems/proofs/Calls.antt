@@ -10,7 +10,7 @@ use Rattle.definition.specs.Plain.{with-switch}
 use Rattle.definition.specs.PlainLoops.{PlainLoops, without-switch}
 use Rattle.definition.specs.RunLaw.{RunLaw, SwitchLaw}
 use Rattle.definition.specs.Build as definition
-use Rattle.build.specs.declared.Outcome.{Outcome}
+use Rattle.walk.specs.declared.Outcome.{Outcome}
 use Rattle.definition.proofs.Outcomes.{outcome-code, refused-form, refused-rows, accepted-form}
 use Rattle.definition.proofs.Visits.{visits-most}
 use Rattle.definition.proofs.Law.{loops-law, loops-and-switches-law}

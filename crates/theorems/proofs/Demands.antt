@@ -10,7 +10,7 @@ use Rattle.definition.specs.Around.{Rule, language}
 use Rattle.definition.specs.Plain.{paper-01, with-switch, Plain}
 use Rattle.definition.specs.PlainLoops.{PlainLoops, without-switch}
 use Rattle.definition.specs.RunLaw.{RunLaw, SwitchLaw}
-use Rattle.build.specs.declared.Outcome.{Outcome}
+use Rattle.walk.specs.declared.Outcome.{Outcome}
 use Rattle.build.proofs.build_reactive_function.Statement as first-entry
 use Rattle.build.proofs.build_reactive_function.Met as first-proved
 use Rattle.build.proofs.build_language.Statement as language-entry

@@ -15,7 +15,7 @@ use Rattle.definition.specs.Result.{Result, ok, refused}
 use Rattle.definition.specs.Statement.{BlockResult, buildTree}
 use Rattle.definition.specs.Tree.{Statements, Row, rows}
 use Rattle.definition.specs.Index.{Line, lines}
-use Rattle.indexed.proofs.SameLines.{same-lines}
+use Rattle.theorems.proofs.SameLines.{same-lines}
 use Rattle.definition.specs.Build.{Outcome, report, reported, refusal, wordsOf, placed, outcomeOf, afterCheck, built}
 use Rattle.definition.specs.Relabeled.{relabeled, Apart, AlikeBlocks, alike-blocks, visitsAfter}
 use Rattle.theorems.specs.LabelsThere.{LabelsThere}

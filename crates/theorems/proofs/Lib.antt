@@ -11,3 +11,5 @@ pub mod RunReasons
 pub mod TablePlain
 pub mod Theorems
 pub mod WalkingOrder
+pub mod Found
+pub mod SameLines

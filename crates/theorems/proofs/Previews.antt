@@ -11,7 +11,7 @@ use Rattle.definition.specs.Build as definition
 use Rattle.definition.specs.Preview.{Preview, previewed, numbersOf}
 use Rattle.definition.proofs.Preview.{preview-numbers, preview-code, preview-40, preview-41}
 use Rattle.build.specs.Entry.{outcome}
-use Rattle.build.specs.declared.Outcome.{Outcome}
+use Rattle.walk.specs.declared.Outcome.{Outcome}
 use Rattle.preview.specs.Entry.{numbers}
 use Rattle.preview.proofs.preview.Statement as stated
 use Rattle.preview.proofs.preview.Met as proved

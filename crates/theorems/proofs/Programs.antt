@@ -30,48 +30,48 @@ use Rattle.text.proofs.write.write.Statement as write-stated
 use Rattle.text.proofs.write.write.Met as write-proved
 use Rattle.text.proofs.write.write.Reads as write-entry
 use Rattle.definition.specs.Around.{Rule}
-use Rattle.survey.specs.declared.Rule as code
-use Rattle.survey.specs.Abstraction.{ruleOf}
-use Rattle.running.specs.Ran.{Outcome}
+use Rattle.control.specs.declared.rule.Rule as code
+use Rattle.control.specs.AroundAbstraction.{ruleOf}
+use Rattle.tree_runs.specs.Ran.{Outcome}
 use Rattle.convert.specs.Convert.{oldToNew, newToOld}
 use Rattle.convert.proofs.CodeLaws.{new-fits, old-fits}
-use Rattle.treefile.specs.Prints.{builtText}
-use Rattle.treefile.specs.Prints as tree
-use Rattle.treefile.proofs.build_file.Statement as build-stated
-use Rattle.treefile.proofs.build_file.Met as build-proved
-use Rattle.treefile.proofs.build_file.Reads as build-entry
-use Rattle.sizefile.specs.Prints.{sizedText}
-use Rattle.sizefile.specs.Prints as size
-use Rattle.sizefile.proofs.size_file.Statement as size-stated
-use Rattle.sizefile.proofs.size_file.Met as size-proved
-use Rattle.sizefile.proofs.size_file.Reads as size-entry
-use Rattle.dotfile.specs.Prints.{drawnText}
-use Rattle.dotfile.specs.Prints as drawing
-use Rattle.dotfile.proofs.draw_file.Statement as draw-stated
-use Rattle.dotfile.proofs.draw_file.Met as draw-proved
-use Rattle.dotfile.proofs.draw_file.Reads as draw-entry
-use Rattle.rowfile.specs.Prints.{checkText}
-use Rattle.rowfile.proofs.check_file.Statement as check-stated
-use Rattle.rowfile.proofs.check_file.Met as check-proved
-use Rattle.rowfile.proofs.check_file.Reads as check-entry
-use Rattle.runfile.specs.Given.{fileRun, FileGives}
-use Rattle.runfile.specs.Prints.{mostPrinted, runText}
-use Rattle.runfile.proofs.OneRun.{is-gives, gives-is}
-use Rattle.runfile.proofs.run_file.Statement as run-stated
-use Rattle.runfile.proofs.run_file.Met as run-proved
-use Rattle.runfile.proofs.run_file.Reads as run-entry
-use Rattle.orderfile.specs.Prints.{orderText}
-use Rattle.orderfile.specs.Prints as order
-use Rattle.orderfile.proofs.order_file.Statement as order-stated
-use Rattle.orderfile.proofs.order_file.Met as order-proved
-use Rattle.orderfile.proofs.order_file.Reads as order-entry
-use Rattle.convertfile.specs.Prints.{newText, oldText}
-use Rattle.convertfile.proofs.print_new.Statement as new-stated
-use Rattle.convertfile.proofs.print_new.Met as new-proved
-use Rattle.convertfile.proofs.print_new.Reads as new-entry
-use Rattle.convertfile.proofs.print_old.Statement as old-stated
-use Rattle.convertfile.proofs.print_old.Met as old-proved
-use Rattle.convertfile.proofs.print_old.Reads as old-entry
+use Rattle.build.specs.Prints.{builtText}
+use Rattle.build.specs.Prints as tree
+use Rattle.build.proofs.file.build_file.Statement as build-stated
+use Rattle.build.proofs.file.build_file.Met as build-proved
+use Rattle.build.proofs.file.build_file.Reads as build-entry
+use Rattle.preview.specs.Prints.{sizedText}
+use Rattle.preview.specs.Prints as size
+use Rattle.preview.proofs.file.size_file.Statement as size-stated
+use Rattle.preview.proofs.file.size_file.Met as size-proved
+use Rattle.preview.proofs.file.size_file.Reads as size-entry
+use Rattle.dot.specs.Prints.{drawnText}
+use Rattle.dot.specs.Prints as drawing
+use Rattle.dot.proofs.file.draw_file.Statement as draw-stated
+use Rattle.dot.proofs.file.draw_file.Met as draw-proved
+use Rattle.dot.proofs.file.draw_file.Reads as draw-entry
+use Rattle.tree_check.specs.Prints.{checkText}
+use Rattle.tree_check.proofs.file.check_file.Statement as check-stated
+use Rattle.tree_check.proofs.file.check_file.Met as check-proved
+use Rattle.tree_check.proofs.file.check_file.Reads as check-entry
+use Rattle.tree_run.specs.Given.{fileRun, FileGives}
+use Rattle.tree_run.specs.Prints.{mostPrinted, runText}
+use Rattle.tree_run.proofs.OneRun.{is-gives, gives-is}
+use Rattle.tree_run.proofs.file.run_file.Statement as run-stated
+use Rattle.tree_run.proofs.file.run_file.Met as run-proved
+use Rattle.tree_run.proofs.file.run_file.Reads as run-entry
+use Rattle.order.specs.Prints.{orderText}
+use Rattle.order.specs.Prints as order
+use Rattle.order.proofs.file.order_file.Statement as order-stated
+use Rattle.order.proofs.file.order_file.Met as order-proved
+use Rattle.order.proofs.file.order_file.Reads as order-entry
+use Rattle.convert.specs.Prints.{newText, oldText}
+use Rattle.convert.proofs.file.print_new.Statement as new-stated
+use Rattle.convert.proofs.file.print_new.Met as new-proved
+use Rattle.convert.proofs.file.print_new.Reads as new-entry
+use Rattle.convert.proofs.file.print_old.Statement as old-stated
+use Rattle.convert.proofs.file.print_old.Met as old-proved
+use Rattle.convert.proofs.file.print_old.Reads as old-entry
 
 -- ---- the reader of a table's file
 

@@ -14,13 +14,13 @@ use Rattle.text.specs.Lent.{padded}
 use Rattle.text.specs.Reading.{reads, refuses, reading}
 use Rattle.text.specs.declared.version.Version.the-variants.{New}
 use Rattle.text.proofs.ReadingLaws.{accepted-reads, refusal-refuses}
-use Rattle.writer.specs.Write.{tableText}
-use Rattle.table_read.specs.Read.{tableRead}
-use Rattle.table_read.proofs.PlacedLaws.{good-read}
-use Rattle.table_read.proofs.RoomLaws.{half-enough, most-enough}
-use Rattle.table_read.proofs.table_read.Statement as read-export-stated
-use Rattle.table_read.proofs.table_read.Met as read-export-proved
-use Rattle.table_read.proofs.table_read.Reads as read-export
+use Rattle.convert.specs.Write.{tableText}
+use Rattle.convert.specs.Read.{tableRead}
+use Rattle.convert.proofs.PlacedLaws.{good-read}
+use Rattle.convert.proofs.RoomLaws.{half-enough, most-enough}
+use Rattle.convert.proofs.table_read.table_read.Statement as read-export-stated
+use Rattle.convert.proofs.table_read.table_read.Met as read-export-proved
+use Rattle.convert.proofs.table_read.table_read.Reads as read-export
 use Rattle.theorems.proofs.Requests.{the-writers-text-is-the-good-file}
 
 pub table-read-meets-its-contract : {M : Type 1} → read-export-stated.statement M

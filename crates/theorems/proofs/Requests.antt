@@ -33,21 +33,21 @@ use Rattle.definition.specs.Tree.{Statements, rows}
 use Rattle.definition.specs.TreeRun.{treeRun}
 use Rattle.definition.specs.Run.{Answers}
 use Rattle.definition.specs.RunLaw.{Spoken, SwitchLaw}
-use Rattle.reading.specs.Grammar.{Answer}
-use Rattle.running.specs.Given.{RunGives, runOf}
-use Rattle.running.specs.Ran.{Outcome, refusal, firstNotRun, ended, ran}
-use Rattle.running.specs.Numbered.{numbered}
-use Rattle.running.proofs.OneOutcome.{one-outcome, is-given}
-use Rattle.running.proofs.SwitchRuns.{the-law, runner-gives, runner-does, never-63-64}
-use Rattle.running.proofs.LoopRuns as loops
-use Rattle.runner.specs.declared.Ran.{Ran}
-use Rattle.runner.specs.Holds.{outcomeOf}
+use Rattle.tree_grammar.specs.Grammar.{Answer}
+use Rattle.tree_runs.specs.Given.{RunGives, runOf}
+use Rattle.tree_runs.specs.Ran.{Outcome, refusal, firstNotRun, ended, ran}
+use Rattle.tree_runs.specs.Numbered.{numbered}
+use Rattle.tree_runs.proofs.OneOutcome.{one-outcome, is-given}
+use Rattle.tree_runs.proofs.SwitchRuns.{the-law, runner-gives, runner-does, never-63-64}
+use Rattle.tree_runs.proofs.LoopRuns as loops
+use Rattle.tree_run.specs.declared.Ran.{Ran}
+use Rattle.tree_run.specs.Holds.{outcomeOf}
 use Rattle.lookup.specs.Lookup.{found, looked}
 use Rattle.lookup.specs.declared.Found.{Found}
 use Rattle.dot.specs.Dot.{drawn}
-use Rattle.writer.specs.Write.{tableText, tableWritten}
-use Rattle.writer.proofs.GoodLaws.{text-good, good-is-text}
-use Rattle.writer.proofs.TextLaws.{sized-shaped}
+use Rattle.convert.specs.Write.{tableText, tableWritten}
+use Rattle.convert.proofs.GoodLaws.{text-good, good-is-text}
+use Rattle.convert.proofs.TextLaws.{sized-shaped}
 use Rattle.convert.specs.OldCheck.{oldChecked}
 use Rattle.convert.specs.Widen.{widened}
 use Rattle.convert.specs.Convert.{Converted, newOfOld, oldOfNew, oldToNew, newToOld, spansVerdict, oldText, textOfAnswer, wholly}
@@ -62,12 +62,12 @@ use Rattle.dot.proofs.dot.Reads as dot-entry
 use Rattle.dot.proofs.blocks_to_dot.Statement as dot-export-stated
 use Rattle.dot.proofs.blocks_to_dot.Met as dot-export-proved
 use Rattle.dot.proofs.blocks_to_dot.Reads as dot-export
-use Rattle.writer.proofs.write_table.Statement as write-stated
-use Rattle.writer.proofs.write_table.Met as write-proved
-use Rattle.writer.proofs.write_table.Reads as write-entry
-use Rattle.writer.proofs.table_write.Statement as write-export-stated
-use Rattle.writer.proofs.table_write.Met as write-export-proved
-use Rattle.writer.proofs.table_write.Reads as write-export
+use Rattle.convert.proofs.writing.write_table.Statement as write-stated
+use Rattle.convert.proofs.writing.write_table.Met as write-proved
+use Rattle.convert.proofs.writing.write_table.Reads as write-entry
+use Rattle.convert.proofs.writing.table_write.Statement as write-export-stated
+use Rattle.convert.proofs.writing.table_write.Met as write-export-proved
+use Rattle.convert.proofs.writing.table_write.Reads as write-export
 use Rattle.convert.proofs.old_to_new.Statement as old-to-new-stated
 use Rattle.convert.proofs.old_to_new.Met as old-to-new-proved
 use Rattle.convert.proofs.old_to_new.Reads as old-to-new-entry
@@ -95,12 +95,12 @@ use Rattle.control.proofs.Context.schedule.Reads as schedule-entry
 use Rattle.control.proofs.Context.unschedule.Statement as unschedule-stated
 use Rattle.control.proofs.Context.unschedule.Met as unschedule-proved
 use Rattle.control.proofs.Context.unschedule.Reads as unschedule-entry
-use Rattle.runner.proofs.run_tree.Statement as run-stated
-use Rattle.runner.proofs.run_tree.Met as run-proved
-use Rattle.runner.proofs.run_tree.Reads as run-entry
-use Rattle.runner.proofs.tree_run.Statement as run-export-stated
-use Rattle.runner.proofs.tree_run.Met as run-export-proved
-use Rattle.runner.proofs.tree_run.Reads as run-export
+use Rattle.tree_run.proofs.run_tree.Statement as run-stated
+use Rattle.tree_run.proofs.run_tree.Met as run-proved
+use Rattle.tree_run.proofs.run_tree.Reads as run-entry
+use Rattle.tree_run.proofs.tree_run.Statement as run-export-stated
+use Rattle.tree_run.proofs.tree_run.Met as run-export-proved
+use Rattle.tree_run.proofs.tree_run.Reads as run-export
 
 -- ---- a call's references, before or after it
 

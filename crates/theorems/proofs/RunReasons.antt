@@ -15,8 +15,8 @@ use Rattle.definition.specs.Run.{Answers, Reason, returned, threw, no-answer-le
 use Rattle.definition.specs.Completion.{Completion, normal, break, continue, stop, labelSet, contains, loopContinues, breakable, labelled}
 use Rattle.definition.specs.TreeRun.{Completed, completed, completing, prefix, thenOn, then, choose, performs, performsUpdate, jumpCompletion, afterBody}
 use Rattle.definition.specs.TreeRun.{whileRounds, whileLoop, forLoop, doWhileLoop, loop, switchEnds, entryAt, choosePlace, runStatement, runStatements, entriesFrom, reasonOf, treeRun}
-use Rattle.running.specs.Numbered.{numberedStatement, numbered, numberedCases}
-use Rattle.running.specs.Ran.{Outcome, refusal, notRun, firstNotRun, performedAll, ended, given, afterSorts, ran}
+use Rattle.tree_runs.specs.Numbered.{numberedStatement, numbered, numberedCases}
+use Rattle.tree_runs.specs.Ran.{Outcome, refusal, notRun, firstNotRun, performedAll, ended, given, afterSorts, ran}
 use Rattle.theorems.specs.Stops.{stopsATree, Stops}
 
 -- ---- the statements that a run is asked of

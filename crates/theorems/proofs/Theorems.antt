@@ -39,22 +39,22 @@ use Rattle.definition.specs.Value.{mostVisits, visitValueBlock}
 use Rattle.definition.specs.Statement.{visitBlock, traverseBlock}
 use Rattle.definition.specs.Build.{rejected, report, refusal, built}
 use Rattle.definition.specs.Build as definition
-use Rattle.definition.specs.Machine.{State, begin, Gives, run}
+use Rattle.machine.specs.Machine.{State, begin, Gives, run}
 use Rattle.definition.specs.Run.{Answers, Reason, stopped}
 use Rattle.definition.specs.BlockRun.{blockRun}
 use Rattle.definition.specs.Plain.{Width, paper-01, with-switch, Plain}
 use Rattle.definition.specs.Reading.{OneTree, TreeOf, JumpsWithin}
 use Rattle.definition.specs.Index.{lines}
 use Rattle.definition.proofs.Preview.{never-41}
-use Rattle.indexed.specs.Indexed.{OneLineEach, InOrder, FindsLabelled}
-use Rattle.indexed.proofs.Found.{one-line-each, lines-in-order, finds-labelled}
+use Rattle.theorems.specs.Indexed.{OneLineEach, InOrder, FindsLabelled}
+use Rattle.theorems.proofs.Found.{one-line-each, lines-in-order, finds-labelled}
 use Rattle.definition.specs.RunLaw.{RunLaw, SwitchLaw, LawOfSwitches}
 use Rattle.definition.proofs.Outcomes.{outcome-code, refused-form, refused-rows, accepted-form}
 use Rattle.definition.proofs.Visits.{visits-most}
 use Rattle.definition.proofs.Never.{target-known, never-already-scheduled, never-unschedule-out-of-order, never-maybe-throw-in-value-terminal}
-use Rattle.definition.proofs.Simulation.{machine-builds}
-use Rattle.definition.specs.Reached.{Reached, contextOf, framesOf}
-use Rattle.definition.proofs.Invariant.{Small, sound-small, reached-going, stack-bound, machine-turns}
+use Rattle.machine.proofs.Simulation.{machine-builds}
+use Rattle.machine.specs.Reached.{Reached, contextOf, framesOf}
+use Rattle.machine.proofs.Invariant.{Small, sound-small, reached-going, stack-bound, machine-turns}
 use Rattle.definition.proofs.Enough.{blocks-enough}
 use Rattle.definition.specs.PlainLoops.{PlainLoops}
 use Rattle.definition.specs.LoopLaw.{LawOfLoops, LawOfLoopsAndSwitches}
@@ -69,24 +69,24 @@ use Rattle.definition.proofs.Samples.{Sample, samples, builtFor, the-samples}
 use Rattle.definition.specs.Tree.{Row}
 use Rattle.definition.specs.Reading.{ReadAs}
 use Rattle.definition.proofs.Readings.{one-reading}
-use Rattle.reading.specs.Grammar.{Answer}
-use Rattle.reading.specs.Needs.{treeVerdict, codeOf, atOf}
-use Rattle.reading.proofs.Words.{words-answered, words-answer-is}
-use Rattle.reading.proofs.BuiltReads.{built-answered}
-use Rattle.treerows.specs.Found.{treeChecked}
-use Rattle.treerows.specs.declared.TreeChecked.{TreeChecked}
-use Rattle.treerows.proofs.check_tree.Statement as tree-stated
-use Rattle.treerows.proofs.check_tree.Met as tree-proved
-use Rattle.treerows.proofs.check_tree.Reads as check-tree
-use Rattle.treerows.proofs.tree_check.Statement as tree-export-stated
-use Rattle.treerows.proofs.tree_check.Met as tree-export-proved
-use Rattle.treerows.proofs.tree_check.Reads as tree-export
+use Rattle.tree_grammar.specs.Grammar.{Answer}
+use Rattle.tree_grammar.specs.Needs.{treeVerdict, codeOf, atOf}
+use Rattle.tree_grammar.proofs.Words.{words-answered, words-answer-is}
+use Rattle.tree_grammar.proofs.BuiltReads.{built-answered}
+use Rattle.tree_check.specs.Found.{treeChecked}
+use Rattle.tree_check.specs.declared.TreeChecked.{TreeChecked}
+use Rattle.tree_check.proofs.check_tree.Statement as tree-stated
+use Rattle.tree_check.proofs.check_tree.Met as tree-proved
+use Rattle.tree_check.proofs.check_tree.Reads as check-tree
+use Rattle.tree_check.proofs.tree_check.Statement as tree-export-stated
+use Rattle.tree_check.proofs.tree_check.Met as tree-export-proved
+use Rattle.tree_check.proofs.tree_check.Reads as tree-export
 use Rattle.text.specs.Ascii.{ascii}
 use Rattle.text.specs.Decimal.{digitsOf, decimal}
 use Rattle.text.proofs.DecimalLaws.{steps}
-use Rattle.build.specs.declared.Outcome.{Outcome}
+use Rattle.walk.specs.declared.Outcome.{Outcome}
 use Rattle.build.specs.Entry.{outcome}
-use Rattle.driver.proofs.CheckedLaws.{checked-table}
+use Rattle.walk.proofs.CheckedLaws.{checked-table}
 use Rattle.build.proofs.Demand3.{entry-tree, entry-law, language-law}
 use Rattle.build.proofs.build_reactive_function.Statement as entry-stated
 use Rattle.build.proofs.build_reactive_function.Met as entry-proved
@@ -105,9 +105,9 @@ use Rattle.theorems.specs.LabelsThere.{LabelsThere}
 use Rattle.theorems.specs.Parted.{Parted, Unnamed, AcceptedAlike}
 use Rattle.theorems.proofs.Language.{entries-part, first-never-29, labels-there}
 use Rattle.theorems.proofs.Parting.{where-refused, where-accepted}
-use Rattle.treefile.specs.Prints.{lentWords, lentIndex, Prints}
-use Rattle.treefile.proofs.OutcomeLaws.{never-41 as file-never-41}
-use Rattle.treefile.proofs.Sample.{sample-prints}
+use Rattle.build.specs.Prints.{lentWords, lentIndex, Prints}
+use Rattle.build.proofs.OutcomeLaws.{never-41 as file-never-41}
+use Rattle.build.proofs.Sample.{sample-prints}
 
 -- ---- the entries (demand 2): build_reactive_function and build_language (M-102) give what the definition gives, each by its rule
 

@@ -7,7 +7,7 @@ use denote.Ref.{RefT, now}
 use Rattle.definition.specs.Around.{Rule, rust, language}
 use Rattle.definition.specs.Build.{built}
 use Rattle.definition.specs.Build as definition
-use Rattle.build.specs.declared.Outcome.{Outcome}
+use Rattle.walk.specs.declared.Outcome.{Outcome}
 use Rattle.build.specs.Entry.{outcome}
 use Rattle.build.proofs.build_reactive_function.Reads as first-entry
 use Rattle.build.proofs.build_language.Reads as language-entry

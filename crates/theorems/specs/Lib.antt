@@ -3,3 +3,4 @@ pub mod Call
 pub mod LabelsThere
 pub mod Parted
 pub mod Stops
+pub mod Indexed

@@ -1,9 +1,9 @@
 // Reads rows of a tree from standard input, checks them and prints the answer to standard output.
+use program::printed_bytes;
 use program::read_all;
 use program::rows_bytes;
-use program::write_all;
-use rowfile::check_file;
-use text::write::Written;
+use program::write_printed;
+use tree_check::file::check_file;
 
 fn main() {
     let mut file = rows_bytes();
@@ -11,13 +11,7 @@ fn main() {
     if input.failed {
         return;
     }
-    let count = input.count;
-    let mut out = [0u8; 30];
-    let written = check_file(&file[..count], &mut out);
-    match written {
-        Written::Bytes(end) => {
-            write_all(b"treecheck", &out[..end]);
-        }
-        Written::NoRoom => {}
-    }
+    let mut out = printed_bytes();
+    let written = check_file(&file[..input.count], &mut out);
+    write_printed(b"treecheck", &out, written);
 }

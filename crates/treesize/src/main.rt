@@ -1,9 +1,9 @@
 // Reads a table from standard input and prints what its build needs, or why it is refused, to standard output.
+use preview::file::size_file;
+use program::printed_bytes;
 use program::read_all;
 use program::table_bytes;
-use program::write_all;
-use sizefile::size_file;
-use text::write::Written;
+use program::write_printed;
 
 fn main() {
     let mut file = table_bytes();
@@ -11,14 +11,7 @@ fn main() {
     if input.failed {
         return;
     }
-    let count = input.count;
-    // Enough for any.
-    let mut out = [0u8; 81];
-    let written = size_file(&file[..count], &mut out);
-    match written {
-        Written::Bytes(end) => {
-            write_all(b"treesize", &out[..end]);
-        }
-        Written::NoRoom => {}
-    }
+    let mut out = printed_bytes();
+    let written = size_file(&file[..input.count], &mut out);
+    write_printed(b"treesize", &out, written);
 }

@@ -1,12 +1,12 @@
 // Replays data/vectors.bin: tables with their answers, made by the Rust (reference/vectors/README.md says the form), the samples of paper 01
 // first. Each table is built into a buffer full of sevens, and code, at, rows, visits and every word of the buffer are compared. Prints the
 // number of each vector that differs, then how many there are, how many differ, and how many bytes are left.
+use build::build_reactive_function;
+use libc::STDOUT_FILENO;
+use walk::Outcome;
 ghost use Prim.Native.Nat.{_≤_, _<_};
 ghost use mathlib.Core.Path.{_≡_};
 ghost use lib.ListN.{length};
-use build::Outcome;
-use build::build_reactive_function;
-use libc::STDOUT_FILENO;
 
 // A number, and where the next one begins.
 struct Number {

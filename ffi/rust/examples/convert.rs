@@ -1,6 +1,6 @@
 //! Converts a file of the old form into the new one and back, writes a table's words, and asks for what is refused.
 
-use reactive_build::table_text::{NEW_LARGEST, OLD_LARGEST, Placed, new_to_old, old_to_new, write};
+use reactive_build::convert::{NEW_LARGEST, OLD_LARGEST, Placed, new_to_old, old_to_new, write};
 
 const OLD: &str = "entry blocks instructions cases places identifiers\n0 1 0 0 1 1\n\
     first count code a b c d e id span\n0 0 3 0 0 0 0 0 7 12\n\

@@ -2,7 +2,7 @@
 
 mod while_tree;
 
-use reactive_build::tree_lookup::{Found, find, lookup};
+use reactive_build::lookup::{Found, find, lookup};
 use while_tree::TREE;
 
 // label, first row, closing row; then zeros

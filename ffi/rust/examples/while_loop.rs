@@ -3,7 +3,7 @@
 
 mod while_table;
 
-use reactive_build::tree_lookup::{Found, find};
+use reactive_build::lookup::{Found, find};
 use reactive_build::{LINE_WORDS, Outcome, Span, build, rows};
 use while_table::TABLE;
 

@@ -44,27 +44,27 @@ macro_rules! entries {
     };
 }
 
+#[cfg(feature = "convert")]
+pub mod convert;
 #[cfg(feature = "dot")]
 pub mod dot;
+#[cfg(feature = "lookup")]
+pub mod lookup;
 #[cfg(feature = "order")]
 pub mod order;
+#[cfg(feature = "plain")]
+pub mod plain;
 #[cfg(feature = "preview")]
 pub mod preview;
 mod refusal;
 pub mod table;
 #[cfg(feature = "table-check")]
 pub mod table_check;
-#[cfg(feature = "table-plain")]
-pub mod table_plain;
-#[cfg(feature = "table-text")]
-pub mod table_text;
-#[cfg(any(feature = "dot", feature = "table-text"))]
+#[cfg(any(feature = "convert", feature = "dot"))]
 mod text;
 pub mod tree;
 #[cfg(feature = "tree-check")]
 pub mod tree_check;
-#[cfg(feature = "tree-lookup")]
-pub mod tree_lookup;
 #[cfg(feature = "tree-run")]
 pub mod tree_run;
 

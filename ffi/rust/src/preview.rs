@@ -26,9 +26,7 @@ fn preview_by(entry: Entry, words: &[u32]) -> Outcome {
     let (mut at, mut rows, mut visits, mut lines) = (0, 0, 0, 0);
     // SAFETY: a slice gives a pointer that is not null, aligned and valid for its length; the four results
     // are borrowed for this call alone. The function reads and writes nothing else.
-    let code = unsafe {
-        entry(words.as_ptr(), words.len(), &mut at, &mut rows, &mut visits, &mut lines)
-    };
+    let code = unsafe { entry(words.as_ptr(), words.len(), &mut at, &mut rows, &mut visits, &mut lines) };
     Outcome { code, at, rows, visits, lines }
 }
 

@@ -49,6 +49,7 @@ impl Variant {
 
 /// What a block ends in, with its columns a to e: blocks, places and cases are rows of the table. A Switch's cases are so many rows from
 /// `first_case` on.
+#[rustfmt::skip] // a line a variant
 #[derive(Clone, Copy, Debug, PartialEq, Eq, Hash)]
 pub enum Ending {
     /// There is no such block: its whole row is 0.
@@ -137,7 +138,9 @@ impl Ending {
             Self::Label { block, fallthrough } | Self::Sequence { block, fallthrough } => [block, fallthrough, 0, 0, 0],
             Self::MaybeThrow { continuation } => [continuation, 0, 0, 0, 0],
             Self::Try { block, handler, fallthrough, binding } => [block, handler, fallthrough, word(binding), 0],
-            Self::Scope { block, fallthrough, scope } | Self::PrunedScope { block, fallthrough, scope } => [block, fallthrough, scope, 0, 0],
+            Self::Scope { block, fallthrough, scope } | Self::PrunedScope { block, fallthrough, scope } => {
+                [block, fallthrough, scope, 0, 0]
+            }
         }
     }
 
@@ -201,6 +204,7 @@ impl Block {
 }
 
 /// What an instruction is to the build.
+#[rustfmt::skip] // a line a variant
 #[derive(Clone, Copy, Debug, PartialEq, Eq, Hash)]
 pub enum Value {
     /// Any that the build need not know.
@@ -290,8 +294,7 @@ impl Table {
 
     /// The words that the build takes. A span from 0 to 0 becomes none, and `Some(65,535)` becomes none: words have no other.
     pub fn words(&self) -> Vec<u32> {
-        let counts =
-            [self.blocks.len(), self.instructions.len(), self.cases.len(), self.places.len(), self.identifiers.len()];
+        let counts = [self.blocks.len(), self.instructions.len(), self.cases.len(), self.places.len(), self.identifiers.len()];
         let length = HEAD_WORDS
             + BLOCK_WORDS * self.blocks.len()
             + INSTRUCTION_WORDS * self.instructions.len()

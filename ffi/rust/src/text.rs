@@ -27,8 +27,7 @@ macro_rules! writers {
 }
 pub(crate) use writers;
 
-type Writer<T> =
-    unsafe extern "C" fn(*const T, usize, *mut u8, usize, *mut u32, *mut usize) -> c_uint;
+type Writer<T> = unsafe extern "C" fn(*const T, usize, *mut u8, usize, *mut u32, *mut usize) -> c_uint;
 
 /// By one of those exports.
 ///
@@ -39,8 +38,6 @@ pub(crate) unsafe fn place<T>(writer: Writer<T>, items: &[T], text: &mut [u8]) -
     let (mut at, mut length) = (0, 0);
     // SAFETY: slices give pointers that are not null, aligned and valid for their lengths; `text` and
     // the two results are borrowed for this call alone.
-    let code = unsafe {
-        writer(items.as_ptr(), items.len(), text.as_mut_ptr(), text.len(), &mut at, &mut length)
-    };
+    let code = unsafe { writer(items.as_ptr(), items.len(), text.as_mut_ptr(), text.len(), &mut at, &mut length) };
     Placed { code, at, length }
 }

@@ -128,6 +128,7 @@ impl Kind {
 
 /// A row as a typed value. Places, instructions and blocks (labels, targets) are rows of the table. A label, a test of a CASE, a binding or
 /// a span that is not there is `None`.
+#[rustfmt::skip] // a line a variant
 #[derive(Clone, Copy, Debug, PartialEq, Eq, Hash)]
 pub enum Node {
     Plain { instruction: u32 },
@@ -173,9 +174,7 @@ impl Node {
             [7, 0, 0, 0, 0, 0] => Self::Cond,
             [8, optional @ (0 | 1), 0, 0, 0, 0] => Self::Optional { optional: optional == 1 },
             [9, statements, 0, 0, 0, 0] => Self::Block { statements },
-            [10, test, alternate @ (0 | 1), id, label, 0] => {
-                Self::If { test, has_alternate: alternate == 1, id, label: some(label) }
-            }
+            [10, test, alternate @ (0 | 1), id, label, 0] => Self::If { test, has_alternate: alternate == 1, id, label: some(label) },
             [11, test, 0, 0, 0, 0] => Self::Case { test: some(test) },
             [12, test, cases, id, label, 0] => Self::Switch { test, cases, id, label: some(label) },
             [13, id, label, 0, 0, 0] => Self::DoWhile { id, label: some(label) },

@@ -4,8 +4,8 @@
 use reactive_build::table::{Block, Ending, Instruction, Table};
 use reactive_build::tree::{Kind, Node, Nodes, Op, Operator};
 use reactive_build::{
-    LINE_WORDS, Outcome, ROW_WORDS, Refusal, Span, build, build_language, code, dot, order, preview, rows, rows_language, table_check,
-    table_plain, table_text, tree_check, tree_lookup, tree_run,
+    LINE_WORDS, Outcome, ROW_WORDS, Refusal, Span, build, build_language, code, convert, dot, lookup, order, plain, preview, rows,
+    rows_language, table_check, tree_check, tree_run,
 };
 
 /// W of paper 01 with a switch after it.
@@ -74,11 +74,11 @@ fn words_are_taken(words: &[u32], lent: usize) {
     assert_eq!(preview::tree(words).map(|tree| tree.rows), rows(words).map(|rows| rows.concat()));
     assert_eq!(preview::tree_language(words).map(|tree| tree.rows), rows_language(words).map(|rows| rows.concat()));
     assert_eq!(table_check::is_table(words).is_ok(), !refused(table_check::check(words).code));
-    assert_eq!(table_plain::law(words).err(), table_check::is_table(words).err());
+    assert_eq!(plain::law(words).err(), table_check::is_table(words).err());
     let drawn = dot::draw(words, &mut text);
     assert!(!refused(drawn.code) || zeros(&text));
     assert!(dot::text(words).is_ok() || refused(drawn.code));
-    let placed = table_text::write(words, &mut text);
+    let placed = convert::write(words, &mut text);
     assert!(!refused(placed.code) || zeros(&text));
     let moved = order::rearrange(words, &mut tree, &mut index);
     assert!(!refused(moved.code) || zeros(&tree) && zeros(&index));
@@ -97,9 +97,12 @@ fn rows_are_taken(tree: &[u32], index: &[u32], lines: u32) {
     assert_eq!(tree_check::is_tree(tree).is_ok(), !refused(tree_check::check(tree).code));
     for lines in [lines, 0, 1, u32::MAX] {
         for label in [0, 3, 65_535, u32::MAX] {
-            let found = tree_lookup::find(index, lines, label, tree);
-            let looked = tree_lookup::lookup(index, lines, label, tree);
-            assert_eq!(looked.map(<[u32]>::len), if refused(found.code) { Err(Refusal { code: found.code, at: found.at }) } else { Ok(found.end - found.begin) });
+            let found = lookup::find(index, lines, label, tree);
+            let looked = lookup::lookup(index, lines, label, tree);
+            assert_eq!(
+                looked.map(<[u32]>::len),
+                if refused(found.code) { Err(Refusal { code: found.code, at: found.at }) } else { Ok(found.end - found.begin) }
+            );
         }
     }
     for length in [0, 1, 64] {
@@ -119,16 +122,16 @@ fn rows_are_taken(tree: &[u32], index: &[u32], lines: u32) {
 
 /// Every function that takes a file's bytes.
 fn bytes_are_taken(file: &[u8], lent: usize) {
-    for convert in [table_text::old_to_new, table_text::new_to_old] {
+    for converted in [convert::old_to_new, convert::new_to_old] {
         let mut text = vec![7; lent];
-        let placed = convert(file, &mut text);
+        let placed = converted(file, &mut text);
         assert!(!refused(placed.code) || zeros(&text));
         assert!(placed.length <= lent);
     }
     let mut words = vec![7; lent];
-    let read = table_text::read(file, &mut words);
+    let read = convert::read(file, &mut words);
     assert!(if refused(read.code) { read.count == 0 && zeros(&words) } else { zeros(&words[read.count..]) });
-    match table_text::read_table(file) {
+    match convert::read_table(file) {
         Ok(whole) if whole.len() <= lent => assert_eq!((read.code, &whole[..]), (0, &words[..read.count])),
         Ok(_) => assert_eq!((read.code, read.at), (code::WORDS_LENT, 0)),
         Err(refusal) => assert_eq!(refusal, Refusal { code: read.code, at: read.at }),
@@ -153,7 +156,7 @@ fn rows_of_any_sort() {
 #[test]
 fn bytes_of_any_sort() {
     let mut text = vec![0; 4_096];
-    let written = table_text::write(&good_table(), &mut text);
+    let written = convert::write(&good_table(), &mut text);
     let good = &text[..written.length];
     for at in 0..good.len() {
         bytes_are_taken(&good[..at], 4_096);
@@ -173,25 +176,25 @@ fn bytes_of_any_sort() {
 #[test]
 fn what_is_written_is_read_and_a_spoilt_byte_is_found() {
     let (words, mut text) = (good_table(), vec![0; 4_096]);
-    let written = table_text::write(&words, &mut text);
+    let written = convert::write(&words, &mut text);
     let good = &text[..written.length];
-    assert_eq!(table_text::read_table(good).as_ref(), Ok(&words));
+    assert_eq!(convert::read_table(good).as_ref(), Ok(&words));
     for (lent, code) in [(words.len(), 0), (words.len() - 1, code::WORDS_LENT), (0, code::WORDS_LENT)] {
-        assert_eq!(table_text::read(good, &mut vec![7; lent]).code, code);
+        assert_eq!(convert::read(good, &mut vec![7; lent]).code, code);
     }
     for at in 0..good.len() {
         let refusal = |at: usize| Err(Refusal { code: code::FORM, at: at as u32 });
-        assert_eq!(table_text::read_table(&good[..at]), refusal(at));
+        assert_eq!(convert::read_table(&good[..at]), refusal(at));
         for byte in [0, b'\r', 0xff] {
             let mut spoilt = good.to_vec();
             spoilt[at] = byte;
-            assert_eq!(table_text::read_table(&spoilt), refusal(at));
+            assert_eq!(convert::read_table(&spoilt), refusal(at));
         }
     }
-    assert_eq!(table_text::read_table(&[good, b"\n"].concat()), Err(Refusal { code: code::FORM, at: good.len() as u32 }));
+    assert_eq!(convert::read_table(&[good, b"\n"].concat()), Err(Refusal { code: code::FORM, at: good.len() as u32 }));
     for length in [32_768, 32_769, 5_000_000] {
         let code = if length > 32_768 { code::FILE_LENGTH } else { code::FORM };
-        assert_eq!(table_text::read_table(&vec![b'1'; length]), Err(Refusal { code, at: 0 }));
+        assert_eq!(convert::read_table(&vec![b'1'; length]), Err(Refusal { code, at: 0 }));
     }
 }
 
@@ -218,7 +221,7 @@ fn numbers_of_any_size() {
         table.block(&[], switch, word, Span::of_words(word, 0));
         assert!(rows(&table.words()).is_err());
     }
-    assert_eq!(LINE_WORDS, tree_lookup::LINE_WORDS);
+    assert_eq!(LINE_WORDS, lookup::LINE_WORDS);
 }
 
 #[test]

@@ -22,7 +22,7 @@ pub type CandidateDot = fn(&[u32], &mut [u8]) -> Drawn;
 
 /// The writer, the two converters, and the reader.
 #[derive(Clone, Copy)]
-pub struct CandidateTexts {
+pub struct CandidateConvert {
     pub write: fn(&[u32], &mut [u8]) -> Placed,
     pub old_to_new: fn(&[u8], &mut [u8]) -> Placed,
     pub new_to_old: fn(&[u8], &mut [u8]) -> Placed,
@@ -128,29 +128,29 @@ pub const CANDIDATE_LOOKUP: Option<CandidateLookup> = Some(look_up);
 
 #[cfg(feature = "candidate")]
 fn look_up<'a>(index: &[u32], lines: u32, label: u32, tree: &'a [u32]) -> Looked<'a> {
-    use reactive_build::tree_lookup::{Found, find, lookup};
+    use reactive_build::lookup::{Found, find, lookup};
     let Found { code, at, begin, end } = find(index, lines, label, tree);
     let part = lookup(index, lines, label, tree).unwrap_or_default();
     Looked { code, at, begin, end, part }
 }
 
 #[cfg(not(feature = "candidate"))]
-pub const CANDIDATE_TEXTS: Option<CandidateTexts> = None;
+pub const CANDIDATE_CONVERT: Option<CandidateConvert> = None;
 
 #[cfg(feature = "candidate")]
-pub const CANDIDATE_TEXTS: Option<CandidateTexts> = Some(CandidateTexts {
-    write: |words, text| placed(reactive_build::table_text::write(words, text)),
-    old_to_new: |file, text| placed(reactive_build::table_text::old_to_new(file, text)),
-    new_to_old: |file, text| placed(reactive_build::table_text::new_to_old(file, text)),
+pub const CANDIDATE_CONVERT: Option<CandidateConvert> = Some(CandidateConvert {
+    write: |words, text| placed(reactive_build::convert::write(words, text)),
+    old_to_new: |file, text| placed(reactive_build::convert::old_to_new(file, text)),
+    new_to_old: |file, text| placed(reactive_build::convert::new_to_old(file, text)),
     read: |file, words| {
-        let reactive_build::table_text::WordsRead { code, at, count } = reactive_build::table_text::read(file, words);
+        let reactive_build::convert::WordsRead { code, at, count } = reactive_build::convert::read(file, words);
         WordsRead { code, at, count }
     },
 });
 
 #[cfg(feature = "candidate")]
-fn placed(placed: reactive_build::table_text::Placed) -> Placed {
-    let reactive_build::table_text::Placed { code, at, length } = placed;
+fn placed(placed: reactive_build::convert::Placed) -> Placed {
+    let reactive_build::convert::Placed { code, at, length } = placed;
     Placed { code, at, length }
 }
 

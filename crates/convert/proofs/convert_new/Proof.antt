@@ -4,7 +4,7 @@ use mathlib.Core.Path.{sym, _∙_}
 use mathlib.Core.List.{[]}
 use borrow.Author.Tests.{not-true, not-false}
 use Rattle.text.proofs.LentLaws.{holds-none}
-use Rattle.writer.proofs.TextLaws.{accepted-promise}
+use Rattle.convert.proofs.TextLaws.{accepted-promise}
 use Rattle.convert.proofs.ConvertLaws.{new-refused, new-apart, new-written}
 use Rattle.convert.proofs.convert_new.Statement.{statement}
 use Rattle.convert.proofs.convert_new.Tie as tie

@@ -5,7 +5,7 @@ use mathlib.Core.Path.{sym}
 use lib.Seq.{length-take-le}
 use Rattle.text.proofs.PrintsLaws.{words-within, words-read}
 use Rattle.text.specs.declared.version.Version.the-variants.{Old}
-use Rattle.writer.proofs.GoodLaws.{good-shaped}
+use Rattle.convert.proofs.GoodLaws.{good-shaped}
 use Rattle.convert.specs.Convert.{newOfOld, oldToNew}
 use Rattle.convert.proofs.ConvertLaws.{words-few, of-words, of-refusal, never-short}
 use Rattle.convert.proofs.old_to_new.Statement.{statement}

@@ -3,7 +3,7 @@ use native.Mathlib.Omega.{arith}
 use mathlib.Core.Path.{sym, _∙_}
 use mathlib.Core.List.{[]}
 use Rattle.text.proofs.LentLaws.{holds-none}
-use Rattle.writer.proofs.TextLaws.{accepted-promise}
+use Rattle.convert.proofs.TextLaws.{accepted-promise}
 use Rattle.convert.proofs.ConvertLaws.{wide-bound, wide-accepted, wide-refused}
 use Rattle.convert.proofs.write_wide.Statement.{statement}
 use Rattle.convert.proofs.write_wide.Tie as tie

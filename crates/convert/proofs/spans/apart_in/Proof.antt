@@ -4,7 +4,7 @@ use mathlib.Core.Path.{_≡_, refl, sym, _∙_}
 use mathlib.Core.List.{List}
 use Prim.Native.Nat.{ℕ, _+_, _*_, _≤_}
 use lib.ListN.{length}
-use Rattle.writer.proofs.CutLaws.{rows-left}
+use Rattle.convert.proofs.CutLaws.{rows-left}
 use Rattle.convert.specs.Convert.{endsAgree}
 use Rattle.convert.proofs.SpanLaws.{apart-some, ends-more, ends-apart, ends-done}
 use Rattle.convert.proofs.spans.apart_in.Statement.{statement}

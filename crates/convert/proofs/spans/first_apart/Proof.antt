@@ -1,6 +1,6 @@
 use borrow.Author.Needs.{needs}
 use native.Mathlib.Omega.{arith}
-use Rattle.writer.proofs.TextLaws.{sized-within}
+use Rattle.convert.proofs.TextLaws.{sized-within}
 use Rattle.convert.proofs.SpanLaws.{spans-blocks, spans-instructions}
 use Rattle.convert.proofs.ConvertLaws.{sized-short}
 use Rattle.convert.proofs.spans.first_apart.Statement.{statement}

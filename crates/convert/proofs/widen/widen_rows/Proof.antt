@@ -6,7 +6,7 @@ use Prim.Native.Nat.{ℕ, _+_, _-_, _*_, _≤_}
 use lib.ListN.{length, take, drop, getD, length-take}
 use Rattle.text.specs.Printed.{Wrote}
 use Rattle.text.proofs.WriteLaws.{wrote-none, wrote-byte, wrote-then}
-use Rattle.writer.proofs.CutLaws.{rows-left}
+use Rattle.convert.proofs.CutLaws.{rows-left}
 use Rattle.convert.specs.Widen.{doubledRows}
 use Rattle.convert.proofs.WidenLaws.{doubled-more, doubled-none}
 use Rattle.convert.proofs.widen.widen_rows.Statement.{statement}

@@ -7,8 +7,8 @@ use lib.ListN.{length, drop}
 use Rattle.table.specs.Table.{tableOf}
 use Rattle.text.specs.Printed.{Wrote}
 use Rattle.text.proofs.WriteLaws.{wrote-none, wrote-then}
-use Rattle.lines.specs.Lines.{namedAt, linesTo}
-use Rattle.lines.proofs.NamedLaws.{lines-count, few-lines}
+use Rattle.table.specs.Lines.{namedAt, linesTo}
+use Rattle.table.proofs.NamedLaws.{lines-count, few-lines}
 use Rattle.dot.specs.Dot.{lineText, linesText}
 use Rattle.dot.proofs.DotLaws.{row-more, row-done}
 use Rattle.dot.proofs.graph.write_row.Statement.{statement}

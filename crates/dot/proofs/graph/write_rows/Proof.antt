@@ -8,7 +8,7 @@ use Rattle.table.specs.Words.{blockCount}
 use Rattle.table.specs.Table.{Table, tableOf}
 use Rattle.text.specs.Printed.{Wrote}
 use Rattle.text.proofs.WriteLaws.{wrote-none, wrote-then}
-use Rattle.lines.specs.Lines.{namedAt, linesTo, linesFrom, lines}
+use Rattle.table.specs.Lines.{namedAt, linesTo, linesFrom, lines}
 use Rattle.dot.specs.Dot.{linesText}
 use Rattle.dot.proofs.DotLaws.{all-rows, rows-more, rows-done}
 use Rattle.dot.proofs.graph.write_rows.Statement.{statement}

@@ -2,7 +2,7 @@
 use mathlib.Core.Path.{refl}
 use borrow.Author.Needs.{needs}
 use Rattle.table.specs.Check.{caseRules, block, place-or-none}
-use Rattle.block_check.proofs.RowLaws.{passed, failed, all-fit}
+use Rattle.table_check.proofs.RowLaws.{passed, failed, all-fit}
 use Rattle.table_check.proofs.other_tables.case_row.Statement.{statement}
 use Rattle.table_check.proofs.other_tables.case_row.Tie as tie
 

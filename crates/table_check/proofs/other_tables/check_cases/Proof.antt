@@ -5,7 +5,7 @@ use native.Mathlib.Omega.{arith}
 use borrow.Author.Needs.{needs}
 use Rattle.table.specs.Words.{caseWord, casesBegin, caseCount}
 use Rattle.table.specs.Check.{caseRules, rowsVerdict}
-use Rattle.block_check.proofs.RowLaws.{rows-first, rows-last, rows-on, rows-off}
+use Rattle.table_check.proofs.RowLaws.{rows-first, rows-last, rows-on, rows-off}
 use Rattle.table.proofs.RuleLaws.{case-width}
 use Rattle.table_check.proofs.other_tables.check_cases.Statement.{statement}
 use Rattle.table_check.proofs.other_tables.check_cases.Tie as tie

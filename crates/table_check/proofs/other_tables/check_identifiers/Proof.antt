@@ -5,7 +5,7 @@ use native.Mathlib.Omega.{arith}
 use borrow.Author.Needs.{needs}
 use Rattle.table.specs.Words.{identifierWord, identifiersBegin, identifierCount}
 use Rattle.table.specs.Check.{identifierRules, rowsVerdict}
-use Rattle.block_check.proofs.RowLaws.{rest-first, rest-last, rest-on, rest-off}
+use Rattle.table_check.proofs.RowLaws.{rest-first, rest-last, rest-on, rest-off}
 use Rattle.table_check.proofs.other_tables.check_identifiers.Statement.{statement}
 use Rattle.table_check.proofs.other_tables.check_identifiers.Tie as tie
 

@@ -5,7 +5,7 @@ use native.Mathlib.Omega.{arith}
 use borrow.Author.Needs.{needs}
 use Rattle.table.specs.Words.{instructionWord, instructionsBegin, instructionCount}
 use Rattle.table.specs.Check.{instructionRules, rowsVerdict}
-use Rattle.block_check.proofs.RowLaws.{rows-first, rows-last, rows-on, rows-off}
+use Rattle.table_check.proofs.RowLaws.{rows-first, rows-last, rows-on, rows-off}
 use Rattle.table.proofs.RuleLaws.{instruction-width}
 use Rattle.table_check.proofs.other_tables.check_instructions.Statement.{statement}
 use Rattle.table_check.proofs.other_tables.check_instructions.Tie as tie

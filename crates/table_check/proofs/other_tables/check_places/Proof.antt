@@ -5,7 +5,7 @@ use native.Mathlib.Omega.{arith}
 use borrow.Author.Needs.{needs}
 use Rattle.table.specs.Words.{placeWord, placesBegin, placeCount}
 use Rattle.table.specs.Check.{placeRules, rowsVerdict}
-use Rattle.block_check.proofs.RowLaws.{rest-first, rest-last, rest-on, rest-off}
+use Rattle.table_check.proofs.RowLaws.{rest-first, rest-last, rest-on, rest-off}
 use Rattle.table_check.proofs.other_tables.check_places.Statement.{statement}
 use Rattle.table_check.proofs.other_tables.check_places.Tie as tie
 

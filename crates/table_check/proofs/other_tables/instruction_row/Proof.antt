@@ -4,7 +4,7 @@ use mathlib.Core.List.{[], _∷_}
 use borrow.Author.Needs.{needs}
 use Rattle.table.specs.Check.{number, end-of, operandRules, instructionRules, place}
 use Rattle.table_check.specs.Found.{two}
-use Rattle.block_check.proofs.RowLaws.{passed, failed, all-fit, within, beyond}
+use Rattle.table_check.proofs.RowLaws.{passed, failed, all-fit, within, beyond}
 use Rattle.table_check.proofs.other_tables.instruction_row.Statement.{statement}
 use Rattle.table_check.proofs.other_tables.instruction_row.Tie as tie
 

@@ -2,7 +2,7 @@
 use mathlib.Core.Path.{refl}
 use borrow.Author.Needs.{needs}
 use Rattle.table.specs.Check.{operandRules, place}
-use Rattle.block_check.proofs.RowLaws.{in-limits}
+use Rattle.table_check.proofs.RowLaws.{in-limits}
 use Rattle.table.proofs.RuleLaws.{no-operation, past}
 use Rattle.table_check.proofs.other_tables.operand_columns.Statement.{statement}
 use Rattle.table_check.proofs.other_tables.operand_columns.Tie as tie

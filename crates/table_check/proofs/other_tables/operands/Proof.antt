@@ -1,6 +1,6 @@
 -- `table_check::other_tables::operands` meets its contract.
 use borrow.Author.Needs.{needs}
-use Rattle.block_check.proofs.RowLaws.{is-below, is-not-below, all-below}
+use Rattle.table_check.proofs.RowLaws.{is-below, is-not-below, all-below}
 use Rattle.table_check.proofs.other_tables.operands.Statement.{statement}
 use Rattle.table_check.proofs.other_tables.operands.Tie as tie
 

@@ -1,0 +1,4 @@
+pub mod Simulation
+pub mod Invariant
+pub mod Surveys
+pub mod Goals

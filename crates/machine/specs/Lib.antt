@@ -1,0 +1,5 @@
+pub mod Survey
+pub mod Goal
+pub mod Machine
+pub mod Reached
+pub mod Framed

@@ -1,2 +1,0 @@
-pub mod OrderedLaws
-pub mod OneText

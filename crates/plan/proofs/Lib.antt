@@ -1,4 +1,0 @@
-pub mod CountLaws
-pub mod PlanLaws
-pub mod StepLaws
-pub mod PlannedLaws

@@ -1,3 +1,0 @@
-pub mod Plans
-pub mod Planned
-pub mod Turn

@@ -1,2 +1,0 @@
-pub mod CloseLaws
-pub mod ResumeLaws

@@ -1,4 +1,0 @@
-pub mod ScanLaws
-pub mod FileLaws
-pub mod ReadBack
-pub mod FirstByte

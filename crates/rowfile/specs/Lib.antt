@@ -1,5 +1,0 @@
-pub mod Scan
-pub mod Prints
-pub mod Read
-pub mod Good
-pub mod Samples

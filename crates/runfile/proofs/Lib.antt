@@ -1,4 +1,0 @@
-pub mod FileLaws
-pub mod PrintLaws
-pub mod OneRun
-pub mod FirstByte

@@ -1,4 +1,0 @@
-pub mod Given
-pub mod Good
-pub mod Prints
-pub mod Samples

@@ -1,0 +1,16 @@
+pub mod CountLaws
+pub mod PlanLaws
+pub mod StepLaws
+pub mod PlannedLaws
+pub mod LoopLaws
+pub mod CloseLaws
+pub mod ResumeLaws
+pub mod VisitLaws
+pub mod RowPlanLaws
+pub mod JumpLaws
+pub mod GotoLaws
+pub mod BranchLaws
+pub mod TerminalLaws
+pub mod ValuesLaws
+pub mod SearchLaws
+pub mod AroundLaws

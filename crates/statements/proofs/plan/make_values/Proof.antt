@@ -1,0 +1,15 @@
+use mathlib.Core.Path.{refl}
+use borrow.Author.Needs.{needs}
+use Rattle.statements.proofs.plan.make_values.Statement.{statement}
+use Rattle.statements.proofs.plan.make_values.Tie as tie
+
+go-on-requires : tie.Need-go-on-requires
+go-on-requires c κs = search needs
+
+returns : tie.Need-returns
+returns c =
+    let went : tie.After-go-on = search in
+    rw (went .go-on .ensures) refl
+
+pub make-values-spec : {M : Type 1} → statement M
+make-values-spec = tie.close (tie.spec go-on-requires returns)

@@ -1,2 +1,0 @@
-pub mod PlacedLaws
-pub mod RoomLaws

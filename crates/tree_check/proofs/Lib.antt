@@ -1,0 +1,10 @@
+pub mod SortLaws
+pub mod RangeLaws
+pub mod PartLaws
+pub mod ReadLaws
+pub mod Simulation
+pub mod Begins
+pub mod ScanLaws
+pub mod FileLaws
+pub mod ReadBack
+pub mod FirstByte

@@ -1,0 +1,12 @@
+pub mod CompletionLaws
+pub mod PerformLaws
+pub mod TurnLaws
+pub mod AnswerLaws
+pub mod SeekLaws
+pub mod LinkLaws
+pub mod WalkLaws
+pub mod EntryLaws
+pub mod FileLaws
+pub mod PrintLaws
+pub mod OneRun
+pub mod FirstByte

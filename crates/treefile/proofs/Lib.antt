@@ -1,2 +1,0 @@
-pub mod OutcomeLaws
-pub mod Sample

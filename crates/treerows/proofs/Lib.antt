@@ -1,6 +1,0 @@
-pub mod SortLaws
-pub mod RangeLaws
-pub mod PartLaws
-pub mod ReadLaws
-pub mod Simulation
-pub mod Begins

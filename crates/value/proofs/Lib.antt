@@ -1,3 +1,0 @@
-pub mod MetLaws
-pub mod ExtractLaws
-pub mod FlattenLaws

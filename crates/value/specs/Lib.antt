@@ -1,2 +1,0 @@
-pub mod Met
-pub mod Outcome

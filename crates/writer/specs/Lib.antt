@@ -1,3 +1,0 @@
-pub mod Cut
-pub mod Parts
-pub mod Write
