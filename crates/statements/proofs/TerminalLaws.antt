@@ -2,6 +2,7 @@
 use Prim.Native.Nat.{ℕ, zero, suc, _+_, _-_, _≤_, _<_}
 use native.Mathlib.Omega.{arith}
 use mathlib.Core.Path.{_≡_, refl, sym, ap, _∙_, subst}
+use mathlib.Core.Logic.{_⊎_, inl, inr}
 use mathlib.Core.Bool.{true, false, _||_}
 use mathlib.Core.List.{List, [], _++_, append-assoc}
 use mathlib.Core.Option.{Option}
@@ -41,6 +42,7 @@ use Rattle.statements.specs.declared.plan.Frame.{Frame}
 use Rattle.statements.specs.declared.plan.Plan.{Plan}
 use Rattle.statements.specs.Plans.{stateAt, applied, refusing}
 use Rattle.statements.specs.Planned.{Stands, Seen, Fitting, Planned, Entered, terminalStepIn, terminalStep}
+use Rattle.statements.specs.Loops.{valueCode}
 use Rattle.statements.specs.Jumps.{JumpSeen, GotoSeen, BranchSeen}
 use Rattle.statements.specs.Turn.{Resolves, Shown, AtTerminal, Visits, inHand, StageFits, Ready, emitting, PlannedTurn}
 use Rattle.statements.proofs.PlanLaws.{refuse-applied}
@@ -260,6 +262,40 @@ Missed (suc k) n = Missed k n × (n ≡ k → ⊥)
 pub missed-past : (k n : ℕ) → Missed k n → k ≤ n
 missed-past zero n h = omega arith
 missed-past (suc k) n (h, g) = omega (arith, missed-past k n h, g)
+
+-- a code that none of the arms with one code is: what is left are the arms 13 | 14 | 15 | 17 and 20 | 21, told apart by two tests
+abbrev pub Rest : ℕ → Type 0
+Rest n = (((Missed 13 n × (n ≡ 17 → ⊥)) × (n ≡ 16 → ⊥)) × (n ≡ 18 → ⊥)) × (n ≡ 19 → ⊥)
+
+pub scope-past : (n : ℕ) → Rest n → 16 ≤ n → 20 ≤ n
+scope-past n ((((_, a), b), c), d) e = past 18 d (past 17 c (past 16 a (past 15 b e)))
+  where
+    past : (k : ℕ) → (n ≡ suc k → ⊥) → suc k ≤ n → suc (suc k) ≤ n
+    past k f g = omega (arith, f, g)
+
+pub no-jump : (n : ℕ) → 7 ≤ n → eqb n 4 || eqb n 6 ≡ false
+no-jump n h = rw (ne-eqb n 4 (λ e. omega (arith, h, e)), ne-eqb n 6 (λ e. omega (arith, h, e))) refl
+
+value-near : (n d : ℕ) → n ≡ 13 + d → d < 3 → valueCode n ≡ true
+value-near n zero e h = subst (λ (z : ℕ). valueCode z ≡ true) (sym e) refl
+value-near n (suc zero) e h = subst (λ (z : ℕ). valueCode z ≡ true) (sym e) refl
+value-near n (suc (suc zero)) e h = subst (λ (z : ℕ). valueCode z ≡ true) (sym e) refl
+value-near n (suc (suc (suc d))) e h = absurd (omega (arith, h))
+
+pub value-came : (n : ℕ) → (n ≡ 17) ⊎ (Rest n × (n < 16)) → (valueCode n ≡ true) × (7 ≤ n)
+value-came n (inl e) = (subst (λ (z : ℕ). valueCode z ≡ true) (sym e) refl, omega (arith, e))
+value-came n (inr (((((h, _), _), _), _), below)) =
+    let past = missed-past 13 n h in
+    (value-near n (n - 13) (omega (arith, past)) (omega (arith, past, below)), omega (arith, past))
+
+-- the two ways into an arm, as a tie has them, are those
+pub ways : {A B P Q : Type 0} → A ⊎ B → (A → P) → (B → Q) → P ⊎ Q
+ways (inl a) f g = inl (f a)
+ways (inr b) f g = inr (g b)
+
+-- a value's code is one of the four
+pub no-value : (n : ℕ) → (n ≡ 13 → ⊥) → (n ≡ 14 → ⊥) → (n ≡ 15 → ⊥) → (n ≡ 17 → ⊥) → valueCode n ≡ true → ⊥
+no-value n a b c d e = true-false (sym e ∙ rw (ne-eqb n 13 a, ne-eqb n 14 b, ne-eqb n 15 c, ne-eqb n 17 d) refl)
 
 pub visits-ready : (w : List ℕ) (p : Position) (frame : Frame) → Ready w p frame → p .stage ≡ Visit → Visits w p
 visits-ready w p frame ready e =

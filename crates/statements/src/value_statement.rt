@@ -14,30 +14,53 @@ use crate::plan::frame_of;
 use crate::plan::leave;
 use crate::plan::make_values;
 use crate::plan::refuse;
+use table::columns::code_at;
 use table::columns::span_at;
+use table::terminals::logical_at;
+use table::terminals::optional_at;
+use table::terminals::sequence_at;
+use table::terminals::ternary_at;
 use values::result::Tally;
 use values::rows::INSTR;
 use values::rows::put;
 use values::value_walk::visit_value_block_terminal;
 ghost use mathlib.Core.Path.{_≡_};
 ghost use mathlib.Core.Bool.{true, _||_};
+ghost use mathlib.Core.Option.{some};
 ghost use Prim.Native.Nat.{_-_, _<_};
-ghost use Rattle.table.specs.Words.{codeAt};
-ghost use Rattle.definition.specs.Context.{has};
-ghost use Rattle.statements.specs.Plans.{unlessTaken};
-ghost use Rattle.statements.specs.Loops.{PlannedValues, Making, schedulingValue, valueCode};
+ghost use Rattle.table.specs.Words.{blockCount, codeAt};
+ghost use Rattle.table.specs.Promise.{Promise};
+ghost use Rattle.table.specs.Table.{tableOf, terminalAt};
+ghost use Rattle.statements.specs.Planned.{Entered, PlannedBare};
+ghost use Rattle.statements.specs.Loops.{PlannedValues, Making, valueCode, valueFallthrough};
 
-// A Logical, Ternary, Optional or Sequence with that fallthrough, as a statement: scheduled like an If, if that is taken.
-pub fn schedule_value<'a>(
+fn fallthrough_at(words: &[u32], block: u32) -> u32
+    requires { ⌜ Promise (now words) ⌝ }
+    requires { ⌜ block < blockCount (now words) ⌝ }
+    requires { ⌜ valueCode (codeAt (now words) block) ≡ true ⌝ }
+    ensures { λ r. ⌜ valueFallthrough (terminalAt (tableOf (now (words .entry))) block) ≡ some r ⌝ }
+{
+    match code_at(words, block) {
+        13 => logical_at(words, block).fallthrough,
+        14 => ternary_at(words, block).fallthrough,
+        15 => optional_at(words, block).fallthrough,
+        17 => sequence_at(words, block).fallthrough,
+        _ => NONE, // no value
+    }
+}
+
+// A Logical, Ternary, Optional or Sequence as a statement: scheduled like an If, if its fallthrough is taken.
+pub fn visit_value<'a>(
+    words: &[u32],
     scheduled: &'a [bool; 1024],
     catch_handlers: &'a [bool; 1024],
     p: Position,
-    fallthrough: u32,
 ) -> Plan
-    requires { ⌜ p .depth < 128 ⌝ }
-    requires { ⌜ fallthrough < 1024 ⌝ }
-    ensures { λ r. ⌜ r ≡ schedulingValue p (unlessTaken (has (now (scheduled .entry)) fallthrough || has (now («catch_handlers» .entry)) fallthrough) fallthrough) ⌝ }
+    requires { ⌜ Entered (now words) p ⌝ }
+    requires { ⌜ valueCode (codeAt (now words) (p .block)) ≡ true ⌝ }
+    ensures { λ r. ⌜ PlannedBare (now (words .entry)) (now (scheduled .entry)) (now («catch_handlers» .entry)) p r ⌝ }
 {
+    let fallthrough = fallthrough_at(words, p.block);
     let label = unless_scheduled(scheduled, catch_handlers, fallthrough);
     let frame = frame_of(p, label, entries_of(label));
     make_values(

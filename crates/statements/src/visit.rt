@@ -21,15 +21,11 @@ use crate::plan::refuse;
 use crate::scope::visit_scope;
 use crate::switch::visit_switch;
 use crate::try_catch::visit_try;
-use crate::value_statement::schedule_value;
+use crate::value_statement::visit_value;
 use crate::while_loop::visit_while;
 use control::around::Aim;
 use table::columns::block_at;
 use table::columns::code_at;
-use table::terminals::logical_at;
-use table::terminals::optional_at;
-use table::terminals::sequence_at;
-use table::terminals::ternary_at;
 use values::instructions::put_instructions;
 ghost use mathlib.Core.Path.{_≡_};
 ghost use mathlib.Core.List.{[]};
@@ -68,27 +64,11 @@ fn visit_terminal<'a>(
         10 => visit_for(words, scheduled, catch_handlers, p),
         11 => visit_for_of(words, scheduled, catch_handlers, p),
         12 => visit_for_in(words, scheduled, catch_handlers, p),
-        13 => {
-            let terminal = logical_at(words, p.block);
-            schedule_value(scheduled, catch_handlers, p, terminal.fallthrough)
-        }
-        14 => {
-            let terminal = ternary_at(words, p.block);
-            schedule_value(scheduled, catch_handlers, p, terminal.fallthrough)
-        }
-        15 => {
-            let terminal = optional_at(words, p.block);
-            schedule_value(scheduled, catch_handlers, p, terminal.fallthrough)
-        }
+        13 | 14 | 15 | 17 => visit_value(words, scheduled, catch_handlers, p),
         16 => visit_label(words, scheduled, catch_handlers, p),
-        17 => {
-            let terminal = sequence_at(words, p.block);
-            schedule_value(scheduled, catch_handlers, p, terminal.fallthrough)
-        }
         18 => visit_maybe_throw(words, scheduled, catch_handlers, p),
         19 => visit_try(words, scheduled, catch_handlers, p),
-        20 => visit_scope(words, scheduled, catch_handlers, p), // Scope
-        21 => visit_scope(words, scheduled, catch_handlers, p), // PrunedScope
+        20 | 21 => visit_scope(words, scheduled, catch_handlers, p), // Scope, PrunedScope
         _ => refuse(p, 10, p.block), // no checked table has it
     }
 }

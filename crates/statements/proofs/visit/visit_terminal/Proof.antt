@@ -1,10 +1,9 @@
 use mathlib.Core.Path.{refl, sym, ap, _∙_}
 use native.Mathlib.Omega.{arith}
-use Rattle.statements.specs.Loops.{valueFallthrough}
-use Rattle.statements.proofs.LoopLaws.{fallthrough-few, value-scheduled}
+use Rattle.statements.specs.Loops.{valueCode}
 use Rattle.statements.proofs.VisitLaws.{unreachable-left}
 use Rattle.statements.proofs.PlannedLaws.{planned-as}
-use Rattle.statements.proofs.TerminalLaws.{goto-seen, branch-seen, elsewhere, missed-past}
+use Rattle.statements.proofs.TerminalLaws.{goto-seen, branch-seen, elsewhere, scope-past, no-jump, value-came, ways}
 use Rattle.table.proofs.RangeLaws.{code-known}
 use borrow.Author.Needs.{needs}
 use Rattle.statements.proofs.visit.visit_terminal.Statement.{statement}
@@ -52,44 +51,8 @@ visit-for-of-requires c κs = search needs
 visit-for-in-requires : tie.Need-visit-for-in-requires
 visit-for-in-requires c κs = search needs
 
-logical-at-requires : tie.Need-logical-at-requires
-logical-at-requires c κs = search needs
-
-schedule-value-requires : tie.Need-schedule-value-requires
-schedule-value-requires c κs =
-    let read : tie.After-logical-at = search in
-    let start : tie.Start = search in
-    (start .pre .0 .depth, fallthrough-few (start .pre .0) (ap valueFallthrough (read .logical-at .ensures .is)))
-
-ternary-at-requires : tie.Need-ternary-at-requires
-ternary-at-requires c κs = search needs
-
-schedule-value-requires-2 : tie.Need-schedule-value-requires-2
-schedule-value-requires-2 c κs =
-    let read : tie.After-ternary-at = search in
-    let start : tie.Start = search in
-    (start .pre .0 .depth, fallthrough-few (start .pre .0) (ap valueFallthrough (read .ternary-at .ensures .is)))
-
-optional-at-requires : tie.Need-optional-at-requires
-optional-at-requires c κs = search needs
-
-schedule-value-requires-3 : tie.Need-schedule-value-requires-3
-schedule-value-requires-3 c κs =
-    let read : tie.After-optional-at = search in
-    let start : tie.Start = search in
-    (start .pre .0 .depth, fallthrough-few (start .pre .0) (ap valueFallthrough (read .optional-at .ensures .is)))
-
 visit-label-requires : tie.Need-visit-label-requires
 visit-label-requires c κs = search needs
-
-sequence-at-requires : tie.Need-sequence-at-requires
-sequence-at-requires c κs = search needs
-
-schedule-value-requires-4 : tie.Need-schedule-value-requires-4
-schedule-value-requires-4 c κs =
-    let read : tie.After-sequence-at = search in
-    let start : tie.Start = search in
-    (start .pre .0 .depth, fallthrough-few (start .pre .0) (ap valueFallthrough (read .sequence-at .ensures .is)))
 
 visit-maybe-throw-requires : tie.Need-visit-maybe-throw-requires
 visit-maybe-throw-requires c κs = search needs
@@ -98,13 +61,21 @@ visit-try-requires : tie.Need-visit-try-requires
 visit-try-requires c κs = search needs
 
 visit-scope-requires : tie.Need-visit-scope-requires
-visit-scope-requires c κs = search needs
-
-visit-scope-requires-2 : tie.Need-visit-scope-requires-2
-visit-scope-requires-2 c κs = search needs
+visit-scope-requires c κs =
+    let at-match : tie.At-match-rest = search in
+    let past : tie.Else1 = search in
+    let at-code-at : tie.After-code-at = search in
+    let start : tie.Start = search in
+    (start .pre .0, omega (arith, at-code-at .code-at .ensures, scope-past _ (at-match .match .rest) (past .if1 .left)))
 
 refuse-requires-2 : tie.Need-refuse-requires-2
 refuse-requires-2 c κs = search needs
+
+visit-value-requires : tie.Need-visit-value-requires
+visit-value-requires c κs =
+    let at-code-at : tie.After-code-at = search in
+    let start : tie.Start = search in
+    (start .pre .0, ap valueCode (sym (at-code-at .code-at .ensures)) ∙ value-came _ (ways (c .match .came) (λ a. a .keys14) (λ b. (b .0 .rest, b .1 .taken))) .0)
 
 returns : tie.Need-returns
 returns c around =
@@ -210,77 +181,47 @@ returns-13 c around =
 
 returns-14 : tie.Need-returns-14
 returns-14 c around =
-    let read : tie.After-logical-at = search in
-    let at-match : tie.At-match-keys14 = search in
-    let at-code-at : tie.After-code-at = search in
-    let start : tie.Start = search in
-    elsewhere around (start .pre .0) (at-code-at .code-at .ensures) (at-match .match .keys14) refl (λ C o. o .seen) (value-scheduled (start .pre .0) (ap valueFallthrough (read .logical-at .ensures .is)) (c .schedule-value .ensures) _)
-
-returns-15 : tie.Need-returns-15
-returns-15 c around =
-    let read : tie.After-ternary-at = search in
     let at-match : tie.At-match-keys15 = search in
     let at-code-at : tie.After-code-at = search in
     let start : tie.Start = search in
-    elsewhere around (start .pre .0) (at-code-at .code-at .ensures) (at-match .match .keys15) refl (λ C o. o .seen) (value-scheduled (start .pre .0) (ap valueFallthrough (read .ternary-at .ensures .is)) (c .schedule-value2 .ensures) _)
+    elsewhere around (start .pre .0) (at-code-at .code-at .ensures) (at-match .match .keys15) refl (λ C o. o .seen) (c .visit-label .ensures _)
 
-returns-16 : tie.Need-returns-16
-returns-16 c around =
-    let read : tie.After-optional-at = search in
+returns-15 : tie.Need-returns-15
+returns-15 c around =
     let at-match : tie.At-match-keys16 = search in
     let at-code-at : tie.After-code-at = search in
     let start : tie.Start = search in
-    elsewhere around (start .pre .0) (at-code-at .code-at .ensures) (at-match .match .keys16) refl (λ C o. o .seen) (value-scheduled (start .pre .0) (ap valueFallthrough (read .optional-at .ensures .is)) (c .schedule-value3 .ensures) _)
+    elsewhere around (start .pre .0) (at-code-at .code-at .ensures) (at-match .match .keys16) refl (λ C o. o .seen) (c .visit-maybe-throw .ensures _)
 
-returns-17 : tie.Need-returns-17
-returns-17 c around =
+returns-16 : tie.Need-returns-16
+returns-16 c around =
     let at-match : tie.At-match-keys17 = search in
     let at-code-at : tie.After-code-at = search in
     let start : tie.Start = search in
-    elsewhere around (start .pre .0) (at-code-at .code-at .ensures) (at-match .match .keys17) refl (λ C o. o .seen) (c .visit-label .ensures _)
+    elsewhere around (start .pre .0) (at-code-at .code-at .ensures) (at-match .match .keys17) refl (λ C o. o .seen) (c .visit-try .ensures _)
+
+returns-17 : tie.Need-returns-17
+returns-17 c around =
+    let at-match : tie.At-match-rest = search in
+    let past : tie.Else1 = search in
+    let at-code-at : tie.After-code-at = search in
+    let start : tie.Start = search in
+    elsewhere around (start .pre .0) (at-code-at .code-at .ensures) refl (no-jump (at-code-at .code-at .result) (omega (arith, past .if1 .left))) (λ C o. o .seen) (c .visit-scope .ensures _)
 
 returns-18 : tie.Need-returns-18
 returns-18 c around =
-    let read : tie.After-sequence-at = search in
-    let at-match : tie.At-match-keys18 = search in
+    let past : tie.Else2 = search in
     let at-code-at : tie.After-code-at = search in
     let start : tie.Start = search in
-    elsewhere around (start .pre .0) (at-code-at .code-at .ensures) (at-match .match .keys18) refl (λ C o. o .seen) (value-scheduled (start .pre .0) (ap valueFallthrough (read .sequence-at .ensures .is)) (c .schedule-value4 .ensures) _)
+    absurd (omega (arith, past .if2 .left, at-code-at .code-at .ensures, code-known _ (start .pre .0 .promise) _ (start .pre .0 .block)))
 
 returns-19 : tie.Need-returns-19
 returns-19 c around =
-    let at-match : tie.At-match-keys19 = search in
+    let came : tie.At-match-came = search in
     let at-code-at : tie.After-code-at = search in
     let start : tie.Start = search in
-    elsewhere around (start .pre .0) (at-code-at .code-at .ensures) (at-match .match .keys19) refl (λ C o. o .seen) (c .visit-maybe-throw .ensures _)
-
-returns-20 : tie.Need-returns-20
-returns-20 c around =
-    let at-match : tie.At-match-keys20 = search in
-    let at-code-at : tie.After-code-at = search in
-    let start : tie.Start = search in
-    elsewhere around (start .pre .0) (at-code-at .code-at .ensures) (at-match .match .keys20) refl (λ C o. o .seen) (c .visit-try .ensures _)
-
-returns-21 : tie.Need-returns-21
-returns-21 c around =
-    let at-match : tie.At-match-keys21 = search in
-    let at-code-at : tie.After-code-at = search in
-    let start : tie.Start = search in
-    elsewhere around (start .pre .0) (at-code-at .code-at .ensures) (at-match .match .keys21) refl (λ C o. o .seen) (c .visit-scope .ensures _)
-
-returns-22 : tie.Need-returns-22
-returns-22 c around =
-    let at-match : tie.At-match-keys22 = search in
-    let at-code-at : tie.After-code-at = search in
-    let start : tie.Start = search in
-    elsewhere around (start .pre .0) (at-code-at .code-at .ensures) (at-match .match .keys22) refl (λ C o. o .seen) (c .visit-scope2 .ensures _)
-
-returns-23 : tie.Need-returns-23
-returns-23 c around =
-    let at-match : tie.At-match-rest = search in
-    let at-code-at : tie.After-code-at = search in
-    let start : tie.Start = search in
-    absurd (omega (arith, missed-past 22 (at-code-at .code-at .result) (at-match .match .rest), at-code-at .code-at .ensures, code-known _ (start .pre .0 .promise) _ (start .pre .0 .block)))
+    elsewhere around (start .pre .0) (at-code-at .code-at .ensures) refl
+    (no-jump _ (value-came _ (ways (came .match .came) (λ a. a .keys14) (λ b. (b .0 .rest, b .1 .taken))) .1)) (λ C o. o .seen) (c .visit-value .ensures _)
 
 pub visit-terminal-spec : {M : Type 1} → statement M
 visit-terminal-spec =
@@ -300,20 +241,12 @@ visit-terminal-spec =
     visit-for-requires
     visit-for-of-requires
     visit-for-in-requires
-    logical-at-requires
-    schedule-value-requires
-    ternary-at-requires
-    schedule-value-requires-2
-    optional-at-requires
-    schedule-value-requires-3
     visit-label-requires
-    sequence-at-requires
-    schedule-value-requires-4
     visit-maybe-throw-requires
     visit-try-requires
     visit-scope-requires
-    visit-scope-requires-2
     refuse-requires-2
+    visit-value-requires
     returns
     returns-2
     same-length
@@ -336,8 +269,4 @@ visit-terminal-spec =
     returns-16
     returns-17
     returns-18
-    returns-19
-    returns-20
-    returns-21
-    returns-22
-    returns-23)
+    returns-19)
