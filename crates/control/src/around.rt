@@ -1,5 +1,5 @@
 // What the statements around a jump say to it (M-102): in the language entry its kind, and whether it finds the label that it names.
-// One pass over the statements being built, from the innermost; the driver has them in its frames.
+// One pass over the statements being built, from the innermost; the walk has them in its frames.
 use crate::ReactiveTerminalTargetKind;
 use crate::Resolution;
 use crate::Resolved;

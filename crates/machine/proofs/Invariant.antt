@@ -1,5 +1,5 @@
 -- What holds in every state that the machine reaches from a checked table: the numbers that the code's sums and indices need, and a potential that
--- every turn lowers. For the code's loop (crates/build, proofs/DriverLaws).
+-- every turn lowers. For the code's loop (walk/proofs/DriverLaws).
 use mathlib.Core.Path.{_≡_, refl, sym, ap, _∙_, subst}
 use Prim.Native.Nat.{ℕ, zero, suc, _+_, _*_, _-_, _≤_, _<_}
 use native.Mathlib.Nat.{le-refl}

@@ -1,5 +1,5 @@
 -- The build as a machine of turns: one loop, a list of frames in place of the nested calls, and rows put out as they become known.
--- It is the form that the code has; that it gives what the definition gives is proofs/Simulation.
+-- It is the form that the code has. proofs/Simulation proves that it gives what the definition gives.
 use mathlib.Core.Path.{_≡_}
 use Prim.Native.Nat.{ℕ, zero, suc, _+_, _-_}
 use mathlib.Core.List.{List, [], _∷_, _++_}

@@ -1,5 +1,5 @@
 -- What a jump asks of the statements around it (M-102), in one pass from the innermost: the form that the code has, over its frames.
--- That it gives what specs/Around asks is proofs/Surveys.
+-- proofs/Surveys proves that it gives what definition/specs/Around asks.
 use Prim.Native.Nat.{ℕ, zero, suc}
 use mathlib.Core.List.{List, [], _∷_}
 use mathlib.Core.Bool.{Bool, true, false, _&&_, _||_}

@@ -51,7 +51,7 @@ stateAt Values block [] out count cx = ended [] out count cx
 stateAt Values block (frame ∷ frames) out count cx = making (unlessNone block) frame frames out cx
 stateAt Halt block frames out count cx = ended frames out count cx
 
--- ---- what the driver does with a plan
+-- ---- what the walk does with a plan
 
 -- 15 and 90 are `schedule`'s own
 abbrev pub changed : Change → definition.Context → Result definition.Context

@@ -1,4 +1,4 @@
--- The contract of a whole turn: what the driver shows a planner, and what it gets back.
+-- The contract of a whole turn: what the walk shows an arm, and what it gets back.
 use Prim.Native.Nat.{ℕ, zero, suc, _+_, _-_, _≤_, _<_}
 use mathlib.Core.Path.{_≡_}
 use mathlib.Core.Bool.{true}
@@ -58,9 +58,9 @@ Resolves (maybe-throw continuation) around cx aim = Unit {0}
 Resolves (try body handler fallthrough binding) around cx aim = Unit {0}
 Resolves (scope pruned body fallthrough number) around cx aim = Unit {0}
 
--- ---- what a planner is shown
+-- ---- what an arm is shown
 
--- a Context of which a planner sees the sets, the visits, and the goal of the block's jump
+-- an arm sees the sets and the visits of this Context, and the goal of the block's jump
 pub record Shown (words : List ℕ) (emittedSet scheduledSet handlerSet scopeSet : Flags) (p : Position) (aim : Aim) (around : Around) (cx : definition.Context) : Type 0 where
   pub emitted : cx .emitted ≡ emittedSet
   pub scheduled : cx .scheduled ≡ scheduledSet

@@ -1,4 +1,4 @@
-// What a turn of the walk decides: a Plan. A planner sees numbers and sets, never the Context's stack; the driver applies its plan.
+// What a turn of the walk decides: a Plan. An arm sees numbers and sets, never the Context's stack; the walk applies its plan.
 use control::ControlFlowTarget;
 ghost use mathlib.Core.Path.{_≡_};
 ghost use lib.Dec.{eqb};

@@ -1,4 +1,4 @@
-// What a block's jump looks for on the stack, what it finds at an entry, and where it goes. The driver searches before a turn is planned: a planner sees
+// What a block's jump looks for on the stack, what it finds at an entry, and where it goes. The walk searches before a turn is planned: an arm sees
 // neither the stack nor the statements around.
 use crate::fallthrough::scheduled_at;
 use crate::plan::Position;

@@ -1,4 +1,4 @@
--- What an accepted table promises: the walk's crates index by it alone. `Promise` holds of the words where `checked` accepts them, and only there
+-- What an accepted table promises: the rooms of the walk index by it alone. `Promise` holds of the words where `checked` accepts them, and only there
 -- (proofs/PromiseLaws.antt: `promised`, `promise-checked`).
 use Prim.Native.Nat.{ℕ, _<_, _≤_, _+_}
 use mathlib.Core.List.{List}

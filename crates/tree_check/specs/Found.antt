@@ -78,6 +78,7 @@ pub record Begun (words begins : List ℕ) (rows : ℕ) : Type 0 where
 
 -- ---- the promise of the check
 
--- code and at as the machine of reading/specs/Needs computes them: the grammar's answer, and there is no other (reading/proofs/Words, `words-answered`, `words-answer-is`)
+-- code and at as the machine of tree_grammar/specs/Needs computes them: the grammar's answer, and there is no other
+-- (tree_grammar/proofs/Words, `words-answered`, `words-answer-is`)
 abbrev pub treeChecked : (words : List ℕ) → TreeChecked
 treeChecked words = record { code = codeOf (treeVerdict words); at = atOf (treeVerdict words) }
