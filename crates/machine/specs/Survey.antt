@@ -13,9 +13,9 @@ pub record Survey : Type 0 where
   pub switchInside : Bool
   -- one of them has the label
   pub named : Bool
-  -- the loop that a continue resolved to is so many loops on; 0 once it was passed
+  -- how many loops it still is to the loop that a continue resolved to; 0 once that was passed
   pub loopsLeft : ℕ
-  -- it was passed and has the label
+  -- that loop was passed and has the label
   pub loopNamed : Bool
 
 -- before the first

@@ -45,7 +45,7 @@ abbrev pub entriesOnTop : List machine.Frame → ℕ
 entriesOnTop [] = 0
 entriesOnTop (frame ∷ frames) = frame .entries
 
--- the depth that a plan comes to at most: one more with a frame that it keeps
+-- the greatest depth that a plan may come to: one more if it keeps a frame
 abbrev pub deepest : (keep : Bool) → ℕ → ℕ
 deepest true depth = suc depth
 deepest false depth = depth
@@ -68,7 +68,7 @@ pub record Fitting (top : List machine.Frame) (depth : ℕ) (plan : Plan) : Type
   pub next : plan .position .depth ≤ deepest (plan .keep) depth
   pub nested : Nested (plan .position .stage) (plan .keep)
 
--- so many frames, and so many rows out
+-- there are `depth` frames, and `rows` rows are out
 pub record Stands (frames : List machine.Frame) (out : Output) (depth rows : ℕ) : Type 0 where
   pub deep : length frames ≡ depth
   pub many : length (out .rows) ≡ rows

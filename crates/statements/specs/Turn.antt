@@ -32,7 +32,7 @@ use Rattle.statements.specs.Planned.{Seen, Fitting, Stands}
 
 -- ---- jumps
 
--- what is known of the jump's goal at a block that ends so
+-- what is known of the jump's goal at a block with this terminal
 abbrev pub Resolves : Terminal → Around → definition.Context → Option Goal → Type 0
 Resolves absent around cx aim = Unit {0}
 Resolves unreachable around cx aim = Unit {0}
@@ -122,7 +122,7 @@ pub record Ready (words : List ℕ) (p : Position) (frame : Frame) : Type 0 wher
 
 -- ---- what it gives back
 
--- a block that is visited is emitted
+-- the visit of a block emits it
 abbrev pub emitting : Stage → (block : ℕ) → definition.Context → definition.Context
 emitting Visit block cx = emit block cx
 emitting Ended block cx = cx

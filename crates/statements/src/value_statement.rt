@@ -27,7 +27,7 @@ ghost use Rattle.definition.specs.Context.{has};
 ghost use Rattle.statements.specs.Plans.{unlessTaken};
 ghost use Rattle.statements.specs.Loops.{PlannedValues, Making, schedulingValue, valueCode};
 
-// A Logical, Ternary, Optional or Sequence with that fallthrough, as a statement: scheduled like an If, if that is taken.
+// A Logical, Ternary, Optional or Sequence as a statement. It is scheduled like an If, if its fallthrough is taken.
 pub fn schedule_value<'a>(
     scheduled: &'a [bool; 1024],
     catch_handlers: &'a [bool; 1024],
@@ -50,7 +50,7 @@ pub fn schedule_value<'a>(
     )
 }
 
-// Its value: an INSTR with the terminal's own span, with which the statement is complete.
+// Makes its value, an INSTR with the terminal's own span. Then the statement is complete.
 pub fn make_statement(words: &[u32], tree: &mut [u32], p: Position, frame: Frame) -> Plan
     requires { ⌜ Making (now words) p frame ⌝ }
     requires { ⌜ valueCode (codeAt (now words) (frame .block)) ≡ true ⌝ }

@@ -21,14 +21,14 @@ wordAt words i column = getD words (i * 6 + column) 0
 abbrev pub rowAt : List ℕ → ℕ → Row
 rowAt words i = row (wordAt words i 0) (wordAt words i 1) (wordAt words i 2) (wordAt words i 3) (wordAt words i 4) (wordAt words i 5)
 
--- the row at which the wanted parts begin, the latest of which closes before the row `cursor`; none where they are not there
+-- the row where the wanted parts begin; the latest of them closes just before the row `cursor`. None where they are not there
 unfoldable pub partsBegin : (words begins : List ℕ) → (wanted : List Sort) → (cursor : ℕ) → Option ℕ
 partsBegin words begins [] cursor = some cursor
 partsBegin words begins (sort ∷ wanted) zero = none
 partsBegin words begins (sort ∷ wanted) (suc last) =
     elim (serves sort (madeBy (wordAt words last 0))) [ true ↦ partsBegin words begins wanted (getD begins last 0) | false ↦ none ]
 
--- none as a number that is no row
+-- none, written as a number that is no row
 abbrev pub orNowhere : Option ℕ → ℕ
 orNowhere none = 65535
 orNowhere (some cursor) = cursor

@@ -23,7 +23,7 @@ pub record Held (words buffer : List ℕ) (number : ℕ) (reached : List ℕ) : 
   pub fits : number ≤ length buffer
   pub same : (i : ℕ) → i < number → getD buffer i 0 ≡ wordAt words (getD reached i 0) 1
 
--- rows were to be performed up to these: the buffer took them all, or a first that it can't take is told
+-- these rows were to be performed: the buffer took them all, or the first that it cannot take is named
 pub data Took (words buffer : List ℕ) (performed : Performed) (reached : List ℕ) : Type 0 where
   took : performed .full ≡ false → Held words buffer (performed .number) reached → Took words buffer performed reached
   filled : performed .full ≡ true → length buffer < length reached → performed .at ≡ getD reached (length buffer) 0 → Took words buffer performed reached
