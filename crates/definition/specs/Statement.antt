@@ -315,7 +315,7 @@ visitBlock t visit traverse around (suc blocksLeft) block cx =
     visitTerminal t visit traverse around (terminalAt t block) block (blockAt t block) entered >>= λ result.
     thenNext t block (visitBlock t visit traverse around blocksLeft) (result .statement) (result .next) (result .context)
 
--- traverse_block, with so many levels of depth left
+-- traverse_block, with `depthLeft` levels of depth left
 unfoldable pub traverseBlock : Table → (depthLeft : ℕ) → TraverseInside
 traverseBlock t zero around block cx = refused 30 block (cx .visits)
 traverseBlock t (suc depthLeft) around block cx = visitBlock t (visitValueBlock t depthLeft) (traverseBlock t depthLeft) around (suc mostVisits) block cx

@@ -52,7 +52,7 @@ AllBelow most (block ∷ blocks) = (block < most) × AllBelow most blocks
 abbrev pub listed : (ws : List ℕ) → Named → List ℕ
 listed ws named = caseBlocks (take (named .cases) (drop (named .«first_case») (tableOf ws .cases))) ++ take (named .count) (named .blocks)
 
--- that, which lists what the row names, in bounds that its reader asks for
+-- this list is what the row names, within the bounds that a reader of the list needs
 pub record Names (ws : List ℕ) (row : ℕ) (named : Named) : Type 0 where
   pub is : named ≡ namesOf (terminalAt (tableOf ws) row)
   pub are : namedAt (tableOf ws) row ≡ listed ws named

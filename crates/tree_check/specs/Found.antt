@@ -44,7 +44,7 @@ pub record Ready (words begins : List ℕ) (rows : ℕ) : Type 0 where
 unfoldable pub remainderCode : (words begins : List ℕ) → (rows : ℕ) → ℕ
 remainderCode words begins rows = elim (eqb (getD begins (rows - 1) 0) 0 && eqb (wordAt words (rows - 1) 0) 9) [ true ↦ 0 | false ↦ 62 ]
 
--- so many rows from row i on
+-- the check of the `count` rows from row i on
 unfoldable pub readFrom : (words begins : List ℕ) → (i count : ℕ) → TreeRead
 readFrom words begins i zero = record { code = remainderCode words begins i; at = 0; begin = begins }
 readFrom words begins i (suc count) =
