@@ -59,7 +59,7 @@ unfoldable pub performing : List ℕ → Run → Run
 performing rows unfinished = unfinished
 performing rows (stopped performed left reason) = stopped (rows ++ performed) left reason
 
--- "a block performs its instruction rows in order; then ..": from a block on, at most so many blocks
+-- "a block performs its instruction rows in order; then ..": from a block on, with a bound on the blocks
 unfoldable pub blockRun : Table → (steps block : ℕ) → Answers → Run
 blockRun t zero block answers = unfinished
 blockRun t (suc steps) block answers =

@@ -104,7 +104,7 @@ scheduleCatchHandler block cx = record { nextId = cx .nextId; emitted = cx .emit
 
 -- ---- schedule, unschedule
 
--- what a target asks before it is scheduled, at which block, and what it is refused with. "`schedule_loop` inserts the fallthrough without a test
+-- the test before a target is scheduled: of which block, and with which refusal. "`schedule_loop` inserts the fallthrough without a test
 -- and only then tests the continue block."
 abbrev pub isBlocked : ControlFlowTarget → Flags → Bool
 isBlocked (target-if block) scheduled = has scheduled block

@@ -278,7 +278,7 @@ abbrev pub isFallthrough : Option ℕ → ℕ → Bool
 isFallthrough none block = false
 isFallthrough (some fallthrough) block = eqb fallthrough block
 
--- the value walk with so many levels of depth left. "Order at a visit: 30, 31, 10, then 11 or 23"
+-- the value walk with `depthLeft` levels of depth left. "Order at a visit: 30, 31, 10, then 11 or 23"
 unfoldable pub visitValueBlock : Table → (depthLeft : ℕ) → VisitValueBlock
 unfolding visitValueBlockAt
 visitValueBlock t zero block fallthrough span visits = refused 30 block visits

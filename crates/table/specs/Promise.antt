@@ -1,4 +1,4 @@
--- What an accepted table promises: the walk's crates index by it alone. `Promise` holds of the words where `checked` accepts them, and only there
+-- What an accepted table promises: the rooms of the walk index by it alone. `Promise` holds of the words where `checked` accepts them, and only there
 -- (proofs/PromiseLaws.antt: `promised`, `promise-checked`).
 use Prim.Native.Nat.{ℕ, _<_, _≤_, _+_}
 use mathlib.Core.List.{List}
@@ -42,7 +42,7 @@ abbrev pub BelowUnlessNone : ℕ → Option ℕ → Type 0
 BelowUnlessNone count none = Unit {0}
 BelowUnlessNone count (some row) = row < count
 
--- of a table with so many blocks, places and cases
+-- for a table with `blocks` blocks, `places` places and `cases` cases
 module _ (blocks places cases : ℕ) where
   abbrev pub InRange : Terminal → Type 0
   InRange absent = Unit {0}
@@ -82,7 +82,7 @@ pub record Heads (ws : List ℕ) (block first count id : ℕ) (span : Span) : Ty
   pub is-span : blockAt (tableOf ws) block .span ≡ span
   pub there : first + count ≤ instructionCount ws
 
--- of a table with so many places
+-- for a table with `places` places
 module _ (places : ℕ) where
   abbrev pub OperandsInRange : Operation → Type 0
   OperandsInRange other = Unit {0}

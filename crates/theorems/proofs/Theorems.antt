@@ -446,7 +446,7 @@ pub the-first-entry-never-gives-29 : (words : List ℕ) (lent lentIndex : ℕ) �
 the-first-entry-never-gives-29 = first-never-29
 
 -- in an accepted tree of the language entry each Labeled jump stands in a statement with its label, a continue in its own loop with it, and the nearest loop
--- or SWITCH around an Unlabeled break is a loop (specs/Named)
+-- or SWITCH around an Unlabeled break is a loop (definition/specs/Named)
 pub the-labels-are-there : (words : List ℕ) (lent lentIndex : ℕ) → built language words lent lentIndex .code ≡ 0 → LabelsThere language words lent lentIndex
 the-labels-are-there = labels-there language
 
