@@ -2,7 +2,8 @@
 use Prim.Native.Nat.{ℕ, zero, suc}
 use mathlib.Core.List.{List, [], _∷_, _++_}
 use lib.ListN.{take, drop}
-use Rattle.table.specs.Table.{Table, Case, Terminal, absent, unreachable, throw, return, goto, if, branch, switch, do-while, while, for, for-of, for-in, logical, ternary, optional, label, sequence, maybe-throw, try, scope, blockAt, terminalAt, instructionRowsAt}
+use Rattle.table.specs.Table.{Table, Case, Terminal, absent, unreachable, throw, return, goto, if, branch, switch, do-while, while, for, for-of, for-in, logical}
+use Rattle.table.specs.Table.{ternary, optional, label, sequence, maybe-throw, try, scope, blockAt, terminalAt, instructionRowsAt}
 use Rattle.definition.specs.Run.{Answers, Reason, returned, threw, no-answer-left, not-plain, no-such-case, Run, unfinished, stopped}
 
 -- where a block leads after its rows: to another block, with the answers left, or nowhere

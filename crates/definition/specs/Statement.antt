@@ -6,11 +6,15 @@ use mathlib.Core.Bool.{Bool, true, false, not, _||_}
 use lib.ListN.{take, drop}
 use lib.Dec.{eqb}
 use Rattle.table.specs.declared.columns.Span.{Span}
-use Rattle.table.specs.Table.{Table, Block, Case, Terminal, Variant, absent, unreachable, throw, return, goto, if, branch, switch, do-while, while, for, for-of, for-in, logical, ternary, optional, sequence, maybe-throw, try, scope, Break, Continue, Try, isAbsent, isUnreachable, blockAt, terminalAt, instructionAt, instructionRowsAt, label}
-use Rattle.definition.specs.Context.{has, target-if, target-switch, target-case, target-loop, Context, start, isScheduled, emit, withVisits, markScopeFallthrough, scheduleCatchHandler, schedule, unschedule, Resolution, getBreakTarget, getContinueTarget}
+use Rattle.table.specs.Table.{Table, Block, Case, Terminal, Variant, absent, unreachable, throw, return, goto, if, branch, switch, do-while, while, for, for-of, for-in}
+use Rattle.table.specs.Table.{logical, ternary, optional, sequence, maybe-throw, try, scope, Break, Continue, Try, isAbsent, isUnreachable, blockAt, terminalAt}
+use Rattle.table.specs.Table.{instructionAt, instructionRowsAt, label}
+use Rattle.definition.specs.Context.{has, target-if, target-switch, target-case, target-loop, Context, start, isScheduled, emit, withVisits, markScopeFallthrough}
+use Rattle.definition.specs.Context.{scheduleCatchHandler, schedule, unschedule, Resolution, getBreakTarget, getContinueTarget}
 use Rattle.definition.specs.Around.{Rule, Around, a-loop, a-switch, another, outermost, within, breakKindIn, breakUnnamed, continueUnnamed}
 use Rattle.definition.specs.Result.{Result, ok, refused, _>>=_, refuseIf}
-use Rattle.definition.specs.Tree.{Kind, implicit, labeled, unlabeled, Value, PLAIN, Statement, INSTR, IF, SWITCH, DOWHILE, WHILE, FOR, FOROF, FORIN, LABEL, TRY, SCOPE, RETURN, THROW, BREAK, CONTINUE, Statements, done, _▸_, Cases, no-cases, CASE}
+use Rattle.definition.specs.Tree.{Kind, implicit, labeled, unlabeled, Value, PLAIN, Statement, INSTR, IF, SWITCH, DOWHILE, WHILE, FOR, FOROF, FORIN, LABEL, TRY}
+use Rattle.definition.specs.Tree.{SCOPE, RETURN, THROW, BREAK, CONTINUE, Statements, done, _▸_, Cases, no-cases, CASE}
 use Rattle.definition.specs.Value.{mostDepth, mostVisits, beginVisit, VisitValueBlock, visitValueBlockTerminal, visitValueBlock, valueBlockResultToSequence}
 
 -- a block's statements, and the state that they leave

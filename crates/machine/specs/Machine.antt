@@ -7,7 +7,8 @@ use mathlib.Core.Option.{Option, none, some}
 use mathlib.Core.Bool.{Bool, true, false, not}
 use lib.ListN.{length, getD}
 use lib.Dec.{eqb, leb}
-use Rattle.table.specs.Table.{Table, Block, Case, Terminal, absent, unreachable, throw, return, goto, if, branch, switch, do-while, while, for, for-of, for-in, logical, ternary, optional, sequence, maybe-throw, try, scope, blockAt, terminalAt, instructionRowsAt, label}
+use Rattle.table.specs.Table.{Table, Block, Case, Terminal, absent, unreachable, throw, return, goto, if, branch, switch, do-while, while, for, for-of, for-in, logical}
+use Rattle.table.specs.Table.{ternary, optional, sequence, maybe-throw, try, scope, blockAt, terminalAt, instructionRowsAt, label}
 use Rattle.definition.specs.Build.{accepted, Report, rejected}
 use Rattle.definition.specs.Context.{target-if, target-switch, target-case, target-loop, Entry, Context, start, isScheduled, withVisits, scheduleCatchHandler, pushed, schedule, unscheduledBy, popped}
 use Rattle.definition.specs.Around.{Rule, Enclosing, a-loop, a-switch, another, Around}
@@ -161,14 +162,41 @@ abbrev pub secondPart : Frame → Frame
 secondPart frame = record { block = frame .block; second = true; label = frame .label; entries = frame .entries; left = frame .left; built = frame .built; first = frame .first; count = frame .count }
 
 abbrev pub withEntries : ℕ → Frame → Frame
-withEntries entries frame = record { block = frame .block; second = frame .second; label = frame .label; entries = entries; left = frame .left; built = frame .built; first = frame .first; count = frame .count }
+withEntries entries frame = record {
+  block = frame .block;
+  second = frame .second;
+  label = frame .label;
+  entries = entries;
+  left = frame .left;
+  built = frame .built;
+  first = frame .first;
+  count = frame .count;
+}
 
 abbrev pub withLeft : ℕ → Frame → Frame
-withLeft left frame = record { block = frame .block; second = frame .second; label = frame .label; entries = frame .entries; left = left; built = frame .built; first = frame .first; count = frame .count }
+withLeft left frame = record {
+  block = frame .block;
+  second = frame .second;
+  label = frame .label;
+  entries = frame .entries;
+  left = left;
+  built = frame .built;
+  first = frame .first;
+  count = frame .count;
+}
 
 -- one more case is built, and has an entry
 abbrev pub caseBuilt : Frame → Frame
-caseBuilt frame = record { block = frame .block; second = frame .second; label = frame .label; entries = suc (frame .entries); left = frame .left; built = suc (frame .built); first = frame .first; count = frame .count }
+caseBuilt frame = record {
+  block = frame .block;
+  second = frame .second;
+  label = frame .label;
+  entries = suc (frame .entries);
+  left = frame .left;
+  built = suc (frame .built);
+  first = frame .first;
+  count = frame .count;
+}
 
 -- into a nested block, which must not be scheduled
 unfoldable pub into : (block code at : ℕ) → Frame → List Frame → Output → Context → Result State

@@ -7,9 +7,12 @@ use mathlib.Core.Bool.{true}
 use mathlib.Core.Path.{_≡_}
 use lib.ListN.{getD, length}
 use Rattle.table.specs.declared.columns.Span.{Span}
-use Rattle.table.specs.Words.{entryWord, blockCount, instructionCount, caseCount, placeCount, identifierCount, wordsNeeded, blockWord, instructionWord, caseWord, placeWord, identifierWord, largest}
+use Rattle.table.specs.Words.{entryWord, blockCount, instructionCount, caseCount, placeCount, identifierCount, wordsNeeded, blockWord, instructionWord, caseWord}
+use Rattle.table.specs.Words.{placeWord, identifierWord, largest}
 use Rattle.table.specs.Check.{unused, fits, blockRules, instructionRules, caseRules}
-use Rattle.table.specs.Table.{Terminal, absent, unreachable, throw, return, goto, if, branch, switch, do-while, while, for, for-of, for-in, logical, ternary, optional, label, sequence, maybe-throw, try, scope, Operation, other, load-local, store-local, Case, tableOf, blockAt, terminalAt, instructionAt, unlessNone}
+use Rattle.table.specs.Table.{Terminal, absent, unreachable, throw, return, goto, if, branch, switch, do-while, while, for, for-of, for-in, logical, ternary}
+use Rattle.table.specs.Table.{optional, label, sequence, maybe-throw, try, scope, Operation, other, load-local, store-local, Case, tableOf, blockAt, terminalAt}
+use Rattle.table.specs.Table.{instructionAt, unlessNone}
 
 -- there is a head, and no count is over its limit
 pub record Limited (ws : List ℕ) : Type 0 where
