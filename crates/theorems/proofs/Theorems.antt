@@ -63,9 +63,12 @@ use Rattle.definition.proofs.Law.{switch-law, loops-law as law-of-loops, loops-
 use Rattle.definition.specs.Crossed.{Found}
 use Rattle.definition.proofs.Crossed.{break-found, continue-found}
 use Rattle.definition.proofs.JumpRows.{built-within}
-use Rattle.definition.proofs.Example.{W, loops, picks, W-law, loops-law, picks-law, not-for-rust}
-use Rattle.definition.proofs.LoopLawExample.{counts, counts-law}
-use Rattle.definition.proofs.Samples.{Sample, samples, builtFor, the-samples}
+use Rattle.definition.proofs.Example.{W-law, loops-law, picks-law, not-for-rust}
+use Rattle.definition.specs.Examples.{W, loops, picks}
+use Rattle.definition.proofs.LoopLawExample.{counts-law}
+use Rattle.definition.specs.LoopExamples.{counts}
+use Rattle.definition.proofs.Samples.{the-samples}
+use Rattle.definition.specs.Samples.{Sample, samples, builtFor}
 use Rattle.definition.specs.Tree.{Row}
 use Rattle.definition.specs.Reading.{ReadAs}
 use Rattle.definition.proofs.Readings.{one-reading}
