@@ -93,6 +93,7 @@ fn least<T>(mut run: impl FnMut() -> T) -> f64 {
 }
 
 fn main() {
+    println!("| Text | proved, µs | plain Rust, µs | times |\n|---|---|---|---|");
     let mut room = vec![0u8; 65_542];
     for (name, form, convert) in [("old to new", 0, table_old_to_new as Convert), ("new to old", 1, table_new_to_old as Convert)] {
         for span in [0, 65_535] {
@@ -104,7 +105,7 @@ fn main() {
             let expected = text(1 - form, &changed(form, &words(&file)));
             assert!(room[..length] == *expected.as_bytes());
             let plain = least(|| text(1 - form, &changed(form, &words(&file))));
-            println!("{name}, {} bytes with spans {span}, {length} bytes written: proved {proved:.0} µs, plain Rust {plain:.0} µs ({:.2} times)", file.len(), proved / plain);
+            println!("| {name}, {} bytes with spans {span}, {length} bytes written | {proved:.0} | {plain:.0} | {:.2} |", file.len(), proved / plain);
         }
     }
     let table = words(&file(1, 65_535));
@@ -113,5 +114,5 @@ fn main() {
     assert_eq!(run(), 0);
     let proved = least(&mut run);
     let plain = least(|| text(1, &table));
-    println!("writer, {} words, {length} bytes: proved {proved:.0} µs, plain Rust {plain:.0} µs ({:.2} times)", table.len(), proved / plain);
+    println!("| the writer, {} words, {length} bytes written | {proved:.0} | {plain:.0} | {:.2} |", table.len(), proved / plain);
 }

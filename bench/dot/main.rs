@@ -99,14 +99,16 @@ fn main() {
     assert_eq!(proved(&words, &mut text), (0, expected.len()));
     assert!(text == expected);
     let lines = expected.iter().filter(|byte| **byte == b'\n').count() - 2;
-    println!("{lines} lines, {} bytes", expected.len());
+    let size = format!("{lines} lines, {} bytes", expected.len());
 
     let draw = |text: &mut [u8]| _ = black_box(proved(black_box(&words), text));
     let a = least(|| draw(&mut text));
     let b = least(|| plain(black_box(&words), black_box(&mut expected)));
     let c = least(|| formatted(black_box(&words), black_box(&mut expected)));
-    println!("proved {a:.2} ms; plain Rust, by hand {b:.2} ms ({:.2} times); with writeln! {c:.2} ms ({:.2} times)", a / b, a / c);
     let short = text.len() - 1;
     let d = least(|| draw(&mut text[..short]));
-    println!("a byte too few lent (44): {d:.2} ms");
+    println!("| Text | proved, ms | plain Rust, ms | times |\n|---|---|---|---|");
+    println!("| {size}; plain Rust pushes bytes | {a:.2} | {b:.2} | {:.2} |", a / b);
+    println!("| the same; plain Rust uses `writeln!` | {a:.2} | {c:.2} | {:.2} |", a / c);
+    println!("| the same, a byte too few lent (44) | {d:.2} | | |");
 }

@@ -148,10 +148,11 @@ fn measure(what: &str, words: &[u32]) {
     let a = least(|| _ = black_box(rearrange(black_box(words), &mut new_words, &mut old_numbers)));
     let b = least(|| _ = black_box(plain(black_box(words))));
     let c = least(|| _ = black_box(restore(black_box(&new_words), &old_numbers, &mut first)));
-    println!("{what}, {} blocks: proved {a:.1} us; plain Rust {b:.1} us ({:.2} times); the inverse {c:.1} us", words[1], a / b);
+    println!("| {} blocks, {what} | {a:.1} | {b:.1} | {:.2} | {c:.1} |", words[1], a / b);
 }
 
 fn main() {
+    println!("| Table | proved, µs | plain Rust, µs | times | the inverse, µs |\n|---|---|---|---|---|");
     let mut rng = Rng(7);
     for blocks in [128, 256, 512, 1_024] {
         measure("four lines a block", &table(blocks, false, &mut rng));

@@ -169,5 +169,5 @@ fn main() {
         println!("| {name}, {} rows | {:.1} | {:.1} | {:.2} |", tree.len() / 6, ours / 1000.0, theirs / 1000.0, ours / theirs);
     }
     assert!(lists().iter().all(|(_, tree)| fits_in(32 * 1024, tree)));
-    println!("each of them on a thread with 32 KB of stack: accepted");
+    println!("Stack of a thread: 32 KB are enough for each");
 }

@@ -6,7 +6,8 @@ use Rattle.text.specs.Ascii.{ascii}
 use Rattle.text.specs.Samples.{sample-good, sample-printed}
 use Rattle.definition.specs.Around.{rust}
 use Rattle.definition.specs.Build.{Outcome, built}
-use Rattle.definition.proofs.Samples.{file, file-sample}
+use Rattle.definition.proofs.Samples.{file-sample}
+use Rattle.definition.specs.Samples.{file}
 use Rattle.build.specs.Prints.{lentWords, printedOutcome, Prints}
 
 -- "Lines of input", "Output"

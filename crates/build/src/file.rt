@@ -15,7 +15,7 @@ ghost use Rattle.text.specs.declared.write.Written.the-variants.{Bytes};
 ghost use Rattle.control.specs.AroundAbstraction.{ruleOf};
 ghost use Rattle.build.specs.Prints.{treeText, builtText};
 
-// Arrays by functions that tell their length alone: a proof that has the zeros in sight counts them.
+// Each array comes from a function whose contract tells its length alone: a proof that sees the zeros would count them.
 
 // "It lends 2,048 rows."
 fn lent_rows() -> [u32; 12288]

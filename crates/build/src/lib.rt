@@ -14,7 +14,7 @@ ghost use Rattle.control.specs.AroundAbstraction.{ruleOf};
 ghost use Rattle.walk.specs.Driver.{Reported};
 ghost use Rattle.build.specs.Entry.{outcome};
 
-// Refused: all zeros, in both buffers.
+// A refusal leaves zeros in both buffers.
 fn refuse(
     tree: &mut [u32],
     index: &mut [u32],
@@ -36,7 +36,7 @@ fn refuse(
     }
 }
 
-// Accepted, the buffers hold the rows and the lines, then zeros; 40 where the rows do not fit, else 41 where the lines do not.
+// If the table is accepted, the buffers hold the rows and the lines, then zeros. The code is 40 if the rows do not fit, else 41 if the lines do not.
 fn finish(tree: &mut [u32], index: &mut [u32], walked: Outcome) -> Outcome
     ensures { λ r. ⌜ ((report : Report) → Reported report walked (now (tree .entry)) (now (index .entry)) → outcome r (now (tree .exit)) (now (index .exit)) ≡ outcomeOf (length (now (tree .entry))) (length (now (index .entry))) report) ⌝ }
 {
@@ -62,7 +62,7 @@ fn finish(tree: &mut [u32], index: &mut [u32], walked: Outcome) -> Outcome
     }
 }
 
-// By either entry's rule.
+// The build by the rule of either entry.
 pub fn build(rule: Rule, words: &[u32], tree: &mut [u32], index: &mut [u32]) -> Outcome
     ensures { λ r. ⌜ outcome r (now (tree .exit)) (now (index .exit)) ≡ built (ruleOf rule) (now (words .entry)) (length (now (tree .entry))) (length (now (index .entry))) ⌝ }
 {
@@ -80,7 +80,7 @@ pub fn build_reactive_function(words: &[u32], tree: &mut [u32], index: &mut [u32
     build(Rule::Rust, words, tree, index)
 }
 
-// M-102, the language entry: a break leaves the nearest loop or switch, and a label that a jump names is there, or 29.
+// M-102, the language entry: a break leaves the nearest loop or switch, and a jump's label is around it, or the code is 29.
 pub fn build_language(words: &[u32], tree: &mut [u32], index: &mut [u32]) -> Outcome
     ensures { λ r. ⌜ outcome r (now (tree .exit)) (now (index .exit)) ≡ built language (now (words .entry)) (length (now (tree .entry))) (length (now (index .entry))) ⌝ }
 {

@@ -32,7 +32,7 @@ entryOf entry = record { id = entry .id; target = targetOf (entry .target); owns
 abbrev pub noEntry : Entry
 noEntry = record { id = 0; target = If 0; «owns_loop» = false }
 
--- the first so many entries of the array, the last of them first
+-- the first entries of the array, as many as the number says, the last of them first
 unfoldable pub stackOf : List Entry → ℕ → List definition.Entry
 stackOf entries zero = []
 stackOf entries (suc n) = entryOf (getD entries n noEntry) ∷ stackOf entries n
@@ -41,7 +41,7 @@ stackOf entries (suc n) = entryOf (getD entries n noEntry) ∷ stackOf entries n
 unfoldable pub contextOf : (visits : ℕ) → Context → definition.Context
 contextOf visits cx = record { nextId = cx .«next_schedule_id»; emitted = cx .emitted; scopeFallthroughs = cx .«scope_fallthroughs»; scheduled = cx .scheduled; catchHandlers = cx .«catch_handlers»; stack = stackOf (cx .stack) (cx .len); visits = visits }
 
--- The same of one that `schedule` hands back: the stack's last entry is `pushed`, not yet in the array.
+-- The same for a Context that `schedule` hands back: the stack's last entry is `pushed`, which is not yet in the array.
 unfoldable pub enteredOf : (visits : ℕ) → Context → definition.Context
 enteredOf visits cx = record { nextId = cx .«next_schedule_id»; emitted = cx .emitted; scopeFallthroughs = cx .«scope_fallthroughs»; scheduled = cx .scheduled; catchHandlers = cx .«catch_handlers»; stack = entryOf (cx .pushed) ∷ stackOf (cx .stack) (cx .len - 1); visits = visits }
 
@@ -49,7 +49,7 @@ enteredOf visits cx = record { nextId = cx .«next_schedule_id»; emitted = cx .
 abbrev pub resultOf : (visits : ℕ) → Context → Result definition.Context
 resultOf visits cx = elim (eqb (cx .refused) 0) [ true ↦ ok (enteredOf visits cx) | false ↦ refused (cx .refused) (blockAsked (targetOf (cx .pushed .target))) visits ]
 
--- the entry that went on in its place in the array, as the caller stores it
+-- the Context once its caller has stored the new entry at its place in the array
 unfoldable pub stored : Context → Context
 stored cx = record { emitted = cx .emitted; «catch_handlers» = cx .«catch_handlers»; «scope_fallthroughs» = cx .«scope_fallthroughs»; len = cx .len; scheduled = cx .scheduled; pushed = cx .pushed; refused = cx .refused; «next_schedule_id» = cx .«next_schedule_id»; stack = set (cx .stack) (cx .len - 1) (cx .pushed) }
 

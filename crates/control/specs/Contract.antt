@@ -26,7 +26,7 @@ pub record Bounded (entries : List Entry) (len : ℕ) : Type 0 where
   pub most : len ≤ 1152
   pub named : (k : ℕ) → k < len → Named (getD entries k noEntry .target)
 
--- what the methods ask: room for one entry more and its id; the stack's last entry, as the caller reads it
+-- what the methods require: room for one more entry and its id; the stack's last entry, as the caller reads it
 pub record Room (cx : Context) : Type 0 where
   pub len : cx .len < 1152
   pub id : cx .«next_schedule_id» < 65535
@@ -51,8 +51,8 @@ withEntry target cx = record { emitted = cx .emitted; «catch_handlers» = cx .�
 abbrev pub withoutLast : Entry → Context → Context
 withoutLast last cx = record { emitted = cx .emitted; «catch_handlers» = cx .«catch_handlers»; «scope_fallthroughs» = cx .«scope_fallthroughs»; len = cx .len - 1; scheduled = unscheduledBy (targetOf (last .target)) (last .«owns_loop») (cx .scheduled); pushed = cx .pushed; refused = cx .refused; «next_schedule_id» = cx .«next_schedule_id»; stack = cx .stack }
 
--- ---- the promises. `context` is the equation with the definition, refusals included; `pops` that of the machine, which asks none; `state` says
--- every field
+-- ---- the promises. `context` is the equation with the definition, refusals included. `pops` is the equation with the machine, which refuses nothing. `state`
+-- says what every field is
 
 pub record Created (r : Context) : Type 0 where
   pub context : contextOf 0 r ≡ start

@@ -1,5 +1,5 @@
-// What the statements around a jump say to it (M-102): in the language entry its kind, and whether it finds the label that it names.
-// One pass over the statements being built, from the innermost; the driver has them in its frames.
+// What the statements around a jump decide (M-102). In the language entry they decide its kind, and whether it finds the label that it names.
+// One pass over the statements being built, from the innermost; the walk has them in its frames.
 use crate::ReactiveTerminalTargetKind;
 use crate::Resolution;
 use crate::Resolved;
@@ -21,7 +21,7 @@ ghost use Rattle.control.specs.Abstraction.{kindOf, resolutionOf, resolv
 ghost use Rattle.control.specs.AroundAbstraction.{ruleOf, surveyOf, goalOf, enclosing, FoundBelow};
 ghost use Rattle.control.specs.Pass.{passedLoop, passedSwitch, passedAnother, asksAround, passedFrom, targetSought, unseenBy};
 
-// What a statement is to a jump inside of it. A scope's row has no label.
+// The sort of a statement, as a jump inside it sees it. A scope's row has no label.
 pub enum Sort {
     Loop,
     Switch,
@@ -29,8 +29,8 @@ pub enum Sort {
     Another,
 }
 
-// What is known of the statements that were passed: none of them is a loop or a switch; the first that is one is a switch; one has the label; the loop
-// that a continue resolved to is so many loops on, 0 once it was passed; it has the label.
+// What is known of the statements that were passed, field by field: none of them is a loop or a switch; the first that is one of the two is a switch;
+// one has the label; how many loops it still is to the loop that a continue resolved to, 0 once that was passed; that loop has the label.
 pub struct Survey {
     pub between: bool,
     pub switch_inside: bool,
@@ -39,7 +39,7 @@ pub struct Survey {
     pub loop_named: bool,
 }
 
-// Where a jump goes: its kind by the rule, and whether it is Labeled and there is no such label.
+// Where a jump goes: its kind by the rule, and whether it is Labeled but names no label around it.
 pub struct Goal {
     pub target: u32,
     pub kind: ReactiveTerminalTargetKind,
@@ -63,7 +63,7 @@ fn either(a: bool, b: bool) -> bool
 
 // ---- before the first
 
-// The statements around are asked in the language entry, of a jump that found its target.
+// Only the language entry asks the statements around, and only for a jump that found its target.
 pub fn asks(rule: Rule, found: Resolved) -> bool
     ensures { λ r. ⌜ r ≡ asksAround (ruleOf rule) (resolvedOf found) ⌝ }
 {
@@ -76,7 +76,7 @@ pub fn asks(rule: Rule, found: Resolved) -> bool
     }
 }
 
-// How many of them are passed.
+// The number of statements to pass over.
 pub fn pass_from(asked: bool, depth: u32) -> usize
     ensures { λ r. ⌜ r ≡ passedFrom asked depth ⌝ }
 {
@@ -226,7 +226,7 @@ fn label_if(between: bool, kind: ReactiveTerminalTargetKind) -> ReactiveTerminal
     }
 }
 
-// A break to a loop is Labeled also when a switch is being built in between.
+// A break to a loop is also Labeled when a switch is being built in between.
 fn kind_by(
     rule: Rule,
     between: bool,

@@ -67,7 +67,7 @@ pub enum Resolved {
     Found(Resolution),
 }
 
-// `pushed` is the entry that went on last. `refused` is 15 (90, which never occurs) where `schedule` refused it; such a Context goes no further.
+// `pushed` is the entry that went on last. `refused` is 15 where `schedule` refused it (or 90, which never occurs). The walk ends with such a Context.
 pub struct Context {
     pub emitted: [bool; 1024],
     pub catch_handlers: [bool; 1024],
@@ -127,7 +127,7 @@ impl ControlFlowTarget {
         }
     }
 
-    // The block that is refused where the target cannot be scheduled.
+    // The block of the refusal where the target cannot be scheduled.
     pub fn block_asked(self) -> u16
         ensures { λ r. ⌜ r ≡ blockAsked (targetOf self) ⌝ }
     {
@@ -159,7 +159,7 @@ impl ReactiveTerminalTargetKind {
 
 // ---- sets of blocks
 
-// One block more: emitted, a catch handler or a scope fallthrough.
+// Puts a block into a set: emitted, catch handlers or scope fallthroughs.
 pub fn insert(set: &mut [bool; 1024], block: u16)
     requires { ⌜ block < 1024 ⌝ }
     ensures { λ _. ⌜ now (set .exit) ≡ add (now (set .entry)) block ⌝ }
@@ -193,7 +193,7 @@ fn refusal(blocked: bool, code: u16) -> u16
 
 // ---- the search of the stack for a jump's target
 
-// The loops above the entry below this one.
+// The number of loops above the next entry down.
 pub fn count_loop(loops: u32, target: ControlFlowTarget) -> u32
     requires { ⌜ loops < 1152 ⌝ }
     ensures { λ r. ⌜ (r ≡ loopsOf (targetOf target) + loops) × (r ≤ loops + 1) ⌝ }
@@ -240,7 +240,7 @@ fn continue_kind(top: bool, loops: u32) -> ReactiveTerminalTargetKind
 }
 
 impl Resolution {
-    // The block that the jump's row names: of a continue too it is the loop's fallthrough.
+    // The block that the jump's row names. For a continue too it is the loop's fallthrough.
     pub fn block(self) -> u16
         ensures { λ r. ⌜ r ≡ foundBlock self ⌝ }
     {
@@ -250,7 +250,7 @@ impl Resolution {
     }
 }
 
-// A break to the entry that was found below so many loops.
+// A break to the entry that was found below `loops` loops.
 pub fn break_to(found: Entry, top: bool, loops: u32) -> Resolution
     ensures { λ r. ⌜ (r .entry ≡ found) × (resolutionOf r ≡ breakTo (targetOf (found .target)) top loops) ⌝ }
 {
@@ -264,7 +264,7 @@ pub fn break_to(found: Entry, top: bool, loops: u32) -> Resolution
     }
 }
 
-// A continue of the loop that was found below so many loops.
+// A continue of the loop that was found below `loops` loops.
 pub fn continue_to(found: Entry, top: bool, loops: u32) -> Resolution
     ensures { λ r. ⌜ (r .entry ≡ found) × (resolutionOf r ≡ continueTo (targetOf (found .target)) top loops) ⌝ }
 {
@@ -298,8 +298,8 @@ impl Context {
         }
     }
 
-    // The one way to schedule: any target, a loop with its three blocks. `refused` is 15 where a loop's continue block is scheduled; a loop's fallthrough goes
-    // in without a test, and only then its continue block is tested. The entry is left in `pushed`.
+    // The one way to schedule any target; a loop has three blocks. `refused` is 15 where a loop's continue block is scheduled. A loop's fallthrough goes
+    // in without a test, and its continue block is tested after that. The new entry is in `pushed`.
     pub fn schedule(mut self, target: ControlFlowTarget) -> Context
         requires { ⌜ Named target ⌝ }
         requires { ⌜ Room self ⌝ }
@@ -346,8 +346,8 @@ impl Context {
         self
     }
 
-    // Takes the stack's last entry off, which its caller read at `len - 1`, and its blocks out of the scheduled set: a loop's fallthrough and continue block
-    // whoever put them there, its loop block only if it owns it.
+    // Takes off the stack's last entry, which its caller read at `len - 1`, and takes its blocks out of the scheduled set. A loop's fallthrough and continue
+    // block go out whoever put them there; its loop block goes out only if the loop owns it.
     pub fn unschedule(mut self, last: Entry) -> Context
         requires { ⌜ Last self last ⌝ }
         ensures { λ r. ⌜ Unscheduled last self r ⌝ }

@@ -29,11 +29,11 @@ endsAgree ws width at (suc count) =
 unfoldable pub spansVerdict : List ℕ → Verdict
 spansVerdict ws = andThen (endsAgree ws 11 blocksBegin (blockCount ws)) (endsAgree ws 7 (instructionsBegin ws) (instructionCount ws))
 
--- what the words of an old file, and of a new one, give with so many bytes lent
+-- what the words of an old file, and of a new one, give for a number of bytes lent
 unfoldable pub newOfOld : (words : List ℕ) → (lent : ℕ) → Placing
 newOfOld words lent = unlessRefused (oldChecked words) lent (tableText (widened words))
 
--- the old text has every row of the new one but without `to`
+-- the old text has every row of the new one, but without `to`
 unfoldable pub oldText : List ℕ → List ℕ
 oldText words = textIn (layout New) (layout Old) words
 
@@ -45,7 +45,7 @@ unfoldable pub ofReading : (of : List ℕ → ℕ → Placing) → (lent : ℕ) 
 ofReading of lent (reads words) = of words lent
 ofReading of lent (refuses code at) = refusal code at lent
 
--- the converters: what any file gives with so many bytes lent
+-- the converters: what any file gives for a number of bytes lent
 unfoldable pub oldToNew : (file : List ℕ) → (lent : ℕ) → Placing
 oldToNew file lent = ofReading newOfOld lent (reading (layout Old) file)
 

@@ -6,7 +6,7 @@ use lib.ListN.{length, getD, take, drop}
 use Rattle.text.specs.Layout.{Layout}
 use Rattle.text.specs.File.{Tables, textOf}
 
--- of `count` rows of `stride` words the first `columns` words each
+-- the first `columns` words of each of `count` rows of `stride` words
 unfoldable pub cut : (stride columns count : ℕ) → List ℕ → List (List ℕ)
 cut stride columns zero words = []
 cut stride columns (suc count) words = take columns words ∷ cut stride columns count (drop stride words)

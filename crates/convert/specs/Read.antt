@@ -1,4 +1,4 @@
--- What `table_read` gives of a file and so many lent words: what the file reads as (text, `Reading.reading`: 51 and 50 as paper 01 has them),
+-- What `table_read` gives for a file and a number of lent words: what the file reads as (text, `Reading.reading`: 51 and 50 as paper 01 has them),
 -- in the lent words. The words of a good file are not looked at: refusals 1 to 4 are those of `table_check` and of whatever takes the words.
 use Prim.Native.Nat.{ℕ}
 use mathlib.Core.Bool.{true, false}

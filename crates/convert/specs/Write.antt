@@ -16,6 +16,6 @@ unfoldable pub unlessRefused : Verdict → (lent : ℕ) → (text : List ℕ) �
 unlessRefused (refused code at) lent text = refusal code at lent
 unlessRefused accepted lent text = placed 53 lent text
 
--- the writer, over any words, with a buffer of so many bytes lent
+-- the writer, over any words, for a lent buffer of this many bytes
 unfoldable pub tableWritten : (words : List ℕ) → (lent : ℕ) → Placing
 tableWritten words lent = unlessRefused (checked words) lent (tableText words)

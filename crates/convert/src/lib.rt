@@ -35,7 +35,7 @@ fn lent_wide() -> [u32; 19456]
     [0; 19456]
 }
 
-// Checks widened words, with places of the old form, and writes them.
+// Checks widened words and writes them. A refusal has its place in the old form.
 fn write_wide(wide: &[u32], text: &mut [u8]) -> Placed
     requires { ⌜ Shaped (layout New) (now wide) ⌝ }
     requires { ⌜ length (now wide) ≤ 19456 ⌝ }

@@ -1,4 +1,4 @@
-// The two ends of spans, and places without the second.
+// The two ends of spans, and the places of words in the old form, which has no second end.
 use table::words::block_count;
 use table::words::instruction_count;
 use table::words::instructions_begin;
@@ -10,7 +10,7 @@ ghost use Rattle.table.specs.Promise.{Sized};
 ghost use Rattle.convert.specs.Convert.{endsAgree, spansVerdict};
 ghost use Rattle.convert.specs.Parts.{oldPlace, apartAt};
 
-// The word of the old form that a word of widened words was.
+// The place in the old form of a word that has this place in the widened words.
 pub fn old_place(wide: &[u32], at: u32) -> u32
     requires { ⌜ 6 ≤ length (now wide) ⌝ }
     requires { ⌜ 6 + blockCount (now wide) * 11 + instructionCount (now wide) * 7 ≤ 19456 ⌝ }
@@ -31,7 +31,7 @@ pub fn old_place(wide: &[u32], at: u32) -> u32
     at - blocks - instructions
 }
 
-// Of `rows` rows of `width` words from the word `first` on: the word of the first `to` that differs from its `from`; 0 where all agree.
+// Looks at `rows` rows of `width` words from the word `first` on. Gives the word of the first `to` that differs from its `from`; 0 where all agree.
 fn apart_in(words: &[u32], first: u32, rows: u32, width: u32) -> u32
     requires { ⌜ first + rows * width ≤ length (now words) ⌝ }
     requires { ⌜ length (now words) ≤ 65536 ⌝ }

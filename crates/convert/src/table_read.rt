@@ -5,7 +5,7 @@ ghost use mathlib.Core.Path.{_≡_};
 ghost use lib.ListN.{length};
 ghost use Rattle.convert.specs.Read.{tableRead};
 
-// Any bytes, any lent words. The code; by reference its place and the number of words.
+// Takes any bytes and any lent words. Gives the code, and by reference its place and the number of words.
 #[no_mangle]
 pub extern "C" fn table_read(file: &[u8], words: &mut [u32], at: &mut u32, count: &mut usize) -> u32
     ensures { λ r. ⌜ record { code = r; at = now (at .exit); count = now (count .exit); lent = now (words .exit) } ≡ tableRead (now (file .entry)) (length (now (words .entry))) ⌝ }

@@ -20,7 +20,7 @@ fn copy_words(wide: &mut [u32], start: usize, source: &[u32]) -> usize
     start + i
 }
 
-// `rows` rows of `width` words from the word `first` on, the last word of each twice.
+// Copies `rows` rows of `width` words from the word `first` on, and the last word of each row twice.
 fn widen_rows(
     wide: &mut [u32],
     start: usize,

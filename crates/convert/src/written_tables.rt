@@ -22,7 +22,7 @@ ghost use Rattle.text.specs.declared.version.Version.the-variants.{New};
 ghost use Rattle.convert.specs.Cut.{cut, textIn};
 ghost use Rattle.convert.specs.WrittenParts.{blockText, instructionText, headText, restText};
 
-// A line for each of `rows` rows of `stride` words from the word `first` on: the first `columns` words of each.
+// Writes a line for each of `rows` rows of `stride` words from the word `first` on. A line has the first `columns` words of its row.
 fn write_rows(
     text: &mut [u8],
     start: usize,

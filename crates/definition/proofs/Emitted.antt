@@ -1,6 +1,6 @@
 -- M-101: "No two lines of one accepted tree bear the same label". A statement's label is the block that the walk goes on with: it is entered right after
 -- the statement, and no block is entered twice (11). So the labels of a tree, in the order of its lines, are blocks entered one after the other, and none
--- is the entry. For proofs/Found and proofs/Preview.
+-- is the entry. For theorems/proofs/Found and proofs/Preview.
 use mathlib.Core.Path.{_≡_, refl, sym, ap, _∙_, subst}
 use Prim.Native.Nat.{ℕ, zero, suc, _+_, _≤_, _<_}
 use native.Mathlib.Omega.{arith}

@@ -1,4 +1,4 @@
--- The laws of sets of blocks, and that a block that is present is below the count: for proofs/State, proofs/Never and proofs/Invariant.
+-- The laws of sets of blocks, and that a block that is present is below the count: for proofs/State, proofs/Never and machine/proofs/Invariant.
 use mathlib.Core.Path.{_≡_, refl, sym, _∙_, subst}
 use Prim.Native.Nat.{ℕ, zero, suc, _<_}
 use native.Mathlib.Nat.{zero-lt-suc}

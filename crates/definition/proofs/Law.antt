@@ -1,5 +1,5 @@
 -- Demand 3, proved: for an accepted plain table the block run and the tree run both stop, with the same rows, the same answers taken and for
--- the same reason; and the rows of any accepted table are read as one tree. For whoever calls the build (crates/build, proofs/Demand3).
+-- the same reason; and the rows of any accepted table are read as one tree. For whoever calls the build (build/proofs/Demand3).
 use mathlib.Core.Path.{_≡_, refl, sym, ap, _∙_, subst}
 use Prim.Native.Nat.{ℕ, zero, suc, _+_}
 use mathlib.Core.Logic.{inl, inr}

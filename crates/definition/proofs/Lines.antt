@@ -1,4 +1,4 @@
--- M-101: the lines of a part, put out behind what is out already, beside the rows of proofs/Rows. For proofs/Simulation.
+-- M-101: the lines of a part, put out behind what is out already, beside the rows of proofs/Rows. For machine/proofs/Simulation.
 use mathlib.Core.Path.{_≡_, refl, sym, ap, _∙_}
 use Prim.Native.Nat.{ℕ, _+_, _-_}
 use native.Mathlib.Omega.{arith}

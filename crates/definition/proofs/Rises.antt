@@ -1,4 +1,4 @@
--- M-101: the lines of a tree are "in the order of closing rows", and these are rows of the tree. For proofs/Found and proofs/Preview.
+-- M-101: the lines of a tree are "in the order of closing rows", and these are rows of the tree. For theorems/proofs/Found and proofs/Preview.
 use mathlib.Core.Path.{_≡_, ap, _∙_}
 use Prim.Native.Nat.{ℕ, suc, _+_, _-_, _≤_, _<_}
 use native.Mathlib.Omega.{arith}

@@ -1,4 +1,4 @@
--- The rows of a part, put out behind what is out already: what the machine has out when it closes a statement is that statement's rows. For proofs/Simulation.
+-- The rows of a part, put out behind what is out already: what the machine has out when it closes a statement is that statement's rows. For machine/proofs/Simulation.
 use mathlib.Core.Path.{_≡_, refl, sym, ap, _∙_}
 use Prim.Native.Nat.{ℕ, suc, _+_}
 use native.Mathlib.Nat.{zero-add, suc-add}

@@ -1,4 +1,4 @@
--- M-101: where a labelled statement's rows stand among those of the tree: at its first row. For proofs/Found.
+-- M-101: where a labelled statement's rows stand among those of the tree: at its first row. For theorems/proofs/Found.
 use mathlib.Core.Path.{_≡_, refl, sym, ap, _∙_, subst}
 use Prim.Native.Nat.{ℕ, _+_, _≤_}
 use native.Mathlib.Nat.{le-refl}

@@ -1,5 +1,5 @@
 -- The value walk over any table, by one induction: its visits never fall and never pass 8,192, each pays for 8,200 rows, and every refusal is
--- the paper's. For proofs/Never, proofs/Simulation and proofs/Invariant.
+-- the paper's. For proofs/Never, machine/proofs/Simulation and machine/proofs/Invariant.
 use mathlib.Core.Path.{_≡_, refl, ap}
 use Prim.Native.Nat.{ℕ, zero, suc, _+_, _*_, _≤_, _<_}
 use native.Mathlib.Nat.{le-refl, le-trans}

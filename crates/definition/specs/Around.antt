@@ -17,7 +17,7 @@ pub data Enclosing : Type 0 where
   a-switch : (label : Option ℕ) → Enclosing
   another : (label : Option ℕ) → Enclosing
 
--- the rule, and the statements being built, the innermost first. The control stack does not have all of them: a switch, say, that did not take its fallthrough
+-- the rule, and the statements being built, the innermost first. The control stack does not have all of them: not, say, a switch that did not take its fallthrough
 pub record Around : Type 0 where
   pub rule : Rule
   pub statements : List Enclosing
@@ -38,7 +38,7 @@ switchInside (a-switch label ∷ outer) = true
 switchInside (another label ∷ outer) = switchInside outer
 
 -- "There a break to a loop is Labeled also when a switch is being built between the jump and that loop, whether or not the switch took its fallthrough."
--- (Unlabeled is a break to the innermost loop and no other; to a loop further out it is Labeled by paper 01's rule.)
+-- (Only a break to the innermost loop is Unlabeled. A break to a loop further out is Labeled by paper 01's rule.)
 unfoldable pub kindBy : Rule → (switchBetween : Bool) → Kind → Kind
 kindBy rust switchBetween kind = kind
 kindBy language switchBetween implicit = implicit

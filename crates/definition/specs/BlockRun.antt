@@ -2,7 +2,8 @@
 use Prim.Native.Nat.{ℕ, zero, suc}
 use mathlib.Core.List.{List, [], _∷_, _++_}
 use lib.ListN.{take, drop}
-use Rattle.table.specs.Table.{Table, Case, Terminal, absent, unreachable, throw, return, goto, if, branch, switch, do-while, while, for, for-of, for-in, logical, ternary, optional, label, sequence, maybe-throw, try, scope, blockAt, terminalAt, instructionRowsAt}
+use Rattle.table.specs.Table.{Table, Case, Terminal, absent, unreachable, throw, return, goto, if, branch, switch, do-while, while, for, for-of, for-in, logical}
+use Rattle.table.specs.Table.{ternary, optional, label, sequence, maybe-throw, try, scope, blockAt, terminalAt, instructionRowsAt}
 use Rattle.definition.specs.Run.{Answers, Reason, returned, threw, no-answer-left, not-plain, no-such-case, Run, unfinished, stopped}
 
 -- where a block leads after its rows: to another block, with the answers left, or nowhere
@@ -59,7 +60,7 @@ unfoldable pub performing : List ℕ → Run → Run
 performing rows unfinished = unfinished
 performing rows (stopped performed left reason) = stopped (rows ++ performed) left reason
 
--- "a block performs its instruction rows in order; then ..": from a block on, at most so many blocks
+-- "a block performs its instruction rows in order; then ..": from a block on, with a bound on the blocks
 unfoldable pub blockRun : Table → (steps block : ℕ) → Answers → Run
 blockRun t zero block answers = unfinished
 blockRun t (suc steps) block answers =

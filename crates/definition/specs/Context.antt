@@ -91,20 +91,52 @@ isScheduled cx block = has (cx .scheduled) block || has (cx .catchHandlers) bloc
 -- ---- steps that change one field
 
 unfoldable pub emit : ℕ → Context → Context
-emit block cx = record { nextId = cx .nextId; emitted = add (cx .emitted) block; scopeFallthroughs = cx .scopeFallthroughs; scheduled = cx .scheduled; catchHandlers = cx .catchHandlers; stack = cx .stack; visits = cx .visits }
+emit block cx = record {
+  nextId = cx .nextId;
+  emitted = add (cx .emitted) block;
+  scopeFallthroughs = cx .scopeFallthroughs;
+  scheduled = cx .scheduled;
+  catchHandlers = cx .catchHandlers;
+  stack = cx .stack;
+  visits = cx .visits;
+}
 
 unfoldable pub withVisits : ℕ → Context → Context
-withVisits visits cx = record { nextId = cx .nextId; emitted = cx .emitted; scopeFallthroughs = cx .scopeFallthroughs; scheduled = cx .scheduled; catchHandlers = cx .catchHandlers; stack = cx .stack; visits = visits }
+withVisits visits cx = record {
+  nextId = cx .nextId;
+  emitted = cx .emitted;
+  scopeFallthroughs = cx .scopeFallthroughs;
+  scheduled = cx .scheduled;
+  catchHandlers = cx .catchHandlers;
+  stack = cx .stack;
+  visits = visits;
+}
 
 unfoldable pub markScopeFallthrough : ℕ → Context → Context
-markScopeFallthrough block cx = record { nextId = cx .nextId; emitted = cx .emitted; scopeFallthroughs = add (cx .scopeFallthroughs) block; scheduled = cx .scheduled; catchHandlers = cx .catchHandlers; stack = cx .stack; visits = cx .visits }
+markScopeFallthrough block cx = record {
+  nextId = cx .nextId;
+  emitted = cx .emitted;
+  scopeFallthroughs = add (cx .scopeFallthroughs) block;
+  scheduled = cx .scheduled;
+  catchHandlers = cx .catchHandlers;
+  stack = cx .stack;
+  visits = cx .visits;
+}
 
 unfoldable pub scheduleCatchHandler : ℕ → Context → Context
-scheduleCatchHandler block cx = record { nextId = cx .nextId; emitted = cx .emitted; scopeFallthroughs = cx .scopeFallthroughs; scheduled = cx .scheduled; catchHandlers = add (cx .catchHandlers) block; stack = cx .stack; visits = cx .visits }
+scheduleCatchHandler block cx = record {
+  nextId = cx .nextId;
+  emitted = cx .emitted;
+  scopeFallthroughs = cx .scopeFallthroughs;
+  scheduled = cx .scheduled;
+  catchHandlers = add (cx .catchHandlers) block;
+  stack = cx .stack;
+  visits = cx .visits;
+}
 
 -- ---- schedule, unschedule
 
--- what a target asks before it is scheduled, at which block, and what it is refused with. "`schedule_loop` inserts the fallthrough without a test
+-- the test before a target is scheduled: of which block, and with which refusal. "`schedule_loop` inserts the fallthrough without a test
 -- and only then tests the continue block."
 abbrev pub isBlocked : ControlFlowTarget → Flags → Bool
 isBlocked (target-if block) scheduled = has scheduled block
@@ -139,7 +171,15 @@ owns (target-loop block continueBlock loopBlock) scheduled = not (has (add (add 
 
 -- a target on the stack under the next id, and its blocks in the scheduled set
 unfoldable pub pushed : ControlFlowTarget → Context → Context
-pushed target cx = record { nextId = suc (cx .nextId); emitted = cx .emitted; scopeFallthroughs = cx .scopeFallthroughs; scheduled = scheduledBy target (cx .scheduled); catchHandlers = cx .catchHandlers; stack = record { id = cx .nextId; target = target; ownsLoop = owns target (cx .scheduled) } ∷ cx .stack; visits = cx .visits }
+pushed target cx = record {
+  nextId = suc (cx .nextId);
+  emitted = cx .emitted;
+  scopeFallthroughs = cx .scopeFallthroughs;
+  scheduled = scheduledBy target (cx .scheduled);
+  catchHandlers = cx .catchHandlers;
+  stack = record { id = cx .nextId; target = target; ownsLoop = owns target (cx .scheduled) } ∷ cx .stack;
+  visits = cx .visits;
+}
 
 -- the one way to schedule: any target, a loop with its three blocks
 unfoldable pub schedule : ControlFlowTarget → Context → Result Context
@@ -157,7 +197,15 @@ unscheduledBy (target-loop block continueBlock loopBlock) false scheduled = remo
 unscheduledBy (target-loop block continueBlock loopBlock) true scheduled = remove (remove (remove scheduled block) continueBlock) loopBlock
 
 unfoldable pub popped : List Entry → Flags → Context → Context
-popped stack scheduled cx = record { nextId = cx .nextId; emitted = cx .emitted; scopeFallthroughs = cx .scopeFallthroughs; scheduled = scheduled; catchHandlers = cx .catchHandlers; stack = stack; visits = cx .visits }
+popped stack scheduled cx = record {
+  nextId = cx .nextId;
+  emitted = cx .emitted;
+  scopeFallthroughs = cx .scopeFallthroughs;
+  scheduled = scheduled;
+  catchHandlers = cx .catchHandlers;
+  stack = stack;
+  visits = cx .visits;
+}
 
 unfoldable pub unscheduleTop : List Entry → ℕ → Context → Result Context
 unscheduleTop [] id cx = refused unscheduleOutOfOrder 0 (cx .visits)

@@ -4,7 +4,8 @@ use mathlib.Core.List.{List, [], _∷_, _++_, map}
 use mathlib.Core.Option.{Option, none, some}
 use mathlib.Core.Bool.{true, false}
 use lib.ListN.{length}
-use Rattle.definition.specs.Tree.{Statement, INSTR, IF, SWITCH, DOWHILE, WHILE, FOR, FOROF, FORIN, LABEL, TRY, SCOPE, RETURN, THROW, BREAK, CONTINUE, Statements, done, _▸_, Cases, no-cases, CASE, Row, valueRows, updateRows, statementRows, blockRows}
+use Rattle.definition.specs.Tree.{Statement, INSTR, IF, SWITCH, DOWHILE, WHILE, FOR, FOROF, FORIN, LABEL, TRY, SCOPE, RETURN, THROW, BREAK, CONTINUE, Statements}
+use Rattle.definition.specs.Tree.{done, _▸_, Cases, no-cases, CASE, Row, valueRows, updateRows, statementRows, blockRows}
 
 -- ---- the statements of a tree that have a label
 

@@ -23,3 +23,6 @@ pub mod RunLaw
 pub mod LoopLaw
 pub mod Relabeled
 pub mod RelabeledRows
+pub mod Examples
+pub mod LoopExamples
+pub mod Samples

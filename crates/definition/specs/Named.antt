@@ -6,7 +6,8 @@ use Prim.Native.Nat.{ℕ, zero, suc}
 use mathlib.Core.List.{List, [], _∷_}
 use mathlib.Core.Option.{Option, none, some}
 use mathlib.Core.Bool.{Bool, true, false}
-use Rattle.definition.specs.Tree.{Kind, implicit, labeled, unlabeled, Statement, INSTR, IF, SWITCH, DOWHILE, WHILE, FOR, FOROF, FORIN, LABEL, TRY, SCOPE, RETURN, THROW, BREAK, CONTINUE, Statements, done, _▸_, Cases, no-cases, CASE}
+use Rattle.definition.specs.Tree.{Kind, implicit, labeled, unlabeled, Statement, INSTR, IF, SWITCH, DOWHILE, WHILE, FOR, FOROF, FORIN, LABEL, TRY, SCOPE, RETURN}
+use Rattle.definition.specs.Tree.{THROW, BREAK, CONTINUE, Statements, done, _▸_, Cases, no-cases, CASE}
 use Rattle.definition.specs.Around.{Rule, rust, language, Enclosing, a-loop, a-switch, another, switchInside, kindBy, namesStatement, namesLoop}
 
 -- "A jump that comes out Labeled must name the label of a statement around it"; and a bare break leaves "the nearest loop or switch", which is a loop

@@ -7,7 +7,9 @@ use mathlib.Core.List.{List, [], _∷_}
 use mathlib.Core.Option.{Option, none, some}
 use mathlib.Core.Bool.{Bool, true, false, not, _&&_}
 use lib.Dec.{eqb}
-use Rattle.table.specs.Table.{Table, Case, Operation, other, load-local, store-local, Terminal, absent, unreachable, throw, return, goto, if, branch, switch, do-while, while, for, for-of, for-in, logical, ternary, optional, label, sequence, maybe-throw, try, scope, Variant, Try, codeOf, terminalAt, instructionAt, instructionRowsAt}
+use Rattle.table.specs.Table.{Table, Case, Operation, other, load-local, store-local, Terminal, absent, unreachable, throw, return, goto, if, branch, switch, do-while}
+use Rattle.table.specs.Table.{while, for, for-of, for-in, logical, ternary, optional, label, sequence, maybe-throw, try, scope, Variant, Try, codeOf, terminalAt}
+use Rattle.table.specs.Table.{instructionAt, instructionRowsAt}
 use Rattle.definition.specs.Completion.{contains}
 use Rattle.definition.specs.BlockRun.{caseList}
 
@@ -149,8 +151,10 @@ pub record Plain (width : Width) (t : Table) : Type 0 where
   -- "No block is the ft of two blocks,"
   pub one-fallthrough : (block block′ fallthrough : ℕ) → fallthroughOf (terminalAt t block) ≡ some fallthrough → fallthroughOf (terminalAt t block′) ≡ some fallthrough → block ≡ block′
   -- "and no ft is a loop block or test."
-  pub no-loop : (block fallthrough loop-of test loop fallthrough′ : ℕ) → fallthroughOf (terminalAt t block) ≡ some fallthrough → terminalAt t loop-of ≡ while test loop fallthrough′ → fallthrough ≡ loop → ⊥
-  pub no-test : (block fallthrough loop-of test loop fallthrough′ : ℕ) → fallthroughOf (terminalAt t block) ≡ some fallthrough → terminalAt t loop-of ≡ while test loop fallthrough′ → fallthrough ≡ test → ⊥
+  pub no-loop : (block fallthrough loop-of test loop fallthrough′ : ℕ) → fallthroughOf (terminalAt t block) ≡ some fallthrough
+      → terminalAt t loop-of ≡ while test loop fallthrough′ → fallthrough ≡ loop → ⊥
+  pub no-test : (block fallthrough loop-of test loop fallthrough′ : ℕ) → fallthroughOf (terminalAt t block) ≡ some fallthrough
+      → terminalAt t loop-of ≡ while test loop fallthrough′ → fallthrough ≡ test → ⊥
   -- M-113: "its case blocks differ from each other"
   pub cases-differ : (block : ℕ) → different (caseBlocksOf t (terminalAt t block)) ≡ true
   -- "and from every fallthrough, loop block and test" ("the rule about fallthroughs includes the switch's": `fallthroughOf`)

@@ -7,7 +7,9 @@ use mathlib.Core.List.{List, [], _∷_}
 use mathlib.Core.Option.{Option, none, some}
 use mathlib.Core.Bool.{Bool, true, false, cond}
 use lib.Dec.{eqb}
-use Rattle.table.specs.Table.{Table, Case, Operation, Terminal, absent, unreachable, throw, return, goto, if, branch, switch, do-while, while, for, for-of, for-in, logical, ternary, optional, label, sequence, maybe-throw, try, scope, Variant, Try, codeOf, isUnreachable, terminalAt, instructionAt, instructionRowsAt}
+use Rattle.table.specs.Table.{Table, Case, Operation, Terminal, absent, unreachable, throw, return, goto, if, branch, switch, do-while, while, for, for-of, for-in}
+use Rattle.table.specs.Table.{logical, ternary, optional, label, sequence, maybe-throw, try, scope, Variant, Try, codeOf, isUnreachable, terminalAt, instructionAt}
+use Rattle.table.specs.Table.{instructionRowsAt}
 use Rattle.definition.specs.Completion.{contains}
 use Rattle.definition.specs.Statement.{continueBlockOf, casesLastFirst}
 use Rattle.definition.specs.Value.{storedToNamed, sameIdentifier, loadedBy}

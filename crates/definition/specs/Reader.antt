@@ -61,7 +61,7 @@ asInstruction then more (THROW v i) S = none
 asInstruction then more (BREAK t i k n) S = none
 asInstruction then more (CONTINUE t i k n) S = none
 
--- so many of them, the last first, before those that are taken already
+-- takes a number of them, the last first, and puts them before those that are taken already
 unfoldable pub takeInstructions : ℕ → Instructions → (Instructions → Step) → Step
 takeInstructions zero more then S = then more S
 takeInstructions (suc n) more then S = takeStatement (asInstruction (λ is. takeInstructions n is then) more) S

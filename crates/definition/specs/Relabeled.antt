@@ -53,7 +53,7 @@ Apart Alike seen (refused code at visits) (refused code′ at′ visits′) = ((
 abbrev pub visitsAfter : BlockResult → ℕ
 visitsAfter result = result .context .visits
 
--- lists of statements that are so, with one Context after them: the same visits, too
+-- lists of statements that differ only so, with the same Context after them, and the same visits
 pub data AlikeBlocks (around : List Enclosing) : BlockResult → BlockResult → Type 0 where
   alike-blocks : (first : Statements) (context : Context)
       → AlikeBlocks around (record { statements = first; context = context }) (record { statements = relabeled around first; context = context })

@@ -6,11 +6,15 @@ use mathlib.Core.Bool.{Bool, true, false, not, _||_}
 use lib.ListN.{take, drop}
 use lib.Dec.{eqb}
 use Rattle.table.specs.declared.columns.Span.{Span}
-use Rattle.table.specs.Table.{Table, Block, Case, Terminal, Variant, absent, unreachable, throw, return, goto, if, branch, switch, do-while, while, for, for-of, for-in, logical, ternary, optional, sequence, maybe-throw, try, scope, Break, Continue, Try, isAbsent, isUnreachable, blockAt, terminalAt, instructionAt, instructionRowsAt, label}
-use Rattle.definition.specs.Context.{has, target-if, target-switch, target-case, target-loop, Context, start, isScheduled, emit, withVisits, markScopeFallthrough, scheduleCatchHandler, schedule, unschedule, Resolution, getBreakTarget, getContinueTarget}
+use Rattle.table.specs.Table.{Table, Block, Case, Terminal, Variant, absent, unreachable, throw, return, goto, if, branch, switch, do-while, while, for, for-of, for-in}
+use Rattle.table.specs.Table.{logical, ternary, optional, sequence, maybe-throw, try, scope, Break, Continue, Try, isAbsent, isUnreachable, blockAt, terminalAt}
+use Rattle.table.specs.Table.{instructionAt, instructionRowsAt, label}
+use Rattle.definition.specs.Context.{has, target-if, target-switch, target-case, target-loop, Context, start, isScheduled, emit, withVisits, markScopeFallthrough}
+use Rattle.definition.specs.Context.{scheduleCatchHandler, schedule, unschedule, Resolution, getBreakTarget, getContinueTarget}
 use Rattle.definition.specs.Around.{Rule, Around, a-loop, a-switch, another, outermost, within, breakKindIn, breakUnnamed, continueUnnamed}
 use Rattle.definition.specs.Result.{Result, ok, refused, _>>=_, refuseIf}
-use Rattle.definition.specs.Tree.{Kind, implicit, labeled, unlabeled, Value, PLAIN, Statement, INSTR, IF, SWITCH, DOWHILE, WHILE, FOR, FOROF, FORIN, LABEL, TRY, SCOPE, RETURN, THROW, BREAK, CONTINUE, Statements, done, _▸_, Cases, no-cases, CASE}
+use Rattle.definition.specs.Tree.{Kind, implicit, labeled, unlabeled, Value, PLAIN, Statement, INSTR, IF, SWITCH, DOWHILE, WHILE, FOR, FOROF, FORIN, LABEL, TRY}
+use Rattle.definition.specs.Tree.{SCOPE, RETURN, THROW, BREAK, CONTINUE, Statements, done, _▸_, Cases, no-cases, CASE}
 use Rattle.definition.specs.Value.{mostDepth, mostVisits, beginVisit, VisitValueBlock, visitValueBlockTerminal, visitValueBlock, valueBlockResultToSequence}
 
 -- a block's statements, and the state that they leave
@@ -147,7 +151,7 @@ traverseEnclosed traverse block code at taken before inside make =
 unfoldable pub loopIsTaken : Context → (loop fallthrough : ℕ) → Bool
 loopIsTaken cx loop fallthrough = isScheduled cx loop || eqb loop fallthrough
 
--- a loop whose values are made, at so many visits: its body, and the statement that `make` gives. `id` is that of its entry
+-- a loop whose values are made, with this many visits begun: its body, and the statement that `make` gives. `id` is that of its entry
 unfoldable pub traverseLoop : TraverseBlock → (at loop : ℕ) → (taken : Bool) → (visits id : ℕ) → Context → (fallthrough : Option ℕ) → (make : Statements → Statement) → Result TerminalResult
 traverseLoop traverse at loop taken visits id cx fallthrough make =
     refuseIf taken 16 at visits >>= λ _.
@@ -306,8 +310,8 @@ thenNext t at again statement (some next) cx =
     again next cx >>= λ rest.
     ok (record { statements = instructionStatements t (instructionRowsAt t at) (followedBy statement (rest .statements)); context = rest .context })
 
--- visit_block: a block and then the fallthroughs and continuations at the same depth, so many blocks at most. Each is a visit, so that the
--- count runs out only where 31 is due
+-- visit_block: a block and then the fallthroughs and continuations at the same depth, with a bound on the blocks. Each is a visit, so that the
+-- bound is reached only where 31 is due
 unfoldable pub visitBlock : Table → VisitValueBlock → TraverseInside → Around → (blocksLeft : ℕ) → TraverseBlock
 visitBlock t visit traverse around zero block cx = refused 31 block (cx .visits)
 visitBlock t visit traverse around (suc blocksLeft) block cx =
@@ -315,7 +319,7 @@ visitBlock t visit traverse around (suc blocksLeft) block cx =
     visitTerminal t visit traverse around (terminalAt t block) block (blockAt t block) entered >>= λ result.
     thenNext t block (visitBlock t visit traverse around blocksLeft) (result .statement) (result .next) (result .context)
 
--- traverse_block, with so many levels of depth left
+-- traverse_block, with `depthLeft` levels of depth left
 unfoldable pub traverseBlock : Table → (depthLeft : ℕ) → TraverseInside
 traverseBlock t zero around block cx = refused 30 block (cx .visits)
 traverseBlock t (suc depthLeft) around block cx = visitBlock t (visitValueBlock t depthLeft) (traverseBlock t depthLeft) around (suc mostVisits) block cx

@@ -7,7 +7,9 @@ use mathlib.Core.Bool.{Bool, true, false, _&&_}
 use lib.ListN.{getD}
 use lib.Dec.{eqb, leb}
 use Rattle.table.specs.declared.columns.Span.{Span}
-use Rattle.table.specs.Table.{Table, Block, Terminal, Instruction, Operation, absent, unreachable, throw, return, goto, if, branch, switch, do-while, while, for, for-of, for-in, logical, ternary, optional, sequence, maybe-throw, try, scope, other, load-local, store-local, isAbsent, isGoto, blockAt, terminalAt, instructionAt, instructionRows, label}
+use Rattle.table.specs.Table.{Table, Block, Terminal, Instruction, Operation, absent, unreachable, throw, return, goto, if, branch, switch, do-while, while, for}
+use Rattle.table.specs.Table.{for-of, for-in, logical, ternary, optional, sequence, maybe-throw, try, scope, other, load-local, store-local, isAbsent, isGoto, blockAt}
+use Rattle.table.specs.Table.{terminalAt, instructionAt, instructionRows, label}
 use Rattle.definition.specs.Result.{Result, ok, refused, _>>=_, refuseIf, maybeThrowInValueTerminal}
 use Rattle.definition.specs.Tree.{Value, PLAIN, LOAD, UNDEF, SEQ, LOGICAL, COND, OPTIONAL, Instructions, no-instructions, instruction}
 
@@ -278,7 +280,7 @@ abbrev pub isFallthrough : Option ℕ → ℕ → Bool
 isFallthrough none block = false
 isFallthrough (some fallthrough) block = eqb fallthrough block
 
--- the value walk with so many levels of depth left. "Order at a visit: 30, 31, 10, then 11 or 23"
+-- the value walk with `depthLeft` levels of depth left. "Order at a visit: 30, 31, 10, then 11 or 23"
 unfoldable pub visitValueBlock : Table → (depthLeft : ℕ) → VisitValueBlock
 unfolding visitValueBlockAt
 visitValueBlock t zero block fallthrough span visits = refused 30 block visits

@@ -25,6 +25,6 @@ unfoldable pub afterCheck : (lent : ℕ) → Verdict → (words : List ℕ) → 
 afterCheck lent (refused code at) words = refusal code at lent
 afterCheck lent accepted words = placed 44 lent (graphText (tableOf words))
 
--- the drawing of any words, with a buffer of so many bytes lent
+-- the drawing of any words, for a lent buffer of this many bytes
 unfoldable pub drawn : (words : List ℕ) → (lent : ℕ) → Placing
 drawn words lent = afterCheck lent (checked words) words

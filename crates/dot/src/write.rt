@@ -1,4 +1,4 @@
-// Text into a lent buffer: what is stored past its end is stored nowhere, and counted.
+// Text into a lent buffer: a byte past the end is counted, but not stored.
 ghost use mathlib.Core.List.{[], _∷_};
 ghost use Prim.Native.Nat.{_+_, _^_, _<_, _≤_};
 ghost use lib.ListN.{length};
@@ -43,7 +43,7 @@ fn write_tens(text: &mut [u8], at: usize, n: u32) -> usize
     put(text, units, 48 + (n % 10) as u8)
 }
 
-// Writes a number below 10,000 in decimal: a block's has at most four digits.
+// Writes a number below 10,000 in decimal: a block's number has at most four digits.
 fn write_number(text: &mut [u8], at: usize, n: u32) -> usize
     requires { ⌜ n < 10000 ⌝ }
     requires { ⌜ at + 12 < 2 ^ 64 ⌝ }

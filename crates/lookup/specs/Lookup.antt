@@ -17,7 +17,7 @@ linesRead index number = elim (ltb number (length index / 3)) [ true ↦ number 
 abbrev pub lineWord : (index : List ℕ) → (line word : ℕ) → ℕ
 lineWord index line word = getD index (line * 3 + word) 0
 
--- "the first line that has the label", of so many lines left from this line on
+-- "the first line that has the label", among the `left` lines from this line on
 unfoldable pub firstWith : (index : List ℕ) → (label line left : ℕ) → Line
 firstWith index label line zero = Nowhere
 firstWith index label line (suc left) = elim (eqb (lineWord index line 0) label) [ true ↦ At line | false ↦ firstWith index label (suc line) left ]
@@ -39,7 +39,7 @@ unfoldable pub foundAt : (index : List ℕ) → (tree : ℕ) → Line → Found
 foundAt index tree Nowhere = refusal 42
 foundAt index tree (At line) = partOf (lineWord index line 1) (lineWord index line 2) tree
 
--- where the part begins and ends, in words of a tree buffer that has so many
+-- where the part begins and ends, in words of a tree buffer of `tree` words
 unfoldable pub found : (index : List ℕ) → (number label tree : ℕ) → Found
 found index number label tree = foundAt index tree (firstWith index label 0 (linesRead index number))
 

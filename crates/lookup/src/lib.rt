@@ -12,7 +12,7 @@ pub struct Found {
     pub end: usize,
 }
 
-// Where a label was searched.
+// What a search for a label gives.
 pub enum Line {
     At(usize),
     Nowhere,
@@ -27,7 +27,7 @@ fn lines_read(index: &[u32], lines: u32) -> usize
     if told < whole { told } else { whole }
 }
 
-// The first of so many lines that has the label.
+// The first of `count` lines that has the label.
 fn first_with(index: &[u32], count: usize, label: u32) -> Line
     requires { ⌜ count * 3 ≤ length (now index) ⌝ }
     ensures { λ r. ⌜ r ≡ firstWith (now (index .entry)) label 0 count ⌝ }
@@ -54,7 +54,7 @@ fn refuse(code: u32) -> Found
     }
 }
 
-// The rows that a line tells. Both numbers are compared before they are multiplied: they are any words.
+// The rows that a line names. Both numbers are compared before they are multiplied, since a caller's line may have any words.
 fn part_at(index: &[u32], line: usize, tree: &[u32]) -> Found
     requires { ⌜ line * 3 + 3 ≤ length (now index) ⌝ }
     ensures { λ r. ⌜ r ≡ partOf (lineWord (now (index .entry)) line 1) (lineWord (now (index .entry)) line 2) (length (now (tree .entry))) ⌝ }

@@ -1,4 +1,4 @@
--- A jump by its goal is the definition's jump, and the pass over the statements around gives the goal. For the code's driver and its planner of jumps.
+-- A jump by its goal is the definition's jump, and the pass over the statements around gives the goal. For the walk and the arms of `statements` that jump.
 use mathlib.Core.Path.{_≡_, refl, sym, ap, _∙_}
 use Prim.Native.Nat.{ℕ}
 use mathlib.Core.Option.{Option, none, some}

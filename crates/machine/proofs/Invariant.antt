@@ -1,5 +1,5 @@
 -- What holds in every state that the machine reaches from a checked table: the numbers that the code's sums and indices need, and a potential that
--- every turn lowers. For the code's loop (crates/build, proofs/DriverLaws).
+-- every turn lowers. For the code's loop (walk/proofs/DriverLaws).
 use mathlib.Core.Path.{_≡_, refl, sym, ap, _∙_, subst}
 use Prim.Native.Nat.{ℕ, zero, suc, _+_, _*_, _-_, _≤_, _<_}
 use native.Mathlib.Nat.{le-refl}
@@ -1016,7 +1016,7 @@ counted (choosing frame frames out cx) = 0
 counted (popping frame frames out cx) = 0
 counted (making body frame frames out cx) = 0
 
--- a frame that takes cases or is closed is as light as one that awaits a list
+-- a frame that takes cases or is closed is as light as one whose nested block is being built
 light : (t : Table) (k : ℕ) (fr : Frame) (F : List Frame) (R : Output) (m : ℕ) (c : Context) → Framed t 1 fr → Frames t F → Holds k (fr ∷ F) R m c → k + length (c .stack) ≤ 1024
 light t k fr F R m c o f h = omega (arith, entries-low t F f, o .entries, marks-below (c .emitted), h .stack, h .marked, h .flags)
 

@@ -331,7 +331,7 @@ module _ (rule : Rule) (t : Table) (d : ℕ) (inner : TraverseInside) (ws : Walk
       (ap (λ (z : ℕ). turn (resume t (visitValueBlock t z) fr F (R ⊕ (blockRow (0 + n) ∷ [])) c)) e
       ∙ ap (λ (z : ℕ). turn (resume t visit fr F (R ⊕ (blockRow z ∷ [])) c)) (zero-add n)) h
 
-  -- the frame awaits a list of a statement with the terminal e: open, visit inside, close
+  -- the frame's statement has the terminal e, and its nested block is being built: open, visit inside, close
   sim-inner : {v : ℕ} {F : List Frame} {R : Output} {n : ℕ} (fr : Frame) (e : Terminal) (b : ℕ) (R₁ : Output) (c : Context) (rest : BlockResult → Result TerminalResult)
       → terminalAt t (fr .block) ≡ e → length F + suc d ≡ 128
       → ((r : BlockResult) → Past c (r .context) → Sim rule t v F R n (resumeAt t visit e (blockAt t (fr .block)) fr F (blockPut R₁ (r .statements)) (r .context)) (rest r))

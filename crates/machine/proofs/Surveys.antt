@@ -1,4 +1,4 @@
--- The pass of specs/Survey gives what specs/Around asks of the statements around a jump. For the code's loop over its frames.
+-- The pass of specs/Survey gives what definition/specs/Around asks of the statements around a jump. For the code's loop over its frames.
 use mathlib.Core.Path.{_≡_, refl, sym, ap, _∙_}
 use Prim.Native.Nat.{ℕ, zero, suc}
 use mathlib.Core.List.{List, [], _∷_}
@@ -25,7 +25,7 @@ and-false : (a : Bool) → a && false ≡ false
 and-false true = refl
 and-false false = refl
 
--- from any survey on
+-- from any pass so far
 named-on : (target : ℕ) (E : List Enclosing) (s : Survey) → survey target E s .named ≡ s .named || namesStatement E target
 unfolding survey pass namesStatement
 named-on target [] s = sym (or-false (s .named))

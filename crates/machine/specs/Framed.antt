@@ -1,4 +1,4 @@
--- What holds of a frame of the machine over a table whose words were checked: the contracts of the code ask it of their frames.
+-- What holds of a frame of the machine over a table whose words were checked. The contracts of the code require it of their frames.
 use mathlib.Core.Path.{_≡_}
 use Prim.Native.Nat.{ℕ, suc, _+_, _-_, _≤_, _<_}
 use mathlib.Core.Option.{Option, none, some}
@@ -34,7 +34,7 @@ isSwitch (maybe-throw continuation) = false
 isSwitch (try body handler fallthrough binding) = false
 isSwitch (scope pruned body fallthrough number) = false
 
--- a frame's blocks are in the table, and of a Switch the case that is awaited; with `chosen` 1 the cases that it has still to take
+-- a frame's blocks are in the table, and so is the case that a Switch is building; with `chosen` 1, the cases that it has still to take
 pub record Framed (t : Table) (chosen : ℕ) (frame : Frame) : Type 0 where
   pub block : frame .block < length (t .blocks)
   pub label : Below (length (t .blocks)) (frame .label)

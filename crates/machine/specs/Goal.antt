@@ -1,5 +1,5 @@
--- What a jump comes to, in the form that the code has (M-102): the kind by the rule, and whether 29 is due, are worked out before the jump is looked at, so that
--- it needs neither the rule nor the statements around. That it is what specs/Statement gives is proofs/Goals.
+-- What a jump comes to, in the form that the code has (M-102). The kind by the rule, and whether 29 is due, are worked out beforehand, so that the jump
+-- needs neither the rule nor the statements around. proofs/Goals proves that it is what definition/specs/Statement gives.
 use Prim.Native.Nat.{ℕ}
 use mathlib.Core.Option.{Option, none, some}
 use mathlib.Core.Bool.{Bool, true, false}

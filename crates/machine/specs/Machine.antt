@@ -1,5 +1,5 @@
 -- The build as a machine of turns: one loop, a list of frames in place of the nested calls, and rows put out as they become known.
--- It is the form that the code has; that it gives what the definition gives is proofs/Simulation.
+-- It is the form that the code has. proofs/Simulation proves that it gives what the definition gives.
 use mathlib.Core.Path.{_≡_}
 use Prim.Native.Nat.{ℕ, zero, suc, _+_, _-_}
 use mathlib.Core.List.{List, [], _∷_, _++_}
@@ -7,7 +7,8 @@ use mathlib.Core.Option.{Option, none, some}
 use mathlib.Core.Bool.{Bool, true, false, not}
 use lib.ListN.{length, getD}
 use lib.Dec.{eqb, leb}
-use Rattle.table.specs.Table.{Table, Block, Case, Terminal, absent, unreachable, throw, return, goto, if, branch, switch, do-while, while, for, for-of, for-in, logical, ternary, optional, sequence, maybe-throw, try, scope, blockAt, terminalAt, instructionRowsAt, label}
+use Rattle.table.specs.Table.{Table, Block, Case, Terminal, absent, unreachable, throw, return, goto, if, branch, switch, do-while, while, for, for-of, for-in, logical}
+use Rattle.table.specs.Table.{ternary, optional, sequence, maybe-throw, try, scope, blockAt, terminalAt, instructionRowsAt, label}
 use Rattle.definition.specs.Build.{accepted, Report, rejected}
 use Rattle.definition.specs.Context.{target-if, target-switch, target-case, target-loop, Entry, Context, start, isScheduled, withVisits, scheduleCatchHandler, pushed, schedule, unscheduledBy, popped}
 use Rattle.definition.specs.Around.{Rule, Enclosing, a-loop, a-switch, another, Around}
@@ -19,9 +20,9 @@ use Rattle.definition.specs.Output.{Output, noOutput, _⊕_, blockRow, valueOut
 
 -- ---- frames and states
 
--- A statement of which a nested list is awaited; all else of it is in the table. `block` has its terminal; `second` says that the later of two
--- parts is awaited, an alternate or a handler; `label` is the fallthrough, if it is taken; so many `entries` of the control stack are this statement's.
--- Of a Switch, `left` cases are still to come and `built` are made. The statement's own rows begin at row `first` (M-101), and `count` statements stand
+-- A statement whose nested block is still being built; all else of it is in the table. `block` has its terminal. `second` says that this is the later of two
+-- parts, an alternate or a handler. `label` is the fallthrough, if it is taken. `entries` is how many entries of the control stack are this statement's.
+-- A Switch has `left` cases still to come and `built` cases made. The statement's own rows begin at row `first` (M-101), and `count` statements stand
 -- before it in the list around it
 pub record Frame : Type 0 where
   pub block : ℕ
@@ -96,7 +97,7 @@ leave (some next) frames out count cx = visiting next frames out count cx
 
 -- ---- rows
 
--- the closing row of a statement with nested lists. (Another terminal has none, and its clause is there to be total.)
+-- the closing row of a statement with nested lists. (Other terminals have none; their clause makes the function total.)
 unfoldable pub closingRowOf : Terminal → Block → (second : Bool) → (label : Option ℕ) → (built : ℕ) → Row
 closingRowOf absent block second taken built = row 0 0 0 0 0 0
 closingRowOf unreachable block second taken built = row 0 0 0 0 0 0
@@ -123,7 +124,7 @@ closingRowOf (scope pruned body fallthrough number) block second taken built = s
 abbrev pub closingRow : Table → (block : ℕ) → (second : Bool) → (label : Option ℕ) → (built : ℕ) → Row
 closingRow t block second taken built = closingRowOf (terminalAt t block) (blockAt t block) second taken built
 
--- ---- the control stack. A label is free where it is taken, so 90 is not asked of it; nor is 91: they never occur
+-- ---- the control stack. A fallthrough that is taken is not scheduled, so the machine does not test for 90; nor for 91. They never occur
 
 abbrev pub scheduledIf : Option ℕ → Context → Context
 scheduledIf none cx = cx
@@ -153,7 +154,7 @@ abbrev pub opens : Option ℕ → ℕ
 opens none = 0
 opens (some fallthrough) = 1
 
--- of a statement that begins where so much is out
+-- the frame of a statement that begins where this much is out
 abbrev pub frameOf : (block : ℕ) → (label : Option ℕ) → (entries : ℕ) → Output → (count : ℕ) → Frame
 frameOf block taken entries out count = record { block = block; second = false; label = taken; entries = entries; left = 0; built = 0; first = length (out .rows); count = count }
 
@@ -161,16 +162,43 @@ abbrev pub secondPart : Frame → Frame
 secondPart frame = record { block = frame .block; second = true; label = frame .label; entries = frame .entries; left = frame .left; built = frame .built; first = frame .first; count = frame .count }
 
 abbrev pub withEntries : ℕ → Frame → Frame
-withEntries entries frame = record { block = frame .block; second = frame .second; label = frame .label; entries = entries; left = frame .left; built = frame .built; first = frame .first; count = frame .count }
+withEntries entries frame = record {
+  block = frame .block;
+  second = frame .second;
+  label = frame .label;
+  entries = entries;
+  left = frame .left;
+  built = frame .built;
+  first = frame .first;
+  count = frame .count;
+}
 
 abbrev pub withLeft : ℕ → Frame → Frame
-withLeft left frame = record { block = frame .block; second = frame .second; label = frame .label; entries = frame .entries; left = left; built = frame .built; first = frame .first; count = frame .count }
+withLeft left frame = record {
+  block = frame .block;
+  second = frame .second;
+  label = frame .label;
+  entries = frame .entries;
+  left = left;
+  built = frame .built;
+  first = frame .first;
+  count = frame .count;
+}
 
--- one case more is built, and has an entry
+-- one more case is built, and has an entry
 abbrev pub caseBuilt : Frame → Frame
-caseBuilt frame = record { block = frame .block; second = frame .second; label = frame .label; entries = suc (frame .entries); left = frame .left; built = suc (frame .built); first = frame .first; count = frame .count }
+caseBuilt frame = record {
+  block = frame .block;
+  second = frame .second;
+  label = frame .label;
+  entries = suc (frame .entries);
+  left = frame .left;
+  built = suc (frame .built);
+  first = frame .first;
+  count = frame .count;
+}
 
--- a nested list that must not be scheduled
+-- into a nested block, which must not be scheduled
 unfoldable pub into : (block code at : ℕ) → Frame → List Frame → Output → Context → Result State
 into block code at frame frames out cx = refuseIf (isScheduled cx block) code at (cx .visits) >>= λ _. ok (visiting block (frame ∷ frames) out 0 cx)
 
@@ -179,7 +207,7 @@ abbrev pub bodyUnless : (taken : Bool) → (loop : ℕ) → Option ℕ
 bodyUnless true loop = none
 bodyUnless false loop = some loop
 
--- into the body of a loop whose values are made, at so many visits
+-- into the body of a loop whose values are made, with this many visits begun
 unfoldable pub intoBody : (body : Option ℕ) → (visits : ℕ) → Frame → List Frame → Output → Context → Result State
 intoBody none visits frame frames out cx = refused 16 (frame .block) visits
 intoBody (some loop) visits frame frames out cx = ok (visiting loop (frame ∷ frames) out 0 (withVisits visits cx))
@@ -200,7 +228,7 @@ closeBy zero t frame frames out cx = complete t frame frames out cx
 closeBy (suc zero) t frame frames out cx = complete t frame frames out (unscheduled cx)
 closeBy (suc (suc more)) t frame frames out cx = popping (withEntries (suc more) frame) frames out (unscheduled cx)
 
--- one entry is taken off the stack; with the last the statement is complete
+-- takes one entry off the stack; with the last one the statement is complete
 unfoldable pub close : Table → Frame → List Frame → Output → Context → State
 close t frame frames out cx = closeBy (frame .entries) t frame frames out cx
 
@@ -226,7 +254,7 @@ chooseCase t first fallthrough (suc left) frame frames out cx =
       | false ↦ ok (visiting block (withLeft left frame ∷ frames) out 0 cx)
     ]
 
--- a Switch's first case and fallthrough. (Another terminal has none, and its clause is there to be total.)
+-- a Switch's first case and fallthrough. (Other terminals have none; their clause makes the function total.)
 pub record SwitchColumns : Type 0 where
   pub first : ℕ
   pub fallthrough : ℕ
@@ -301,8 +329,8 @@ resumeAt t visit (scope pruned body fallthrough number) block frame frames out c
 abbrev pub resume : Table → VisitValueBlock → Frame → List Frame → Output → Context → Result State
 resume t visit frame frames out cx = resumeAt t visit (terminalAt t (frame .block)) (blockAt t (frame .block)) frame frames out cx
 
--- ---- a statement that is scheduled makes its values: a loop those that come before its body, and Logical, Ternary, Optional and Sequence their own, with
--- which they are complete. (Another terminal has none, and its clause is there to be total.)
+-- ---- a statement that is scheduled makes its values. A loop makes those that come before its body. Logical, Ternary, Optional and Sequence make their own,
+-- and then they are complete. (Other terminals have none; their clause makes the function total.)
 
 unfoldable pub valueAt : Table → VisitValueBlock → Terminal → Block → Frame → List Frame → Output → Context → Result State
 valueAt t visit terminal block frame frames out cx =
@@ -408,7 +436,7 @@ terminalTurn around t visit (scope pruned body fallthrough number) at block fram
 
 -- ---- turns
 
--- the depth left for the values of a block, under so many frames
+-- the depth left for the values of a block, under this many frames
 abbrev pub depthLeft : List Frame → ℕ
 depthLeft frames = 127 - length frames
 
@@ -436,7 +464,7 @@ pub data Gives (rule : Rule) (t : Table) : State → Report → Type 0 where
   halts : {state : State} {report : Report} → step rule t state ≡ halt report → Gives rule t state report
   goes : {state next : State} {report : Report} → step rule t state ≡ going next → Gives rule t next report → Gives rule t state report
 
--- the same by so many turns at most; 98 where they do not suffice
+-- the same within a bound on the turns; 98 where the bound is too small
 unfoldable pub run : Rule → Table → (turns : ℕ) → State → Report
 run rule t zero state = rejected 98 0 0
 run rule t (suc turns) state = elim (step rule t state) [ going next ↦ run rule t turns next | halt report ↦ report ]

@@ -1,5 +1,5 @@
 -- What a jump asks of the statements around it (M-102), in one pass from the innermost: the form that the code has, over its frames.
--- That it gives what specs/Around asks is proofs/Surveys.
+-- proofs/Surveys proves that it gives what definition/specs/Around asks.
 use Prim.Native.Nat.{ℕ, zero, suc}
 use mathlib.Core.List.{List, [], _∷_}
 use mathlib.Core.Bool.{Bool, true, false, _&&_, _||_}
@@ -13,9 +13,9 @@ pub record Survey : Type 0 where
   pub switchInside : Bool
   -- one of them has the label
   pub named : Bool
-  -- the loop that a continue resolved to is so many loops on; 0 once it was passed
+  -- how many loops it still is to the loop that a continue resolved to; 0 once that was passed
   pub loopsLeft : ℕ
-  -- it was passed and has the label
+  -- that loop was passed and has the label
   pub loopNamed : Bool
 
 -- before the first

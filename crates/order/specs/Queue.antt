@@ -26,7 +26,7 @@ pub record Fresh (new : List ℕ) : Type 0 where
   pub wide : length new ≡ 1024
   pub none : (b : ℕ) → b < 1024 → getD new b 0 ≡ largest
 
--- names have been put at the end of the first `count` words, those that were not there
+-- the names that were not there yet have been put after the first `count` words
 pub record Joined (list₀ : List ℕ) (count : ℕ) (names list new : List ℕ) (count′ : ℕ) : Type 0 where
   pub long : length list ≡ length list₀
   pub queue : Queue list new count′

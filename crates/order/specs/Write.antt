@@ -9,7 +9,7 @@ use Rattle.table.specs.Words.{blockCount}
 use Rattle.table.specs.Promise.{Promise}
 use Rattle.renaming.specs.Renaming.{namesBlock, renamed}
 
--- by the numbers of so many blocks; any other number is its own
+-- the number that the list gives to one of `blocks` blocks; any other number stays as it is
 unfoldable pub numberIn : (blocks : ℕ) → (numbers : List ℕ) → ℕ → ℕ
 numberIn blocks numbers b = elim (ltb b blocks) [ true ↦ getD numbers b 0 | false ↦ b ]
 
@@ -21,7 +21,7 @@ columnsOf code = false ∷ false ∷ false ∷ namesBlock code 0 ∷ namesBlock 
 unfoldable pub renumbered : (ws names rows : List ℕ) → List ℕ
 renumbered ws names rows = renamed (numberIn (blockCount ws) names) (numberIn (blockCount ws) rows) ws
 
--- it is written as far as the word `end`
+-- it is written up to the word `end`
 pub record Writing (ws names rows out : List ℕ) (end : ℕ) : Type 0 where
   pub promise : Promise ws
   pub named : blockCount ws ≤ length names

@@ -1,4 +1,4 @@
-// The walk. The list of old numbers is its queue: a block is put at the end when it is first named, and `new` has its place there.
+// The walk. The list of old numbers is its queue. A block goes to the end of the queue when a row first names it, and `new` has its place there.
 use table::lines::named_at;
 use table::lines::target;
 use table::words::block_count;
@@ -68,7 +68,7 @@ fn walk(words: &[u32], list: &mut [u32], new: &mut [u32]) -> u32
     found
 }
 
-// The blocks from 0 on, those that have no number.
+// Puts the blocks that have no number at the end, from block 0 on.
 fn name_rest(list: &mut [u32], new: &mut [u32], count: u32, blocks: u32) -> u32
     requires { ⌜ length (now list) ≡ blocks ⌝ }
     requires { ⌜ Queue (now list) (now new) count ⌝ }

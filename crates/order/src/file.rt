@@ -20,7 +20,7 @@ ghost use Rattle.renaming.specs.Order.{rearranged};
 ghost use Rattle.convert.specs.Write.{tableText};
 ghost use Rattle.order.specs.Prints.{orderedText, orderText};
 
-// Enough for the numbers of any table's blocks. By a function that tells the length alone: a proof that has the zeros in sight counts them.
+// Enough for the numbers of any table's blocks. The contract tells the length alone: a proof that sees the zeros would count them.
 fn lent_numbers() -> [u32; 1024]
     ensures { λ r. ⌜ 1024 ≡ length r ⌝ }
 {
@@ -47,7 +47,7 @@ fn print_table(words: &[u32], out: &mut [u8]) -> Written
     Written::Bytes(placed.length)
 }
 
-// The text of the rearranged table; `new_words` and the numbers have just the lengths needed.
+// The text of the rearranged table; `new_words` and the numbers have exactly the lengths needed.
 fn order_table(words: &[u32], new_words: &mut [u32], out: &mut [u8]) -> Written
     requires { ⌜ Promise (now words) ⌝ }
     requires { ⌜ length (now words) ≤ 16384 ⌝ }

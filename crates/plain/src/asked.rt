@@ -10,8 +10,8 @@ ghost use Rattle.definition.specs.PlainTest.{everyOf};
 ghost use Rattle.plain.specs.declared.asked.Question.the-variants.{OnlyOf, NotNamed};
 ghost use Rattle.plain.specs.Asked.{isFall, isJump, whileIs, branchIs, noWhilePart, isLoop, noLoopPart, isOpen, holdsOf, asks};
 
-// In turn: the fallthrough (second) is that of no other block than the first; a block is no While's loop block or test; it is no loop block and continues no loop;
-// it is no fallthrough; nothing but a Switch names it; no While has this test, loop block and fallthrough.
+// In order: the second block is the fallthrough of no block but the first; the block is no While's loop block or test; it is no loop block and continues no
+// loop; it is no fallthrough; nothing but a Switch names it; no While has this test, loop block and fallthrough.
 pub enum Question {
     OnlyOf(u32, u32),
     NoWhile(u32),

@@ -124,7 +124,7 @@ pub fn last_is_own(words: &[u32], first: u32, number: u32, fallthrough: u32) -> 
     case.block == fallthrough
 }
 
-// How many cases are left without those at the end that are the Switch's own fallthrough.
+// The number of cases without those at the end that are the Switch's own fallthrough.
 pub fn proper_count(words: &[u32], first: u32, number: u32, fallthrough: u32) -> u32
     requires { ⌜ Promise (now words) ⌝ }
     requires { ⌜ first + number ≤ caseCount (now words) ⌝ }

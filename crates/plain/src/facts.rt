@@ -8,7 +8,7 @@ ghost use Rattle.definition.specs.Statement.{continueBlockOf};
 ghost use Rattle.table.specs.Promise.{Promise};
 ghost use Rattle.plain.specs.Facts.{factsOf, noFacts, fallsTo, jumpsTo, entersOf, loopsOf};
 
-// `others` are the blocks that it names otherwise, `entered` those that it enters: a loop's is its loop block. `again` continues a loop.
+// `others` are the other blocks that it names. `entered` are those that it enters: for a loop, the loop block. `again` continues a loop.
 pub struct Facts {
     pub code: u32,
     pub falls: bool,
@@ -166,7 +166,7 @@ fn facts_of(code: u32, a: u32, b: u32, c: u32, d: u32, e: u32) -> Facts
     }
 }
 
-// Those of a block's terminal; a block beyond the table is absent.
+// The facts of a block's terminal. A block beyond the table is absent.
 pub fn facts_at(words: &[u32], block: u32) -> Facts
     requires { ⌜ Promise (now words) ⌝ }
     ensures { λ r. ⌜ r ≡ factsOf (terminalAt (tableOf (now (words .entry))) block) ⌝ }

@@ -14,7 +14,7 @@ ghost use Rattle.table.specs.Table.{tableOf, instructionAt, instructionRowsAt};
 ghost use Rattle.table.specs.Promise.{Promise};
 ghost use Rattle.plain.specs.Tails.{noTail, aLoad, aStore, tailOf, tailAt};
 
-// Whether it is a StoreLocal, one to an unnamed identifier, and a LoadLocal of its own lvalue's identifier.
+// Three answers: it is a StoreLocal; it is one to an unnamed identifier; it is a LoadLocal of its own lvalue's identifier.
 pub struct Tail {
     pub store: bool,
     pub unnamed: bool,

@@ -1,5 +1,5 @@
-// M-106: what a build gives where both buffers are large enough, from the words alone: the same walk with no place lent, which counts rows
-// and lines on.
+// M-106: what a build gives where both buffers are large enough, from the words alone. It is the same walk with empty buffers: the walk
+// still counts rows and lines.
 pub mod file;
 
 use control::rule::Rule;
@@ -61,7 +61,7 @@ pub fn preview(words: &[u32]) -> Outcome
     preview_by(Rule::Rust, words)
 }
 
-// Of the language entry (M-102).
+// The preview of the language entry (M-102).
 pub fn preview_language(words: &[u32]) -> Outcome
     ensures { λ r. ⌜ numbers r ≡ previewed language (now (words .entry)) ⌝ }
 {

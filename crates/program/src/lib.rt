@@ -8,13 +8,13 @@ ghost use mathlib.Core.Path.{_≡_};
 ghost use lib.ListN.{length};
 ghost use Rattle.io.specs.Counts.{Counts};
 
-// How many bytes were read; where a read failed, it may not be the whole input.
+// The number of bytes read. After a failed read they may not be the whole input.
 pub struct Input {
     pub count: usize,
     pub failed: bool,
 }
 
-// What a program reads into, by functions that tell the length alone: a proof that has the zeros in sight counts them.
+// The arrays that a program reads into. The contracts tell the lengths alone: a proof that sees the zeros would count them.
 
 // One byte more than a table's file may have.
 pub fn table_bytes() -> [u8; 32769]
@@ -72,12 +72,12 @@ fn say(program: &[u8], words: &[u8]) {
     io::write_all(STDERR_FILENO, words);
 }
 
-// Whether a person may wait for something else than happens: there is a word behind the program's name, or the input is a terminal.
+// Whether a person may expect something that the program does not do: there is an argument, or the input is a terminal.
 fn may_wait() -> bool {
     os::arg_count() > 1 || libc::isatty(STDIN_FILENO) == 1
 }
 
-// Reads standard input; where that fails it says so, with the program's name before it. Where a person may wait, it says first what it does.
+// Reads standard input. If a read fails, it says so after the program's name. If a person may wait for it, it first says what it does.
 pub fn read_all(program: &[u8], bytes: &mut [u8]) -> Input
     ensures { λ r. ⌜ Counts (r .count) (now (bytes .exit)) ⌝ }
 {
@@ -94,7 +94,7 @@ pub fn read_all(program: &[u8], bytes: &mut [u8]) -> Input
     input
 }
 
-// Writes all of the bytes to standard output; where that fails it says so. No definition gives whether they were written, so it has no result.
+// Writes all of the bytes to standard output. If that fails, it says so. It has no result, since no definition says whether they were written.
 pub fn write_all(program: &[u8], bytes: &[u8]) {
     let written = io::write_all(STDOUT_FILENO, bytes);
     if !written {
@@ -119,7 +119,8 @@ pub fn drawing_bytes() -> [u8; 262144]
     [0; 262144]
 }
 
-// Writes what a program's function printed into the lent bytes. Its end is within them, which the function's own contract says; asked here, so that no main has to prove it.
+// Writes what a program's function printed into the lent bytes. The function's contract says that the end is within them.
+// The code tests it here as well, so that no main has to prove it.
 pub fn write_printed(program: &[u8], out: &[u8], written: Written) {
     match written {
         Written::Bytes(end) => {

@@ -1,5 +1,5 @@
 -- M-111: a table with every block renamed, and what the build gives of it.
--- `new` gives a block's new number, `old` the old one. Both leave every number alone that is no block of the table, so that 65,535 stays none.
+-- `new` gives a block's new number, `old` the old one. Both leave a number as it is if it is no block of the table, so that 65,535 stays none.
 use Prim.Native.Nat.{ℕ, zero, suc, _+_, _<_, _≤_}
 use mathlib.Core.Path.{_≡_}
 use mathlib.Core.List.{List, [], _∷_, _++_, map}
@@ -69,7 +69,7 @@ instructionRow ws i =
 unfoldable pub renamedCaseRow : (new : ℕ → ℕ) → List ℕ → (i : ℕ) → List ℕ
 renamedCaseRow new ws i = caseWord ws i 0 ∷ new (caseWord ws i 1) ∷ []
 
--- the rows f 0, f 1, .. one after the other, so many
+-- the rows f 0, f 1, .. one after the other, up to a number
 unfoldable pub rowsOf : (ℕ → List ℕ) → ℕ → List ℕ
 rowsOf f zero = []
 rowsOf f (suc n) = f 0 ++ rowsOf (λ i. f (suc i)) n

@@ -172,7 +172,7 @@ schedules S H p f c l n F R C seen d h =
     (sym (values-asked (unlessTaken (loopTaken S H l f) l) (openFrame p n 1) (p .depth + 1) (p .rows) (p .visits) (Schedule (Loop f c l)) F R C
     ∙ rw (visits-same (p .visits) C (seen .visits), d .many, within-all (p .depth + 1 - 1) F (omega (arith, d .deep)))))
 
--- ---- planners of loops
+-- ---- the arms of loops
 
 start-made : (p : Position) (b : List ℕ) → Makes p (ok (noneMade (p .visits))) b (noValues p) b
 start-made p b = record { out = []; same = refl; held = λ _ R h. rw (append-nil R) h }

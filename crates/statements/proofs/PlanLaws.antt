@@ -1,4 +1,4 @@
--- What the plans that there are come to, and what a planner's answers have to show.
+-- What the plans that there are come to, and what an arm's answers have to show.
 use Prim.Native.Nat.{ℕ, zero, suc, _-_, _≤_, _<_}
 use native.Mathlib.Omega.{arith}
 use mathlib.Core.Path.{_≡_, refl, sym, ap, _∙_}

@@ -1,4 +1,4 @@
--- What every planner shows: a plan that is the machine's turn, with no row or after some.
+-- What every arm shows: a plan that is the machine's turn, with no row or after some.
 use Prim.Native.Nat.{ℕ, _+_, _-_, _≤_, _<_}
 use native.Mathlib.Omega.{arith}
 use mathlib.Core.Path.{_≡_, refl, sym, ap, _∙_, subst}
@@ -35,7 +35,7 @@ use Rattle.statements.proofs.CountLaws.{counted-on}
 use Rattle.statements.proofs.PlanLaws.{refuse-applied, Label, label-taken, label-most}
 use Rattle.statements.proofs.StepLaws.{label-missing, label-reached, turn-refused}
 
--- ---- a planner's turn by another
+-- ---- an arm's turn by another
 
 -- with rows more behind what is out
 pub stands-after : {F : List machine.Frame} {R : Output} {depth rows rows₁ : ℕ} (more : List Row) → rows₁ ≡ rows + length more → Stands F R depth rows → Stands F (R ⊕ more) depth rows₁
@@ -68,7 +68,7 @@ pub applied-visits : (plan : Plan) (v : ℕ) (F : List machine.Frame) (R : Outpu
 unfolding applied withVisits
 applied-visits plan v F R C = refl
 
--- ---- a planner with no row
+-- ---- an arm with no row
 
 pub bare-planned : (w : List ℕ) (S H : Flags) (p : Position) (plan : Plan) → (plan .code ≡ 0 → plan .position .rows ≡ p .rows)
     → ((F : List machine.Frame) (R : Output) (C : definition.Context) → Stands F R (p .depth) (p .rows) → Seen S H (p .visits) C → turn (terminalStep w p F R C) ≡ applied plan F R C)

@@ -1,4 +1,4 @@
--- What a planner shows where a nested list has ended, or a Switch chooses: its plan is the machine's turn.
+-- What an arm shows where a nested list has ended, or a Switch chooses: its plan is the machine's turn.
 use Prim.Native.Nat.{ℕ, zero, suc, _+_, _-_, _≤_, _<_}
 use native.Mathlib.Omega.{arith}
 use mathlib.Core.Path.{_≡_, refl, sym, ap, _∙_, subst}

@@ -124,7 +124,7 @@ module _ {w : List ℕ} {S H : Flags} {p : Position} {plan : Plan} (en : Entered
 
 -- ---- Throw and Return
 
--- a planner that puts out some rows and goes on at the same depth
+-- an arm that puts out some rows and goes on at the same depth
 pub left-planned : (w : List ℕ) (p : Position) (out : List Row) (b b′ : List ℕ) (rows′ count′ : ℕ) (plan : Plan)
     → ((before : List Row) → Holds b (p .rows) (stack.pushed before []) → Holds b′ rows′ (stack.pushed (before ++ out) []))
     → ((F : List machine.Frame) (R : Output) (C : definition.Context) → Stands F R (p .depth) (p .rows) → C .visits ≡ p .visits → terminalStep w p F R C ≡ ok (ended F (R ⊕ out) count′ C))

@@ -1,4 +1,4 @@
--- The machine's steps by what a planner sees: the words and the sets.
+-- The machine's steps by what an arm sees: the words and the sets.
 use Prim.Native.Nat.{ℕ, _+_, _-_, _<_}
 use native.Mathlib.Omega.{arith}
 use mathlib.Core.Path.{_≡_, refl, sym, ap, _∙_}

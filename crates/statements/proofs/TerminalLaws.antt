@@ -1,4 +1,4 @@
--- The visit of a block: what comes before its terminal, and what the terminal's planners see.
+-- The visit of a block: what comes before its terminal, and what the terminal's arms see.
 use Prim.Native.Nat.{ℕ, zero, suc, _+_, _-_, _≤_, _<_}
 use native.Mathlib.Omega.{arith}
 use mathlib.Core.Path.{_≡_, refl, sym, ap, _∙_, subst}
@@ -50,7 +50,7 @@ use Rattle.statements.proofs.StepLaws.{turn-refused}
 use Rattle.statements.proofs.CountLaws.{counted-on}
 use Rattle.statements.proofs.PlannedLaws.{stands-after, planned-as, around-unread, applied-visits}
 
--- ---- what the planners of jumps see
+-- ---- what the arms that jump see
 
 module _ {w : List ℕ} {S H Z : Flags} {p : Position} {aim : Aim} {around : Around} {C : definition.Context} (A : AtTerminal w S H Z p aim around C) where
   jump-seen : JumpSeen Z (p .visits) C
@@ -220,7 +220,7 @@ module _ (w : List ℕ) (E S H Z : Flags) (p : Position) (aim : Aim) (around : A
         emitted-planned buffer q plan s z e = refused-turn buffer q 11 b plan (λ y. omega arith) e (λ F R C l o. entering-turn F R C 11 b (q .visits) l
             (emitted-twice (around .rule) (tableOf w) b F R (p .count) C (omega (arith, o .visits, few)) present (ap (λ (k : Flags). has k b) (o .emitted) ∙ z) ∙ ap (refused 11 b) (next-visit C q o s)))
 
-        -- the terminal's planner goes on from the instructions
+        -- the terminal's arm goes on from the instructions
         pub entered-planned : {first count id : ℕ} {span : Span} → Heads w b first count id span → (buffer buffer₁ buffer′ : List ℕ) (q : Position) (plan : Plan) → has E b ≡ false → q .block ≡ b → q .depth ≡ p .depth
             → q .count ≡ p .count + count → q .visits ≡ p .visits + 1
             → InstructionsPut w first count buffer (p .rows) buffer₁ (q .rows)

@@ -106,12 +106,12 @@ pub record Makes (p : Position) (outcome : Result Made) (buffer : List ℕ) (val
   pub same : outcome ≡ madeIf (eqb (values .code) 0) values out
   pub held : values .code ≡ 0 → (before : List Row) → Holds buffer (p .rows) (pushed before []) → Holds buffer′ (values .rows) (pushed (before ++ out) [])
 
--- each visit pays for 8,200 rows; `unpaid` are not paid for
+-- each visit pays for 8,200 rows; `unpaid` rows are not paid for
 pub record Spent (before : Values) (unpaid : ℕ) (values : Values) : Type 0 where
   pub visits : values .visits ≤ 8192
   pub paid : values .rows + 8200 * before .visits ≤ before .rows + 8200 * values .visits + unpaid
 
--- values that go on from those before: whatever these are, and whatever the buffer was before them
+-- values that follow others, whatever those are, and whatever the buffer held before them
 pub record MakesMore (p : Position) (step : Made → Result Made) (before : Values) (buffer : List ℕ) (values : Values) (buffer′ : List ℕ) : Type 0 where
   pub made : (outcome : Result Made) (first : List ℕ) → Makes p outcome first before buffer → Makes p (outcome >>= step) first values buffer′
   pub spent : Spent before 3 values
@@ -154,7 +154,7 @@ valuesAt words q = madeBy (tableOf words) (visitValueBlock (tableOf words) (127 
 abbrev pub valuesPosition : Position → Frame → Position
 valuesPosition p frame = record { block = frame .block; depth = p .depth - 1; count = 0; rows = p .rows; visits = p .visits; stage = Visit }
 
--- what its turn asks
+-- the precondition of its turn
 pub record Making (words : List ℕ) (p : Position) (frame : Frame) : Type 0 where
   pub promise : Promise words
   pub block : frame .block < blockCount words

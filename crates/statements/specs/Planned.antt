@@ -1,4 +1,4 @@
--- The contract of a planner: its plan, applied, is what the machine's turn comes to, and the buffer holds the rows that it put out.
+-- The contract of an arm: its plan, applied, is what the machine's turn comes to, and the buffer holds the rows that it put out.
 use Prim.Native.Nat.{ℕ, suc, _+_, _-_, _≤_, _<_}
 use mathlib.Core.Path.{_≡_}
 use mathlib.Core.Bool.{Bool, true, false}
@@ -28,7 +28,7 @@ use Rattle.statements.specs.declared.plan.Change.the-variants.{Nothing, 
 use Rattle.statements.specs.declared.plan.Plan.{Plan}
 use Rattle.statements.specs.Plans.{applied}
 
--- a Context of which a planner sees the sets and the visits
+-- an arm sees the sets and the visits of this Context
 pub record Seen (scheduledSet handlerSet : Flags) (begun : ℕ) (cx : definition.Context) : Type 0 where
   pub scheduled : cx .scheduled ≡ scheduledSet
   pub handlers : cx .catchHandlers ≡ handlerSet
@@ -45,7 +45,7 @@ abbrev pub entriesOnTop : List machine.Frame → ℕ
 entriesOnTop [] = 0
 entriesOnTop (frame ∷ frames) = frame .entries
 
--- the depth that a plan comes to at most: one more with a frame that it keeps
+-- the greatest depth that a plan may come to: one more if it keeps a frame
 abbrev pub deepest : (keep : Bool) → ℕ → ℕ
 deepest true depth = suc depth
 deepest false depth = depth
@@ -59,7 +59,7 @@ Nested Pop keep = keep ≡ true
 Nested Values keep = keep ≡ true
 Nested Halt keep = Unit {0}
 
--- what the driver needs to apply a plan. `top` is the frame in hand, if any
+-- what the walk needs to apply a plan. `top` is the frame in hand, if any
 pub record Fitting (top : List machine.Frame) (depth : ℕ) (plan : Plan) : Type 0 where
   pub change : NamedChange (entriesOnTop top) (plan .change)
   pub handler : Below 1024 (unlessNone (plan .handler))
@@ -68,7 +68,7 @@ pub record Fitting (top : List machine.Frame) (depth : ℕ) (plan : Plan) : Type
   pub next : plan .position .depth ≤ deepest (plan .keep) depth
   pub nested : Nested (plan .position .stage) (plan .keep)
 
--- so many frames, and so many rows out
+-- there are `depth` frames, and `rows` rows are out
 pub record Stands (frames : List machine.Frame) (out : Output) (depth rows : ℕ) : Type 0 where
   pub deep : length frames ≡ depth
   pub many : length (out .rows) ≡ rows
@@ -106,7 +106,7 @@ pub record Entered (words : List ℕ) (p : Position) : Type 0 where
   pub rows : p .rows ≤ 100000000
   pub count : p .count ≤ p .rows
 
--- a planner that puts out no row
+-- an arm that puts out no row
 abbrev pub PlannedBare : List ℕ → Flags → Flags → Position → Plan → Type 0
 PlannedBare words scheduledSet handlerSet p plan = (buffer : List ℕ) → Planned (terminalStep words p) (Seen scheduledSet handlerSet (p .visits)) [] (p .depth) (p .rows) buffer plan buffer
 

@@ -34,12 +34,12 @@ frameOf frame = record { block = frame .block; second = frame .second; label = u
 abbrev pub noFrame : Frame
 noFrame = record { block = 0; label = 65535; entries = 0; left = 0; built = 0; first = 0; count = 0; second = false }
 
--- the first so many frames of the array, the last of them first
+-- the first frames of the array, as many as the number says, the last of them first
 unfoldable pub framesOf : List Frame → ℕ → List machine.Frame
 framesOf frames zero = []
 framesOf frames (suc n) = frameOf (getD frames n noFrame) ∷ framesOf frames n
 
--- the state at a stage. (With no frame, Choose, Pop and Values do not occur; nor does Halt.)
+-- the state at a stage. (Choose, Pop and Values do not occur where there is no frame. Halt never occurs.)
 abbrev pub stateAt : Stage → (block : ℕ) → List machine.Frame → Output → (count : ℕ) → definition.Context → State
 stateAt Visit block frames out count cx = visiting block frames out count cx
 stateAt Ended block frames out count cx = ended frames out count cx
@@ -51,9 +51,9 @@ stateAt Values block [] out count cx = ended [] out count cx
 stateAt Values block (frame ∷ frames) out count cx = making (unlessNone block) frame frames out cx
 stateAt Halt block frames out count cx = ended frames out count cx
 
--- ---- what the driver does with a plan
+-- ---- what the walk does with a plan
 
--- 15 and 90 are `schedule`'s own
+-- only `schedule` gives 15 and 90
 abbrev pub changed : Change → definition.Context → Result definition.Context
 changed Nothing cx = ok cx
 changed (Schedule target) cx = schedule (targetOf target) cx
@@ -67,7 +67,7 @@ abbrev pub scoped : Option ℕ → definition.Context → definition.Context
 scoped none cx = cx
 scoped (some fallthrough) cx = markScopeFallthrough fallthrough cx
 
--- the innermost so many frames
+-- the innermost frames, as many as the number says
 abbrev pub within : ℕ → List machine.Frame → List machine.Frame
 within depth frames = drop (length frames - depth) frames
 

@@ -53,14 +53,14 @@ lineAt words frame = lineAs (enclosingLabel (enclosingBy (terminalAt (tableOf wo
 
 -- ---- plans
 
--- a second part that must not be scheduled
+-- into a second part, which must not be scheduled
 abbrev pub alternating : (busy : Bool) → Position → Frame → (block code at : ℕ) → Plan
 alternating true p frame block code at = refusing p code at
 alternating false p frame block code at = nesting block (second frame) (p .depth) (p .rows) (p .visits) 65535 65535 Nothing
 
 -- ---- contracts
 
--- what a statement's closing asks
+-- the precondition of a statement's closing
 pub record Closing (words : List ℕ) (p : Position) (frame : Frame) : Type 0 where
   pub promise : Promise words
   pub block : frame .block < blockCount words
@@ -68,7 +68,7 @@ pub record Closing (words : List ℕ) (p : Position) (frame : Frame) : Type 0 wh
   pub rows : p .rows ≤ 1000000000
   pub count : frame .count ≤ p .rows
 
--- what a statement's resumption asks: of a Switch, that the case that is built is there
+-- the precondition of a statement's resumption: the case that a Switch has built is in the table
 pub record Resuming (words : List ℕ) (p : Position) (frame : Frame) : Type 0 where
   pub promise : Promise words
   pub block : frame .block < blockCount words
@@ -81,7 +81,7 @@ pub record Resuming (words : List ℕ) (p : Position) (frame : Frame) : Type 0 w
   pub built : frame .built ≤ 1024
   pub case : isSwitch (terminalAt (tableOf words) (frame .block)) ≡ true → switchColumns (terminalAt (tableOf words) (frame .block)) .first + frame .left < caseCount words
 
--- what a Switch's choice asks
+-- the precondition of a Switch's choice
 pub record Choosing (words : List ℕ) (p : Position) (frame : Frame) : Type 0 where
   pub code : codeAt words (frame .block) ≡ 7
   pub closing : Closing words p frame
@@ -112,7 +112,7 @@ PlannedClose words p frame = PlannedFor (closeStep words frame) (Begun (p .visit
 abbrev pub PlannedResume : List ℕ → Flags → Flags → Position → Frame → List ℕ → Plan → List ℕ → Type 0
 PlannedResume words scheduledSet handlerSet p frame = PlannedFor (resumeStep words p frame) (Seen scheduledSet handlerSet (p .visits)) p frame
 
--- where the sets are not looked at
+-- the same for an arm that does not look at the sets
 abbrev pub PlannedOn : List ℕ → Position → Frame → List ℕ → Plan → List ℕ → Type 0
 PlannedOn words p frame = PlannedFor (resumeStep words p frame) (Begun (p .visits)) p frame
 

@@ -1,4 +1,4 @@
--- The contract of a whole turn: what the driver shows a planner, and what it gets back.
+-- The contract of a whole turn: what the walk shows an arm, and what it gets back.
 use Prim.Native.Nat.{ℕ, zero, suc, _+_, _-_, _≤_, _<_}
 use mathlib.Core.Path.{_≡_}
 use mathlib.Core.Bool.{true}
@@ -32,7 +32,7 @@ use Rattle.statements.specs.Planned.{Seen, Fitting, Stands}
 
 -- ---- jumps
 
--- what is known of the jump's goal at a block that ends so
+-- what is known of the jump's goal at a block with this terminal
 abbrev pub Resolves : Terminal → Around → definition.Context → Option Goal → Type 0
 Resolves absent around cx aim = Unit {0}
 Resolves unreachable around cx aim = Unit {0}
@@ -58,9 +58,9 @@ Resolves (maybe-throw continuation) around cx aim = Unit {0}
 Resolves (try body handler fallthrough binding) around cx aim = Unit {0}
 Resolves (scope pruned body fallthrough number) around cx aim = Unit {0}
 
--- ---- what a planner is shown
+-- ---- what an arm is shown
 
--- a Context of which a planner sees the sets, the visits, and the goal of the block's jump
+-- an arm sees the sets and the visits of this Context, and the goal of the block's jump
 pub record Shown (words : List ℕ) (emittedSet scheduledSet handlerSet scopeSet : Flags) (p : Position) (aim : Aim) (around : Around) (cx : definition.Context) : Type 0 where
   pub emitted : cx .emitted ≡ emittedSet
   pub scheduled : cx .scheduled ≡ scheduledSet
@@ -122,7 +122,7 @@ pub record Ready (words : List ℕ) (p : Position) (frame : Frame) : Type 0 wher
 
 -- ---- what it gives back
 
--- a block that is visited is emitted
+-- the visit of a block emits it
 abbrev pub emitting : Stage → (block : ℕ) → definition.Context → definition.Context
 emitting Visit block cx = emit block cx
 emitting Ended block cx = cx

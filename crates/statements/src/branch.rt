@@ -32,7 +32,7 @@ ghost use Rattle.statements.specs.Jumps.{BranchSeen};
 ghost use Rattle.statements.specs.Planned.{Entered, Planned, terminalStepIn};
 ghost use Rattle.statements.specs.Resume.{Resuming, PlannedResume};
 
-// A Branch whose consequent is scheduled: a break in its place, and then the alternate.
+// A Branch whose consequent is scheduled: puts out a break in its place, and then visits the alternate.
 fn branch_break<'a>(
     words: &[u32],
     tree: &mut [u32],

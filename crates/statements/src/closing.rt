@@ -84,7 +84,7 @@ fn has_update(update: u32) -> u32
     1
 }
 
-// The closing row of a statement with nested lists. (Another has none.)
+// The closing row of a statement with nested lists. (Other statements have none.)
 fn closing_row(words: &[u32], frame: Frame) -> ClosingRow
     requires { ⌜ Promise (now words) ⌝ }
     requires { ⌜ frame .block < blockCount (now words) ⌝ }
@@ -159,7 +159,7 @@ pub fn unschedule_if(entries: u32) -> Change
     Change::Unschedule
 }
 
-// One entry is taken off the stack; with the last the statement is complete.
+// Takes one entry off the stack. With the last one the statement is complete.
 pub fn close_statement(words: &[u32], tree: &mut [u32], p: Position, frame: Frame) -> Plan
     requires { ⌜ Closing (now words) p frame ⌝ }
     ensures { λ r. ⌜ PlannedClose (now (words .entry)) p frame (now (tree .entry)) r (now (tree .exit)) ⌝ }
@@ -182,7 +182,7 @@ pub fn close_statement(words: &[u32], tree: &mut [u32], p: Position, frame: Fram
     with_line(left, line)
 }
 
-// A second part that must not be scheduled.
+// Into a second part, which must not be scheduled.
 pub fn alternate<'a>(
     scheduled: &'a [bool; 1024],
     catch_handlers: &'a [bool; 1024],

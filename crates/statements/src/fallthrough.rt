@@ -39,7 +39,7 @@ fn unless_taken(taken: bool, fallthrough: u32) -> u32
     fallthrough
 }
 
-// The fallthrough, where it is taken: it is not scheduled.
+// The fallthrough, if it is taken; NONE where it is scheduled.
 pub fn unless_scheduled<'a>(
     scheduled: &'a [bool; 1024],
     catch_handlers: &'a [bool; 1024],
@@ -114,7 +114,7 @@ pub fn schedule_switch(label: u32) -> Change
 }
 
 // A statement with a label and one nested block that must not be scheduled: If's consequent, Label's and a scope's block.
-// `busy` is whether the block is scheduled before the label is.
+// `busy` says whether the block is scheduled before the label is.
 pub fn enclose(busy: bool, p: Position, label: u32, block: u32, code: u32, at: u32) -> Plan
     requires { ⌜ label ≤ 65535 ⌝ }
     requires { ⌜ p .depth < 128 ⌝ }

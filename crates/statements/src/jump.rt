@@ -1,4 +1,4 @@
-// The Rust's visit_break and visit_continue. The driver has searched the stack for the target, and asked the statements around.
+// The Rust's visit_break and visit_continue. The walk has searched the stack for the target, and asked the statements around.
 use crate::plan::Position;
 use control::around::Aim;
 use control::around::Goal;

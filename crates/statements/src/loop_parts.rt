@@ -21,7 +21,7 @@ ghost use Rattle.statements.specs.Planned.{Entered};
 ghost use Rattle.statements.specs.Plans.{unlessTaken};
 ghost use Rattle.statements.specs.Loops.{plainMade, flatMade, noValues, valuesOf, Spent, MakesMore, loopTarget, schedulingLoop, loopTaken};
 
-// What a loop's values came to: a refusal, or the rows and visits then.
+// What a loop's values gave: a refusal, or the rows and visits after them.
 pub struct Values {
     pub code: u32,
     pub at: u32,
@@ -60,7 +60,7 @@ pub fn no_values(p: Position) -> Values
     }
 }
 
-// One value more, as it is.
+// Makes one more value, as it is.
 pub fn plain_value(
     words: &[u32],
     tree: &mut [u32],
@@ -84,7 +84,7 @@ pub fn plain_value(
     values_of(visit_value_block(words, tree, tally, 127 - p.depth, block, NONE, span))
 }
 
-// One value more, flattened: init, and ForOf's test.
+// Makes one more value, flattened: an init, or ForOf's test.
 pub fn flat_value(
     words: &[u32],
     tree: &mut [u32],
@@ -147,7 +147,7 @@ fn loop_is_taken<'a>(
     scheduled_at(scheduled, catch_handlers, loop_block)
 }
 
-// The loop's body, NONE where that is taken: 16 is given only after the values.
+// The loop's body, NONE where that is taken. The refusal 16 comes only after the values.
 fn unless_taken(taken: bool, loop_block: u32) -> u32
     ensures { λ r. ⌜ r ≡ unlessTaken taken «loop_block» ⌝ }
 {

@@ -1,4 +1,4 @@
-// What a turn of the walk decides: a Plan. A planner sees numbers and sets, never the Context's stack; the driver applies its plan.
+// What a turn of the walk decides: a Plan. An arm sees numbers and sets, never the Context's stack; the walk applies its plan.
 use control::ControlFlowTarget;
 ghost use mathlib.Core.Path.{_≡_};
 ghost use lib.Dec.{eqb};
@@ -19,7 +19,7 @@ pub enum Stage {
 }
 
 // Where the walk stands: under `depth` frames, with `count` statements of the list in hand and `rows` rows out. `block` is the one to be visited, or the
-// body of the loop whose values are made, NONE where that is taken.
+// body of the loop whose values are made next; NONE where that body is taken.
 pub struct Position {
     pub block: u32,
     pub depth: u32,
@@ -29,8 +29,8 @@ pub struct Position {
     pub stage: Stage,
 }
 
-// A statement of which a nested list is awaited. `label` is the fallthrough, NONE where it is not taken; `entries` of the stack are its own; its own
-// rows begin at row `first`.
+// A statement whose nested block is still being built. `label` is the fallthrough, NONE where it is not taken. `entries` is how many entries of the stack
+// are its own. Its own rows begin at row `first`.
 pub struct Frame {
     pub block: u32,
     pub label: u32,
@@ -55,7 +55,7 @@ pub enum Line {
     Put(u32, u32),
 }
 
-// The next position, or a refusal, if `code` is not 0. With `keep` the frame is the innermost one then. `handler` and `scope` are marked, unless NONE.
+// The next position; or a refusal, if `code` is not 0. With `keep` the frame becomes the innermost one. `handler` and `scope` are marked, unless NONE.
 pub struct Plan {
     pub code: u32,
     pub at: u32,
@@ -185,7 +185,7 @@ pub fn leave(next: u32, depth: u32, count: u32, rows: u32, visits: u32, change: 
     }
 }
 
-// A list nested in the statement of the frame, which is the innermost at that depth.
+// Into a block nested in the frame's statement. The frame becomes the innermost one at that depth.
 pub fn traverse_block(
     block: u32,
     frame: Frame,
@@ -212,7 +212,7 @@ pub fn traverse_block(
     }
 }
 
-// A Switch's next case, of the frame, which is the innermost at that depth.
+// On to the next case of the frame's Switch. The frame becomes the innermost one at that depth.
 pub fn choose(frame: Frame, depth: u32, rows: u32, visits: u32, change: Change) -> Plan
     ensures { λ r. ⌜ r ≡ choosingNext frame depth rows visits change ⌝ }
 {
@@ -232,7 +232,7 @@ pub fn choose(frame: Frame, depth: u32, rows: u32, visits: u32, change: Change) 
     }
 }
 
-// One entry more comes off, of the frame, which is the innermost at that depth.
+// One more entry of the frame's statement comes off. The frame becomes the innermost one at that depth.
 pub fn pop(frame: Frame, depth: u32, rows: u32, visits: u32) -> Plan
     ensures { λ r. ⌜ r ≡ poppingNext frame depth rows visits ⌝ }
 {
@@ -252,7 +252,7 @@ pub fn pop(frame: Frame, depth: u32, rows: u32, visits: u32) -> Plan
     }
 }
 
-// A statement is scheduled: its values are made next, a loop's before its body, of the frame, which is the innermost at that depth.
+// The frame's statement is scheduled, and its values are made next; a loop makes them before its body. The frame becomes the innermost one at that depth.
 pub fn make_values(
     body: u32,
     frame: Frame,

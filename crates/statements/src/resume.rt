@@ -22,7 +22,7 @@ ghost use Rattle.definition.specs.Around.{Around};
 ghost use Rattle.statements.specs.Turn.{Ready, PlannedTurn};
 ghost use Rattle.statements.specs.Resume.{Resuming, PlannedResume};
 
-// What awaits the list that has ended.
+// The plan of the statement whose list has ended.
 fn resume_statement<'a>(
     words: &[u32],
     tree: &mut [u32],
@@ -44,7 +44,7 @@ fn resume_statement<'a>(
     }
 }
 
-// A list has ended: its BLOCK row, and then what awaits it.
+// A list has ended: puts out its BLOCK row, and then the statement around it goes on.
 pub fn resume<'a>(
     words: &[u32],
     tree: &mut [u32],

@@ -1,4 +1,4 @@
-// What a block's jump looks for on the stack, what it finds at an entry, and where it goes. The driver searches before a turn is planned: a planner sees
+// What a block's jump looks for on the stack, what it finds at an entry, and where it goes. The walk searches before a turn is planned: an arm sees
 // neither the stack nor the statements around.
 use crate::fallthrough::scheduled_at;
 use crate::plan::Position;
@@ -36,7 +36,7 @@ pub enum Jump {
     Continue(u16),
 }
 
-// How many entries are searched: all, from the innermost, if there is a jump.
+// The number of entries to search: all of them if there is a jump, else none. The search begins at the innermost.
 pub fn search_from(jump: Jump, len: usize) -> usize
     ensures { λ r. ⌜ r ≡ searchedFrom jump len ⌝ }
 {
@@ -58,7 +58,7 @@ pub fn meets(jump: Jump, target: ControlFlowTarget) -> bool
     }
 }
 
-// What the jump resolves to at the entry that its search ended at, below so many loops.
+// What the jump resolves to at the entry where its search ended, below `loops` loops.
 pub fn resolve(jump: Jump, found: Entry, top: bool, loops: u32) -> Resolved
     ensures { λ r. ⌜ resolvedOf r ≡ resolvedAt jump (targetOf (found .target)) top loops ⌝ }
 {
@@ -69,7 +69,7 @@ pub fn resolve(jump: Jump, found: Entry, top: bool, loops: u32) -> Resolved
     }
 }
 
-// Whether the statements around are asked: in the language entry, of a jump that is not Implicit.
+// Whether the jump asks the statements around: only in the language entry, and only if it is not Implicit.
 pub fn asks_around(rule: Rule, found: Resolved) -> bool
     ensures { λ r. ⌜ r ≡ asksOf (ruleOf rule) (resolvedOf found) ⌝ }
 {

@@ -27,7 +27,7 @@ ghost use lib.Dec.{eqb};
 ghost use Rattle.statements.specs.Planned.{Entered};
 ghost use Rattle.statements.specs.Loops.{PlannedValues, Making, valuesAt, Makes, enteringBody};
 
-// The values of the loop that is scheduled, those that come before its body.
+// The values that a scheduled loop makes before its body.
 fn loop_values(words: &[u32], tree: &mut [u32], q: Position) -> Values
     requires { ⌜ Entered (now words) q ⌝ }
     ensures { λ r. ⌜ Makes q (valuesAt (now (words .entry)) q) (now (tree .entry)) r (now (tree .exit)) ⌝ }

@@ -73,7 +73,7 @@ pub fn visit_value<'a>(
     )
 }
 
-// Its value: an INSTR with the terminal's own span, with which the statement is complete.
+// Makes its value, an INSTR with the terminal's own span. Then the statement is complete.
 pub fn make_statement(words: &[u32], tree: &mut [u32], p: Position, frame: Frame) -> Plan
     requires { ⌜ Making (now words) p frame ⌝ }
     requires { ⌜ valueCode (codeAt (now words) (frame .block)) ≡ true ⌝ }

@@ -14,12 +14,12 @@ pub data Verdict : Type 0 where
 
 pub data Rule : Type 0 where
   unused : Rule
-  -- a number of at most so much
+  -- a number of at most `most`
   number : (most : ℕ) → Rule
-  -- a row of a table that has so many
+  -- a row of a table that has `rows` rows
   row : (rows : ℕ) → Rule
   row-or-none : (rows : ℕ) → Rule
-  -- a number of rows, from `first` on, of a table that has so many
+  -- a number of rows, from `first` on, of a table that has `rows` rows
   rows-from : (first rows : ℕ) → Rule
   -- the end of a span that begins here: at least that, and a row word
   end-of : (from : ℕ) → Rule

@@ -1,4 +1,4 @@
--- What code gives of the blocks that a row names: a Switch's case rows, then at most five blocks.
+-- How the code lists the blocks that a row names: a Switch's case rows, then at most five blocks.
 use Prim.Native.Nat.{ℕ, _+_, _<_, _≤_}
 use mathlib.Core.Path.{_≡_}
 use mathlib.Core.List.{List, [], _∷_, _++_}
@@ -20,7 +20,7 @@ abbrev pub forNames : (init test : ℕ) → (update : Option ℕ) → (loop fall
 forNames init test none loop fallthrough = noCase 4 (init ∷ test ∷ loop ∷ fallthrough ∷ 0 ∷ [])
 forNames init test (some update) loop fallthrough = noCase 5 (init ∷ test ∷ update ∷ loop ∷ fallthrough ∷ [])
 
--- what is given of each terminal, every word of it
+-- the list for each terminal, every word of it
 abbrev pub namesOf : Terminal → Named
 namesOf absent = noCase 0 (0 ∷ 0 ∷ 0 ∷ 0 ∷ 0 ∷ [])
 namesOf unreachable = noCase 0 (0 ∷ 0 ∷ 0 ∷ 0 ∷ 0 ∷ [])
@@ -52,7 +52,7 @@ AllBelow most (block ∷ blocks) = (block < most) × AllBelow most blocks
 abbrev pub listed : (ws : List ℕ) → Named → List ℕ
 listed ws named = caseBlocks (take (named .cases) (drop (named .«first_case») (tableOf ws .cases))) ++ take (named .count) (named .blocks)
 
--- that, which lists what the row names, in bounds that its reader asks for
+-- this list is what the row names, within the bounds that a reader of the list needs
 pub record Names (ws : List ℕ) (row : ℕ) (named : Named) : Type 0 where
   pub is : named ≡ namesOf (terminalAt (tableOf ws) row)
   pub are : namedAt (tableOf ws) row ≡ listed ws named

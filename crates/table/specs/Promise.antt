@@ -1,4 +1,4 @@
--- What an accepted table promises: the walk's crates index by it alone. `Promise` holds of the words where `checked` accepts them, and only there
+-- What an accepted table promises: the rooms of the walk index by it alone. `Promise` holds of the words where `checked` accepts them, and only there
 -- (proofs/PromiseLaws.antt: `promised`, `promise-checked`).
 use Prim.Native.Nat.{ℕ, _<_, _≤_, _+_}
 use mathlib.Core.List.{List}
@@ -7,9 +7,12 @@ use mathlib.Core.Bool.{true}
 use mathlib.Core.Path.{_≡_}
 use lib.ListN.{getD, length}
 use Rattle.table.specs.declared.columns.Span.{Span}
-use Rattle.table.specs.Words.{entryWord, blockCount, instructionCount, caseCount, placeCount, identifierCount, wordsNeeded, blockWord, instructionWord, caseWord, placeWord, identifierWord, largest}
+use Rattle.table.specs.Words.{entryWord, blockCount, instructionCount, caseCount, placeCount, identifierCount, wordsNeeded, blockWord, instructionWord, caseWord}
+use Rattle.table.specs.Words.{placeWord, identifierWord, largest}
 use Rattle.table.specs.Check.{unused, fits, blockRules, instructionRules, caseRules}
-use Rattle.table.specs.Table.{Terminal, absent, unreachable, throw, return, goto, if, branch, switch, do-while, while, for, for-of, for-in, logical, ternary, optional, label, sequence, maybe-throw, try, scope, Operation, other, load-local, store-local, Case, tableOf, blockAt, terminalAt, instructionAt, unlessNone}
+use Rattle.table.specs.Table.{Terminal, absent, unreachable, throw, return, goto, if, branch, switch, do-while, while, for, for-of, for-in, logical, ternary}
+use Rattle.table.specs.Table.{optional, label, sequence, maybe-throw, try, scope, Operation, other, load-local, store-local, Case, tableOf, blockAt, terminalAt}
+use Rattle.table.specs.Table.{instructionAt, unlessNone}
 
 -- there is a head, and no count is over its limit
 pub record Limited (ws : List ℕ) : Type 0 where
@@ -42,7 +45,7 @@ abbrev pub BelowUnlessNone : ℕ → Option ℕ → Type 0
 BelowUnlessNone count none = Unit {0}
 BelowUnlessNone count (some row) = row < count
 
--- of a table with so many blocks, places and cases
+-- for a table with `blocks` blocks, `places` places and `cases` cases
 module _ (blocks places cases : ℕ) where
   abbrev pub InRange : Terminal → Type 0
   InRange absent = Unit {0}
@@ -82,7 +85,7 @@ pub record Heads (ws : List ℕ) (block first count id : ℕ) (span : Span) : Ty
   pub is-span : blockAt (tableOf ws) block .span ≡ span
   pub there : first + count ≤ instructionCount ws
 
--- of a table with so many places
+-- for a table with `places` places
 module _ (places : ℕ) where
   abbrev pub OperandsInRange : Operation → Type 0
   OperandsInRange other = Unit {0}

@@ -118,7 +118,7 @@ pub fn store_local_at(words: &[u32], instruction: u32) -> StoreLocal
     }
 }
 
-// `test` is 65,535 of the default case.
+// `test` is 65,535 for the default case.
 pub struct Case {
     pub test: u32,
     pub block: u32,

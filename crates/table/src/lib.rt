@@ -1,4 +1,4 @@
-// The words of a table: the readers of its columns, which index the words by what the check promises (crate `table_check`), and the check's answer.
+// The words of a table: the readers of its columns, which index the words by what the check promises (room `table_check`), and the check's answer.
 pub mod columns;
 pub mod lines;
 pub mod terminals;

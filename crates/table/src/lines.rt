@@ -77,7 +77,7 @@ fn for_names(end: For) -> Named
     )
 }
 
-// An arm for each of the 22 codes, so longer than other functions: each reads its terminal and lists the blocks.
+// An arm for each of the 22 codes, so it is longer than other functions. Each arm reads its terminal and lists the blocks.
 pub fn named_at(words: &[u32], row: u32) -> Named
     requires { ⌜ Promise (now words) ⌝ }
     requires { ⌜ row < blockCount (now words) ⌝ }

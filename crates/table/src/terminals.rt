@@ -346,7 +346,7 @@ pub fn try_at(words: &[u32], block: u32) -> Try
     }
 }
 
-// Of a Scope, and of a PrunedScope.
+// A Scope or a PrunedScope.
 pub struct Scope {
     pub pruned: bool,
     pub block: u32,

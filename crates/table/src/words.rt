@@ -1,5 +1,5 @@
-// The only functions that index the words. Where a table begins is worked out from the head at each access: that costs a few loads from a line
-// that is always in the cache, and no caller has to carry the beginnings along with a fact about them.
+// The only functions that index the words. Each access works out from the head where its table begins. That costs a few loads from a cache line
+// that is always in the cache, and no caller has to carry the beginnings and a fact about them.
 ghost use mathlib.Core.Path.{_≡_};
 ghost use Prim.Native.Nat.{_<_, _≤_};
 ghost use lib.ListN.{length};

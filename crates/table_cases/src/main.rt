@@ -30,7 +30,7 @@ fn number(text: &[u8], from: usize) -> Parsed
     Parsed { value, end: i }
 }
 
-// Puts a word so often, from an index on, as far as there is room; the index after it.
+// Stores a word `times` times, from an index on, as far as there is room. Gives the index after it.
 fn fill(words: &mut [u32], from: usize, word: u32, times: u64) -> usize
     requires { ⌜ from ≤ length (now words) ⌝ }
     ensures { λ r. ⌜ r ≤ length (now (words .entry)) ⌝ }
@@ -117,7 +117,7 @@ fn differs(words: &[u32], code: u64, place: u64) -> u64
     0
 }
 
-// Arrays by functions that tell their length alone: a proof that has the zeros in sight counts them.
+// Each array comes from a function whose contract tells its length alone: a proof that sees the zeros would count them.
 fn text_bytes() -> [u8; 262144]
     ensures { λ r. ⌜ 262144 ≡ length r ⌝ }
 {

@@ -10,14 +10,14 @@ pub const ANY: u32 = 65536;
 // Only 0 is below this.
 pub const UNUSED: u32 = 1;
 
-// The limit of a word that names one of so many rows, or none.
+// The limit of a word that names one of `rows` rows, or none.
 pub fn row_or_none(rows: u32, word: u32) -> u32
     ensures { λ r. ⌜ r ≡ limit (row-or-none rows) word ⌝ }
 {
     if word == 65535 { ANY } else { rows }
 }
 
-// The limit of a number of rows from `first` on, of a table that has so many.
+// The limit of a number of rows from `first` on, in a table of `rows` rows.
 pub fn rows_from(first: u32, rows: u32) -> u32
     requires { ⌜ rows ≤ 4096 ⌝ }
     ensures { λ r. ⌜ r ≡ suc rows - first ⌝ }

@@ -4,7 +4,7 @@ use mathlib.Core.List.{List, [], _∷_, _++_}
 use Prim.Native.Nat.{ℕ, zero, suc, _+_, _/_, _%_}
 use lib.Dec.{ltb}
 
--- a choice by a test, of which only the side that is chosen is computed
+-- a choice by a test: only the chosen side is computed
 abbrev pub choose : {A : Type 0} → Bool → (Unit {0} → A) → (Unit {0} → A) → A
 choose true a b = a tt
 choose false a b = b tt

@@ -20,7 +20,7 @@ abbrev pub Words : List ℕ → Type 0
 Words [] = Unit {0}
 Words (n ∷ ns) = (n < 2 ^ 32) × Words ns
 
--- a row of so many words
+-- a row of `width` words
 pub record Row (width : ℕ) (row : List ℕ) : Type 0 where
   pub long : length row ≡ width
   pub words : Words row

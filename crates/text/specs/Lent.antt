@@ -4,7 +4,7 @@ use mathlib.Core.List.{List, _++_}
 use Prim.Native.Nat.{ℕ, _-_}
 use lib.ListN.{length, take, replicate}
 
--- a buffer of so many places that holds the items, then zeros
+-- a buffer of `room` places that holds the items, then zeros
 abbrev pub padded : ℕ → List ℕ → List ℕ
 padded room items = items ++ replicate (room - length items) 0
 

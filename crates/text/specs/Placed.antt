@@ -39,7 +39,7 @@ placing answer buffer = record { code = answer .code; at = answer .at; length = 
 unfoldable pub printedPlacing : Placing → List ℕ
 printedPlacing answer = choose (eqb (answer .code) 0) (λ _. take (answer .length) (answer .buffer)) (λ _. printed (answer .code) (answer .at) 0 0 [])
 
--- a buffer of so many bytes holds a text of the answer's length, and then zeros; none of a refusal
+-- a buffer of `lent` bytes holds a text of the answer's length, and then zeros; a refusal has no text
 pub record Holding (lent : ℕ) (answer : Placing) : Type 0 where
   pub text : List ℕ
   pub long : length text ≡ answer .length

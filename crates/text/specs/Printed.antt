@@ -44,7 +44,7 @@ pub record Wrote (buffer : List ℕ) (start : ℕ) (text buffer′ : List ℕ) (
   pub long : end ≡ start + length text
   pub holds : (before : List ℕ) → Holds buffer start before → Holds buffer′ end (before ++ text)
 
--- so much of what there is to hold was written, and all of it if the end is within the buffer
+-- a first part of the text was written, and all of it if the end is within the buffer
 pub record Held (all buffer : List ℕ) (end : ℕ) : Type 0 where
   pub held : List ℕ
   pub rest : List ℕ

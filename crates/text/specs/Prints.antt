@@ -1,4 +1,4 @@
--- What a program prints of a file, and what the bytes lent for it hold then: `printing` of the text that what the file reads as has (`fileText`).
+-- What a program prints of a file, and what the bytes lent for it hold then. The text (`fileText`) depends on what the file reads as; `printing` puts it there.
 -- `Prints` says of the text the same with no reader in it; `proofs/PrintsLaws` shows that it allows this text alone.
 use mathlib.Core.Path.{_≡_}
 use mathlib.Core.List.{List, []}

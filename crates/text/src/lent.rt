@@ -1,11 +1,11 @@
-// Lent buffers: what is stored past the end is stored nowhere.
+// Lent buffers: a store past the end does nothing.
 ghost use mathlib.Core.Path.{_≡_};
 ghost use mathlib.Core.List.{_++_};
 ghost use Prim.Native.Nat.{_-_, _≤_};
 ghost use lib.ListN.{length, set, take, replicate};
 ghost use Rattle.text.specs.Lent.{Holds};
 
-// Enough for the words of any good file. By a function that tells the length alone: a proof that has the zeros in sight counts them.
+// Enough for the words of any good file. The contract tells the length alone: a proof that sees the zeros would count them.
 pub fn lent_words() -> [u32; 16384]
     ensures { λ r. ⌜ 16384 ≡ length r ⌝ }
 {

@@ -57,7 +57,7 @@ fn read_names(file: &[u8], from: Cursor, names: &[u8]) -> Cursor
     cursor_at(start + i, count)
 }
 
-// Reads a line of so many numbers into the words.
+// Reads a line of `width` numbers into the words.
 fn read_row(file: &[u8], from: Cursor, width: usize, words: &mut [u32]) -> Cursor
     requires { ⌜ Near (now file) from ⌝ }
     ensures { λ r. ⌜ RowRead (now (file .entry)) width from (now (words .entry)) r (now (words .exit)) ⌝ }
@@ -78,7 +78,7 @@ fn read_row(file: &[u8], from: Cursor, width: usize, words: &mut [u32]) -> Curso
     cursor_at(at, count)
 }
 
-// Reads so many lines.
+// Reads `lines` lines of `width` numbers.
 fn read_rows(file: &[u8], from: Cursor, width: usize, lines: u32, words: &mut [u32]) -> Cursor
     requires { ⌜ Near (now file) from ⌝ }
     ensures { λ r. ⌜ PartRead (now (file .entry)) (rows width lines) from (now (words .entry)) r (now (words .exit)) ⌝ }

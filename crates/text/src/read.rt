@@ -17,7 +17,7 @@ pub enum Answer {
     NoRoom,
 }
 
-// Reads a file of this form: its words into the lent ones, then zeros. Where there is no such answer the lent words are all zeros.
+// Reads a file of this form: its words into the lent ones, then zeros. In any other case the lent words are all zeros.
 pub fn read_as(file: &[u8], version: Version, words: &mut [u32]) -> Answer
     ensures { λ r. ⌜ record { answer = r; lent = now (words .exit) } ≡ readInto (length (now (words .entry))) (reading (layout version) (now (file .entry))) ⌝ }
 {

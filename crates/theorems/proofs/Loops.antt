@@ -15,7 +15,7 @@ use Rattle.definition.specs.PlainTest.{isPlainLoops, plainness}
 use Rattle.definition.specs.RunLaw.{RunLaw, SwitchLaw}
 use Rattle.definition.proofs.LoopTest.{loop-test}
 use Rattle.definition.proofs.Plainness.{plain-by-paper-01, plain-by-m-113, spoken-of-at-all, not-spoken-of, law-of-number-1, law-of-every-number}
-use Rattle.definition.proofs.LoopLawExample.{updates, again, does, once, nested, ends, scoped, switches, falls}
+use Rattle.definition.specs.LoopExamples.{updates, again, does, once, nested, ends, scoped, switches, falls}
 use Rattle.definition.proofs.LoopLawExample.{updates-law, again-law, does-law, once-law, nested-law, ends-law, scoped-law, switches-law, falls-law, switches-not-for-rust}
 
 -- ---- the conditions can be computed

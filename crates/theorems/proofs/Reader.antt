@@ -37,7 +37,7 @@ pub table-read-gives-the-definition : (κs : Lfts 4) (before after : FileAndWord
     → record { code = code; at = now (after .1 .1 .0); count = now (after .1 .1 .1 .0); lent = now (after .1 .0) } ≡ tableRead (now (before .0)) (length (now (before .1 .0)))
 table-read-gives-the-definition κs before after code learnt = learnt
 
--- what the file reads as, in that definition, with no reader in it: a good file its words, any other its refusal and place (text, specs/Answer)
+-- what the file reads as, in that definition, with no reader in it: a good file its words, any other its refusal and place (text/specs/Answer)
 pub a-good-file-reads-as-its-words : (file words : List ℕ) → Accepted (layout New) file words → reading (layout New) file ≡ reads words
 a-good-file-reads-as-its-words = accepted-reads (layout New)
 

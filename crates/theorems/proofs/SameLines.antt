@@ -1,5 +1,5 @@
 -- M-102, "index included": the language entry's tree, which differs only in BREAKs that are Labeled in place of Unlabeled, has the first entry's lines.
--- For crates/theorems.
+-- For proofs/Theorems.
 use mathlib.Core.Path.{_≡_, refl, sym, ap, _∙_}
 use Prim.Native.Nat.{ℕ, suc, _+_, _-_}
 use native.Mathlib.Omega.{arith}

@@ -63,9 +63,12 @@ use Rattle.definition.proofs.Law.{switch-law, loops-law as law-of-loops, loops-
 use Rattle.definition.specs.Crossed.{Found}
 use Rattle.definition.proofs.Crossed.{break-found, continue-found}
 use Rattle.definition.proofs.JumpRows.{built-within}
-use Rattle.definition.proofs.Example.{W, loops, picks, W-law, loops-law, picks-law, not-for-rust}
-use Rattle.definition.proofs.LoopLawExample.{counts, counts-law}
-use Rattle.definition.proofs.Samples.{Sample, samples, builtFor, the-samples}
+use Rattle.definition.proofs.Example.{W-law, loops-law, picks-law, not-for-rust}
+use Rattle.definition.specs.Examples.{W, loops, picks}
+use Rattle.definition.proofs.LoopLawExample.{counts-law}
+use Rattle.definition.specs.LoopExamples.{counts}
+use Rattle.definition.proofs.Samples.{the-samples}
+use Rattle.definition.specs.Samples.{Sample, samples, builtFor}
 use Rattle.definition.specs.Tree.{Row}
 use Rattle.definition.specs.Reading.{ReadAs}
 use Rattle.definition.proofs.Readings.{one-reading}
@@ -446,7 +449,7 @@ pub the-first-entry-never-gives-29 : (words : List ℕ) (lent lentIndex : ℕ) �
 the-first-entry-never-gives-29 = first-never-29
 
 -- in an accepted tree of the language entry each Labeled jump stands in a statement with its label, a continue in its own loop with it, and the nearest loop
--- or SWITCH around an Unlabeled break is a loop (specs/Named)
+-- or SWITCH around an Unlabeled break is a loop (definition/specs/Named)
 pub the-labels-are-there : (words : List ℕ) (lent lentIndex : ℕ) → built language words lent lentIndex .code ≡ 0 → LabelsThere language words lent lentIndex
 the-labels-are-there = labels-there language
 

@@ -99,7 +99,7 @@ module _ (words : List ℕ) (ok : checked words ≡ accepted) where
       ≡ record { code = 0; at = 0; table = words }
   the-inverse-restores-the-first-table = round-trip words ok
 
-  -- "in either entry, with buffers of the same lengths, building the rearranged table gives the same rows, code, visits and lines with every block number renamed, and `at` renamed where it is a block"
+  -- "in either entry, with buffers of the same lengths, building the rearranged table gives the same rows, code and visits with every block number renamed, and `at` renamed where it is a block"; and the same lines
   pub the-rearranged-table-builds-the-same : (rule : Rule) (lent lentIndex : ℕ)
       → built rule (rearranged words) lent lentIndex ≡ renamedOutcome (newNumber (walkingOrder (tableOf words))) (built rule words lent lentIndex)
   the-rearranged-table-builds-the-same = rearranged-built words ok

@@ -15,8 +15,8 @@ pub data Parted (lent lentIndex : ℕ) : Outcome → Outcome → Type 0 where
   refused-alike : (outcome : Outcome) → (outcome .code ≡ 0 → ⊥) → Parted lent lentIndex outcome outcome
   -- 29, whatever the first entry gives, with no more visits
   unnamed : (outcome : Outcome) (at visits : ℕ) → visits ≤ outcome .visits → Parted lent lentIndex outcome (refusal 29 at 0 visits lent lentIndex)
-  -- both accept, after the same visits: the second gives the first's tree relabeled, which differs in BREAKs alone that are Labeled in place of Unlabeled since a
-  -- switch is between; so do its rows, equally many; and the lines are the same (both may still be 40 or 41)
+  -- both accept, after the same visits: the second gives the first's tree relabeled. It differs only in BREAKs that are Labeled in place of Unlabeled, because a
+  -- switch is between. There are as many rows, and they differ only so. The lines are the same. (Both may still be 40 or 41)
   relabeled-alike : (first : Statements) (visits : ℕ) → RelabeledRows (tree.rows first) (tree.rows (relabeled [] first))
       → Parted lent lentIndex (placed lent lentIndex (tree.rows first) (lines first) visits) (placed lent lentIndex (tree.rows (relabeled [] first)) (lines first) visits)
 

@@ -21,14 +21,14 @@ wordAt words i column = getD words (i * 6 + column) 0
 abbrev pub rowAt : List ℕ → ℕ → Row
 rowAt words i = row (wordAt words i 0) (wordAt words i 1) (wordAt words i 2) (wordAt words i 3) (wordAt words i 4) (wordAt words i 5)
 
--- the row at which the wanted parts begin, the latest of which closes before the row `cursor`; none where they are not there
+-- the row where the wanted parts begin; the latest of them closes just before the row `cursor`. None where they are not there
 unfoldable pub partsBegin : (words begins : List ℕ) → (wanted : List Sort) → (cursor : ℕ) → Option ℕ
 partsBegin words begins [] cursor = some cursor
 partsBegin words begins (sort ∷ wanted) zero = none
 partsBegin words begins (sort ∷ wanted) (suc last) =
     elim (serves sort (madeBy (wordAt words last 0))) [ true ↦ partsBegin words begins wanted (getD begins last 0) | false ↦ none ]
 
--- none as a number that is no row
+-- none, written as a number that is no row
 abbrev pub orNowhere : Option ℕ → ℕ
 orNowhere none = 65535
 orNowhere (some cursor) = cursor
@@ -44,7 +44,7 @@ pub record Ready (words begins : List ℕ) (rows : ℕ) : Type 0 where
 unfoldable pub remainderCode : (words begins : List ℕ) → (rows : ℕ) → ℕ
 remainderCode words begins rows = elim (eqb (getD begins (rows - 1) 0) 0 && eqb (wordAt words (rows - 1) 0) 9) [ true ↦ 0 | false ↦ 62 ]
 
--- so many rows from row i on
+-- the check of the `count` rows from row i on
 unfoldable pub readFrom : (words begins : List ℕ) → (i count : ℕ) → TreeRead
 readFrom words begins i zero = record { code = remainderCode words begins i; at = 0; begin = begins }
 readFrom words begins i (suc count) =
@@ -78,6 +78,7 @@ pub record Begun (words begins : List ℕ) (rows : ℕ) : Type 0 where
 
 -- ---- the promise of the check
 
--- code and at as the machine of reading/specs/Needs computes them: the grammar's answer, and there is no other (reading/proofs/Words, `words-answered`, `words-answer-is`)
+-- code and at as the machine of tree_grammar/specs/Needs computes them: the grammar's answer, and there is no other
+-- (tree_grammar/proofs/Words, `words-answered`, `words-answer-is`)
 abbrev pub treeChecked : (words : List ℕ) → TreeChecked
 treeChecked words = record { code = codeOf (treeVerdict words); at = atOf (treeVerdict words) }

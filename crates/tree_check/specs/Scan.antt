@@ -1,5 +1,5 @@
 -- The words of one table's file: its line of names, then lines of numbers, to the file's end. Rows as treebuild prints them are such a file, of six
--- numbers a line; so are answers (crate runfile), one a line. The names and the last column are parameters.
+-- numbers a line; so are answers (room tree_run), one a line. The names and the last column are parameters.
 use Prim.Native.Nat.{ℕ, zero, suc, _+_, _-_, _*_, _^_}
 use mathlib.Core.List.{List, [], _∷_, _++_}
 use mathlib.Core.Bool.{Bool, true, false, not, _&&_, _||_, cond}

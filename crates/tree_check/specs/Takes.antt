@@ -17,11 +17,11 @@ sortOf (suc (suc zero)) = a-statement
 sortOf (suc (suc (suc zero))) = a-block
 sortOf (suc (suc (suc (suc n)))) = a-case
 
--- so many of a first sort, the latest first, and then so many of a second
+-- a number of parts of a first sort, the latest first, and then a number of a second sort
 abbrev pub partsTaken : Takes → List Sort
 partsTaken takes = many (takes .count) (sortOf (takes .first)) (many (takes .more) (sortOf (takes .then)) [])
 
--- what each column a to d must be below to fit
+-- the limit of each column a to d: a word fits if it is below
 abbrev pub limitOf : (op column word : ℕ) → ℕ
 limitOf op column word = limit (getD (rowRules op) column unused) word
 

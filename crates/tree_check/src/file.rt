@@ -106,7 +106,7 @@ pub fn read_table(file: &[u8], names: &[u8], last: u32, words: &mut [u32]) -> Ro
     scan_end(scan, at, count)
 }
 
-// The check of so many words: those past the places lent make the list too long.
+// The check of `count` words. Words past the places lent make the list too long.
 fn check_words(words: &[u32], count: usize) -> TreeChecked
     requires { ⌜ length (now words) ≡ 12288 ⌝ }
     ensures { λ r. ⌜ ((list : List ℕ) → Holds (now (words .entry)) count list → checkedAs list r) ⌝ }

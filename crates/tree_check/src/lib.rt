@@ -43,7 +43,7 @@ fn remainder(tree: &[u32], begin: &[u32], rows: u32) -> u32
     0
 }
 
-// The rows one by one: 60 and 61 of a row before the next.
+// Checks the rows one by one: 60 and 61 of each row before the next row.
 fn read_rows(tree: &[u32], rows: u32) -> TreeRead
     requires { ⌜ length (now tree) ≡ rows * 6 ⌝ }
     requires { ⌜ 1 ≤ rows ⌝ }

@@ -8,7 +8,7 @@ ghost use Rattle.tree_grammar.specs.Needs.{a-value, a-statement, a-block, serve
 ghost use Rattle.tree_check.specs.Takes.{sortOf, partsTaken};
 ghost use Rattle.tree_check.specs.Found.{rowAt, partsBegin, orNowhere, Ready};
 
-// Where the parts begin that are not there: no row.
+// The beginning of parts that are not there: no row.
 pub const NOWHERE: u32 = 65535;
 
 // Sorts of parts: what a row leaves for a later one to take (`sortOf` in specs/Takes.antt). An INSTR is a statement too.
@@ -22,7 +22,7 @@ const BLOCK: u32 = 3;
 
 const CASE: u32 = 4;
 
-// So many parts of a first sort, the latest first, and then so many of a second.
+// `count` parts of the sort `first`, the latest first, and then `more` parts of the sort `then`.
 pub struct Takes {
     pub count: u32,
     pub first: u32,

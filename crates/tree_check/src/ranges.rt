@@ -40,7 +40,7 @@ fn below(a: u32, b: u32, c: u32, d: u32) -> Limits
     Limits { a, b, c, d }
 }
 
-// The limit of a word that is below so many, or none.
+// The limit of a word that is below `rows`, or none.
 fn or_none(rows: u32, word: u32) -> u32
     ensures { λ r. ⌜ r ≡ limit (row-or-none rows) word ⌝ }
 {

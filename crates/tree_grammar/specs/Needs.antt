@@ -1,4 +1,5 @@
--- The check as a machine over sorts of parts: what each row takes off a stack, and what it leaves there. The code follows this; that it answers what the grammar says is proved.
+-- The check as a machine over sorts of parts: what each row takes off a stack, and what it leaves there. The code follows this.
+-- proofs/Words proves that it answers what the grammar says.
 use Prim.Native.Nat.{ℕ, zero, suc}
 use mathlib.Core.List.{List, [], _∷_}
 use mathlib.Core.Option.{Option, none, some}

@@ -1,4 +1,4 @@
--- What the code's structs stand for: completions, places and turns of the walk (running/specs/Machine, Acts), and the links of the rows.
+-- What the code's structs stand for: completions, places and turns of the walk (tree_runs/specs/Machine, Acts), and the links of the rows.
 use mathlib.Core.Path.{_≡_}
 use Prim.Native.Nat.{ℕ, zero, suc, _+_, _<_}
 use mathlib.Core.List.{List, [], _++_}

@@ -35,7 +35,7 @@ joined from (scan.stopped at) answers = stopped at
 joined from (words rows) (scan.stopped at) = stopped (from + at)
 joined from (words rows) (words answers) = read rows answers
 
--- the rows before that byte, the answers from there on: each is a table's file (rowfile/specs/Scan)
+-- the rows before that byte, the answers from there on: each is a table's file (tree_check/specs/Scan)
 abbrev pub givenFrom : (from : ℕ) → (file : List ℕ) → Given
 givenFrom from file = joined from (fileWords (take from file)) (tableWords answerNames 0 (drop from file))
 

@@ -1,5 +1,5 @@
--- What a good file of rows and answers is, with no reader in it. `proofs/FirstByte` shows that `Given.fileGiven` reads just these, and stops at the first byte that none of
--- them could have there, or at the file's length.
+-- What a good file of rows and answers is, with no reader in it. `proofs/FirstByte` shows that `Given.fileGiven` reads exactly these files, and refuses any
+-- other at the first byte that no good file could have there, or at the file's length.
 use mathlib.Core.Path.{_≡_}
 use Prim.Native.Nat.{ℕ}
 use mathlib.Core.List.{List, _++_}

@@ -23,12 +23,12 @@ pub record Held (words buffer : List ℕ) (number : ℕ) (reached : List ℕ) : 
   pub fits : number ≤ length buffer
   pub same : (i : ℕ) → i < number → getD buffer i 0 ≡ wordAt words (getD reached i 0) 1
 
--- rows were to be performed up to these: the buffer took them all, or a first that it can't take is told
+-- these rows were to be performed: the buffer took them all, or the first that it cannot take is named
 pub data Took (words buffer : List ℕ) (performed : Performed) (reached : List ℕ) : Type 0 where
   took : performed .full ≡ false → Held words buffer (performed .number) reached → Took words buffer performed reached
   filled : performed .full ≡ true → length buffer < length reached → performed .at ≡ getD reached (length buffer) 0 → Took words buffer performed reached
 
--- from a case back over so many cases, in source order
+-- from a case back over `count` cases, in source order
 abbrev pub backBy : (begin : List ℕ) → (count m : ℕ) → ℕ
 backBy begin zero m = m
 backBy begin (suc count) m = backBy begin count (before (getD begin m 0))
@@ -66,7 +66,7 @@ pub data Ends (words buffer : List ℕ) (ran : Ran) (end : Completed) : Type 0 w
 
 -- ---- the whole
 
--- the first of so many rows from row i on that is not run, or the row after them
+-- the first of the `count` rows from row i on that is not run, or the row after them
 unfoldable pub notRunFrom : (words : List ℕ) → (i count : ℕ) → ℕ
 notRunFrom words i zero = i
 notRunFrom words i (suc count) = elim (notRun (wordAt words i 0)) [ true ↦ i | false ↦ notRunFrom words (suc i) count ]

@@ -46,6 +46,6 @@ pub record AnswersAt (file : List ℕ) (r : ℕ) : Type 0 where
   pub is : r ≡ answersFrom 0 file
   pub within : r ≤ length file
 
--- the run of so many words, of which those past the places lent make the list too long
+-- the run of a number of words; words past the places lent make the list too long
 abbrev pub RunsWords : (words : List ℕ) → (count : ℕ) → (answers : List ℕ) → (lent : ℕ) → Ran → (performed : List ℕ) → Type 0
 RunsWords words count answers lent r performed = (list : List ℕ) → Holds words count list → outcomeOf r performed ≡ runOf list answers lent

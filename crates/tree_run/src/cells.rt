@@ -1,4 +1,4 @@
-// The rows and their links. Beyond their end both read as 0, so that none of the functions over them demands anything.
+// The rows and their links. Beyond their end both read as 0, so that no function over them has a precondition.
 ghost use mathlib.Core.Path.{_≡_};
 ghost use lib.ListN.{getD};
 ghost use Rattle.tree_check.specs.Found.{wordAt};

@@ -12,7 +12,7 @@ pub const BREAK: u32 = 1;
 
 pub const CONTINUE: u32 = 2;
 
-// The completions that stop the run: RETURN and THROW, with value and id in target and jump, and an answer asked for that is not there.
+// The completions that stop the run: RETURN and THROW, with value and id in target and jump; an answer that is due but missing; and a row that is not run.
 pub const RETURNED: u32 = 3;
 
 pub const THREW: u32 = 4;
@@ -21,7 +21,7 @@ pub const UNANSWERED: u32 = 5;
 
 pub const NOT_RUN: u32 = 6;
 
-// Of a break or continue, NONE is the empty target, and jump is the jump's row.
+// In a break or continue NONE is the empty target, and `jump` is the jump's row.
 pub struct Completion {
     pub kind: u32,
     pub target: u32,

@@ -18,7 +18,7 @@ ghost use Rattle.tree_run.specs.Holds.{outcomeOf};
 ghost use Rattle.tree_run.specs.Given.{opensAnswers, fileRun};
 ghost use Rattle.tree_run.specs.Prints.{printedRun, mostPrinted, runText, AnswersAt, RunsWords};
 
-// Arrays by functions that tell their length alone: a proof that has the zeros in sight counts them.
+// Each array comes from a function whose contract tells its length alone: a proof that sees the zeros would count them.
 
 // 2,048 rows of six words.
 fn lent_words() -> [u32; 12288]
@@ -65,7 +65,7 @@ fn answers_at(file: &[u8]) -> usize
     at
 }
 
-// The run of so many words.
+// The run of `count` words.
 fn run_words(words: &[u32], count: usize, answers: &[u32], performed: &mut [u32]) -> Ran
     requires { ⌜ length (now words) ≡ 12288 ⌝ }
     ensures { λ r. ⌜ RunsWords (now (words .entry)) count (now (answers .entry)) (length (now (performed .entry))) r (now (performed .exit)) ⌝ }

@@ -85,7 +85,7 @@ pub fn refuse(code: u32, at: u32, performed: &mut [u32]) -> Ran
     refused(code, at)
 }
 
-// Runs the tree that any words are the rows of: writes the rows performed, then zeros. The tree and the answers are left alone.
+// Runs the tree whose rows are in the words, which may be any words. Writes the rows performed, then zeros. The tree and the answers stay as they are.
 pub fn run_tree(tree: &[u32], answers: &[u32], performed: &mut [u32]) -> Ran
     ensures { λ r. ⌜ outcomeOf r (now (performed .exit)) ≡ runOf (now (tree .entry)) (now (answers .entry)) (length (now (performed .entry))) ⌝ }
 {

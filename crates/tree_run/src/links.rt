@@ -6,14 +6,15 @@ ghost use lib.ListN.{length, getD};
 ghost use Rattle.tree_check.specs.Found.{Begun};
 ghost use Rattle.tree_run.specs.Abstraction.{linksOf, RowsLinked};
 
-// For each row the closing row of what it is a part of, of the part after it or 0, and of its first part or 0.
+// For each row three closing rows: of what it is a part of; of the part after it, or 0; and of its first part, or 0.
 pub struct Links {
     pub parent: [u32; 2048],
     pub next: [u32; 2048],
     pub child: [u32; 2048],
 }
 
-// Row by row, and of a row from its last part back: the last closes before the row, the one before it before that part's first row.
+// Links row after row, and the parts of a row from the last back. The last part closes just before the row; each other part closes just before the first
+// row of the part after it.
 pub fn link_rows(begin: &[u32], rows: u32) -> Links
     requires { ⌜ length (now begin) ≡ 2048 ⌝ }
     requires { ⌜ rows ≤ 2048 ⌝ }

@@ -28,7 +28,7 @@ ghost use Rattle.tree_runs.specs.Acts.{doThen, doAct};
 ghost use Rattle.tree_run.specs.Abstraction.{completionBy, placeOf, linksOf, layoutAt, thenBy, chosenBy, actOf, haltedAt};
 ghost use Rattle.tree_run.specs.Holds.{Held, Took, backBy, Instructs, After, Ends, Walks, told};
 
-// The buffer took all that was to be performed, so many rows by now; or it can't take the row `at`.
+// The buffer took every row that was to be performed, and holds `number` rows now. Or it is full and cannot take the row `at`.
 pub struct Performed {
     pub full: bool,
     pub at: u32,
@@ -102,7 +102,7 @@ fn perform_turn(tree: &[u32], turn: Turn, performed: &mut [u32], number: usize) 
     perform(tree, turn.more, turn.end, performed, first.number)
 }
 
-// The case at a place in source order: back over so many cases.
+// The case at a place in source order: `place` cases back from the row `last`.
 fn case_at(begin: &[u32], last: u32, place: u32) -> u32
     ensures { λ r. ⌜ r ≡ backBy (now (begin .entry)) place last ⌝ }
 {
@@ -135,7 +135,7 @@ fn chosen(begin: &[u32], asks: u32, row: u32, yes: u32, no: u32, given: u32) -> 
     enter(no)
 }
 
-// Where a turn goes on, and the answers asked for by then.
+// Where a turn goes on, and how many answers were taken by then.
 fn go_on(begin: &[u32], answers: &[u32], asked: usize, turn: Turn) -> Onward
     ensures { λ r. ⌜ ((parent next child reached : List ℕ) → state (placeOf (r .place)) reached (drop (r .asked) (now (answers .entry)))
         ≡ doThen (thenBy (turn .asks) (linksOf (now (begin .entry)) parent next child) (turn .row) (turn .yes) (turn .no) (placeOf (turn .place))) reached
@@ -203,7 +203,7 @@ fn decide(
     )
 }
 
-// Most turns enter an INSTR and then leave it for the next statement of its BLOCK: walk does both at once, with no Turn to decide and to take apart.
+// Most turns enter an INSTR and then leave it for the next statement of its BLOCK: `walk` does both at once, without building a Turn.
 fn instructs(tree: &[u32], place: Place) -> bool
     ensures { λ r. ⌜ (r ≡ true → Instructs (now (tree .entry)) place) ⌝ }
 {
@@ -232,7 +232,7 @@ fn after_instruction(tree: &[u32], parent: &[u32], next: &[u32], rows: u32, row:
     enter(later)
 }
 
-// What is told where the walk halted.
+// The answer for the place where the walk halted.
 fn ended(place: Place, number: usize) -> Ran
     ensures { λ r. ⌜ (place .down ≡ false → r ≡ told number (reasonOf (completionBy (place .kind) (place .target) (place .jump)))) ⌝ }
 {

@@ -43,7 +43,7 @@ pub struct Place {
     pub jump: u32,
 }
 
-// The rows before `to` from `from` on are performed, then those from `more` on and before `end`; then `asks` says how it goes on:
+// The turn performs the rows from `from` to before `to`, then those from `more` to before `end`. Then `asks` says how it goes on:
 // 0 to `place`; 1 by an answer into `yes` or out of `row`; 2 by an answer into `yes` or into `no`;
 // 3 by an answer into one of `no` cases, the first in source order closing at `yes`, or out of `row`.
 pub struct Turn {
@@ -156,7 +156,7 @@ fn picking(row: u32, last: u32, count: u32) -> Turn
     }
 }
 
-// An IF asks at once; without alternate, no leads out of it.
+// An IF asks at once. Without an alternate the answer no leads out of it.
 fn down_if(tree: &[u32], begin: &[u32], k: u32) -> Turn
     ensures { λ r. ⌜ ((t : Links) → actOf (now (tree .entry)) t r
         ≡ actDown (ifNode (beginIn (now (begin .entry))) k (wordAt (now (tree .entry)) k 2) (unlessNone (wordAt (now (tree .entry)) k 4))) k) ⌝ }

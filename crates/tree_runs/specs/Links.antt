@@ -40,7 +40,7 @@ partsByOp a b c =
 unfoldable pub partsOf : Row → ℕ
 partsOf (row op a b c d e) = getD (partsByOp a b c) op 0
 
--- so many parts of row k, from the last back: the last of them closes before the row `cursor`, and `later` comes after it
+-- `count` parts of row k, from the last back: the last of them closes just before the row `cursor`, and `later` comes after it
 pub data Parts (t : Links) (k : ℕ) : (count cursor later : ℕ) → Type 0 where
   no-part : {cursor later : ℕ} → t .begin k ≡ cursor → t .child k ≡ later → Parts t k 0 cursor later
   a-part : {count m later : ℕ} → t .parent m ≡ k → t .next m ≡ later → Parts t k count (t .begin m) m → Parts t k (suc count) (suc m) later
@@ -54,7 +54,7 @@ Linked rowAt t k = Parts t k (partsOf (rowAt k)) k 0
 abbrev pub isPlain : Row → Bool
 isPlain (row op a b c d e) = eqb op 1
 
--- the PLAINs among so many rows from f on
+-- the PLAINs among the `count` rows from f on
 unfoldable pub plainsFrom : (rowAt : ℕ → Row) → (f count : ℕ) → List ℕ
 plainsFrom rowAt f zero = []
 plainsFrom rowAt f (suc count) = elim (isPlain (rowAt f)) [ true ↦ f ∷ plainsFrom rowAt (suc f) count | false ↦ plainsFrom rowAt (suc f) count ]
@@ -150,7 +150,7 @@ nextOf t k r = elim (isCase r) [ true ↦ caseBefore (t .begin k) (t .begin (t .
 unfoldable pub parentOf : Links → (number k : ℕ) → Option ℕ
 parentOf t number k = elim (eqb (suc k) number) [ true ↦ none | false ↦ some (t .parent k) ]
 
--- so many rows
+-- the layout of `number` rows
 abbrev pub layoutOf : (rowAt : ℕ → Row) → Links → (number : ℕ) → Layout
 layoutOf rowAt t number = record { node = λ k. nodeOf rowAt t k (rowAt k); parent = λ k. parentOf t number k; next = λ k. nextOf t k (rowAt k) }
 

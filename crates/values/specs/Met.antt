@@ -46,7 +46,7 @@ answered of r value = okIf (eqb (r .code) 0) (of r value) r
 
 -- ---- contracts
 
--- Needed at a block: it is there; the sum of the rows cannot wrap, as each visit pays for 8,200 rows, and `spare` of them are not used yet
+-- What a visit of a block requires: the block is there; the count of rows cannot wrap, since each visit pays for 8,200 rows and `spare` of them are not used yet
 pub record Fit (words : List ℕ) (tally : Tally) (spare block : ℕ) : Type 0 where
   pub promise : Promise words
   pub at : block < blockCount words
@@ -94,7 +94,7 @@ pub record Numbers (start : Tally) (unpaid : ℕ) (r : ValueResult) : Type 0 whe
   pub rises : start .visits ≤ r .tally .visits
   pub paid : r .tally .rows + 8200 * start .visits ≤ start .rows + 8200 * r .tally .visits + unpaid
 
--- the code's result is the definition's, `outcome`, and the buffer holds its value's rows. Of a refused buffer nothing is said: it is cleared
+-- the code's result is the definition's, `outcome`, and the buffer holds its value's rows. Nothing is said of a refused buffer: it is cleared later
 pub record Met {A : Type 0} (words : List ℕ) (of : ValueResult → Value → A) (outcome : Result A) (start : Tally) (unpaid : ℕ) (buffer : List ℕ) (r : ValueResult) (buffer′ : List ℕ) : Type 0 where
   pub value : Value
   pub same : outcome ≡ answered of r value
@@ -142,7 +142,7 @@ pub record Loaded (words : List ℕ) (i place : ℕ) : Type 0 where
 abbrev pub unnamedStore : List ℕ → ℕ → Bool
 unnamedStore words i = eqb (storedToNamed (tableOf words) (instructionAt (tableOf words) i .operation)) 0
 
--- value_block_result_to_sequence: needed of a result, as `Found` gives it
+-- what value_block_result_to_sequence requires of a result; `Found` gives it
 pub record Flattens (words : List ℕ) (result : ValueResult) : Type 0 where
   pub promise : Promise words
   pub place : result .place < placeCount words

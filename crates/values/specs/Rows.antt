@@ -1,4 +1,4 @@
--- Rows in a lent buffer. The rows that it holds are a stack, the last row first: a row more is pushed, and a row taken back is popped.
+-- Rows in a lent buffer. The rows that it holds are a stack, the last row first: a new row is pushed, and a row taken back is popped.
 use mathlib.Core.Path.{_≡_}
 use mathlib.Core.Bool.{Bool, true, false}
 use mathlib.Core.List.{List, [], _∷_}

@@ -6,7 +6,7 @@ use Rattle.table.specs.Table.{tableOf, terminalAt, blockAt, unlessNone}
 use Rattle.definition.specs.Result.{Result}
 use Rattle.definition.specs.Value.{ValueBlockResult, ValueTerminalResult, TestBlockResult, VisitValueBlock, visitValueBlock, visitValueBlockAt, visitValueBlockTerminal, visitTestBlock, thenFallthrough}
 
--- the value walk with so many levels of depth left
+-- the value walk with a number of levels of depth left
 abbrev pub visit : List ℕ → (depthLeft : ℕ) → VisitValueBlock
 visit words depthLeft = visitValueBlock (tableOf words) depthLeft
 

@@ -41,7 +41,7 @@ fn stores_to_unnamed(words: &[u32], i: u32) -> bool
     identifier_word(words, identifier) == 0
 }
 
-// The place that a LoadLocal loads; NONE of another instruction.
+// The place that a LoadLocal loads; NONE for any other instruction.
 fn loaded_by(words: &[u32], i: u32) -> u32
     requires { ⌜ Promise (now words) ⌝ }
     requires { ⌜ i < instructionCount (now words) ⌝ }

@@ -10,14 +10,14 @@ pub struct Tally {
 }
 
 // The end of a value, so that it can be flattened without reading rows back: how many SEQ rows it ends in, how many instructions they count
-// together, and the place that its innermost value loads, if it is a load (then it is one row).
+// together, and the place that its innermost value loads, if it is a load (a load is one row).
 pub struct Trailing {
     pub sequences: u32,
     pub instructions: u32,
     pub loaded: u32,
 }
 
-// A refusal's code and place; or code 0 and what was found. The block is the one that the value ends in; of a value terminal, its fallthrough.
+// A refusal's code and place; or code 0 and what was found. `block` is the one that the value ends in; for a value terminal it is the fallthrough.
 pub struct ValueResult {
     pub code: u32,
     pub at: u32,

@@ -15,7 +15,7 @@ ghost use Rattle.table.specs.Promise.{Promise};
 ghost use Rattle.definition.specs.Value.{sameIdentifier};
 ghost use Rattle.values.specs.Met.{Flattens, Flattened};
 
-// Whether a place that is loaded, if any, has the identifier of `place`. Identifiers are compared, not places.
+// Whether a value loads a place that has the identifier of `place`. Identifiers are compared, not places.
 fn loads_same_identifier(words: &[u32], place: u32, loaded: u32) -> bool
     requires { ⌜ Promise (now words) ⌝ }
     requires { ⌜ place < placeCount (now words) ⌝ }
@@ -30,9 +30,9 @@ fn loads_same_identifier(words: &[u32], place: u32, loaded: u32) -> bool
     loaded_identifier == own_identifier
 }
 
-// The Rust's value_block_result_to_sequence, over the rows of a value that stand at the end of the buffer: its closing SEQ rows are taken back, and
-// the innermost value too if it loads the result's own identifier; else it becomes an instruction. UNDEF and one SEQ row over all follow.
-// Gives the rows that are out.
+// The Rust's value_block_result_to_sequence, for a value whose rows are the last in the buffer. It takes back the closing SEQ rows. It takes
+// back the innermost value too, if that loads the result's own identifier; else the value becomes an instruction. UNDEF and one SEQ row over all follow.
+// Gives the number of rows that are out.
 pub fn value_block_result_to_sequence(
     words: &[u32],
     buffer: &mut [u32],

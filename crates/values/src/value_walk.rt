@@ -1,5 +1,5 @@
 // The walk: value blocks, test blocks and value terminals call one another, each value visit one deeper.
-// `levels` is how many levels of depth are left, 128 minus the depth: it falls.
+// `levels` is the number of levels of depth that are left, 128 minus the depth. It falls with each call.
 use crate::extract::branch_value;
 use crate::extract::extract_or_refuse;
 use crate::extract::is_empty_goto;
@@ -33,7 +33,7 @@ ghost use Rattle.values.specs.Met.{blockResult, terminalResult, Fit, Met
 ghost use Rattle.values.specs.Tested.{noBranch, TestMet};
 ghost use Rattle.values.specs.WalkOutcome.{visit, blockOutcome, terminalOutcome, fallthroughOutcome, testOutcome};
 
-// The value of a block. `fallthrough` must not be reached; NONE if any block may. `span` is the one that was passed down.
+// The value of a block. `fallthrough` is the block that must not be reached, NONE if there is none. `span` is the one that was passed down.
 pub fn visit_value_block(
     words: &[u32],
     buffer: &mut [u32],
@@ -155,7 +155,7 @@ pub fn visit_value_block_terminal(
         15 => optional_value(words, buffer, tally, levels, block),
         16 => refused(26, block, tally), // Label
         17 => sequence_value(words, buffer, tally, levels, block),
-        // the Rust's message that never occurs: visit_value_block does not come here with a MaybeThrow
+        // the Rust has a message here that never occurs: visit_value_block handles a MaybeThrow itself
         18 => refused(92, block, tally),
         0 | 1 | 2 | 3 | 4 | 5 | 6 | 7 | 8 | 9 | 10 | 11 | 12 | 19 | 20 | 21 => {
             refused(27, block, tally)
@@ -164,7 +164,7 @@ pub fn visit_value_block_terminal(
     }
 }
 
-// A test block's value, and what the Branch at its end has: its two ways, and its span. (Where the value is refused they are 0.)
+// A test block's value, and the two ways and the span of the Branch at its end. (They are 0 where the value is refused.)
 pub struct TestBlock {
     pub test: ValueResult,
     pub consequent: u32,

@@ -81,7 +81,7 @@ fn word_at(bytes: &[u8], at: usize, more: bool) -> Number {
     Number { value: 0, next: at }
 }
 
-// Reads so many numbers into the words, and makes the words after them zeros; answers where the next number begins.
+// Reads `count` numbers into the words, and clears the words after them. Gives where the next number begins.
 fn read_words(bytes: &[u8], start: usize, count: u32, words: &mut [u32; 16384]) -> usize {
     let mut at = start;
     let mut i: usize = 0;
@@ -102,7 +102,7 @@ fn soil(words: &mut [u32; 16384]) {
     }
 }
 
-// Whether the first so many words are the same.
+// Whether the first `count` words are the same.
 fn same_words(left: &[u32; 16384], right: &[u32; 16384], count: u32) -> bool {
     let mut i: usize = 0;
     while i < count as usize {
@@ -117,7 +117,7 @@ fn same_words(left: &[u32; 16384], right: &[u32; 16384], count: u32) -> bool {
     true
 }
 
-// A number of words, as far as there are so many.
+// The number of words, at most the length.
 fn within(count: u32, length: usize) -> usize
     ensures { λ r. ⌜ r ≤ length ⌝ }
 {
@@ -135,7 +135,7 @@ fn lent_lines() -> [u32; 3072]
     [7; 3072]
 }
 
-// Builds the table in the first so many words, with so many words lent.
+// Builds the table in the first `count` words, with `lent` words lent.
 fn build_part(words: &[u32], count: u32, tree: &mut [u32], lent: u32) -> Outcome {
     let end = within(count, words.len());
     let room = within(lent, tree.len());
@@ -143,7 +143,7 @@ fn build_part(words: &[u32], count: u32, tree: &mut [u32], lent: u32) -> Outcome
     build_reactive_function(&words[..end], &mut tree[..room], &mut index)
 }
 
-// The words that the rows take: none, if refused.
+// The number of words that the rows take: 0 where the build refuses.
 fn held(code: u32, rows: u32) -> u32 {
     if code != 0 {
         return 0;
@@ -197,7 +197,7 @@ fn replay(
     }
 }
 
-// The number of differences, with this vector's, which is printed.
+// The number of differences, this vector's included. A vector that differs is printed.
 fn counted(differences: u32, number: u32, same: bool) -> u32 {
     if same {
         return differences;
@@ -240,7 +240,7 @@ fn replay_all(
     print_counts(i, differences, bytes.len(), at);
 }
 
-// Arrays by functions that tell their length alone: a proof that has the zeros in sight counts them.
+// Each array comes from a function whose contract tells its length alone: a proof that sees the zeros would count them.
 fn file_bytes() -> [u8; 700000]
     ensures { λ r. ⌜ 700000 ≡ length r ⌝ }
 {

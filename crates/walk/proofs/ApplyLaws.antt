@@ -1,4 +1,4 @@
--- A plan, applied to the Context: what it asks, and what it does to the definition's Context. For the driver's loop.
+-- A plan, applied to the Context: what it asks, and what it does to the definition's Context. For the loop of the walk.
 use Prim.Native.Nat.{ℕ, _+_, _-_, _<_}
 use native.Mathlib.Omega.{arith}
 use mathlib.Core.Path.{_≡_, refl, sym, ap, _∙_, subst}
@@ -68,7 +68,7 @@ Changeable Nothing cx = Unit {0}
 Changeable (Schedule target) cx = Named target × Room cx
 Changeable Unschedule cx = 0 < cx .len
 
--- what the driver carries along: the stack's bound, the blocks of its entries, and the arrays' lengths
+-- what the walk carries along: the stack's bound, the blocks of its entries, and the arrays' lengths
 pub record Whole (cx : Context) : Type 0 where
   pub bounded : Bounded (cx .stack) (cx .len)
   pub wide : length (cx .scheduled) ≡ 1024

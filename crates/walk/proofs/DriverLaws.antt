@@ -1,4 +1,4 @@
--- The driver's loop: what a turn needs, and what it leaves.
+-- The loop of the walk: what a turn needs, and what it leaves.
 use Prim.Native.Nat.{ℕ, zero, suc, _+_, _-_, _≤_, _<_}
 use native.Mathlib.Nat.{le-refl}
 use native.Mathlib.Omega.{arith}

@@ -1,4 +1,4 @@
--- The parts of a plan that the driver applies, and the whole walk.
+-- The parts of a plan that the walk applies, and the whole walk.
 use Prim.Native.Nat.{ℕ}
 use mathlib.Core.Path.{_≡_}
 use mathlib.Core.Bool.{Bool, true, false}

@@ -23,7 +23,7 @@ frameIn words place = record {
   second = eqb (getD words (place + 7) 0) 1;
 }
 
--- the words with a frame stored at a place, and so the word of its last field
+-- the words with a frame stored at a place; `second` is the word of the frame's last field
 abbrev pub storedIn : List ℕ → (place : ℕ) → Frame → (second : ℕ) → List ℕ
 storedIn words place frame second =
     set
@@ -34,7 +34,7 @@ storedIn words place frame second =
     (place + 6) (frame .count))
     (place + 7) second
 
--- so many frames, from the frame `from` on
+-- a number of frames, from the frame `from` on
 unfoldable pub framesFrom : List ℕ → (from count : ℕ) → List Frame
 framesFrom words from zero = []
 framesFrom words from (suc count) = frameIn words (from * 8) ∷ framesFrom words (from + 1) count

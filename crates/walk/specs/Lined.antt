@@ -14,7 +14,7 @@ use Rattle.statements.specs.Plans.{linesBy}
 unfoldable pub linePlaced : List ℕ → (n label first closing : ℕ) → List ℕ
 linePlaced index n label first closing = elim (ltb n (length index / 3)) [ true ↦ sets index (n * 3) (label ∷ first ∷ closing ∷ []) | false ↦ index ]
 
--- the buffer holds these lines, n of them. Nothing is said where it has fewer places: the entry clears it then
+-- the buffer holds these lines, n of them. Nothing is said where it has fewer places: then the entry clears it
 pub record HoldsLines (index : List ℕ) (n : ℕ) (lines : List Line) : Type 0 where
   pub count : length lines ≡ n
   pub words : n ≤ length index / 3 → take (n * 3) index ≡ lineWords lines

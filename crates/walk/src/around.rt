@@ -1,4 +1,4 @@
-// Where a jump goes, by the statements around it (M-102): in the language entry they are passed, from the innermost.
+// Where a jump goes, by the statements around it (M-102). In the language entry the code passes over them, from the innermost.
 use crate::frames::frame_at;
 use control::Resolved;
 use control::around::Aim;
@@ -24,7 +24,7 @@ ghost use Rattle.statements.specs.Plans.{noFrame, framesOf};
 ghost use Rattle.statements.specs.Search.{goalBy};
 ghost use Rattle.walk.specs.FrameWords.{framesIn};
 
-// Where to look first for the statement of the entry that was found: there, if each statement around has one entry.
+// Where to look first for the statement that owns the entry found: at the entry's own place. It is there if each statement around has one entry.
 fn likely_owner(at: usize, depth: usize) -> usize
     requires { ⌜ 0 < depth ⌝ }
     ensures { λ r. ⌜ r < depth ⌝ }
@@ -35,7 +35,7 @@ fn likely_owner(at: usize, depth: usize) -> usize
     0
 }
 
-// The search ended at the entry `at`. A Labeled break asks only whether a statement around has its label: the likely one is looked at first.
+// The search ended at the entry `at`. A Labeled break asks only whether a statement around has its label: the code looks at the likely one first.
 pub fn aim_around(
     rule: Rule,
     words: &[u32],

@@ -1,4 +1,4 @@
-// The frames of the statements being built: eight words each, the outermost first. As words they can be lent: the kit lends no array of structs.
+// The frames of the statements being built: eight words each, the outermost first. They are words because the kit lends no array of structs.
 use statements::plan::Frame;
 ghost use mathlib.Core.Path.{_≡_};
 ghost use Prim.Native.Nat.{_*_, _≤_, _<_};

@@ -1,10 +1,10 @@
-// M-101: a line is written behind those that are out, where a whole place is left, and counted on where none is.
+// M-101: a line is written after those that are out, if a whole place is left. It is counted in any case.
 use statements::plan::Line;
 ghost use mathlib.Core.Path.{_≡_};
 ghost use Prim.Native.Nat.{_-_, _≤_};
 ghost use Rattle.walk.specs.Lined.{linePlaced, LinePut};
 
-// The last of so many rows.
+// The last of `rows` rows.
 fn last_row(rows: u32) -> u32
     ensures { λ r. ⌜ r ≡ rows - 1 ⌝ }
 {

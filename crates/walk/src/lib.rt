@@ -1,4 +1,4 @@
-// The loop over the Context by value and the frames: each turn is planned, and its plan applied.
+// The loop over the Context and the frames: `statements` plans each turn, and the loop applies the plan.
 mod around;
 mod frames;
 mod index;
@@ -37,8 +37,8 @@ ghost use Rattle.control.specs.Abstraction.{targetOf};
 ghost use Rattle.control.specs.AroundAbstraction.{ruleOf};
 ghost use Rattle.walk.specs.Driver.{visitedBlock, marked, startingAt, planEnds, isHalt, walkedBy, blockedBy, Reported};
 
-// Paper 01, "Result and refusals": code (0 accepted), at, rows, visits; and M-101's number of lines. The walk hands it back before the buffers are
-// asked whether all fits.
+// Paper 01, "Result and refusals": code (0 accepted), at, rows, visits; and M-101's number of lines. The walk gives it before
+// anyone tests whether the rows and the lines fit in the buffers.
 pub struct Outcome {
     pub code: u32,
     pub at: u32,
@@ -123,7 +123,7 @@ fn answer(plan: Plan, lines: u32) -> Outcome
     }
 }
 
-// What `schedule` refused, at the block that it asks about.
+// The refusal of `schedule`, at the block that it tested.
 fn blocked(code: u16, target: ControlFlowTarget, p: Position) -> Outcome
     ensures { λ r. ⌜ r ≡ blockedBy code (blockAsked (targetOf target)) p ⌝ }
 {
@@ -137,7 +137,7 @@ fn blocked(code: u16, target: ControlFlowTarget, p: Position) -> Outcome
     }
 }
 
-// The innermost frame; where there is none, any.
+// The number of the innermost frame; 0 where there is none.
 fn innermost(depth: u32) -> usize
     ensures { λ r. ⌜ r ≡ depth - 1 ⌝ }
 {
@@ -147,7 +147,7 @@ fn innermost(depth: u32) -> usize
     (depth - 1) as usize
 }
 
-// Each turn is planned, and its plan applied. The search of the stack (the Rust's `get_break_target` and `get_continue_target`) and the store of an entry stand
+// Plans each turn and applies its plan. The search of the stack (the Rust's `get_break_target` and `get_continue_target`) and the store of an entry stand
 // here, since a function that is handed the Context by value and indexes its entries copies it, 18 KB a turn (docs/PERFORMANCE.md).
 pub fn walk(rule: Rule, words: &[u32], tree: &mut [u32], index: &mut [u32]) -> Outcome
     requires { ⌜ Promise (now words) ⌝ }

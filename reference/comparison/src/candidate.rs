@@ -18,6 +18,7 @@ pub type CandidatePreview = fn(&[u32]) -> Outcome;
 /// Code and place.
 pub type CandidateCheck = fn(&[u32]) -> (u32, u32);
 
+pub type CandidatePlain = fn(&[u32]) -> Result<usize, (u32, u32)>;
 pub type CandidateDot = fn(&[u32], &mut [u8]) -> Drawn;
 
 /// The writer, the two converters, and the reader.
@@ -82,6 +83,23 @@ pub const CANDIDATE_PREVIEWS: Option<[CandidatePreview; 2]> = Some([
 fn check(words: &[u32]) -> (u32, u32) {
     let reactive_build::table_check::Checked { code, at } = reactive_build::table_check::check(words);
     (code, at)
+}
+
+/// `table_plain`: the number of the first run law that speaks of the table (0 none), or the check's refusal.
+#[cfg(not(feature = "candidate"))]
+pub const CANDIDATE_PLAIN: Option<CandidatePlain> = None;
+
+#[cfg(feature = "candidate")]
+pub const CANDIDATE_PLAIN: Option<CandidatePlain> = Some(plain);
+
+#[cfg(feature = "candidate")]
+fn plain(words: &[u32]) -> Result<usize, (u32, u32)> {
+    use reactive_build::plain::{Law, law};
+    let laws = [Law::None, Law::Paper01, Law::Switches, Law::Loops];
+    match law(words) {
+        Ok(found) => Ok(laws.iter().position(|law| *law == found).unwrap()),
+        Err(refusal) => Err((refusal.code, refusal.at)),
+    }
 }
 
 #[cfg(not(feature = "candidate"))]

@@ -1,3 +1,5 @@
+-- `build::finish` meets its contract: its four ends, in order, are the definition's outcome of the walk's report: a refusal, 40, 41, or the rows and the lines.
+-- One law of EntryLaws for each.
 use Rattle.build.proofs.EntryLaws.{rejected-outcome, overfull-outcome, overlined-outcome, accepted-outcome}
 use borrow.Author.Needs.{needs}
 use Rattle.build.proofs.finish.Statement.{statement}

@@ -1,3 +1,5 @@
+-- `convert::convert_new` meets its contract. Three ends: the check refuses, two ends of a span differ (52), or the old text is written.
+-- One law of ConvertLaws for each.
 use borrow.Author.Needs.{needs}
 use native.Mathlib.Omega.{arith}
 use mathlib.Core.Path.{sym, _∙_}

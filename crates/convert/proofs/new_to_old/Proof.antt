@@ -1,3 +1,5 @@
+-- `convert::new_to_old` meets its contract, by what the file reads as: words, which are converted, or a refusal. There is always room for the words
+-- (ConvertLaws, `never-short`).
 use borrow.Author.Needs.{needs}
 use Rattle.text.proofs.ReadingLaws.{is-answered}
 use native.Mathlib.Omega.{arith}

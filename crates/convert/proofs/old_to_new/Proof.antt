@@ -1,3 +1,5 @@
+-- `convert::old_to_new` meets its contract, by what the file reads as: words, which are converted, or a refusal. The words of a good file have its shape (GoodLaws),
+-- and there is always room for them (ConvertLaws, `never-short`).
 use borrow.Author.Needs.{needs}
 use Rattle.text.proofs.ReadingLaws.{is-answered}
 use native.Mathlib.Omega.{arith}

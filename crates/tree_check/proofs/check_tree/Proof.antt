@@ -1,4 +1,4 @@
--- `treerows::check_tree` meets its contract.
+-- `tree_check::check_tree` meets its contract.
 use Rattle.tree_check.proofs.Simulation.{tree-checked}
 use borrow.Author.Needs.{needs}
 use Rattle.tree_check.proofs.check_tree.Statement.{statement}

@@ -1,4 +1,4 @@
--- `treerows::no_list` meets its contract.
+-- `tree_check::no_list` meets its contract.
 use mathlib.Core.Path.{refl}
 use Rattle.tree_check.specs.Found.{noBegins}
 use Rattle.tree_check.proofs.no_list.Statement.{statement}

@@ -1,4 +1,4 @@
--- `treerows::read_rows` meets its contract.
+-- `tree_check::read_rows` meets its contract.
 use Prim.Native.Nat.{_-_}
 use borrow.Author.Needs.{needs}
 use borrow.Author.Tests.{not-true, not-false}

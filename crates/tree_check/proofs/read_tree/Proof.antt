@@ -1,4 +1,4 @@
--- `treerows::read_tree` meets its contract.
+-- `tree_check::read_tree` meets its contract.
 use mathlib.Core.Path.{_∙_}
 use Rattle.tree_check.proofs.ReadLaws.{part-of-row, no-rows, too-many, sized}
 use borrow.Author.Needs.{needs}

@@ -1,4 +1,4 @@
--- `treerows::remainder` meets its contract.
+-- `tree_check::remainder` meets its contract.
 use Rattle.tree_check.proofs.ReadLaws.{begins-later, no-block, one-root}
 use borrow.Author.Needs.{needs}
 use Rattle.tree_check.proofs.remainder.Statement.{statement}

@@ -1,3 +1,5 @@
+-- `tree_run::run_tree` meets its contract. Four ends: the check refuses, a row is not run (64), the walk refuses, or the run is given. One law of EntryLaws for each;
+-- the others say that the links and the walk are asked only what holds of an accepted list.
 use mathlib.Core.Path.{refl}
 use native.Mathlib.Omega.{arith}
 use lib.ListN.{length}

@@ -1,3 +1,6 @@
+-- `walk::walk` meets its contract. The invariant of the outer loop is DriverLaws' Walking: the machine of turns is at this state, and the buffers hold what it put out.
+-- The measure is the machine's potential, which every turn lowers. The invariant of the search is SearchLaws' Searching. ApplyLaws says what a plan leaves when it is
+-- applied, FrameLaws what the store of a frame does.
 use Prim.Native.Nat.{ℕ, _-_, _*_, _<_, _≤_}
 use native.Mathlib.Omega.{arith}
 use mathlib.Core.Path.{_≡_, refl, sym, ap, _∙_, subst}

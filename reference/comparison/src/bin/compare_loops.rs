@@ -1,11 +1,13 @@
 //! `compare_loops [TABLES [SEED [BLOCKS [REUSED [CASES]]]]]`: beyond the papers, the run law with DoWhile and For, with switches as compilers make them, and with ends
 //! that are not reached. As `compare_switches`: every small table with these conditions that is accepted, of so many blocks (5; with REUSED 1 a statement may also
 //! name blocks that were named before) and so many cases a Switch (3), with every list of up to five answers; so many larger ones, lowered as a compiler does it, with
-//! random lists. Of a table without Switch the first entry's tree is held to the runs too. Then it prints what share of the generator's programs each law speaks of.
+//! random lists. Of a table without Switch the first entry's tree is held to the runs too. With the proved library, `table_plain` is held to the model on each of these
+//! tables and on each of the generator's programs, refused ones too. Then it prints what share of the generator's programs each law speaks of.
 //! The status is not 0 if anything differs, or if something was not met.
 
 use std::process::ExitCode;
 
+use comparison::candidate::CANDIDATE_PLAIN;
 use comparison::generate::draft::Draft;
 use comparison::generate::mutate::{mutate, shuffle};
 use comparison::generate::plain::plain;
@@ -21,6 +23,32 @@ use comparison::runs::{Width, is_plain};
 
 const WIDTHS: [Width; 3] = [Width::Paper01, Width::WithSwitch, Width::Loops];
 
+/// Which law speaks of a table, by the model and by the library.
+#[derive(Default)]
+struct Laws {
+    compared: u64,
+    of: [u64; 4],
+    refused: u64,
+    differences: u64,
+}
+
+impl Laws {
+    fn hold(&mut self, words: &[u32]) {
+        let Some(candidate) = CANDIDATE_PLAIN else { return };
+        let wanted = check(words).map(|table| WIDTHS.iter().position(|width| is_plain(&table, *width)).map_or(0, |place| place + 1));
+        self.compared += 1;
+        match &wanted {
+            Ok(law) => self.of[*law] += 1,
+            Err(_) => self.refused += 1,
+        }
+        let given = candidate(words);
+        if given != wanted.map_err(|refusal| (refusal.code, refusal.at)) {
+            self.differences += 1;
+            println!("table_plain gives {given:?} for the words {words:?}");
+        }
+    }
+}
+
 fn main() -> ExitCode {
     let (tables, seed, mut more) = arguments();
     let blocks = more.next().unwrap_or(5) as u32;
@@ -29,7 +57,9 @@ fn main() -> ExitCode {
     let bound = Bound { width: Width::Loops, blocks, cases, reused };
 
     let mut small = Met::default();
+    let mut laws = Laws::default();
     let counted = each(bound, |draft| {
+        laws.hold(&draft.words());
         let same = !has(draft, 7);
         small.every_list(draft, same);
         small.every_list(&with_bare_tests(draft), same);
@@ -46,6 +76,7 @@ fn main() -> ExitCode {
         number += 1;
         let draft = any_table(&mut rng);
         let words = draft.words();
+        laws.hold(&words);
         let Ok(table) = check(&words) else { continue };
         if !is_plain(&table, Width::Loops) || is_plain(&table, Width::WithSwitch) {
             continue;
@@ -62,15 +93,20 @@ fn main() -> ExitCode {
             larger.compare(&built, &answers);
         }
     }
-    let shares = shares(tables.min(20_000), seed);
+    let shares = shares(tables.min(20_000), seed, &mut laws);
     println!("programs: {} accepted without value terminals, ForOf, ForIn, Try, MaybeThrow; plain by paper 01 {}, by M-113 {}, with loops {}", shares[0], shares[1], shares[2], shares[3]);
 
-    let (all, differences) = (small.runs + larger.runs, small.differences + larger.differences);
+    let (all, differences) = (small.runs + larger.runs, small.differences + larger.differences + laws.differences);
     let met = |met: &Met| met.unspoken > 0 && [1, 2, 4].iter().all(|reason| met.reasons[*reason] > 0);
     let long = tables >= 10_000 || blocks >= 6;
     let all_met = counted.with_switch > 0 && counted.with_loops > 0 && met(&small) && (!long || met(&larger) && with_loops > 0 && small.first_entry + larger.first_entry > 0);
     let mut verdict = Verdict::of(differences, true);
+    verdict.need("a table of each law for table_plain", u64::from(CANDIDATE_PLAIN.is_none() || laws.of.iter().all(|met| *met > 0)));
     verdict.need("a For or DoWhile, a Switch, a reason, a list not spoken of or a run of the first entry that differs", u64::from(all_met));
+    if CANDIDATE_PLAIN.is_some() {
+        let [none, paper, switches, loops] = laws.of;
+        println!("table_plain: {} tables ({none} with no law, {paper} plain by paper 01, {switches} by M-113, {loops} with loops, {} refused), {} differences", laws.compared, laws.refused, laws.differences);
+    }
     println!(
         "seed {seed}: {all} runs of {} small and {accepted} larger tables beyond the papers ({with_loops} with For or DoWhile; up to {most} blocks; {refused} refused; {}), blocks, tree and runner with {differences} differences",
         counted.accepted, larger.summary(),
@@ -95,13 +131,14 @@ fn any_table(rng: &mut Rng) -> Draft {
 }
 
 /// Of so many programs of the generator: how many are accepted and have only ends that a law could speak of, and how many are plain in each width.
-fn shares(programs: u64, seed: u64) -> [u64; 4] {
+fn shares(programs: u64, seed: u64, laws: &mut Laws) -> [u64; 4] {
     let mut counts = [0; 4];
     for number in 0..programs {
         let mut rng = Rng::new(seed.rotate_left(20) ^ number);
         let blocks = rng.from_to(1, 40);
         let draft = program(&mut rng, blocks);
         let words = draft.words();
+        laws.hold(&words);
         let other = |row: &[u32; 11]| (11..=15).contains(&row[2]) || (17..=19).contains(&row[2]);
         if draft.blocks.iter().any(other) || check(&words).is_err() {
             continue;

@@ -1,3 +1,5 @@
+-- `build::file::build_words` meets its contract. Two cases: of a refused build the result alone is printed, of an accepted one its rows too.
+-- OutcomeLaws says that the rows are within the buffer and what they print; PrintsLaws that this is the text due.
 use borrow.Author.Needs.{needs}
 use native.Mathlib.Omega.{arith}
 use mathlib.Core.Path.{sym, _∙_}

@@ -1,3 +1,5 @@
+-- `control::Context::schedule` meets its contract. The blocks of a target are among the 1,024, so that no index is out of range. The case split is that of the four
+-- targets; in each the fields are those that ContextLaws (`entered`, `scheduled`) takes for the definition's step.
 use lib.ListN.{length-map}
 use mathlib.Core.Path.{_∙_}
 use native.Mathlib.Omega.{arith}

@@ -1,3 +1,5 @@
+-- `control::Context::unschedule` meets its contract. The blocks of the last entry are among the 1,024. The case split is that of the four targets, a loop's by whether
+-- it owns its loop block; ContextLaws (`left`, `unscheduled`) makes the definition's step of the fields.
 use mathlib.Core.Logic.{⊎-elim}
 use Rattle.definition.specs.Context.{unscheduledBy, remove}
 use Rattle.control.proofs.ContextLaws.{left, unscheduled}

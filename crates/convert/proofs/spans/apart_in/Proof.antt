@@ -1,3 +1,5 @@
+-- `convert::spans::apart_in` meets its contract. The invariant: the rows that are left give the answer that all rows give. SpanLaws has a row that agrees, a row that
+-- differs, and the end.
 use borrow.Author.Needs.{needs}
 use native.Mathlib.Omega.{arith}
 use mathlib.Core.Path.{_≡_, refl, sym, _∙_}

@@ -1,3 +1,4 @@
+-- `convert::widen::copy_words` meets its contract. The invariant: the first i words stand in the buffer from `start` on. The laws are text's WriteLaws.
 use borrow.Author.Needs.{needs}
 use native.Mathlib.Omega.{arith}
 use mathlib.Core.Path.{_≡_, refl, _∙_}

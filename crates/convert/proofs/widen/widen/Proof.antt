@@ -1,3 +1,5 @@
+-- `convert::widen::widen` meets its contract: head, blocks, instructions and the rest are written one after the other. WidenLaws says that each part is within the old
+-- words, and that the four together are the widened words.
 use borrow.Author.Needs.{needs}
 use native.Mathlib.Omega.{arith}
 use mathlib.Core.Path.{sym}

@@ -1,3 +1,5 @@
+-- `convert::widen::widen_rows` meets its contract. The invariant: what was written and the widened rows that are left are all widened rows. WidenLaws has one row more
+-- and the end; text's WriteLaws joins what is written.
 use borrow.Author.Needs.{needs}
 use native.Mathlib.Omega.{arith}
 use mathlib.Core.Path.{_≡_, refl, sym, _∙_}

@@ -1,3 +1,5 @@
+-- `convert::written_tables::write_rest` meets its contract: three tables are written one after the other (WriteLaws, `wrote-then`), each within the words
+-- (TextLaws, `sized-within`).
 use borrow.Author.Needs.{needs}
 use native.Mathlib.Omega.{arith}
 use Rattle.text.proofs.WriteLaws.{wrote-then}

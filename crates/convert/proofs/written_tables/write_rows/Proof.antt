@@ -1,3 +1,5 @@
+-- `convert::written_tables::write_rows` meets its contract. The invariant: what was written and the lines of the rows that are left are all lines. CutLaws has one row
+-- more and the end; text's WriteLaws joins what is written.
 use borrow.Author.Needs.{needs}
 use native.Mathlib.Omega.{arith}
 use mathlib.Core.Path.{_≡_, refl, sym, _∙_}

@@ -1,3 +1,5 @@
+-- `dot::graph::write_row` meets its contract. The invariant: what was written and the lines of the names from the k-th on are all lines of the row.
+-- DotLaws has one line more and the end; NamedLaws counts the lines.
 use borrow.Author.Needs.{needs}
 use native.Mathlib.Omega.{arith}
 use mathlib.Core.Path.{_≡_, refl, sym, _∙_}

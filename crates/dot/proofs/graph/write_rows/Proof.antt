@@ -1,3 +1,5 @@
+-- `dot::graph::write_rows` meets its contract. The invariant: what was written and the lines of the rows from `row` on are all lines of the table.
+-- DotLaws has one row more and the end.
 use borrow.Author.Needs.{needs}
 use native.Mathlib.Omega.{arith}
 use mathlib.Core.Path.{_≡_, refl, sym, _∙_}

@@ -1,3 +1,5 @@
+-- `plain::loops::loop_block_test` meets its contract: the definition is a conjunction, and the code asks its parts in order. EveryLaws has a part that says no
+-- (`stopped`) and one that says yes (`passed`).
 use borrow.Author.Needs.{needs}
 use Rattle.table.proofs.BlockLaws.{code-at}
 use Rattle.plain.proofs.EveryLaws.{stopped, passed}

@@ -1,3 +1,5 @@
+-- `plain::tail::tail_of` meets its contract, by the code of the instruction's operation: other, LoadLocal, StoreLocal; there is no other code (RangeLaws).
+-- One law of TailLaws for each.
 use borrow.Author.Needs.{needs}
 use native.Mathlib.Omega.{arith}
 use mathlib.Core.Path.{sym, _∙_}

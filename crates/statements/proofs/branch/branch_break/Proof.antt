@@ -1,3 +1,5 @@
+-- `statements::branch::branch_break` meets its contract. Three ends: the break is refused, the alternate is scheduled (19), or the alternate is visited next.
+-- One law of BranchLaws for each.
 use Rattle.statements.specs.Plans.{nesting, second}
 use Rattle.statements.specs.declared.plan.Change.the-variants.{Nothing}
 use Rattle.statements.specs.declared.plan.Frame.{Frame}

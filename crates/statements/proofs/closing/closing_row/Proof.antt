@@ -1,3 +1,5 @@
+-- `statements::closing::closing_row` meets its contract, by the code of the block: one law of CloseLaws for each statement that has a closing row, and
+-- `closing-none` for any other code.
 use mathlib.Core.Path.{sym, subst, _∙_}
 use Rattle.statements.proofs.CloseLaws.{if-closes, branch-closes, switch-closes, for-closes, try-closes, do-while-closes, while-closes, for-of-closes, for-in-closes, label-closes}
 use Rattle.statements.proofs.CloseLaws.{scope-closes, pruned-closes, closing-none, Closes}

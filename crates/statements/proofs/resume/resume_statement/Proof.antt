@@ -1,3 +1,5 @@
+-- `statements::resume::resume_statement` meets its contract, by the code of the block: If, Branch, Switch, DoWhile and Try have an arm each, and its contract is what is
+-- due; any other statement is closed (ResumeLaws, `other-closed`).
 use mathlib.Core.Path.{subst}
 use Rattle.statements.proofs.ResumeLaws.{closing-of, resumed-closed, resumed-seen, Other, other-closed}
 use borrow.Author.Needs.{needs}

@@ -1,3 +1,5 @@
+-- `statements::second_turn::loop_values` meets its contract, by the code of the loop's block: While, For, ForOf, ForIn, and any other, which makes no value.
+-- One law of LoopLaws for each.
 use mathlib.Core.Path.{subst}
 use borrow.Author.Needs.{needs}
 use Rattle.statements.proofs.LoopLaws.{nothing-spent, update-below, while-made, for-made, for-of-values-made, for-in-made, NoValues, none-made}

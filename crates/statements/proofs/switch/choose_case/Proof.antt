@@ -1,3 +1,5 @@
+-- `statements::switch::choose_case` meets its contract. Four ends: no case is left, the case is refused (14), it is skipped, or it is visited.
+-- One law of ResumeLaws for each; `chosen-turn` makes the machine's turn of it.
 use mathlib.Core.Path.{sym, _∙_}
 use native.Mathlib.Omega.{arith}
 use Rattle.statements.proofs.ResumeLaws.{choosing-fits, chosen-turn, choice-closes, last-below, choice-visits, choice-refused, choice-skips}

@@ -1,3 +1,5 @@
+-- `statements::turn::plan_turn` meets its contract, by the stage: each function's contract is the machine's turn at that stage (ResumeLaws, ValuesLaws), and no turn
+-- is taken at Halt (TerminalLaws, `not-halted`).
 use Rattle.statements.proofs.TerminalLaws.{visits-ready, shown-seen, not-halted}
 use Rattle.statements.proofs.ResumeLaws.{turn-on, popped, closing-at-pop}
 use Rattle.statements.proofs.ValuesLaws.{making, valued}

@@ -1,3 +1,5 @@
+-- `statements::visit::visit_block` meets its contract. Five ends, in the order of the tests: 30, 31, 10, 11, or the instructions and then the terminal.
+-- One law of TerminalLaws for each.
 use mathlib.Core.Path.{refl, sym, _∙_}
 use native.Mathlib.Omega.{arith}
 use Rattle.definition.specs.Context.{has}

@@ -1,3 +1,5 @@
+-- `statements::visit::visit_terminal` meets its contract, by the code of the block. Each arm's contract is the machine's turn; only Goto and Branch look at what is
+-- around (TerminalLaws: `goto-seen`, `branch-seen`; `elsewhere` for the others). Codes 0 and above 21 do not occur.
 use mathlib.Core.Path.{refl, sym, ap, _∙_}
 use native.Mathlib.Omega.{arith}
 use Rattle.statements.specs.Loops.{valueCode}

@@ -1,3 +1,5 @@
+-- `table::lines::named_at` meets its contract, by the code of the row, 0 to 21: what the reader of each terminal promises says that these are its blocks.
+-- NamedLaws has four laws: no block, the first so many of five, a Switch's cases, a For; RangeLaws says that there is no other code.
 use borrow.Author.Needs.{needs}
 use native.Mathlib.Omega.{arith}
 use mathlib.Core.Path.{refl}

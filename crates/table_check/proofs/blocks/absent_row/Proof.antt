@@ -1,4 +1,4 @@
--- `block_check::absent_row` meets its contract.
+-- `table_check::blocks::absent_row` meets its contract.
 use Prim.Native.Nat.{_-_, _≤_}
 use mathlib.Core.Path.{_≡_, refl, sym, _∙_}
 use native.Mathlib.Omega.{arith}

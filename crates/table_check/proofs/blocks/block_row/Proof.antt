@@ -1,4 +1,4 @@
--- `block_check::block_row` meets its contract.
+-- `table_check::blocks::block_row` meets its contract.
 use mathlib.Core.Path.{refl, sym, _∙_}
 use mathlib.Core.List.{[], _∷_}
 use borrow.Author.Needs.{needs}

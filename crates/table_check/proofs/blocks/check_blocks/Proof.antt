@@ -1,4 +1,4 @@
--- `block_check::check_blocks` meets its contract.
+-- `table_check::blocks::check_blocks` meets its contract.
 use Prim.Native.Nat.{_+_, _*_, _-_, _≤_}
 use mathlib.Core.Path.{_≡_, refl, sym, _∙_}
 use native.Mathlib.Omega.{arith}

@@ -1,4 +1,4 @@
--- `block_check::columns` meets its contract.
+-- `table_check::blocks::columns` meets its contract.
 use borrow.Author.Needs.{needs}
 use Rattle.table_check.proofs.RowLaws.{is-below, is-not-below, all-below}
 use Rattle.table_check.proofs.blocks.columns.Statement.{statement}

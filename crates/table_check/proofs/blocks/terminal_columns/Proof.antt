@@ -1,4 +1,4 @@
--- `block_check::terminal_columns` meets its contract.
+-- `table_check::blocks::terminal_columns` meets its contract.
 use mathlib.Core.Path.{refl}
 use borrow.Author.Needs.{needs}
 use Rattle.table.specs.Check.{terminalRules, block, block-or-none, place, place-or-none}

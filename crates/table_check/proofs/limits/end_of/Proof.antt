@@ -1,4 +1,4 @@
--- `block_check::limits::end_of` meets its contract.
+-- `table_check::limits::end_of` meets its contract.
 use borrow.Author.Tests.{le-leb, lt-leb}
 use Rattle.table_check.proofs.limits.end_of.Statement.{statement}
 use Rattle.table_check.proofs.limits.end_of.Tie as tie

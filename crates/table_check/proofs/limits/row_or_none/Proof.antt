@@ -1,4 +1,4 @@
--- `block_check::limits::row_or_none` meets its contract.
+-- `table_check::limits::row_or_none` meets its contract.
 use borrow.Author.Tests.{eq-eqb, ne-eqb}
 use Rattle.table_check.proofs.limits.row_or_none.Statement.{statement}
 use Rattle.table_check.proofs.limits.row_or_none.Tie as tie

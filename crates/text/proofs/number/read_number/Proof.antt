@@ -1,3 +1,5 @@
+-- `text::number::read_number` meets its contract. The invariant: digits of `value` stand from `start` up to `at`, and the form goes on after them. StepLaws has each byte
+-- that may come: a digit, the end, any other, or none.
 use borrow.Author.Needs.{needs}
 use native.Mathlib.Omega.{arith}
 use mathlib.Core.Path.{sym, _∙_}

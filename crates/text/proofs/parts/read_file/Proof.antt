@@ -1,3 +1,5 @@
+-- `text::parts::read_file` meets its contract: the head, the tables, and then the file's end. StepLaws has the end of a good file (`finished-good`) and a byte too many
+-- (`finished-more`); a refusal of a part is the file's.
 use borrow.Author.Needs.{needs}
 use native.Mathlib.Omega.{arith}
 use mathlib.Core.Path.{sym, _∙_}

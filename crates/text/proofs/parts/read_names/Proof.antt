@@ -1,3 +1,5 @@
+-- `text::parts::read_names` meets its contract. The invariant: the first i bytes of the names stand in the file, and the form goes on with the rest. PartLaws has a byte
+-- that is the name's, another byte, and the file's end.
 use borrow.Author.Needs.{needs}
 use native.Mathlib.Omega.{arith}
 use mathlib.Core.Path.{sym}

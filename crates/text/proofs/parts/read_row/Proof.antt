@@ -1,3 +1,5 @@
+-- `text::parts::read_row` meets its contract. The invariant: i numbers were read and stored, and the form goes on with the rest of the row.
+-- PartLaws has one number more and the end; LentLaws the store.
 use borrow.Author.Needs.{needs}
 use native.Mathlib.Omega.{arith}
 use mathlib.Core.Path.{_≡_, refl, sym, ap, _∙_}

@@ -1,3 +1,5 @@
+-- `text::parts::read_rows` meets its contract. The invariant: i lines were read and stored, and the form goes on with the lines that are left.
+-- PartLaws has one line more and the end.
 use borrow.Author.Needs.{needs}
 use native.Mathlib.Omega.{arith}
 use mathlib.Core.Path.{_≡_, refl, sym, _∙_}

@@ -1,3 +1,5 @@
+-- `text::parts::read_tables` meets its contract: five tables one after the other. After each, PartLaws either goes on to the next (`part-then`) or stops with its refusal
+-- (`part-stops`).
 use borrow.Author.Needs.{needs}
 use native.Mathlib.Omega.{arith}
 use mathlib.Core.Path.{_∙_}

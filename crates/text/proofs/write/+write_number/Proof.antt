@@ -1,3 +1,5 @@
+-- `text::write::write_number` meets its contract, by recursion on the number: its first digits are those of n / 10, which is smaller. DecimalLaws says so of `decimal`;
+-- WriteLaws joins what is written.
 use borrow.Author.Needs.{needs}
 use native.Mathlib.Omega.{arith}
 use mathlib.Core.Path.{_∙_}

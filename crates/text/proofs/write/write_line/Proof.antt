@@ -1,3 +1,5 @@
+-- `text::write::write_line` meets its contract. The invariant: what was written and the line of the numbers that are left are the whole line.
+-- WriteLaws has one number more and the end.
 use borrow.Author.Needs.{needs}
 use native.Mathlib.Omega.{arith}
 use mathlib.Core.Path.{_≡_, refl, sym, _∙_}

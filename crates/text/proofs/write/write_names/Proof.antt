@@ -1,3 +1,4 @@
+-- `text::write::write_names` meets its contract. The invariant: the first i bytes of the names stand in the buffer from `start` on. The laws are WriteLaws.
 use borrow.Author.Needs.{needs}
 use native.Mathlib.Omega.{arith}
 use mathlib.Core.Path.{_≡_, refl, sym}

@@ -1,3 +1,5 @@
+-- `text::write::write_rows` meets its contract. The invariant: what was written and the lines of the rows that are left are all lines. WriteLaws has one row more,
+-- the end, and the return where the buffer is full (`wrote-part`).
 use borrow.Author.Needs.{needs}
 use native.Mathlib.Omega.{arith}
 use mathlib.Core.Path.{_≡_, refl, _∙_}

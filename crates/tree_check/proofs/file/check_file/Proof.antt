@@ -1,4 +1,4 @@
--- `rowfile::check_file` meets its contract.
+-- `tree_check::file::check_file` meets its contract.
 use mathlib.Core.Path.{sym, ap}
 use Rattle.text.proofs.PrintsLaws.{as-printed}
 use Rattle.tree_check.specs.Prints.{printedCheck}

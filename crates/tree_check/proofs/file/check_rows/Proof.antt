@@ -1,4 +1,4 @@
--- `rowfile::check_rows` meets its contract.
+-- `tree_check::file::check_rows` meets its contract.
 use Rattle.tree_check.proofs.FileLaws.{file-long, file-refused, file-read}
 use borrow.Author.Needs.{needs}
 use Rattle.tree_check.proofs.file.check_rows.Statement.{statement}

@@ -1,4 +1,4 @@
--- `rowfile::check_words` meets its contract.
+-- `tree_check::file::check_words` meets its contract.
 use mathlib.Core.Path.{sym}
 use lib.Seq.{length-take-le}
 use Rattle.tree_check.proofs.FileLaws.{too-many-words, words-checked}

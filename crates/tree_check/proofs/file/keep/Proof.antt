@@ -1,4 +1,4 @@
--- `rowfile::keep` meets its contract.
+-- `tree_check::file::keep` meets its contract.
 use Rattle.tree_check.proofs.FileLaws.{kept-word, kept-none}
 use borrow.Author.Needs.{needs}
 use Rattle.tree_check.proofs.file.keep.Statement.{statement}

@@ -1,4 +1,4 @@
--- `rowfile::names_end` meets its contract.
+-- `tree_check::file::names_end` meets its contract.
 use Prim.Native.Nat.{_-_}
 use borrow.Author.Needs.{needs}
 use lib.ListN.{length}

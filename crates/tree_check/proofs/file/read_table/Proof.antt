@@ -1,4 +1,4 @@
--- `rowfile::read_table` meets its contract.
+-- `tree_check::file::read_table` meets its contract.
 use Prim.Native.Nat.{_-_}
 use native.Mathlib.Omega.{arith}
 use borrow.Author.Needs.{needs}

@@ -1,4 +1,4 @@
--- `rowfile::scan_end` meets its contract.
+-- `tree_check::file::scan_end` meets its contract.
 use borrow.Author.Tests.{eq-eqb, ne-eqb}
 use borrow.Author.Needs.{needs}
 use Rattle.tree_check.proofs.file.scan_end.Statement.{statement}

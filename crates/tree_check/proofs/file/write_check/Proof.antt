@@ -1,4 +1,4 @@
--- `rowfile::write_check` meets its contract.
+-- `tree_check::file::write_check` meets its contract.
 use mathlib.Core.List.{[]}
 use Rattle.text.proofs.LentLaws.{holds-none}
 use Rattle.text.proofs.WriteLaws.{wrote-then, wrote-all}

@@ -1,4 +1,4 @@
--- `treerows::parts::for_values` meets its contract.
+-- `tree_check::parts::for_values` meets its contract.
 use borrow.Author.Needs.{needs}
 use Rattle.tree_check.proofs.PartLaws.{is-present}
 use Rattle.tree_check.proofs.parts.for_values.Statement.{statement}

@@ -1,4 +1,4 @@
--- `treerows::parts::if_blocks` meets its contract.
+-- `tree_check::parts::if_blocks` meets its contract.
 use borrow.Author.Needs.{needs}
 use Rattle.tree_check.proofs.PartLaws.{is-present}
 use Rattle.tree_check.proofs.parts.if_blocks.Statement.{statement}

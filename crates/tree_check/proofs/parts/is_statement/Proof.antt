@@ -1,4 +1,4 @@
--- `treerows::parts::is_statement` meets its contract.
+-- `tree_check::parts::is_statement` meets its contract.
 use Rattle.tree_grammar.specs.Needs.{madeBy}
 use Rattle.tree_check.proofs.SortLaws.{served}
 use Rattle.tree_check.proofs.parts.is_statement.Statement.{statement}

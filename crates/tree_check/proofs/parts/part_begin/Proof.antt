@@ -1,4 +1,4 @@
--- `treerows::parts::part_begin` meets its contract.
+-- `tree_check::parts::part_begin` meets its contract.
 use borrow.Author.Tests.{not-true, not-false}
 use Rattle.tree_check.proofs.PartLaws.{no-part, other-part, that-part}
 use borrow.Author.Needs.{needs}

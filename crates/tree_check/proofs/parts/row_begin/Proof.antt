@@ -1,4 +1,4 @@
--- `treerows::parts::row_begin` meets its contract.
+-- `tree_check::parts::row_begin` meets its contract.
 use mathlib.Core.Path.{_∙_}
 use mathlib.Core.List.{[]}
 use borrow.Author.Needs.{needs}

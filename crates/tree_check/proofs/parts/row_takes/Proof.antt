@@ -1,4 +1,4 @@
--- `treerows::parts::row_takes` meets its contract.
+-- `tree_check::parts::row_takes` meets its contract.
 use mathlib.Core.List.{[]}
 use lib.ListN.{List·getD-eq-default}
 use Rattle.table.proofs.RuleLaws.{past}

@@ -1,4 +1,4 @@
--- `treerows::parts::serves` meets its contract.
+-- `tree_check::parts::serves` meets its contract.
 use Rattle.table.proofs.RuleLaws.{past}
 use Rattle.tree_check.proofs.SortLaws.{served, case-sort}
 use borrow.Author.Needs.{needs}

@@ -1,4 +1,4 @@
--- `treerows::ranges::in_range` meets its contract.
+-- `tree_check::ranges::in_range` meets its contract.
 use mathlib.Core.Path.{sym, _∙_}
 use Rattle.tree_check.proofs.RangeLaws.{no-op, large-op, a-out, b-out, c-out, d-out, e-told}
 use borrow.Author.Needs.{needs}

@@ -1,4 +1,4 @@
--- `treerows::ranges::or_none` meets its contract.
+-- `tree_check::ranges::or_none` meets its contract.
 use borrow.Author.Tests.{eq-eqb, ne-eqb}
 use Rattle.tree_check.proofs.ranges.or_none.Statement.{statement}
 use Rattle.tree_check.proofs.ranges.or_none.Tie as tie

@@ -1,4 +1,4 @@
--- `treerows::ranges::row_limits` meets its contract.
+-- `tree_check::ranges::row_limits` meets its contract.
 use mathlib.Core.List.{[]}
 use lib.ListN.{List·getD-eq-default}
 use Rattle.table.proofs.RuleLaws.{past}

@@ -1,4 +1,4 @@
--- `rowfile::scan::first_digit` meets its contract.
+-- `tree_check::scan::first_digit` meets its contract.
 use Rattle.tree_check.proofs.ScanLaws.{no-digit, one-digit}
 use borrow.Author.Needs.{needs}
 use Rattle.tree_check.proofs.scan.first_digit.Statement.{statement}

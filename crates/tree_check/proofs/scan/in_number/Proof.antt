@@ -1,4 +1,4 @@
--- `rowfile::scan::in_number` meets its contract.
+-- `tree_check::scan::in_number` meets its contract.
 use Rattle.tree_check.proofs.ScanLaws.{number-ends, number-refused, number-goes-on}
 use borrow.Author.Needs.{needs}
 use Rattle.tree_check.proofs.scan.in_number.Statement.{statement}

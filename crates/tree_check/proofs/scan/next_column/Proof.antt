@@ -1,4 +1,4 @@
--- `rowfile::scan::next_column` meets its contract.
+-- `tree_check::scan::next_column` meets its contract.
 use borrow.Author.Tests.{eq-eqb, ne-eqb}
 use borrow.Author.Needs.{needs}
 use Rattle.tree_check.proofs.scan.next_column.Statement.{statement}

@@ -1,4 +1,4 @@
--- `rowfile::scan::step` meets its contract.
+-- `tree_check::scan::step` meets its contract.
 use Rattle.tree_check.specs.Scan.{stepped}
 use borrow.Author.Needs.{needs}
 use Rattle.tree_check.proofs.scan.step.Statement.{statement}

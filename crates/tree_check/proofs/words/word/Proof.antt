@@ -1,4 +1,4 @@
--- `treerows::words::word` meets its contract.
+-- `tree_check::words::word` meets its contract.
 use mathlib.Core.Path.{refl}
 use borrow.Author.Needs.{needs}
 use Rattle.tree_check.specs.Found.{wordAt}

@@ -1,4 +1,4 @@
--- `runfile::answers_at` meets its contract.
+-- `tree_run::file::answers_at` meets its contract.
 use Prim.Native.Nat.{_-_}
 use borrow.Author.Needs.{needs}
 use lib.ListN.{length}

@@ -1,4 +1,4 @@
--- `runfile::lent_words` meets its contract.
+-- `tree_run::file::lent_words` meets its contract.
 use Prim.Native.Nat.{ℕ}
 use mathlib.Core.Path.{sym}
 use lib.ListN.{length-replicate}

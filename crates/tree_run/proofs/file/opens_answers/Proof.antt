@@ -1,4 +1,4 @@
--- `runfile::opens_answers` meets its contract.
+-- `tree_run::file::opens_answers` meets its contract.
 use borrow.Author.Tests.{le-leb, lt-leb}
 use Rattle.tree_run.proofs.file.opens_answers.Statement.{statement}
 use Rattle.tree_run.proofs.file.opens_answers.Tie as tie

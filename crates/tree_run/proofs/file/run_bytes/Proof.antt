@@ -1,4 +1,4 @@
--- `runfile::run_bytes` meets its contract.
+-- `tree_run::file::run_bytes` meets its contract.
 use native.Mathlib.Omega.{arith}
 use mathlib.Core.Path.{sym}
 use lib.Seq.{length-take-le}

@@ -1,4 +1,4 @@
--- `runfile::run_file` meets its contract.
+-- `tree_run::file::run_file` meets its contract.
 use native.Mathlib.Omega.{arith}
 use mathlib.Core.Path.{sym}
 use Rattle.tree_run.proofs.PrintLaws.{number-within, run-printed}

@@ -1,4 +1,4 @@
--- `runfile::run_words` meets its contract.
+-- `tree_run::file::run_words` meets its contract.
 use mathlib.Core.Path.{sym}
 use lib.Seq.{length-take-le}
 use Rattle.tree_run.proofs.FileLaws.{words-too-many, words-run}

@@ -1,4 +1,4 @@
--- `runfile::write_lines` meets its contract.
+-- `tree_run::file::write_lines` meets its contract.
 use Prim.Native.Nat.{_≤_}
 use native.Mathlib.Omega.{arith}
 use mathlib.Core.List.{[], _∷_}

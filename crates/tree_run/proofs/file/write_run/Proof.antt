@@ -1,4 +1,4 @@
--- `runfile::write_run` meets its contract.
+-- `tree_run::file::write_run` meets its contract.
 use mathlib.Core.List.{[]}
 use Rattle.text.proofs.LentLaws.{holds-none}
 use Rattle.text.proofs.WriteLaws.{wrote-all}

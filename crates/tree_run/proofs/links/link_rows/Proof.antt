@@ -1,3 +1,5 @@
+-- `tree_run::links::link_rows` meets its contract. Two invariants of LinkLaws: RowsDone, the rows before `row` are linked; and PartsDone, so are the parts of `row`
+-- from `cursor` on. `cursor` falls, since a part begins no later than it closes.
 use Prim.Native.Nat.{ℕ, _-_}
 use lib.ListN.{length-replicate}
 use borrow.Author.Needs.{needs}

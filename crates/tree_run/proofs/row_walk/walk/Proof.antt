@@ -1,3 +1,5 @@
+-- `tree_run::row_walk::walk` meets its contract. The invariant is WalkLaws' Walking: from here the machine comes to the same end as from the start, and the buffer holds
+-- what was performed. The measure is the number of turns that the machine has left. An INSTR is two turns at once (`instr-next`, `instr-less`).
 use native.Mathlib.Omega.{arith}
 use borrow.Author.Needs.{needs}
 use borrow.Author.Tests.{not-true, not-false}

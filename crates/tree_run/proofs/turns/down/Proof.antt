@@ -1,3 +1,5 @@
+-- `tree_run::turns::down` meets its contract, by the op of row k: one law of TurnLaws for each op, and `down-other` for the rest. Each rewrites the definition's act
+-- by what the code has read.
 use mathlib.Core.Path.{refl, sym, _∙_}
 use Rattle.tree_run.proofs.CompletionLaws.{normal-is, stop-is}
 use Rattle.tree_run.proofs.TurnLaws.{down-instr, down-block, down-if, down-case, down-switch, down-do-while, down-while, down-for, down-label, down-scope}

@@ -1,3 +1,5 @@
+-- `tree_run::turns::up` meets its contract, by the op of the row that the part belongs to: one law of TurnLaws for each op that has something to decide, and `up-other`
+-- for the rest.
 use mathlib.Core.Path.{refl, sym, ap, _∙_}
 use Rattle.table.specs.Table.{unlessNone}
 use Rattle.definition.specs.Completion.{breakable, labelled}

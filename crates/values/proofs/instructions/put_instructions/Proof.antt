@@ -1,3 +1,5 @@
+-- `values::instructions::put_instructions` meets its contract. The invariant: 2 k rows more are out, and the buffer holds the rows of the first k instructions above what
+-- it held. The laws are RowLaws and StackLaws.
 use Rattle.values.proofs.RowLaws.{written-held}
 use Rattle.values.proofs.StackLaws.{push-next-row}
 use Rattle.values.specs.Stack.{pushInstructionRows}
