@@ -120,7 +120,7 @@ pub fn drawing_bytes() -> [u8; 262144]
 }
 
 // Writes what a program's function printed into the lent bytes. The function's contract says that the end is within them.
-// The code tests it here as well, so that no main has to prove it.
+// The code tests it here as well, so that no main has to prove it. A text that does not fit its room is told on standard error.
 pub fn write_printed(program: &[u8], out: &[u8], written: Written) {
     match written {
         Written::Bytes(end) => {
@@ -128,6 +128,8 @@ pub fn write_printed(program: &[u8], out: &[u8], written: Written) {
                 write_all(program, &out[..end]);
             }
         }
-        Written::NoRoom => {}
+        Written::NoRoom => {
+            say(program, b": what is to be printed does not fit its room\n");
+        }
     }
 }

@@ -17,6 +17,12 @@ write-all-requires c κs = search needs
 enum-told : tie.Need-enum-told
 enum-told c = search needs
 
+slice-aggregate-say : tie.Need-slice-aggregate-say
+slice-aggregate-say c = search needs
+
+say-requires : tie.Need-say-requires
+say-requires c κs = search needs
+
 returns : tie.Need-returns
 returns c = search needs
 
@@ -34,6 +40,8 @@ write-printed-spec =
     slice-aggregate-write-all
     write-all-requires
     enum-told
+    slice-aggregate-say
+    say-requires
     returns
     returns-2
     returns-3)
