@@ -7,5 +7,5 @@ use Rattle.program.proofs.drawing_bytes.Tie as tie
 returns : tie.Need-returns
 returns c = sym (length-replicate {A = ℕ} 262144 0)
 
-pub drawing-bytes-spec : {M : Type 1} → statement M
-drawing-bytes-spec = tie.close (tie.spec returns)
+pub drawing_bytes_spec : {M : Type 1} → statement M
+drawing_bytes_spec = tie.close (tie.spec returns)

@@ -7,5 +7,5 @@ use Rattle.program.proofs.printed_bytes.Tie as tie
 returns : tie.Need-returns
 returns c = sym (length-replicate {A = ℕ} 720974 0)
 
-pub printed-bytes-spec : {M : Type 1} → statement M
-printed-bytes-spec = tie.close (tie.spec returns)
+pub printed_bytes_spec : {M : Type 1} → statement M
+printed_bytes_spec = tie.close (tie.spec returns)

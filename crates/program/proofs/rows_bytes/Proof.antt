@@ -7,5 +7,5 @@ use Rattle.program.proofs.rows_bytes.Tie as tie
 returns : tie.Need-returns
 returns c = sym (length-replicate {A = ℕ} 262145 0)
 
-pub rows-bytes-spec : {M : Type 1} → statement M
-rows-bytes-spec = tie.close (tie.spec returns)
+pub rows_bytes_spec : {M : Type 1} → statement M
+rows_bytes_spec = tie.close (tie.spec returns)

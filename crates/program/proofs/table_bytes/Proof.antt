@@ -7,5 +7,5 @@ use Rattle.program.proofs.table_bytes.Tie as tie
 returns : tie.Need-returns
 returns c = sym (length-replicate {A = ℕ} 32769 0)
 
-pub table-bytes-spec : {M : Type 1} → statement M
-table-bytes-spec = tie.close (tie.spec returns)
+pub table_bytes_spec : {M : Type 1} → statement M
+table_bytes_spec = tie.close (tie.spec returns)

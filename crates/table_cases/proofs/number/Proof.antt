@@ -5,60 +5,60 @@ use lib.ListN.{length}
 use Rattle.table_cases.proofs.number.Statement.{statement}
 use Rattle.table_cases.proofs.number.Tie as tie
 
-abbrev invariant-loop : tie.invariant-loop
-invariant-loop text from value₀ i₀ value i = (from ≤ i) × (i ≤ length text) × (value < 4294967296)
+abbrev invariant_loop : tie.invariant_loop
+invariant_loop text from value₀ i₀ value i = (from ≤ i) × (i ≤ length text) × (value < 4294967296)
 
-abbrev decreases-loop : tie.decreases-loop
-decreases-loop text from value₀ i₀ value i = length text - i
+abbrev decreases_loop : tie.decreases_loop
+decreases_loop text from value₀ i₀ value i = length text - i
 
-loop-holds : tie.Need-loop-init invariant-loop decreases-loop
-loop-holds c = omega arith
+loop_holds : tie.Need-loop-init invariant_loop decreases_loop
+loop_holds c = omega arith
 
-shared-slice-read-byte : tie.Need-shared-slice-read-byte invariant-loop decreases-loop
-shared-slice-read-byte c = omega arith
+shared_slice_read_byte : tie.Need-shared-slice-read-byte invariant_loop decreases_loop
+shared_slice_read_byte c = omega arith
 
-cast-byte : tie.Need-overflow-cast-byte invariant-loop decreases-loop
-cast-byte c =
-    let at-loop : tie.At-loop invariant-loop decreases-loop = search in
-    omega (arith, c.shared-slice-known.given at-loop.loop.i)
+cast_byte : tie.Need-overflow-cast-byte invariant_loop decreases_loop
+cast_byte c =
+    let at_loop : tie.At-loop invariant_loop decreases_loop = search in
+    omega (arith, c.shared_slice_known.given at_loop.loop.i)
 
-add-i : tie.Need-overflow-add-i invariant-loop decreases-loop
-add-i c = omega arith
+add_i : tie.Need-overflow-add-i invariant_loop decreases_loop
+add_i c = omega arith
 
-returns : tie.Need-returns invariant-loop decreases-loop
+returns : tie.Need-returns invariant_loop decreases_loop
 returns c = omega arith
 
-mul-value : tie.Need-overflow-mul-value invariant-loop decreases-loop
-mul-value c = omega arith
+mul_value : tie.Need-overflow-mul-value invariant_loop decreases_loop
+mul_value c = omega arith
 
-add-value : tie.Need-overflow-add-value invariant-loop decreases-loop
-add-value c =
-    let at-shared-slice-known : tie.After-shared-slice-known invariant-loop decreases-loop = search in
-    let at-loop : tie.At-loop invariant-loop decreases-loop = search in
-    omega (arith, at-shared-slice-known.shared-slice-known.given at-loop.loop.i)
+add_value : tie.Need-overflow-add-value invariant_loop decreases_loop
+add_value c =
+    let at_shared_slice_known : tie.After-shared-slice-known invariant_loop decreases_loop = search in
+    let at_loop : tie.At-loop invariant_loop decreases_loop = search in
+    omega (arith, at_shared_slice_known.shared_slice_known.given at_loop.loop.i)
 
-loop-less : tie.Need-loop-smaller invariant-loop decreases-loop
-loop-less c = omega arith
+loop_less : tie.Need-loop-smaller invariant_loop decreases_loop
+loop_less c = omega arith
 
-loop-again : tie.Need-loop-preserved invariant-loop decreases-loop
-loop-again c = omega arith
+loop_again : tie.Need-loop-preserved invariant_loop decreases_loop
+loop_again c = omega arith
 
-returns-2 : tie.Need-returns-2 invariant-loop decreases-loop
-returns-2 c = omega arith
+returns_2 : tie.Need-returns-2 invariant_loop decreases_loop
+returns_2 c = omega arith
 
-pub number-spec : {M : Type 1} → statement M
-number-spec =
+pub number_spec : {M : Type 1} → statement M
+number_spec =
     tie.close
     (tie.spec
-    invariant-loop
-    decreases-loop
-    loop-holds
-    shared-slice-read-byte
-    cast-byte
-    add-i
+    invariant_loop
+    decreases_loop
+    loop_holds
+    shared_slice_read_byte
+    cast_byte
+    add_i
     returns
-    mul-value
-    add-value
-    loop-less
-    loop-again
-    returns-2)
+    mul_value
+    add_value
+    loop_less
+    loop_again
+    returns_2)

@@ -7,5 +7,5 @@ use Rattle.table_cases.proofs.text_bytes.Tie as tie
 returns : tie.Need-returns
 returns c = sym (length-replicate {A = ℕ} 262144 0)
 
-pub text-bytes-spec : {M : Type 1} → statement M
-text-bytes-spec = tie.close (tie.spec returns)
+pub text_bytes_spec : {M : Type 1} → statement M
+text_bytes_spec = tie.close (tie.spec returns)

@@ -4,17 +4,17 @@ use borrow.Author.Rules.{rules}
 use Rattle.text_cases.proofs.send.Statement.{statement}
 use Rattle.text_cases.proofs.send.Tie as tie
 
-slice-aggregate-write-all : tie.Need-slice-aggregate-write-all
-slice-aggregate-write-all c = sym (length-take-le _ _ (search rules))
+slice_aggregate_write_all : tie.Need-slice-aggregate-write-all
+slice_aggregate_write_all c = sym (length-take-le _ _ (search rules))
 
-write-all-requires : tie.Need-write-all-requires
-write-all-requires c κs = search rules
+write_all_requires : tie.Need-write-all-requires
+write_all_requires c κs = search rules
 
 returns : tie.Need-returns
 returns c = search rules
 
-returns-2 : tie.Need-returns-2
-returns-2 c = search rules
+returns_2 : tie.Need-returns-2
+returns_2 c = search rules
 
-pub send-spec : {M : Type 1} → statement M
-send-spec = tie.close (tie.spec slice-aggregate-write-all write-all-requires returns returns-2)
+pub send_spec : {M : Type 1} → statement M
+send_spec = tie.close (tie.spec slice_aggregate_write_all write_all_requires returns returns_2)

@@ -5,47 +5,47 @@ use lib.ListN.{length}
 use Rattle.text_cases.proofs.soiled.Statement.{statement}
 use Rattle.text_cases.proofs.soiled.Tie as tie
 
-abbrev invariant-loop : tie.invariant-loop
-invariant-loop words from i₀ i = Unit {0}
+abbrev invariant_loop : tie.invariant_loop
+invariant_loop words from i₀ i = Unit {0}
 
-abbrev decreases-loop : tie.decreases-loop
-decreases-loop words from i₀ i = length words - i
+abbrev decreases_loop : tie.decreases_loop
+decreases_loop words from i₀ i = length words - i
 
-loop-holds : tie.Need-loop-init invariant-loop decreases-loop
-loop-holds c = tt
+loop_holds : tie.Need-loop-init invariant_loop decreases_loop
+loop_holds c = tt
 
-mul-if1 : tie.Need-overflow-mul-if1 invariant-loop decreases-loop
-mul-if1 c = search rules
+mul_if1 : tie.Need-overflow-mul-if1 invariant_loop decreases_loop
+mul_if1 c = search rules
 
-shared-slice-read-if1 : tie.Need-shared-slice-read-if1 invariant-loop decreases-loop
-shared-slice-read-if1 c = search rules
+shared_slice_read_if1 : tie.Need-shared-slice-read-if1 invariant_loop decreases_loop
+shared_slice_read_if1 c = search rules
 
-returns : tie.Need-returns invariant-loop decreases-loop
+returns : tie.Need-returns invariant_loop decreases_loop
 returns c = search rules
 
-add-i : tie.Need-overflow-add-i invariant-loop decreases-loop
-add-i c = search rules
+add_i : tie.Need-overflow-add-i invariant_loop decreases_loop
+add_i c = search rules
 
-loop-less : tie.Need-loop-smaller invariant-loop decreases-loop
-loop-less c = omega arith
+loop_less : tie.Need-loop-smaller invariant_loop decreases_loop
+loop_less c = omega arith
 
-loop-again : tie.Need-loop-preserved invariant-loop decreases-loop
-loop-again c = tt
+loop_again : tie.Need-loop-preserved invariant_loop decreases_loop
+loop_again c = tt
 
-returns-2 : tie.Need-returns-2 invariant-loop decreases-loop
-returns-2 c = search rules
+returns_2 : tie.Need-returns-2 invariant_loop decreases_loop
+returns_2 c = search rules
 
-pub soiled-spec : {M : Type 1} → statement M
-soiled-spec =
+pub soiled_spec : {M : Type 1} → statement M
+soiled_spec =
     tie.close
     (tie.spec
-    invariant-loop
-    decreases-loop
-    loop-holds
-    mul-if1
-    shared-slice-read-if1
+    invariant_loop
+    decreases_loop
+    loop_holds
+    mul_if1
+    shared_slice_read_if1
     returns
-    add-i
-    loop-less
-    loop-again
-    returns-2)
+    add_i
+    loop_less
+    loop_again
+    returns_2)

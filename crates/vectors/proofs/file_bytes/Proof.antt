@@ -7,5 +7,5 @@ use Rattle.vectors.proofs.file_bytes.Tie as tie
 returns : tie.Need-returns
 returns c = sym (length-replicate {A = ℕ} 700000 0)
 
-pub file-bytes-spec : {M : Type 1} → statement M
-file-bytes-spec = tie.close (tie.spec returns)
+pub file_bytes_spec : {M : Type 1} → statement M
+file_bytes_spec = tie.close (tie.spec returns)

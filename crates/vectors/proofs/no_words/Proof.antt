@@ -7,5 +7,5 @@ use Rattle.vectors.proofs.no_words.Tie as tie
 returns : tie.Need-returns
 returns c = sym (length-replicate {A = ℕ} 16384 0)
 
-pub no-words-spec : {M : Type 1} → statement M
-no-words-spec = tie.close (tie.spec returns)
+pub no_words_spec : {M : Type 1} → statement M
+no_words_spec = tie.close (tie.spec returns)
