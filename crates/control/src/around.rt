@@ -29,7 +29,7 @@ pub enum Sort {
 
 // What is known of the statements that were passed, field by field: none of them is a loop or a switch; the first that is one of the two is a switch;
 // one has the label; how many loops it still is to the loop that a continue resolved to, 0 once that was passed; that loop has the label.
-#[derive(Drop)]
+#[derive(Clone, Copy, Drop)]
 pub struct Survey {
     pub between: bool,
     pub switch_inside: bool,

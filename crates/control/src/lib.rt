@@ -23,7 +23,7 @@ pub fn block_id(block: u32) -> u16
 }
 
 // What an entry of the control stack stands for. A loop's `block` is its fallthrough.
-#[derive(Drop)]
+#[derive(Clone, Copy, Drop)]
 pub enum ControlFlowTarget {
     If {
         block: u16,
@@ -42,14 +42,14 @@ pub enum ControlFlowTarget {
 }
 
 // `owns_loop`: the target is a loop, and its loop block was free before.
-#[derive(Drop)]
+#[derive(Clone, Copy, Drop)]
 pub struct Entry {
     pub id: u16,
     pub target: ControlFlowTarget,
     pub owns_loop: bool,
 }
 
-#[derive(Drop)]
+#[derive(Clone, Copy, Drop)]
 pub enum ReactiveTerminalTargetKind {
     Implicit,
     Labeled,
@@ -57,14 +57,14 @@ pub enum ReactiveTerminalTargetKind {
 }
 
 // What a jump resolves to: the entry that was found, the jump's kind, and how many loops lie above that entry.
-#[derive(Drop)]
+#[derive(Clone, Copy, Drop)]
 pub struct Resolution {
     pub entry: Entry,
     pub kind: ReactiveTerminalTargetKind,
     pub loops: u32,
 }
 
-#[derive(Drop)]
+#[derive(Clone, Copy, Drop)]
 pub enum Resolved {
     Nothing,
     Found(Resolution),

@@ -16,7 +16,7 @@ pub fn code_at(words: &[u32], block: u32) -> u32
 }
 
 // Where a block's terminal or an instruction stands in the source. 0 and 0 is none.
-#[derive(Drop)]
+#[derive(Clone, Copy, Drop)]
 pub struct Span {
     pub from: u32,
     pub to: u32,
