@@ -5,6 +5,8 @@
 // local and back, and of the stack's array it leaves two things to its caller, one line each: `schedule` gives the entry that went on in `pushed`, to be stored at
 // `len - 1`, and `unschedule` is handed the entry that its caller reads there. For the same reason each step writes `len`, and the scalars stand between the
 // arrays. (docs/PERFORMANCE.md has the times.)
+#![tactic(auto)]
+
 pub mod around;
 pub mod rule;
 

@@ -1,4 +1,6 @@
 // M-101: a statement is found by its label, in the lines that the build writes beside the tree.
+#![tactic(auto)]
+
 ghost use Rattle.std.specs.Prelude.{◌≡◌, ◌+◌, ◌*◌, ◌≤◌, length};
 ghost use Rattle.lookup.specs.Lookup.{lines_read, line_word, first_with, part_of, refusal, found, looked};
 

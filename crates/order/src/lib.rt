@@ -1,4 +1,6 @@
 // M-111: a table's blocks in walking order, and the inverse.
+#![tactic(auto)]
+
 mod block_walk;
 pub mod file;
 mod list;

@@ -1,4 +1,6 @@
 // What a program does with its standard input and output. A failed read or write is told on standard error, since the kit has no exit status.
+#![tactic(auto)]
+
 ghost use Rattle.std.specs.Prelude.{◌+◌, ◌≤◌, ◌≡◌, length};
 ghost use Rattle.io.specs.Counts.{IsPrefixLen};
 

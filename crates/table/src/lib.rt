@@ -1,4 +1,6 @@
 // The words of a table: the readers of its columns, which index the words by what the check promises (room `table_check`), and the check's answer.
+#![tactic(auto)]
+
 pub mod columns;
 pub mod lines;
 pub mod terminals;

@@ -1,4 +1,6 @@
 // M-100: whether a list of rows reads as one tree, and where each of its parts begins.
+#![tactic(auto)]
+
 pub mod file;
 mod parts;
 mod ranges;

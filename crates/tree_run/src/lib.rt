@@ -1,4 +1,6 @@
 // M-103: runs a tree on paper. Which instruction rows does it perform for given answers, and why does it stop?
+#![tactic(auto)]
+
 mod cells;
 mod completions;
 pub mod file;

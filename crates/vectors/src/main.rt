@@ -1,6 +1,8 @@
 // Replays data/vectors.bin: tables with their answers, made by the Rust (reference/vectors/README.md says the form), the samples of paper 01
 // first. Each table is built into a buffer full of sevens, and code, at, rows, visits and every word of the buffer are compared. Prints the
 // number of each vector that differs, then how many there are, how many differ, and how many bytes are left.
+#![tactic(auto)]
+
 ghost use Rattle.std.specs.Prelude.{◌≤◌, ◌<◌, ◌≡◌, length};
 
 use build::build_reactive_function;

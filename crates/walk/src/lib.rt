@@ -1,4 +1,6 @@
 // The loop over the Context and the frames: `statements` plans each turn, and the loop applies the plan.
+#![tactic(auto)]
+
 mod around;
 mod frames;
 mod index;
