@@ -15,7 +15,7 @@ slice_bounds-write_wide-end c =
     sym (length-take-le _ _ wide.within)
 
 pub write_wide-requires : goal.write_wide-requires
-write_wide-requires c = let wide = wide_taken _ _ _ c.requires.shaped c.requires.len_bound c.widen-count.ensures (c.widen-count.auto.wide ∙ sym c.lent_wide-wide.ensures) in record { shaped = (rw wide.is (wide_shaped _ c.requires.shaped, wide_most _ c.requires.shaped c.requires.len_bound)).0; wide_len_bound = (rw wide.is (wide_shaped _ c.requires.shaped, wide_most _ c.requires.shaped c.requires.len_bound)).1 }
+write_wide-requires c = let wide = wide_taken _ _ _ c.requires.shaped c.requires.len_bound c.widen-count.ensures (c.widen-count.auto.wide ∙ sym c.lent_wide-wide.ensures) in record { shaped = rw wide.is (wide_shaped _ c.requires.shaped); wide_len_bound = rw wide.is (wide_most _ c.requires.shaped c.requires.len_bound) }
 
 pub returns : goal.returns
 returns c =

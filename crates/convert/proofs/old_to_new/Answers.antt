@@ -18,7 +18,7 @@ pub slice_bounds-convert_old-end : goal.slice_bounds-convert_old-end
 slice_bounds-convert_old-end c = sym (length-take-le _ _ (words_within _ _ _ _ _ (rw c.in-Words.is at (is_answered _ _ _ c.read_as-answer.ensures))))
 
 pub convert_old-requires : goal.convert_old-requires
-convert_old-requires c = let h = rw c.in-Words.is at (is_answered _ _ _ c.read_as-answer.ensures) in record { shaped = (rw (words_read _ _ _ _ _ h) (good_shaped Old _ _ h.1.good, words_few _ _ _ _ _ h)).0; len_bound = (rw (words_read _ _ _ _ _ h) (good_shaped Old _ _ h.1.good, words_few _ _ _ _ _ h)).1 }
+convert_old-requires c = let h = rw c.in-Words.is at (is_answered _ _ _ c.read_as-answer.ensures) in record { shaped = rw (words_read _ _ _ _ _ h) (good_shaped Old _ _ h.1.good); len_bound = rw (words_read _ _ _ _ _ h) (words_few _ _ _ _ _ h) }
 
 pub returns-in-Words : goal.returns-in-Words
 unfolding old_to_new

@@ -44,7 +44,7 @@ bounds-scheduled-loop_block-in-Loop c = (rw c.in-Loop.is at c.requires.named).2
 pub returns : goal.returns
 unfolding has add
 returns c =
-    let long = simp length-map at ?? in
+    let long = simp length-map at c.well_formed.0.1.1.1.1.1.1.1.1.1.1.0.1.0.1 in
     let given = scheduled c.args.target c.args.self c.requires.named c.requires.room (omega (arith, long, c.requires.room.len)) in
     ⊎_elim (λ w. entered (rw w.1.given.1 w.4) (rw w.1.given.1 w.5) (rw w.1.given.1 (w.6 ∙ w.3.ensures)) (rw w.1.given.1 w.7) given)
     (λ v. ⊎_elim (λ w. entered (rw w.1.given.1 w.4) (rw w.1.given.1 w.5) (rw w.1.given.1 (w.6 ∙ w.3.ensures)) (rw w.1.given.1 w.7) given)

@@ -16,7 +16,7 @@ pub overflow_add-to : goal.overflow_add-to
 overflow_add-to c =
     let I = c.loop-left.invariant in
     let step = rows_left c.loop-left.false c.args.width c.loop-left-test.true in
-    omega (arith, I.fit, step, (c.requires.le_width, (c.requires.width_bound, (c.requires.rows_bound, (c.requires.width_in_bounds, c.requires.start_bound)))), ??)
+    omega (arith, I.fit, step, (c.requires.le_width, (c.requires.width_bound, (c.requires.rows_bound, (c.requires.width_in_bounds, c.requires.start_bound)))), c.well_formed)
 
 pub slice_bounds-copy_words-end : goal.slice_bounds-copy_words-end
 slice_bounds-copy_words-end c =
@@ -39,7 +39,7 @@ pub offset_bounds-old-to : goal.offset_bounds-old-to
 offset_bounds-old-to c =
     let I = c.loop-left.invariant in
     let step = rows_left c.loop-left.false c.args.width c.loop-left-test.true in
-    omega (arith, I.fit, step, (c.requires.le_width, (c.requires.width_bound, (c.requires.rows_bound, (c.requires.width_in_bounds, c.requires.start_bound)))), ??)
+    omega (arith, I.fit, step, (c.requires.le_width, (c.requires.width_bound, (c.requires.rows_bound, (c.requires.width_in_bounds, c.requires.start_bound)))), c.well_formed)
 
 pub bounds-old-to : goal.bounds-old-to
 bounds-old-to c =

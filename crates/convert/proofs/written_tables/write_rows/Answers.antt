@@ -16,7 +16,7 @@ pub overflow_add-to : goal.overflow_add-to
 overflow_add-to c =
     let I = c.loop-left.invariant in
     let step = rows_left c.loop-left.false c.args.stride c.loop-left-test.true in
-    omega (arith, I.within, step, (c.requires.rows_bound, (c.requires.columns_le_stride, (c.requires.stride_bound, (c.requires.stride_in_bounds, c.requires.start_bound)))), ??)
+    omega (arith, I.within, step, (c.requires.rows_bound, (c.requires.columns_le_stride, (c.requires.stride_bound, (c.requires.stride_in_bounds, c.requires.start_bound)))), c.well_formed)
 
 pub slice_bounds-write_line-end : goal.slice_bounds-write_line-end
 slice_bounds-write_line-end c =
@@ -35,7 +35,7 @@ pub overflow_add-from : goal.overflow_add-from
 overflow_add-from c =
     let I = c.loop-left.invariant in
     let step = rows_left c.loop-left.false c.args.stride c.loop-left-test.true in
-    omega (arith, I.within, step, ??)
+    omega (arith, I.within, step, c.well_formed)
 
 pub loop-left-preserved : goal.loop-left-preserved
 loop-left-preserved c =

@@ -32,8 +32,7 @@ overflow_add-p c = omega (arith, c.requires.visits.rows, c.requires.visits.count
 
 pub visit_terminal-requires : goal.visit_terminal-requires
 visit_terminal-requires c =
-    record { entered = (rw c.advance-p.ensures (
-      record {
+    record { entered = rw c.advance-p.ensures (record {
         promise = c.requires.visits.promise;
         block = c.requires.visits.block;
         depth = c.if-p-ge128.false;
@@ -47,43 +46,7 @@ visit_terminal-requires c =
         );
         count = omega
             (arith, c.put_instructions-rows.ensures.more, c.requires.visits.count);
-      },
-      (c.requires.aim_below, λ e. c.if-code_at-eq0.false (c.code_at.ensures ∙ e)),
-    )).0; aim_below = (rw c.advance-p.ensures (
-      record {
-        promise = c.requires.visits.promise;
-        block = c.requires.visits.block;
-        depth = c.if-p-ge128.false;
-        visits = omega (arith, c.if-p-ge8192.false);
-        rows = omega (
-          arith,
-          c.put_instructions-rows.ensures.more,
-          c.requires.visits.rows,
-          c.block_at-head.ensures.there,
-          c.block_at-head.ensures.few,
-        );
-        count = omega
-            (arith, c.put_instructions-rows.ensures.more, c.requires.visits.count);
-      },
-      (c.requires.aim_below, λ e. c.if-code_at-eq0.false (c.code_at.ensures ∙ e)),
-    )).1.0; fact = (rw c.advance-p.ensures (
-      record {
-        promise = c.requires.visits.promise;
-        block = c.requires.visits.block;
-        depth = c.if-p-ge128.false;
-        visits = omega (arith, c.if-p-ge8192.false);
-        rows = omega (
-          arith,
-          c.put_instructions-rows.ensures.more,
-          c.requires.visits.rows,
-          c.block_at-head.ensures.there,
-          c.block_at-head.ensures.few,
-        );
-        count = omega
-            (arith, c.put_instructions-rows.ensures.more, c.requires.visits.count);
-      },
-      (c.requires.aim_below, λ e. c.if-code_at-eq0.false (c.code_at.ensures ∙ e)),
-    )).1.1 }
+      }); aim_below = rw c.advance-p.ensures (c.requires.aim_below); fact = rw c.advance-p.ensures (λ e. c.if-code_at-eq0.false (c.code_at.ensures ∙ e)) }
 
 pub returns : goal.returns
 unfolding has

@@ -1,5 +1,4 @@
 use native.Mathlib.Omega.{arith}
-use Prim.Native.Nat.{◌-◌}
 use lib.ListN.{length-set}
 use Rattle.text.proofs.LentLaws.{cleared_none, cleared_more, cleared_all}
 use Rattle.text.proofs.lent.clear_words.Goals as goal

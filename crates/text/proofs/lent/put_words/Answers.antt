@@ -1,6 +1,5 @@
 use native.Mathlib.Omega.{arith}
 use mathlib.Core.Path.{◌≡◌, refl}
-use Prim.Native.Nat.{◌-◌}
 use lib.ListN.{length, get_or}
 use native.Mathlib.Numerals.{add-one}
 use lib.ListN.{length-set}

@@ -1,6 +1,6 @@
 use native.Mathlib.Omega.{arith}
 use mathlib.Core.Path.{sym, ◌∙◌}
-use Prim.Native.Nat.{◌-◌, ◌^◌, ◌<◌}
+use Prim.Native.Nat.{◌^◌, ◌<◌}
 use lib.ListN.{length}
 use Rattle.text.proofs.StepLaws.{first_taken, first_other, first_missing, digit_taken, end_taken, digit_other, digit_missing, number_refused_lem, false_true}
 use Rattle.text.proofs.number.read_number.Goals as goal

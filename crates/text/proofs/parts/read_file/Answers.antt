@@ -2,7 +2,6 @@
 -- (`finished_more`); a refusal of a part is the file's.
 use native.Mathlib.Omega.{arith}
 use mathlib.Core.Path.{sym, ◌∙◌}
-use Prim.Native.Nat.{◌-◌}
 use Rattle.text.specs.Form.{finished}
 use Rattle.text.proofs.StepLaws.{finished_good, finished_more, true_false}
 use Rattle.text.proofs.PartLaws.{stored_too}

@@ -1,6 +1,5 @@
 use native.Mathlib.Omega.{arith}
 use mathlib.Core.Path.{◌∙◌}
-use Prim.Native.Nat.{◌-◌}
 use Rattle.text.proofs.PartLaws.{head_names_lem, head_row}
 use Rattle.text.proofs.parts.read_head.Goals as goal
 

@@ -1,6 +1,5 @@
 use native.Mathlib.Omega.{arith}
 use mathlib.Core.Path.{sym}
-use Prim.Native.Nat.{◌-◌}
 use native.Mathlib.Nat.{add-zero, add_assoc}
 use Rattle.text.proofs.PartLaws.{names_done, name_taken, name_other, name_missing, names_refused, names_at}
 use Rattle.text.proofs.parts.read_names.Goals as goal

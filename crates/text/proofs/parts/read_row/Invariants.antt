@@ -2,7 +2,7 @@
 -- PartLaws has one number more and the end; LentLaws the store.
 use mathlib.Core.Path.{◌≡◌}
 use mathlib.Core.List.{List, [], ◌++◌}
-use Prim.Native.Nat.{ℕ, ◌+◌, ◌-◌, ◌≤◌}
+use Prim.Native.Nat.{ℕ, ◌-◌, ◌≤◌}
 use lib.ListN.{length}
 use Rattle.text.specs.Form.{Form, row}
 use Rattle.text.specs.Steps.{At}

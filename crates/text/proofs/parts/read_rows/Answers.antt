@@ -1,7 +1,6 @@
 use native.Mathlib.Omega.{arith}
 use mathlib.Core.Path.{refl, sym, ◌∙◌}
 use mathlib.Core.List.{[], ◌++◌, append-nil, append_assoc}
-use Prim.Native.Nat.{◌-◌}
 use native.Mathlib.Nat.{sub-zero}
 use Rattle.text.proofs.StepLaws.{true_false}
 use Rattle.text.proofs.PartLaws.{rows_open, rows_done, part_at}

@@ -32,7 +32,7 @@ write_line-at-requires c =
     let i = c.loop-i.i in
     let six : i * 6 + 6 - i * 6 ≡ 6 = omega arith in
     let l : length (take 6 (drop (i * 6) tree)) ≡ 6 = length-take-le 6 (drop (i * 6) tree) (rw (length-drop (i * 6) tree) (omega (arith, c.loop-i-test.true))) in
-    rw (six, l) (omega (arith, c.if-out-at.false, c.loop-i.invariant.long, ??))
+    rw (six, l) (omega (arith, c.if-out-at.false, c.loop-i.invariant.long, c.well_formed.0))
 
 pub loop-i-preserved : goal.loop-i-preserved
 loop-i-preserved c =

@@ -2,7 +2,7 @@
 -- the end, and the return where the buffer is full (`wrote_part`).
 use mathlib.Core.Path.{◌≡◌}
 use mathlib.Core.List.{List, ◌++◌}
-use Prim.Native.Nat.{ℕ, ◌+◌, ◌-◌, ◌*◌, ◌≤◌}
+use Prim.Native.Nat.{ℕ, ◌-◌, ◌*◌, ◌≤◌}
 use lib.ListN.{length, drop}
 use Rattle.text.specs.Line.{lines}
 use Rattle.text.specs.Printed.{Wrote, rows_of}

@@ -11,5 +11,5 @@ unfolding printed_check
 returns c =
     let held = wrote_all (wrote_then c.write_names-names.ensures c.write_line-end.ensures) [] (holds_none _) in
     rw (← c.write_names-names.auto.out, ← c.write_line-end.auto.out)
-    (check_written c.args.code c.args.at c.ranges.code c.ranges.at
+    (check_written c.args.code c.args.at c.ranges.code.fits c.ranges.at.fits
     (c.finish_text.ensures.by_index _ held) (c.finish_text.ensures.by_index_2 _ held))
