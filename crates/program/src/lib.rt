@@ -5,7 +5,7 @@ ghost use Rattle.std.specs.Prelude.{◌+◌, ◌≤◌, ◌≡◌, length};
 ghost use Rattle.std.specs.Counts.{IsPrefixLen};
 
 use std::env::{Env, FillError};
-use std::io::{IsTerminal, Read, Stdin};
+use std::io::{IsTerminal, Read};
 use text::write::Written;
 
 // The number of bytes read. After a failed read they may not be the whole input.
@@ -32,11 +32,11 @@ pub fn rows_bytes() -> [u8; 262145]
 }
 
 // One read into the bytes from `from` on; none at the input's end.
-fn read_from(stdin: &mut Stdin, bytes: &mut [u8], from: usize) -> Input
+fn read_from<R: Read>(reader: &mut R, bytes: &mut [u8], from: usize) -> Input
     requires { from ≤ length bytes.old }
     ensures { from + result.count ≤ length bytes.old }
 {
-    match stdin.read(&mut bytes[from..]) {
+    match reader.read(&mut bytes[from..]) {
         Ok(count) => Input {
             count,
             failed: false,
@@ -49,12 +49,12 @@ fn read_from(stdin: &mut Stdin, bytes: &mut [u8], from: usize) -> Input
 }
 
 // Reads until the bytes are full, the input ends or a read fails.
-fn read_input(stdin: &mut Stdin, bytes: &mut [u8]) -> Input
+pub fn read_input<R: Read>(reader: &mut R, bytes: &mut [u8]) -> Input
     ensures { IsPrefixLen result.count bytes.new }
 {
     let mut count = 0;
     while count < bytes.len() {
-        let more = read_from(stdin, bytes, count);
+        let more = read_from(reader, bytes, count);
         if more.failed {
             return Input {
                 count: count,
